@@ -132,6 +132,10 @@ ccbase \- versioned object base with dynamic views and audited builds
 .B run
 .br
 .B ccbase \-\-help
+|
+.B \-h
+|
+.B help
 .br
 .B ccbase \-\-version
 .SH DESCRIPTION
@@ -145,8 +149,11 @@ keep, and writes the replies to standard output. Absent files are created as an 
 is locked during the run.
 .PP
 .I FILE
-must be a base, or absent. Any other file whose bytes begin no row is treated as an empty base, and the first commit overwrites it.
-To look first, run
+must be a base, or absent. Any other file whose bytes begin no row is treated as an empty base, and
+.BR "the first commit overwrites it" .
+Before that a line on standard error says how many of its bytes are no row. There may be no line for a
+.I FILE
+that begins with a byte 0 or 1, as some pictures and videos do. To look first, run
 .BR "ccbase FILE run < /dev/null" ,
 which writes nothing into an existing
 .IR FILE .

@@ -2,14 +2,16 @@
 
 /// The form of words, the lines of a session (written by `tools/write_command_docs.py`), and the statuses.
 pub(crate) const HELP: &str = "ccbase FILE run
-ccbase --help, ccbase --version
+ccbase --help, ccbase -h, ccbase help
+ccbase --version
 
 Reads a session from standard input, runs it on the base that the files FILE and FILE.objects keep, and writes its
 replies to standard output. FILE is locked meanwhile. Files that are absent are made, and are an empty base.
 
 NAME A BASE, OR NOTHING. Any other FILE, a text or a picture, is taken for an empty base, and the first row that is
-made is WRITTEN OVER IT. Before that a line on standard error says how many of its bytes are no row. To look first, run
-an empty session, which writes nothing into a FILE that is there:
+made is WRITTEN OVER IT. Before that a line on standard error says how many of its bytes are no row. There may be no
+line for a FILE that begins with a byte 0 or 1, as some pictures and videos do. To look first, run an empty session,
+which writes nothing into a FILE that is there:
 
     ccbase FILE run < /dev/null
 

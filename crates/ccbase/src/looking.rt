@@ -1,12 +1,131 @@
 //! A disk that looks into the journal before its first use.
 
-ghost use Rattle.std.specs.Prelude.{None, false, refl};
-ghost use Rattle.disk_model.specs.Told.{Sight};
+ghost use Rattle.std.specs.Prelude.{◌≡◌, IfOk, OnErr};
+ghost use Rattle.disk_model.specs.Counting.{next_count};
+ghost use Rattle.disk_model.specs.Devices.{Idles};
+ghost use Rattle.disk_model.specs.Told.{Both, Counted};
 
+use cc_names::memory::Or;
 use disk_model::{Counts, Disk, DiskFault, FileDisk};
 use std::alloc::Global;
+use std::fs::File;
 use std::io;
+use std::rt::Files;
 use vob_journal::{Journal, foreign_bytes};
+
+/// A disk that can look for foreign bytes.
+pub(crate) trait Look: Disk + Sized {
+    /// Says on standard error what of FILE is foreign. The look is made by the calls of another disk over the same files, which
+    /// has opened none so far. It is no call on this disk; where it fails it counts as one call, which failed.
+    fn look(&mut self, rt: &HostRuntime, file: &str, other: Self) -> Result<(), DiskFault>
+        ensures same { IfOk result (λ _. Self.sight self.new ≡ Self.sight self.old) }
+        ensures idles { OnErr result
+            (Both Idles (Self.sight self.old).told (Self.sight self.new).told) }
+        ensures counts { OnErr result (Counted result (Self.sight self.old) (Self.sight self.new)) };
+}
+
+/// How many rows the journal of a disk has, or nothing where memory runs out; and the disk, which is the error where it failed.
+/// Reads the journal once.
+fn count_rows<R: Files<File = File> + AllocGlobal>(
+    alloc: Global,
+    disk: FileDisk<R>,
+) -> Result<(Option<u64>, FileDisk<R>), FileDisk<R>> {
+    let mut journal = Journal::open(disk)?;
+    for rows in 0..u64::MAX {
+        match journal.next(alloc) {
+            Ok(Some(_)) => {}
+            Ok(None) => return Ok((Some(rows), journal.into_disk())),
+            Err(Or::NoMemory) => return Ok((None, journal.into_disk())),
+            Err(Or::Is(_)) => return Err(journal.into_disk()),
+        }
+    }
+    Ok((None, journal.into_disk()))
+}
+
+/// Says that so many bytes behind the last row of FILE are no row, and which row that is, if it is known.
+fn tell_foreign(rt: &HostRuntime, file: &str, count: u64, rows: Option<u64>) -> io::Result<()> {
+    match rows {
+        Some(rows) => eprintln!(rt;
+            "ccbase: {file}: the base ends at row {rows}: {count} bytes behind it are no row, and the next row is written over them"
+        ),
+        None => eprintln!(rt;
+            "ccbase: {file}: {count} bytes behind the last row are no row, and the next row is written over them"
+        ),
+    }
+}
+
+/// Says that memory ran out before FILE was looked at.
+fn tell_no_look(rt: &HostRuntime, file: &str) -> io::Result<()> {
+    eprintln!(rt;
+        "ccbase: {file}: no memory to look for bytes that are no row: the next row is written over any that there are"
+    )
+}
+
+/// Says how many bytes behind the last row of FILE are no row, where they are more than a row that was cut short can be. Answers
+/// the disk; it is the error where it failed.
+fn looked_at<R: Files<File = File> + AllocGlobal>(
+    rt: &HostRuntime,
+    file: &str,
+    disk: FileDisk<R>,
+) -> Result<FileDisk<R>, FileDisk<R>> {
+    let mut disk = disk;
+    match foreign_bytes(rt.alloc(), &mut disk) {
+        Ok(0) => Ok(disk),
+        Ok(count) => {
+            let (rows, disk) = count_rows(rt.alloc(), disk)?;
+            let _ = tell_foreign(rt, file, count, rows);
+            Ok(disk)
+        }
+        Err(Or::NoMemory) => {
+            let _ = tell_no_look(rt, file);
+            Ok(disk)
+        }
+        Err(Or::Is(_)) => Err(disk),
+    }
+}
+
+/// A call that fails and touches no file: it would write past the length that a file may have.
+fn failing_call<R: Files<File = File> + AllocGlobal>(disk: &mut FileDisk<R>) -> DiskFault
+    ensures ticks { disk.new.ticks ≡ next_count disk.old.ticks }
+    ensures faults { disk.new.faults ≡ next_count disk.old.faults }
+{
+    match disk.write_at(0, u64::MAX, b"") {
+        Ok(()) => DiskFault,
+        Err(fault) => fault,
+    }
+}
+
+/// The look opens the files, and the run goes on with them as they are, also where a call on them failed: so all that is read and
+/// written is one file under one lock, and a failure that the system tells once is the run's.
+impl<R: Files<File = File> + AllocGlobal + Drop> Look for FileDisk<R> {
+    fn look(&mut self, rt: &HostRuntime, file: &str, other: FileDisk<R>) -> Result<(), DiskFault> {
+        match looked_at(rt, file, other) {
+            Ok(disk) => {
+                self.take_over(disk);
+                Ok(())
+            }
+            Err(disk) => {
+                self.take_over(disk);
+                Err(failing_call(self))
+            }
+        }
+    }
+}
+
+/// The disk of a run. As its first length is asked, which is how a base is opened, it says what of FILE is foreign: not
+/// earlier, since what is no session leaves the files alone, and the lock on FILE is not held while a session is read. Where
+/// the look fails, so does that call. Every other call is the call of the disk below it.
+///
+/// It looks at bytes alone. What it cannot tell: whether a row says what was once written, since rows have no checksum; and
+/// whether bytes that begin as a row does, and are fewer than that row would be, are a row that a crash cut short.
+#[derive(Drop)]
+pub(crate) struct LookingDisk<D: Disk> {
+    rt: HostRuntime,
+    file: String,
+    pub(crate) disk: D,
+    /// The disk that looks, until it has looked.
+    looks: Option<D>,
+}
 
 /// The disk over the files of a base: FILE and FILE.objects. It opens nothing yet.
 fn files_of(rt: &HostRuntime, file: &str) -> io::Result<FileDisk<HostRuntime>> {
@@ -15,83 +134,35 @@ fn files_of(rt: &HostRuntime, file: &str) -> io::Result<FileDisk<HostRuntime>> {
     Ok(FileDisk::new(rt.clone()?, journal, objects))
 }
 
-/// How many rows the journal of a disk has, and the disk; none where the disk fails or memory runs out. Reads the journal once.
-fn count_rows(alloc: Global, disk: FileDisk<HostRuntime>) -> Option<(u64, FileDisk<HostRuntime>)> {
-    let mut journal = Journal::open(disk).ok()?;
-    for rows in 0..u64::MAX {
-        match journal.next(alloc) {
-            Ok(Some(_)) => {}
-            Ok(None) => return Some((rows, journal.into_disk())),
-            Err(_) => return None,
-        }
-    }
-    None
-}
-
-/// Opens FILE, and says on standard error how many bytes behind the last row are no row, where they are more than a row that was
-/// cut short can be. Answers the open disk. Where FILE cannot be read it says nothing: the run that follows tells why.
-fn look(rt: &HostRuntime, file: &str) -> Option<FileDisk<HostRuntime>> {
-    let mut disk = files_of(rt, file).ok()?;
-    let count = foreign_bytes(rt.alloc(), &mut disk).ok()?;
-    if count == 0 {
-        return Some(disk);
-    }
-    let (rows, disk) = count_rows(rt.alloc(), disk)?;
-    let _ = eprintln!(rt;
-        "ccbase: {file}: the base ends at row {rows}: {count} bytes behind it are no row, and the next row is written over them"
-    );
-    Some(disk)
-}
-
-/// The disk of a run. As its first length is asked, which is how a base is opened, it says what of FILE is foreign: not
-/// earlier, since what is no session leaves the files alone, and the lock on FILE is not held while a session is read. The look and
-/// the run are under one lock, so what is said is so of the file that the run writes.
-///
-/// It looks at bytes alone. What it cannot tell: whether a row says what was once written, since rows have no checksum; and
-/// whether bytes that begin as a row does, and are fewer than that row would be, are a row that a crash cut short.
-#[derive(Drop)]
-pub(crate) struct LookingDisk {
-    rt: HostRuntime,
-    file: String,
-    pub(crate) disk: FileDisk<HostRuntime>,
-    looked: bool,
-}
-
-impl LookingDisk {
-    pub(crate) fn new(rt: HostRuntime, file: &str) -> io::Result<LookingDisk> {
+impl LookingDisk<FileDisk<HostRuntime>> {
+    pub(crate) fn new(
+        rt: HostRuntime,
+        file: &str,
+    ) -> io::Result<LookingDisk<FileDisk<HostRuntime>>> {
         let disk = files_of(&rt, file)?;
+        let looks = Some(files_of(&rt, file)?);
         let file = String::from_str(rt.alloc(), file)?;
         Ok(LookingDisk {
             rt,
             file,
             disk,
-            looked: false,
+            looks,
         })
     }
 }
 
-impl Disk for LookingDisk {
-    ghost sight = { λ looking.
-        record { told = None; ticks = looking.disk.ticks; faults = looking.disk.faults } };
+impl<D: Disk + Look> Disk for LookingDisk<D> {
+    ghost sight = { λ looking. D.sight looking.disk };
 
-    ghost tells = { false };
+    ghost tells = { D.tells };
 
-    ghost as_typed = { λ looking. refl };
+    ghost as_typed = { λ looking. D.as_typed looking.disk };
 
-    ghost counted = { λ looking.
-        record {
-          ticks = looking.disk.ticks_fit;
-          faults = looking.disk.faults_fit;
-          told = tt;
-          failed = tt;
-        } };
+    ghost counted = { λ looking. D.counted looking.disk };
 
     fn length(&mut self, file: u8) -> Result<u64, DiskFault> {
-        if !self.looked {
-            self.looked = true;
-            if let Some(disk) = look(&self.rt, self.file.as_str()) {
-                self.disk.take_over(disk);
-            }
+        if let Some(other) = self.looks.take() {
+            self.disk.look(&self.rt, self.file.as_str(), other)?;
         }
         self.disk.length(file)
     }

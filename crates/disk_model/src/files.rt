@@ -71,14 +71,21 @@ fn part_of(file: u8) -> Part {
     }
 }
 
+/// Whether the folder of the files is synced. Where that failed it is not tried again, for the reason that `NamedFile` has.
+#[derive(Clone, Copy)]
+enum Folder {
+    NotYet,
+    Synced,
+    Failed(io::Error),
+}
+
 /// Both files, and the first failure.
 #[derive(Drop)]
 struct BaseFiles<R: Files<File = File> + AllocGlobal> {
     rt: R,
     journal: NamedFile,
     objects: NamedFile,
-    /// Whether both files are there, and their folder is synced.
-    made: bool,
+    folder: Folder,
     /// The first failure, and what it came at.
     failed: Option<(Part, io::Error)>,
 }
@@ -123,18 +130,29 @@ impl<R: Files<File = File> + AllocGlobal> BaseFiles<R> {
         self.open_objects()
     }
 
-    /// Opens both files, and syncs their folder once: without that a power cut may take a file that was made, whatever of it
-    /// was synced.
+    /// Syncs the folder of the first file, once: without that a power cut may take a file that was made, whatever of it was
+    /// synced.
+    fn sync_folder(&mut self) -> io::Result<()> {
+        match self.folder {
+            Folder::Synced => return Ok(()),
+            Folder::Failed(cause) => return Err(cause),
+            Folder::NotYet => {}
+        }
+        let synced = self.journal.sync_folder(&self.rt);
+        self.folder = match synced {
+            Ok(()) => Folder::Synced,
+            Err(cause) => Folder::Failed(cause),
+        };
+        synced
+    }
+
+    /// Opens both files, and syncs their folder.
     fn make(&mut self) -> Result<(), DiskFault> {
         self.open(1)?;
-        if self.made {
-            return Ok(());
+        match self.sync_folder() {
+            Ok(()) => Ok(()),
+            Err(cause) => Err(self.note(Part::Folder, cause)),
         }
-        if let Err(cause) = self.journal.sync_folder(&self.rt) {
-            return Err(self.note(Part::Folder, cause));
-        }
-        self.made = true;
-        Ok(())
     }
 
     fn measure(&mut self, file: u8) -> Result<u64, DiskFault>
@@ -174,12 +192,13 @@ impl<R: Files<File = File> + AllocGlobal> BaseFiles<R> {
 }
 
 /// A disk over two files. The first file is opened at the first call, and made where it is absent; the second at the first call
-/// on it or the first write. With the first write their folder is synced, once, before anything is written. Each file is opened
-/// once: the handle is kept as long as the disk lives, whatever fails, and all calls go through it alone. So where a file is
-/// moved away the calls go on with that file, and another that gets its name is left alone.
+/// on it or the first write. With the first write the folder of the first file is synced, once, before anything is written. Each
+/// file is opened once: the handle is kept as long as the disk lives, whatever fails, and all calls go through it alone. So where
+/// a file is moved away the calls go on with that file, and another that gets its name is left alone.
 ///
-/// As a file is opened its exclusive lock is taken, and held as long as the disk lives: where another program has the lock each
-/// call is a fault, and nothing is read or written. Then it is synced. What a sync that failed in an earlier run left may be read
+/// As a file is opened its exclusive lock is taken, and held as long as the disk lives. Then it is synced. Where one of these fails,
+/// as where another program has the lock, each call on the file is a fault from then on, and nothing is read or written; so is
+/// each write where the folder could not be synced. What a sync that failed in an earlier run left may be read
 /// from the system's memory without being on the disk: no call of this disk can tell. No handle is a standard descriptor, so
 /// nothing that is printed gets into a file, also where standard output is closed.
 #[derive(Drop)]
@@ -199,7 +218,7 @@ impl<R: Files<File = File> + AllocGlobal> FileDisk<R> {
                 rt,
                 journal: NamedFile::new(journal),
                 objects: NamedFile::new(objects),
-                made: false,
+                folder: Folder::NotYet,
                 failed: None,
             },
             ticks: 0,

@@ -2,16 +2,25 @@
 
 use std::fs::{self, File, OpenOptions, TryLockError};
 use std::io;
-use std::os::unix::fs::FileExt;
+use std::os::unix::fs::{FileExt, MetadataExt};
 use std::path::Path;
 use std::rt::Files;
+
+/// Whether a file is open. An opening that failed is not tried again: the system reports a write that did not reach the disk to
+/// one sync alone, so a second one that passes would hide the first.
+#[derive(Drop)]
+enum Handle {
+    Closed,
+    Open(File),
+    Failed(io::Error),
+}
 
 /// A file by its name, and its handle once it is open. The handle is kept, whatever fails later, and the name is not looked up
 /// again: so all that is read and written is one file, also where it is moved away and another takes its name.
 #[derive(Drop)]
 pub(crate) struct NamedFile {
     name: String,
-    handle: Option<File>,
+    handle: Handle,
 }
 
 /// Opens a file, made where it is absent. The handle is a copy, which the system numbers above 2: where a standard
@@ -37,12 +46,38 @@ fn lock(file: &File) -> io::Result<()> {
     }
 }
 
-/// Syncs the names in a folder. Some file systems sync no folders, and answer that the call is invalid: nothing more can be
-/// asked of them.
+/// Whether the name still leads to the file: it may have been replaced between its opening and its lock.
+fn is_named<R: Files<File = File>>(rt: &R, name: &str, file: &File) -> io::Result<bool> {
+    let named = fs::metadata(rt, name)?;
+    let open = file.metadata()?;
+    Ok(named.dev() == open.dev() && named.ino() == open.ino())
+}
+
+/// The open file of a name, with its exclusive lock, synced: what a program that was killed wrote there may not be on the disk
+/// yet.
+fn opened_alone<R: Files<File = File>>(rt: &R, name: &str) -> io::Result<File> {
+    let file = opened(rt, name)?;
+    lock(&file)?;
+    if !is_named(rt, name, &file)? {
+        return Err(io::Error::new(io::ErrorKind::ResourceBusy, "replaced as it was opened"));
+    }
+    file.sync_data()?;
+    Ok(file)
+}
+
+/// Whether a file system answers so that syncs no folders: nothing more can be asked of it.
+fn syncs_no_folders(cause: &io::Error) -> bool {
+    matches!(
+        cause.kind(),
+        io::ErrorKind::InvalidInput | io::ErrorKind::Unsupported
+    )
+}
+
+/// Syncs the names in a folder.
 fn sync_names<R: Files<File = File>>(rt: &R, folder: &str) -> io::Result<()> {
     let folder = if folder.is_empty() { "." } else { folder };
     match File::open(rt, folder)?.sync_all() {
-        Err(cause) if cause.kind() == io::ErrorKind::InvalidInput => Ok(()),
+        Err(cause) if syncs_no_folders(&cause) => Ok(()),
         synced => synced,
     }
 }
@@ -54,23 +89,33 @@ fn folder_of(path: Path<'_>) -> &str {
 
 impl NamedFile {
     pub(crate) fn new(name: String) -> NamedFile {
-        NamedFile { name, handle: None }
+        NamedFile {
+            name,
+            handle: Handle::Closed,
+        }
     }
 
     pub(crate) fn name(&self) -> &str {
         self.name.as_str()
     }
 
-    /// Opens the file, if it is not open, takes its exclusive lock, and syncs it: what a program that was killed wrote there may
-    /// not be on the disk yet.
+    /// Opens the file, if that was not tried yet.
     pub(crate) fn open<R: Files<File = File>>(&mut self, rt: &R) -> io::Result<()> {
-        if self.handle.is_none() {
-            let file = opened(rt, self.name.as_str())?;
-            lock(&file)?;
-            file.sync_data()?;
-            self.handle = Some(file);
+        match self.handle {
+            Handle::Open(_) => return Ok(()),
+            Handle::Failed(cause) => return Err(cause),
+            Handle::Closed => {}
         }
-        Ok(())
+        match opened_alone(rt, self.name.as_str()) {
+            Ok(file) => {
+                self.handle = Handle::Open(file);
+                Ok(())
+            }
+            Err(cause) => {
+                self.handle = Handle::Failed(cause);
+                Err(cause)
+            }
+        }
     }
 
     /// Syncs the folder in which the file was made: where its name is a link, the folder of what that leads to.
@@ -84,14 +129,20 @@ impl NamedFile {
                 let path = fs::canonicalize(rt, name)?;
                 sync_names(rt, folder_of(path.as_path()))
             }
-            _ => sync_names(rt, folder_of(Path::new(name))),
+            Ok(_) => sync_names(rt, folder_of(Path::new(name))),
+            Err(cause) if cause.kind() == io::ErrorKind::NotFound => {
+                sync_names(rt, folder_of(Path::new(name)))
+            }
+            Err(cause) => Err(cause),
         }
     }
 
     fn handle(&self) -> io::Result<&File> {
-        self.handle
-            .as_ref()
-            .ok_or(io::ErrorKind::NotConnected.into())
+        match &self.handle {
+            Handle::Open(file) => Ok(file),
+            Handle::Failed(cause) => Err(*cause),
+            Handle::Closed => Err(io::ErrorKind::NotConnected.into()),
+        }
     }
 
     pub(crate) fn measure(&self) -> io::Result<u64> {
