@@ -389,7 +389,7 @@ def failing_calls_on_a_foreign_file(edge):
         tracer = injecting(call, "error=EIO", calls[: n + 1].count((call, file)), file)
         status, output, errors = edge.run(["b", "run"], PHASES, tracer=tracer)
         what = " ".join(tracer)
-        same(what, (status, errors.splitlines()[-1][:8]), (7, b"ccbase: "))
+        same(what, (status, errors.startswith(b"ccbase: ")), (7, True))
         same(what, (acknowledged(output, PHASE_ROWS), edge.read("b")), ([], foreign))
     return f"{len(calls)} calls"
 
