@@ -17,10 +17,11 @@ CCBASE is the built program: `rt run` in crates/ccbase makes it, as out/ccbase t
 
 Where strace is here and may trace, also:
 
-- the calls on a new base are those of the model, file by file: both files, their folder, and for each row a write, a sync, a
-  write and a sync, all before its reply is written;
-- each of these calls fails in turn, is interrupted, and moves no byte: afterwards the base has the rows that were
-  acknowledged, and no other;
+- the calls on a new base are those of the model, file by file: both files, the folder of the first, and for each row a write, a
+  sync, a write and a sync, all before its reply is written; also for a base in another folder, and for a link as FILE;
+- each of these calls fails in turn, is interrupted, and moves no byte: a failure ends with 7, and afterwards the base has the
+  rows that were acknowledged, and no other;
+- each call before the first write on foreign bytes fails in turn: they stay;
 - a base that is moved away while a call fails, and another made under its name: each program writes its own;
 - no random numbers: words of no form are told all the same.
 
@@ -314,15 +315,15 @@ def acknowledged(output, rows):
     return [kept for kept in rows if kept[0] in found]
 
 
-def commits(data):
+def commits(file, data):
     """The calls that commit the rows of a journal: for each a write, a sync, a write, and a sync."""
     place, calls = 0, []
     for payload in frames(data):
         behind = struct.pack("<I", len(payload)) + payload + b"\0"
-        calls.append(("pwrite64", "b", place + 1, behind))
-        calls.append(("fdatasync", "b"))
-        calls.append(("pwrite64", "b", place, b"\1"))
-        calls.append(("fdatasync", "b"))
+        calls.append(("pwrite64", file, place + 1, behind))
+        calls.append(("fdatasync", file))
+        calls.append(("pwrite64", file, place, b"\1"))
+        calls.append(("fdatasync", file))
         place += 5 + len(payload)
     return calls
 
@@ -332,16 +333,33 @@ def opening(name):
     return [(call, name) for call in ("openat", "flock", "fdatasync")]
 
 
-def calls_on_a_new_base(edge):
-    found, calls = traced(edge.program, ["b", "run"], PHASES, edge.folder)
+def calls_on(edge, name, file, folder):
+    """Runs the session on a new base, and checks the calls: FILE has this name, and is made as this file in this folder."""
+    found, calls = traced(edge.program, [name, "run"], PHASES, edge.folder)
     same("a traced run", found, (0, b"".join(REPLIES), b""))
-    rows = commits(edge.read("b"))
-    wanted = opening("b") + opening("b.objects") + [("openat", "."), ("fsync", ".")]
-    wanted += [("pwrite64", "b", 0, b"\0"), ("fdatasync", "b")]
+    rows = commits(file, edge.read(file))
+    wanted = opening(file) + opening(name + ".objects") + [("openat", folder), ("fsync", folder)]
+    wanted += [("pwrite64", file, 0, b"\0"), ("fdatasync", file)]
     wanted += rows[:8] + [("write", OUTPUT, None, REPLIES[0])] + rows[8:] + [("write", OUTPUT, None, REPLIES[1])]
     same("the calls", [call for call in calls if call[0] not in ("statx", "pread64")], wanted)
-    edge.holds("b", PHASE_ROWS)
+    edge.holds(name, PHASE_ROWS)
     return f"{len(wanted)} calls"
+
+
+def calls_on_a_new_base(edge):
+    return calls_on(edge, "b", "b", ".")
+
+
+def calls_on_a_base_in_a_folder(edge):
+    os.mkdir(edge.path("d"))
+    return calls_on(edge, "d/b", "d/b", "d")
+
+
+def calls_on_a_base_behind_a_link(edge):
+    """The folder of what the link leads to is synced; the folder of FILE.objects is not."""
+    os.mkdir(edge.path("d"))
+    os.symlink("d/far", edge.path("b"))
+    return calls_on(edge, "b", "d/far", "d")
 
 
 def failing_calls(edge):
@@ -349,22 +367,37 @@ def failing_calls(edge):
     text, rows = session(1, 2)
     edge.has(["b", "run"], text, (0, transcript(2), b""))
     before = edge.read("b")
-    _, calls = traced(edge.program, ["b", "run"], PHASES, edge.folder)
-    calls = [call[:2] for call in calls if call[1] != OUTPUT]
-    looking = calls_of_the_look(calls)
+    calls = calls_of(edge)
     tried = 0
     for n, (call, file) in enumerate(calls):
         for fault, retried in faults_of(call):
             edge.write("b", before)
             tracer = injecting(call, fault, calls[: n + 1].count((call, file)), file)
-            fails_well(edge, tracer, rows, retried, n < looking)
+            fails_well(edge, tracer, rows, retried)
             tried += 1
     return f"{tried} faults of {len(calls)} calls"
 
 
-def calls_of_the_look(calls):
-    """How many calls the program makes as it looks for foreign bytes: all before it asks for the length of FILE once more."""
-    return calls.index(("statx", "b"), calls.index(("statx", "b")) + 1)
+def failing_calls_on_a_foreign_file(edge):
+    """Each call before the first write fails in turn: none is taken for good, and the foreign bytes stay."""
+    foreign = b"hello, world\n"
+    edge.write("b", foreign)
+    calls = calls_of(edge)
+    calls = calls[: [call for call, _ in calls].index("pwrite64")]
+    for n, (call, file) in enumerate(calls):
+        edge.write("b", foreign)
+        tracer = injecting(call, "error=EIO", calls[: n + 1].count((call, file)), file)
+        status, output, errors = edge.run(["b", "run"], PHASES, tracer=tracer)
+        what = " ".join(tracer)
+        same(what, (status, errors.startswith(b"ccbase: ")), (7, True))
+        same(what, (acknowledged(output, PHASE_ROWS), edge.read("b")), ([], foreign))
+    return f"{len(calls)} calls"
+
+
+def calls_of(edge):
+    """The calls of a run on the files of a base and on their folder, each as its name and its file."""
+    _, calls = traced(edge.program, ["b", "run"], PHASES, edge.folder)
+    return [call[:2] for call in calls if call[1] != OUTPUT]
 
 
 def faults_of(call):
@@ -377,11 +410,11 @@ def faults_of(call):
     return faults
 
 
-def fails_well(edge, tracer, rows, retried, looking):
-    """A call that is retried changes nothing, and any other is told. As the program looks, it goes on without the look."""
+def fails_well(edge, tracer, rows, retried):
+    """A call that is retried changes nothing, and any other is told."""
     status, output, errors = edge.run(["b", "run"], PHASES, tracer=tracer)
     what = " ".join(tracer)
-    if retried or (looking and status == 0):
+    if retried:
         same(what, (status, output, errors), (0, b"".join(REPLIES), b""))
     else:
         same(what, (status, errors.startswith(b"ccbase: "), errors.count(b"\n")), (7, True, 1))
@@ -438,7 +471,10 @@ CHECKS = [
 
 TRACED_CHECKS = [
     calls_on_a_new_base,
+    calls_on_a_base_in_a_folder,
+    calls_on_a_base_behind_a_link,
     failing_calls,
+    failing_calls_on_a_foreign_file,
     moved_base,
     no_random_numbers,
 ]

@@ -8,12 +8,16 @@ counts the allocations of a run from 1. FIRST and STEP are 1 where they are not 
 its threads meet. The session is one phase of two lanes, each of which builds in a view of its own, the first one two scripts at
 once.
 
-- A run ends by itself, with status 0, 1 or 8.
+- A run ends by itself, with status 0 or 8.
 - What it printed is a front of the transcript of a run in which none fails, and all of it unless it ended with 8.
 
-Prints each number whose run ends otherwise, a line for each ten numbers, and how many runs ended with which status; ends with 1
-where one ended otherwise. It stands outside the gate: rt builds the program anew for each number, which takes a minute or more,
-so a whole sweep takes half a day. A step of 50 and another FIRST each time take a quarter of an hour.
+Status 8 is right before the lanes start, at the lock and in the transcript; elsewhere what is left is run once more and 0 is right.
+Where an allocation lies the tool cannot tell, since the lanes allocate in an order of their own. So it takes 8 at any number, and
+lists the numbers that ended so: a second try that does nothing would show in that list alone.
+
+Prints each number whose run ends otherwise, a line for each ten numbers, the numbers that ended with 8, and how many runs ended
+with which status; ends with 1 where one ended otherwise. It stands outside the gate: rt builds the program anew for each number,
+which takes a minute or more, so a whole sweep takes half a day. A step of 50 and another FIRST each time take a quarter of an hour.
 """
 import collections
 import pathlib
@@ -50,7 +54,7 @@ clearmake bob
 """
 
 NO_MEMORY = 8
-ENDS = (0, 1, NO_MEMORY)
+ENDS = (0, NO_MEMORY)
 
 
 class Run:
@@ -84,16 +88,19 @@ def main():
     if whole.status != 0:
         sys.exit(f"where none fails, the run ended with {whole.status}:\n{whole.said}")
     numbers = range(first, last + 1, step)
-    ends, wrong = collections.Counter(), 0
+    ends, without_memory, wrong = collections.Counter(), [], 0
     for tried, number in enumerate(numbers, 1):
         run = Run(number)
         ends[run.status] += 1
+        if run.status == NO_MEMORY:
+            without_memory.append(number)
         fault = run.fault(whole)
         if fault:
             wrong += 1
             print(f"{number}: {fault}", flush=True)
         if tried % 10 == 0:
             print(f"{tried} of {len(numbers)}", flush=True)
+    print(f"ended with {NO_MEMORY}: {' '.join(map(str, without_memory)) or 'none'}")
     told = ", ".join(f"{count} with {status}" for status, count in sorted(ends.items(), key=str))
     print(f"{len(numbers)} runs ended: {told}; {wrong} otherwise than they may")
     return 1 if wrong else 0

@@ -28,7 +28,7 @@ def plain(text):
 
 
 def call_of(line, folder):
-    """The call that a line of a trace tells, where it is on a file of the folder, the folder or standard output; else None."""
+    """The call that a line of a trace tells, where it is on the folder, a file below it or standard output; else None."""
     told = LINE.match(line)
     if told is None:
         return None
@@ -39,7 +39,7 @@ def call_of(line, folder):
     descriptor, path = held.group(1), os.fsdecode(plain(held.group(2)))
     if name == "write":
         return (name, OUTPUT, None, plain(TEXT.search(words).group(1))) if descriptor == "1" else None
-    if path != folder and os.path.dirname(path) != folder:
+    if path != folder and not path.startswith(folder + os.sep):
         return None
     file = os.path.relpath(path, folder)
     if name == "pwrite64":

@@ -177,17 +177,31 @@ fn a_file_that_is_moved_away_is_written_on(rt: HostRuntime) -> Result<(), Fail> 
     Ok(())
 }
 
-/// A disk that takes over goes on under the lock of the other, and counts its own calls alone.
+/// A disk that took over: it goes on with the file of the other, which was moved away, and with its lock.
+fn tell_taken(rt: &impl Abort, disk: &mut FileDisk<HostRuntime>) {
+    assert_eq!(rt; disk.counts().ticks, 0);
+    let mut found = [0u8; 4];
+    let is_long = disk.length(0) == Ok(4);
+    let is_read = disk.read_at(0, 0, found.as_mut_slice()).is_ok();
+    assert!(rt; is_long && is_read && found.as_slice() == b"text".as_slice());
+}
+
+/// A disk that takes over goes on with the file of the other and under its lock, though the file was moved away, and counts its own
+/// calls alone.
 #[test]
 fn a_disk_goes_on_with_the_files_of_another(rt: HostRuntime) -> Result<(), Fail> {
     let name = "disk_model_taken";
+    let moved = "disk_model_taken_away";
     let mut other = files_of(&rt, name)?;
     assert!(rt; other.write_at(0, 0, b"text").is_ok());
     let mut disk = files_of(&rt, name)?;
     disk.take_over(other);
-    assert_eq!(rt; disk.counts().ticks, 0);
-    assert!(rt; disk.length(0) == Ok(4) && files_of(&rt, name)?.length(0).is_err());
-    fs::remove_file(&rt, name)?;
-    fs::remove_file(&rt, "disk_model_taken.objects")?;
+    fs::rename(&rt, name, moved)?;
+    tell_taken(&rt, &mut disk);
+    let is_held = files_of(&rt, moved)?.length(0).is_err();
+    assert!(rt; is_held && !fs::exists(&rt, name)?);
+    for file in [moved, "disk_model_taken.objects"] {
+        fs::remove_file(&rt, file)?;
+    }
     Ok(())
 }
