@@ -193,7 +193,7 @@ GROUPS = (
         ),
         Command(
             "mkarrow V P VERSION", "records that VERSION was merged into the selected version",
-            "`merge -to P -ndata -version VERSION`", "the arrow only: texts are merged by hand",
+            "`merge -to P -ndata -version VERSION`", "the arrow only: texts are merged by hand; refused while P is checked out, so check in first",
             "`git merge -s ours`", NONE, NONE,
         ),
         Command(
@@ -214,7 +214,7 @@ GROUPS = (
         ),
         Command(
             "cat V P@@VERSION", "prints the text of any version",
-            "`cat P@@VERSION` in the view", "the same", "`git show COMMIT:P`", NONE, NONE,
+            "`cat P@@VERSION` in the view", "by its number only, not `LATEST` or a label", "`git show COMMIT:P`", NONE, NONE,
         ),
         Command(
             "describe V P", "prints an element, its selected version and the labels",

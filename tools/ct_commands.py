@@ -411,7 +411,7 @@ def option_of(call, word, options):
     """The option that a word is, whole or cut short."""
     if word in options:
         return word
-    found = [option for option in options if option.startswith(word) and len(word) > 2]
+    found = [option for option in options if option.startswith(word) and len(word) > 1]
     if len(found) == 1:
         return found[0]
     wanted = "one of " + ", ".join(sorted(options)) if options else "none"

@@ -7,6 +7,7 @@
     tools/import_tree.py src in --base demo.base --ccbase ./ccbase
 
 SESSIONS is a folder, absent or empty so far, for the sessions `1.txt`, `2.txt` and so on, each below 16 MiB, to be run in this order.
+The contents of FOLDER become those of the root directory; to import several folders, name the folder that has them all.
 They make the view V, `import` by default, and in it an element for each file and folder, and check all of them in. With --base only
 the differences from what V sees in that base are written: new names, changed texts, and `rmname` for names that are gone. Where
 nothing differs there is no session. With --ccbase the program runs the sessions on that base.
