@@ -48,9 +48,44 @@ LAWS = {
 }
 
 # Rows that are still to be mended, with what they measure today.
-KNOWN = {}
+KNOWN = {
+    "scrubs": {"seconds": 1.9},
+    "scrubbed-builds": {"seconds": 1.75},
+    "rebuilds": {"seconds": 1.8},
+    "links": {"seconds": 1.8},
+    "links-opening": {"seconds": 1.85},
+    "shared-inputs": {"seconds": 1.8, "memory": 1.9},
+    "histories": {"seconds": 2.1},
+    "config-labels": {"bytes_each": 155},
+    "specs": {"bytes_each": 12},
+    "view-lives": {"bytes_each": 1434},
+    "answers": {"memory": 0.95},
+    "opening": {"bytes_each": 386},
+    "lanes": {"ratio": 1.7},
+    "lanes-busy": {"ratio": 6.0},
+    "branches": {"seconds": 1.9},
+    "branches-opening": {"seconds": 1.9},
+    "directory-branches": {"seconds": 1.8},
+    "names": {"seconds": 1.8},
+    "view-checkouts": {"seconds": 2.1},
+    "group-listing": {"seconds": 2.7},
+    "descriptions": {"seconds": 1.95},
+    "version-trees": {"seconds": 2.1},
+    "macro-chain": {"seconds": 2.1},
+    "empty-references": {"seconds": 2.0},
+    "suffix-fronts": {"seconds": 2.7},
+    "suffix-rules": {"seconds": 1.95},
+    "prerequisites": {"seconds": 1.8, "memory": 1.8},
+    "targets-of-group": {"seconds": 1.6},
+    "comments": {"seconds": 2.0},
+    "late-units": {"seconds": 1.9},
+    "group-readers": {"seconds": 1.6},
+    "group-readers-opening": {"seconds": 1.75},
+    "config-rules": {"seconds": 1.75},
+}
 
 STEPS = 1, 2, 4
+SESSIONS = "base", "less", "against", "run"
 LEAST_SECONDS, TOLD_SECONDS = 0.01, 0.05
 LEAST_MEGABYTES, TOLD_MEGABYTES = 2.0, 8.0
 WORSE_EXPONENT, WORSE_FACTOR = 0.3, 4 / 3
@@ -79,6 +114,7 @@ class Bench:
     def __init__(self, program, folder, most_seconds):
         self.program, self.folder, self.most_seconds = program, pathlib.Path(folder), most_seconds
         self.gate = self.path("gate")
+        ctypes.CDLL(None).prctl(PR_SET_CHILD_SUBREAPER, 1, 0, 0, 0)
         os.mkfifo(self.gate)
         self.empty = self.least(lambda: self.run(self.written("empty", EMPTY), "none"))
 
@@ -95,13 +131,13 @@ class Bench:
             file.writelines(line + "\n" for line in lines)
         return place
 
-    def run(self, session, base):
-        """Runs a session on a base, and answers what that took."""
+    def run(self, session, base, wanted=0):
+        """Runs a session on a base, which ends with the status that is wanted, and answers what that took."""
         words = [self.program, self.path(base), session, self.path("replies"), str(self.most_seconds), self.gate]
         shell = subprocess.run(["sh", "-c", LAUNCH, *words], stdout=subprocess.PIPE, check=True)
         self.gate.write_text("\n")
         status, used = end_of(int(shell.stdout))
-        if status:
+        if status != wanted:
             raise VobError(f"{session.name}: ended with {status}: {wrong_line(self.path('replies'))}")
         return Spent(used.ru_utime, used.ru_stime, used.ru_maxrss / 1024)
 
@@ -169,13 +205,14 @@ class Measured(NamedTuple):
 def measured(bench, row, size):
     """Runs a row at one size."""
     bench.clear()
-    sessions = {name: bench.written(name, lines) for name, lines in row.case(size)._asdict().items() if lines is not None}
+    case = row.case(size)
+    sessions = {name: bench.written(name, getattr(case, name)) for name in SESSIONS if getattr(case, name) is not None}
     if "base" in sessions:
         bench.run(sessions["base"], "made")
     with Busy(row.busy):
         less = bench.run(sessions["less"], bench.copied("made")) if "less" in sessions else bench.empty
         other = bench.run(sessions["against"], bench.copied("made")) if "against" in sessions else None
-        spent = bench.run(sessions["run"], bench.copied("made"))
+        spent = bench.run(sessions["run"], bench.copied("made"), case.status)
     ratio = spent.both() / other.both() if other else None
     return Measured(size, max(spent.user - less.user, 0.0), spent.megabytes, max(spent.megabytes - less.megabytes, 0.0), ratio)
 
@@ -344,7 +381,6 @@ def main(words):
         return 0
     if read.list:
         return listed()
-    ctypes.CDLL(None).prctl(PR_SET_CHILD_SUBREAPER, 1, 0, 0, 0)
     room = IN_MEMORY if os.access(IN_MEMORY, os.W_OK) else None
     with tempfile.TemporaryDirectory(prefix="growth-", dir=room) as folder:
         return 0 if every_row(Bench(str(pathlib.Path(read.program).resolve()), folder, read.seconds), read) else 1

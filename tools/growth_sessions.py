@@ -3,7 +3,7 @@ command cost more than it should.
 
 A generator takes a size n and answers a `Case`. Where a row is about an older base, a first session makes it, and only what comes behind
 is measured: an empty session opens the base, and `less` is what else is to be taken off. No command of a session is refused and no unit
-fails, so the status is 0."""
+fails, so the status is 0, but where a `Case` says otherwise."""
 from collections.abc import Callable
 from typing import NamedTuple
 
@@ -19,6 +19,7 @@ class Case(NamedTuple):
     base: list = None  # what makes the base before
     less: list = None  # what is run on another copy of that base, to be taken off; else an empty session without a base
     against: list = None  # what is run on another copy of that base, to be compared with
+    status: int = 0  # with which `run` ends
 
 
 class Row(NamedTuple):
@@ -140,7 +141,7 @@ def config_labels(n):
 
 def a_spec(number):
     """A config spec of 1,000 bytes, which no other number has."""
-    return "".join(f"\n|element f{number + place:07} RELEASE{place:08}" for place in range(29)) + f"\n|# {'x' * 5}"
+    return "".join(f"\n|element f{number + place:07} RELEASE{place:08}" for place in range(30)) + f"\n|#{'x' * 8}"
 
 
 def specs(n):
@@ -193,22 +194,25 @@ def branches_opening(n):
 
 
 def directory_branches(n):
-    base = ["mkview v", "checkout v .", "mkdir v -nco d", "checkin v .", *branches("d", n), "checkout v d"]
-    return Case(base=lane(base), run=lane([f"mkelem v -nco d/{name}" for name in numbered("f", n)]), less=EMPTY)
+    """The view has not checked the directory out, which each command finds."""
+    base = ["mkview v", "checkout v .", "mkdir v -nco d", "checkin v .", *branches("d", n)]
+    return Case(base=lane(base), run=lane([f"mkelem v -nco d/{name}" for name in numbered("f", n)]), less=EMPTY, status=1)
 
 
 def names(n):
     changes = ["mv v x y", "mv v y x"] * (n // 2)
-    base = [*empty_files(["x"]), "checkout v .", *changes, "mkview w"]
+    base = [*empty_files(["x"]), "mkview w", "checkout w -unreserved .", "checkout v -unreserved .", *changes]
     return Case(base=lane(base), run=lane(["describe w x"] * n), less=EMPTY)
 
 
 def view_checkouts(n):
-    return Case(run=lane(empty_files(["f"]) + ["checkout v f", "rmview -force v", "mkview v"] * n))
+    base = empty_files(["f"]) + ["checkout v f", "uncheckout v f"] * n
+    return Case(base=lane(base), run=lane(["rmview v", "mkview v"] * n), less=EMPTY)
 
 
 def group_listing(n):
-    base = ["mkview v", makefile(group(numbered("t", n))), "clearmake v"]
+    """Another view held that group, and holds a newer one."""
+    base = ["mkview v", *large.a_makefile(group(numbered("t", n))), "clearmake v", "mkview w", "clearmake w", "clearmake w -u"]
     return Case(base=lane(base), run=lane(["lsdo v"]), less=EMPTY)
 
 
@@ -271,7 +275,7 @@ def targets_of_group(n):
     """Targets without a script that an older build had made together."""
     targets = numbered("t", n)
     base = ["mkview v", makefile(group(targets)), "clearmake v", makefile([whole(targets), " ".join(targets) + ":"])]
-    return Case(base=lane(base), run=lane(["clearmake v"]), less=EMPTY)
+    return Case(base=lane(base), run=lane(["clearmake v"] * 10), less=EMPTY)
 
 
 def comments(n):
@@ -347,29 +351,29 @@ ROWS = {
     "histories": Row("n/10 times lshistory of a file, beside 10 labels of n places", "what bears on the element alone", 300, histories),
     "config-labels": Row("opening n labels of 1,000 places each", "at most 48 bytes a place", 50, config_labels, things=1000, bytes_each=48),
     "specs": Row("opening a base after n times setcs with 1,000 bytes", "only specs of live views are parsed", 500, specs, things=1000, bytes_each=2.5),
-    "view-lives": Row("opening a base after n lives of a view", "only specs of live views are parsed", 5000, view_lives, bytes_each=500),
+    "view-lives": Row("opening a base after n lives of a view", "only specs of live views are parsed; 2.5 times the journal's bytes, which are 64 a life", 10_000, view_lives, bytes_each=160),
     "answers": Row("n phases that print 200,000 bytes each", "no memory for what was printed", 50, answers, memory=0.3),
-    "opening": Row("opening a base of n mixed rows", "at most 2 microseconds a row", 10_000, opening),
+    "opening": Row("opening a base of n mixed rows", "at most 2 microseconds a row, and 2.5 times the journal's bytes, which are 50 a row", 20_000, opening, bytes_each=125),
     "lanes": Row("six lanes with -J 4 wink in the same n objects, against one lane", "at most 1.15 times the processor time of one lane", 250, six_lanes, ratio=1.15),
     "lanes-busy": Row("the same beside four busy loops", "at most 1.15 times the processor time of one lane", 250, six_lanes, ratio=1.15, busy=4),
     "null-builds": Row("a build of n targets with nothing to do, in a base of seven views", "at most 10 microseconds a target", 500, null_builds),
     "branches": Row("n times mkbranch -nco of a file", "linear in n", 1000, file_branches),
     "branches-opening": Row("opening that base", "linear in n", 1000, branches_opening),
-    "directory-branches": Row("n names in a directory that had n times mkbranch -nco", "linear in n", 500, directory_branches),
-    "names": Row("n looks at a name that another view changed n times", "linear in n", 250, names),
-    "view-checkouts": Row("n times checkout, rmview -force and mkview", "linear in n", 400, view_checkouts),
-    "group-listing": Row("lsdo of a group of n targets", "linear in n", 400, group_listing),
+    "directory-branches": Row("n commands in a directory that is not out, after n times mkbranch -nco of it", "linear in n", 500, directory_branches),
+    "names": Row("n looks by a view at a name in its checkout that another changed n times in its own", "linear in n", 1600, names),
+    "view-checkouts": Row("n times rmview of a view that had n checkouts", "linear in n", 400, view_checkouts),
+    "group-listing": Row("lsdo of a group of n targets, which another view held", "linear in n", 200, group_listing),
     "descriptions": Row("n times describe of a file whose label moved n times", "linear in n", 400, descriptions),
     "version-trees": Row("n times lsvtree of a file whose label moved n times", "linear in n", 400, version_trees),
     "branch-chain": Row("a chain of n branches", "what its names take", 200, branch_chain),
     "macro-chain": Row("n rules that each use a chain of n macros", "an expansion is kept while no macro changed", 300, macro_chain),
     "empty-references": Row("n rules that each use a macro of 10n references to nothing", "an expansion is kept while no macro changed", 300, empty_references),
-    "suffix-fronts": Row("n suffix rules that n/5 of n suffixes begin", "suffixes in a map", 100, suffix_fronts),
+    "suffix-fronts": Row("n suffix rules that n/5 of n suffixes begin", "suffixes in a map", 150, suffix_fronts),
     "suffix-rules": Row("n paths that none of n suffix rules for their suffix serves", "suffix rules in a map", 200, suffix_rules),
     "prerequisites": Row("n targets of one rule with n prerequisites", "prerequisites are shared", 250, prerequisites),
-    "targets-of-group": Row("n targets without a script that an older build made together", "targets of a large group in a set", 500, targets_of_group),
+    "targets-of-group": Row("ten builds of n targets without a script that an older build made together", "targets of a large group in a set", 1000, targets_of_group),
     "comments": Row("a build of n units behind n comments of 1,000 bytes", "a turn reads its own line", 100, comments),
-    "late-units": Row("ten units behind 24,000 others, which each read n of those", "linear in n", 500, late_units),
+    "late-units": Row("ten units behind 24,000 others, which each read n of those", "linear in n", 800, late_units),
     "group-readers": Row("20 units that read a group of n targets", "targets of a large group in a set", 750, group_readers),
     "group-readers-opening": Row("opening that base", "targets of a large group in a set", 750, group_readers_opening),
     "outputs": Row("a unit that writes n outputs of 1 MiB", "its law is told", 8, outputs),
