@@ -10,7 +10,7 @@ microseconds and bytes that each thing more costs; and what is found. A row that
 taken off the seconds, and off the megabytes before their exponent is told, is what an empty session takes, or the session that the row
 names, as the opening of its base.
 
-An exponent is that of a power law from n to 4n. Below 0.01 s and 2 MB all counts as that, and below 0.05 s or 8 MB at 4n there is none.
+An exponent is that of a power law from n to 4n. Below 0.02 s and 2 MB all counts as that, and below 0.1 s or 8 MB at 4n there is none.
 A row fails where an exponent passes 1.3; so does one with another limit of its own: the exponent of its memory, the bytes of each thing,
 or the ratio of its processor time to that of another session. Before it fails it is run again, and the least of each size counts.
 
@@ -54,7 +54,7 @@ KNOWN = {
     "rebuilds": {"seconds": 1.8},
     "links": {"seconds": 1.8},
     "links-opening": {"seconds": 1.85},
-    "shared-inputs": {"seconds": 1.8, "memory": 1.9},
+    "shared-inputs": {"seconds": 2.1, "memory": 1.9},
     "histories": {"seconds": 2.1},
     "config-labels": {"bytes_each": 155},
     "specs": {"bytes_each": 12},
@@ -86,7 +86,7 @@ KNOWN = {
 
 STEPS = 1, 2, 4
 SESSIONS = "base", "less", "against", "run"
-LEAST_SECONDS, TOLD_SECONDS = 0.01, 0.05
+LEAST_SECONDS, TOLD_SECONDS = 0.02, 0.1
 LEAST_MEGABYTES, TOLD_MEGABYTES = 2.0, 8.0
 WORSE_EXPONENT, WORSE_FACTOR = 0.3, 4 / 3
 IN_MEMORY = "/dev/shm"  # each row syncs the disk, so bases lie in memory where they can
