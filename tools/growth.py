@@ -66,7 +66,6 @@ KNOWN = {
     "branches": {"seconds": 1.9},
     "branches-opening": {"seconds": 1.9},
     "directory-branches": {"seconds": 1.8},
-    "names": {"seconds": 1.8},
     "view-checkouts": {"seconds": 2.1},
     "group-listing": {"seconds": 2.7},
     "descriptions": {"seconds": 1.95},
@@ -76,7 +75,6 @@ KNOWN = {
     "suffix-fronts": {"seconds": 2.7},
     "suffix-rules": {"seconds": 1.95},
     "prerequisites": {"seconds": 1.8, "memory": 1.8},
-    "targets-of-group": {"seconds": 1.6},
     "comments": {"seconds": 2.0},
     "late-units": {"seconds": 1.9},
     "group-readers": {"seconds": 1.6},
@@ -381,6 +379,7 @@ def main(words):
         return 0
     if read.list:
         return listed()
+    signal.signal(signal.SIGTERM, signal.default_int_handler)  # so that loops, runs and bases do not stay behind
     room = IN_MEMORY if os.access(IN_MEMORY, os.W_OK) else None
     with tempfile.TemporaryDirectory(prefix="growth-", dir=room) as folder:
         return 0 if every_row(Bench(str(pathlib.Path(read.program).resolve()), folder, read.seconds), read) else 1

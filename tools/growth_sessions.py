@@ -360,7 +360,7 @@ ROWS = {
     "branches": Row("n times mkbranch -nco of a file", "linear in n", 1000, file_branches),
     "branches-opening": Row("opening that base", "linear in n", 1000, branches_opening),
     "directory-branches": Row("n commands in a directory that is not out, after n times mkbranch -nco of it", "linear in n", 500, directory_branches),
-    "names": Row("n looks by a view at a name in its checkout that another changed n times in its own", "linear in n", 1600, names),
+    "names": Row("n looks by a view at a name in its checkout that another changed n times in its own", "linear in n", 400, names),
     "view-checkouts": Row("n times rmview of a view that had n checkouts", "linear in n", 400, view_checkouts),
     "group-listing": Row("lsdo of a group of n targets, which another view held", "linear in n", 200, group_listing),
     "descriptions": Row("n times describe of a file whose label moved n times", "linear in n", 400, descriptions),
