@@ -5,8 +5,7 @@ session and its transcript.
     tools/example_tables.py CCBASE     writes them anew; the built program tells the status and the rows of each
     tools/example_tables.py --check    ends with 1 where a table has another session or transcript than its example, and names it
 
-The clock of the tables stands still, so its date is in the place of DATE. An example with lanes whose order is open is no table: what
-it writes depends on the schedule, and its transcript is one of several.
+The clock of the tables stands still, so its date is in the place of DATE. An example writes the same in any order of its lanes.
 """
 import pathlib
 import subprocess
@@ -23,9 +22,6 @@ TABLES = TOP / "crates/session_tables/data/tables/examples"
 
 CLOCK, CLOCK_DATE = 1700000000, "14-Nov-2023.22:13:20"
 
-# Two lanes of these ask for the same at once.
-OPEN = {"lanes-at-once", "project-lanes", "shared-build"}
-
 
 class Usage(VobError):
     """Words that are none of the forms."""
@@ -33,7 +29,7 @@ class Usage(VobError):
 
 
 def examples():
-    return [path for path in sorted(EXAMPLES.glob("*.txt")) if path.stem not in OPEN]
+    return sorted(EXAMPLES.glob("*.txt"))
 
 
 def case(path):
