@@ -6,13 +6,13 @@ Usage: check_edge.py CCBASE
 CCBASE is the built program: `rt run` in crates/ccbase makes it, as out/ccbase there. Each check runs it in a new folder:
 
 - standard output closed, standard error closed, both: no byte that is printed gets into the base;
-- two programs at once on one base: whoever comes second is told so, and every acknowledged row is there afterwards;
+- two programs at once on one base: the second is refused, and every acknowledged row is there afterwards;
 - a session that is still being written: the base is not held meanwhile;
-- foreign bytes in FILE: they are told before the first row is written over them, and not told where no row can be;
-- a damaged FILE: the row is told, no file is touched, and none is made beside it;
+- foreign bytes in FILE: they are reported before the first row overwrites them, and not where no row can be written;
+- a damaged FILE: the row is reported, no file is touched, and none is made beside it;
 - a FILE that cannot be opened, words of no form, a text that is no session or too long, an input that cannot be read: one line says
   why, and no file is made;
-- a FILE that may grow no more: the write that is cut short is told, where the system's signal for it is ignored, and every
+- a FILE that may grow no more: the short write is reported, where the system's signal for it is ignored, and every
   acknowledged row is there in any case.
 
 Where strace is here and may trace, also:
@@ -23,7 +23,7 @@ Where strace is here and may trace, also:
   rows that were acknowledged, and no other;
 - each call before the first write on foreign bytes fails in turn: they stay;
 - a base that is moved away while a call fails, and another made under its name: each program writes its own;
-- no random numbers: words of no form are told all the same.
+- no random numbers: words of no form are reported all the same.
 
 Prints a line for each check that passed, and ends with 1 at the first thing that is wrong.
 """
@@ -411,7 +411,7 @@ def faults_of(call):
 
 
 def fails_well(edge, tracer, rows, retried):
-    """A call that is retried changes nothing, and any other is told."""
+    """A call that is retried changes nothing, and any other failure is reported."""
     status, output, errors = edge.run(["b", "run"], PHASES, tracer=tracer)
     what = " ".join(tracer)
     if retried:

@@ -7,6 +7,7 @@ CCBASE is the built program; a SECTION is a NAME of tools/tool_checks/check_NAME
 `check(bench)`, which raises `Failed` at the first thing that is wrong and else answers what it saw. A tool's section is a file more in
 that folder. Prints a line a section, and ends with 1 where one failed."""
 import importlib
+import os
 import pathlib
 import sys
 import time
@@ -17,7 +18,7 @@ SECTIONS = sorted(file.stem[6:] for file in (pathlib.Path(__file__).resolve().pa
 
 
 def passes(name, program):
-    """Whether a section passes, which is told."""
+    """Whether a section passes; prints its line."""
     begun = time.monotonic()
     try:
         with Bench(program) as bench:
@@ -35,7 +36,9 @@ def main():
         print(__doc__)
         return 0
     if not words:
-        sys.exit("check_tools.py: the built program is missing (check_tools.py --help tells the words)")
+        sys.exit("check_tools.py: the built program is missing (see check_tools.py --help)")
+    if not os.access(words[0], os.X_OK) or os.path.isdir(words[0]):
+        sys.exit(f"check_tools.py: {words[0]} is no program")
     wrong = [name for name in words[1:] if name not in SECTIONS]
     if wrong:
         sys.exit(f"check_tools.py: {wrong[0]} is no section: wanted is one of {', '.join(SECTIONS)}")

@@ -7,7 +7,7 @@
 CCBASE is the program. Each row of tools/growth_sessions.py is run at sizes n, 2n and 4n, each on a new base, in memory where there is
 /dev/shm. A line a row: the sizes; user seconds and the peak of the process in megabytes; the exponents with which these grow; the
 microseconds and bytes that each thing more costs; and what is found. A row that starts from an older base has that made before. What is
-taken off the seconds, and off the megabytes before their exponent is told, is what an empty session takes, or the session that the row
+taken off the seconds, and off the megabytes before their exponent is computed, is what an empty session takes, or the session that the row
 names, as the opening of its base.
 
 An exponent is that of a power law from n to 4n. Below 0.02 s and 2 MB all counts as that, and below 0.1 s or 8 MB at 4n there is none.
@@ -15,7 +15,7 @@ A row fails where an exponent passes 1.3; so does one with another limit of its 
 or the ratio of its processor time to that of another session. Before it fails it is run again, and the least of each size counts.
 
 Two tables below let rows pass their limit. LAWS has those whose law no algorithm mends, with the reason. KNOWN has those that are still to
-be mended, one by one, each with what it measured; a mended row is taken off the list. A row in either fails where it is worse than told
+be mended, one by one, each with what it measured; a mended row is taken off the list. A row in either fails where it is worse than stated
 there, by 0.3 of an exponent or by a third. The status is 1 where a row fails, else 0.
 
 --scale K    sizes K times as large; the sizes of the table take under three minutes on an idle machine
@@ -259,7 +259,7 @@ def limits(row):
 
 
 def with_room(name, value):
-    """The worst value that still counts as one that is told."""
+    """The worst value that still counts as the stated one."""
     return value + WORSE_EXPONENT if name in ("seconds", "memory") else value * WORSE_FACTOR
 
 

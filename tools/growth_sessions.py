@@ -29,7 +29,7 @@ class Row(NamedTuple):
     wanted: str
     size: int  # n; the row is run at n, 2n and 4n
     case: Callable
-    things: int = 1  # so many for each of n, of which one's time and memory are told
+    things: int = 1  # so many for each of n; time and memory are reported for one
     seconds: float = LIMIT  # the greatest exponent of the seconds
     memory: float = LIMIT  # the greatest exponent of the memory
     bytes_each: float = None  # the most bytes for each thing
@@ -365,7 +365,7 @@ ROWS = {
     "group-listing": Row("lsdo of a group of n targets, which another view held", "linear in n", 200, group_listing),
     "descriptions": Row("n times describe of a file whose label moved n times", "linear in n", 400, descriptions),
     "version-trees": Row("n times lsvtree of a file whose label moved n times", "linear in n", 400, version_trees),
-    "branch-chain": Row("a chain of n branches", "what its names take", 200, branch_chain),
+    "branch-chain": Row("a chain of n branches", "quadratic: each name contains those before it", 200, branch_chain),
     "macro-chain": Row("n rules that each use a chain of n macros", "an expansion is kept while no macro changed", 300, macro_chain),
     "empty-references": Row("n rules that each use a macro of 10n references to nothing", "an expansion is kept while no macro changed", 300, empty_references),
     "suffix-fronts": Row("n suffix rules that n/5 of n suffixes begin", "suffixes in a map", 150, suffix_fronts),
@@ -376,7 +376,7 @@ ROWS = {
     "late-units": Row("ten units behind 24,000 others, which each read n of those", "linear in n", 800, late_units),
     "group-readers": Row("20 units that read a group of n targets", "targets of a large group in a set", 750, group_readers),
     "group-readers-opening": Row("opening that base", "targets of a large group in a set", 750, group_readers_opening),
-    "outputs": Row("a unit that writes n outputs of 1 MiB", "its law is told", 8, outputs),
+    "outputs": Row("a unit that writes n outputs of 1 MiB", "linear in n", 8, outputs),
     "config-rules": Row("100 picks by n rules -config of a group of n targets", "linear in n", 250, config_rules),
     "empty-phases": Row("n empty phases", "linear in n", 50_000, empty_phases),
     "commands": Row("n commands on n/10 files", LINEAR, 5000, of_large("commands")),

@@ -16,7 +16,7 @@
     check                   frames, bytes behind the last one, digests
     follow [--seconds N]    rows as a running program adds them
 
-BASE is the FILE of `ccbase FILE run`. A base that is damaged is told as far as it can be read, with a line on standard error and the
+BASE is the FILE of `ccbase FILE run`. A damaged base is printed as far as it can be read, with a line on standard error and the
 status 4. Dates are in UTC. With --json there is one document, and a line of JSON for each row under `follow`.
 """
 import hashlib
@@ -92,7 +92,7 @@ def all_rows(base, words):
 
 
 def lines_or_json(found, line, form, words):
-    """What is told of each of some things: the lines, or with --json the JSON."""
+    """What is printed of each of some things: the lines, or with --json the JSON."""
     return (None, list(map(form, found))) if words.json else (list(map(line, found)), None)
 
 

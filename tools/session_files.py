@@ -54,7 +54,7 @@ def are_carried_out(program, base, paths):
 
 
 def in_one_line(main):
-    """A tool's main whose faults of the system are told in one line, as those of a base are."""
+    """A tool's main that reports system errors in one line, like those of a base."""
 
     def told(words):
         try:

@@ -1,6 +1,6 @@
 """Runs a program under strace: which system calls it makes on files, and what it does where one of them fails.
 
-A helper of check_edge.py. A call is told as its name and its file, and a write besides by its place, which a stream has none of,
+A helper of check_edge.py. A call is given as its name and its file, and a write besides by its place, which a stream has none of,
 and its bytes.
 """
 import os

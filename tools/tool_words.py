@@ -34,7 +34,7 @@ def as_json(value, indent=None):
 
 
 def number(text):
-    """A number without a sign, as rows and ages are told."""
+    """A number without a sign, as rows and ages are given."""
     if not text.isascii() or not text.isdigit():
         raise argparse.ArgumentTypeError(f"{text} is no number")
     return int(text)

@@ -720,8 +720,8 @@ class Selection:
         return sorted(own | self._below.get(path, set()))
 
     def walk(self, path="."):
-        """Each path at and below a path at which something stands, with what that is, a directory before its names; an object is told
-        by its number."""
+        """Each path at and below a path at which something stands, with what that is, a directory before its names; an object is
+        given by its number."""
         stack = [path]
         while stack:
             at = stack.pop()

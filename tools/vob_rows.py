@@ -4,8 +4,8 @@
     for frame, payload in journal.more():
         row = row_of(payload)
 
-Only reads. `more` answers the frames that are whole by now, so it can be called again while a program adds rows; what stands behind
-them is told by `behind`. A payload that spells no row raises `NoRow`, with the place of its first byte that is wrong.
+Only reads. `more` answers the frames that are whole by now, so it can be called again while a program adds rows; `behind` answers
+what follows them. A payload that spells no row raises `NoRow`, with the place of its first byte that is wrong.
 """
 import re
 import struct

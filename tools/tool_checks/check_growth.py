@@ -1,4 +1,4 @@
-"""growth.py: two small rows, and that a row whose cost is quadratic fails, unless its law is told, in seconds and in what else is measured."""
+"""growth.py: two small rows, and that a row whose cost is quadratic fails, unless that is its documented limit, in seconds and in memory."""
 import json
 import os
 
