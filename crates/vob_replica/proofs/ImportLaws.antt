@@ -12,8 +12,8 @@ use Rattle.vob_replica.specs.declared.events.Identity.{Identity}
 use Rattle.vob_replica.specs.declared.operations.Operation.{Operation}
 use Rattle.vob_replica.specs.declared.operations.SiteFault.TheVariants.{NoSite, NoPacket}
 use Rattle.vob_replica.specs.Tables.{number_in, raised, raised_by, holds, first_gap, table_of, identity_of, IsBefore, Ascends}
-use Rattle.vob_replica.specs.Replicas.{Site, Parcel, taken_in, unless_gap, site_with}
-use Rattle.vob_replica.specs.World.{World, Stepped, site_in, with_site, parcel_in, refused, takes}
+use Rattle.vob_replica.specs.Replicas.{Site, Packet, taken_in, unless_gap, site_with}
+use Rattle.vob_replica.specs.World.{World, Stepped, site_in, with_site, packet_in, refused, takes}
 use Rattle.vob_replica.specs.Laws.{behind_import}
 use Rattle.vob_replica.proofs.TableLaws.{Ascends-raised, IsBefore-along, raised_by_order, behind-differs, turned}
 use Rattle.vob_replica.proofs.LogLaws.{table_of-push}
@@ -136,29 +136,29 @@ found-name (first ∷ sites) name site found = found-first (bytes_eq first.name 
 -- an import, by what it finds
 abbrev import_by : World → List ℕ → List ℕ → Option Site → Stepped
 import_by world name packet found =
-    option_map_or (λ (site : Site). option_map_or (λ (parcel : Parcel). takes world site parcel (taken_in site.known parcel.operations)) (parcel_in world.packets packet) (refused world (NoPacket packet))) found
+    option_map_or (λ (site : Site). option_map_or (λ (contents : Packet). takes world site contents (taken_in site.known contents.operations)) (packet_in world.packets packet) (refused world (NoPacket packet))) found
     (refused world (NoSite name))
 
-abbrev import_at : World → List ℕ → Site → Option Parcel → Stepped
+abbrev import_at : World → List ℕ → Site → Option Packet → Stepped
 import_at world packet site found =
-    option_map_or (λ (parcel : Parcel). takes world site parcel (taken_in site.known parcel.operations)) found (refused world (NoPacket packet))
+    option_map_or (λ (contents : Packet). takes world site contents (taken_in site.known contents.operations)) found (refused world (NoPacket packet))
 
-takes-other : (world : World) (site : Site) (parcel : Parcel) (taken : Result (List Operation) Identity) (other : List ℕ) → bytes_eq site.name other ≡ false
-    → site_in (takes world site parcel taken).world.sites other ≡ site_in world.sites other
-takes-other world site parcel (Ok known) other differs = site_in-other (site_with site parcel known) world.sites other differs
-takes-other world site parcel (Err gap) other differs = refl
+takes-other : (world : World) (site : Site) (contents : Packet) (taken : Result (List Operation) Identity) (other : List ℕ) → bytes_eq site.name other ≡ false
+    → site_in (takes world site contents taken).world.sites other ≡ site_in world.sites other
+takes-other world site contents (Ok known) other differs = site_in-other (site_with site contents known) world.sites other differs
+takes-other world site contents (Err gap) other differs = refl
 
-at-other : (world : World) (packet : List ℕ) (site : Site) (found : Option Parcel) (other : List ℕ) → bytes_eq site.name other ≡ false
+at-other : (world : World) (packet : List ℕ) (site : Site) (found : Option Packet) (other : List ℕ) → bytes_eq site.name other ≡ false
     → site_in (import_at world packet site found).world.sites other ≡ site_in world.sites other
 at-other world packet site None other differs = refl
-at-other world packet site (Some parcel) other differs = takes-other world site parcel (taken_in site.known parcel.operations) other differs
+at-other world packet site (Some contents) other differs = takes-other world site contents (taken_in site.known contents.operations) other differs
 
 by-other : (world : World) (name packet : List ℕ) (found : Option Site) (other : List ℕ) → site_in world.sites name ≡ found → bytes_eq name other ≡ false
     → site_in (import_by world name packet found).world.sites other ≡ site_in world.sites other
 by-other world name packet None other is differs = refl
 by-other world name packet (Some site) other is differs =
     let name_is : site.name ≡ name = (bytes_eq-Decides site.name name).0 (found-name world.sites name site is) in
-    at-other world packet site (parcel_in world.packets packet) other (ap (λ (n : List ℕ). bytes_eq n other) name_is ∙ differs)
+    at-other world packet site (packet_in world.packets packet) other (ap (λ (n : List ℕ). bytes_eq n other) name_is ∙ differs)
 
 pub import-other : (world : World) (name packet other : List ℕ) → bytes_eq name other ≡ false → site_in (behind_import world name packet) other ≡ site_in world.sites other
 import-other world name packet other differs = by-other world name packet (site_in world.sites name) other refl differs
@@ -170,21 +170,21 @@ NoLess old new site = number_in (table_of old.known) site ≤ number_in (table_o
 same-no_less : (found : Option Site) (old new : Site) (site : List ℕ) → found ≡ Some old → found ≡ Some new → NoLess old new site
 same-no_less found old new site is also = let same : old ≡ new = cc (is, also) in subst (λ (s : Site). NoLess old s site) same (omega arith)
 
-takes-own : (world : World) (old new : Site) (parcel : Parcel) (taken : Result (List Operation) Identity) (name site : List ℕ) → taken_in old.known parcel.operations ≡ taken
-    → site_in world.sites name ≡ Some old → site_in (takes world old parcel taken).world.sites name ≡ Some new → NoLess old new site
-takes-own world old new parcel (Ok known) name site is found behind =
-    let put = site_in-own (site_with old parcel known) old world.sites name (found-name world.sites name old found) found in
-    let same : site_with old parcel known ≡ new = cc (put, behind) in
-    subst (λ (s : Site). NoLess old s site) same (taken-rises old.known parcel.operations known site is)
-takes-own world old new parcel (Err gap) name site is found behind = same-no_less (site_in world.sites name) old new site found behind
+takes-own : (world : World) (old new : Site) (contents : Packet) (taken : Result (List Operation) Identity) (name site : List ℕ) → taken_in old.known contents.operations ≡ taken
+    → site_in world.sites name ≡ Some old → site_in (takes world old contents taken).world.sites name ≡ Some new → NoLess old new site
+takes-own world old new contents (Ok known) name site is found behind =
+    let put = site_in-own (site_with old contents known) old world.sites name (found-name world.sites name old found) found in
+    let same : site_with old contents known ≡ new = cc (put, behind) in
+    subst (λ (s : Site). NoLess old s site) same (taken-rises old.known contents.operations known site is)
+takes-own world old new contents (Err gap) name site is found behind = same-no_less (site_in world.sites name) old new site found behind
 
-at-own : (world : World) (packet : List ℕ) (old new : Site) (parcel : Option Parcel) (name site : List ℕ) → site_in world.sites name ≡ Some old
-    → site_in (import_at world packet old parcel).world.sites name ≡ Some new → NoLess old new site
+at-own : (world : World) (packet : List ℕ) (old new : Site) (contents : Option Packet) (name site : List ℕ) → site_in world.sites name ≡ Some old
+    → site_in (import_at world packet old contents).world.sites name ≡ Some new → NoLess old new site
 at-own world packet old new None name site found behind = same-no_less (site_in world.sites name) old new site found behind
-at-own world packet old new (Some parcel) name site found behind = takes-own world old new parcel (taken_in old.known parcel.operations) name site refl found behind
+at-own world packet old new (Some contents) name site found behind = takes-own world old new contents (taken_in old.known contents.operations) name site refl found behind
 
 pub import-own : (world : World) (name packet site : List ℕ) (old new : Site) → site_in world.sites name ≡ Some old → site_in (behind_import world name packet) name ≡ Some new
     → NoLess old new site
 import-own world name packet site old new found behind =
-    at-own world packet old new (parcel_in world.packets packet) name site found
+    at-own world packet old new (packet_in world.packets packet) name site found
     (subst (λ (f : Option Site). site_in (import_by world name packet f).world.sites name ≡ Some new) found behind)

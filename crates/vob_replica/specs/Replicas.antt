@@ -22,7 +22,7 @@ pub record Site : Type 0 where
   pub estimates : List Estimate
 
 -- a packet
-pub record Parcel : Type 0 where
+pub record Packet : Type 0 where
   pub sender : List ℕ
   pub operations : List Operation
   pub table : List Identity
@@ -100,8 +100,8 @@ abbrev pub above : List Identity → List Operation → List Operation
 above table operations = filter (λ operation. not (holds table operation.identity)) operations
 
 -- the packet that a site makes for another
-abbrev pub parcel_for : Site → List ℕ → Parcel
-parcel_for site to = record {
+abbrev pub packet_for : Site → List ℕ → Packet
+packet_for site to = record {
   sender = site.name;
   operations = above (estimate_in site.estimates to) site.known;
   table = table_of site.known;
@@ -125,7 +125,7 @@ taken_in known (operation ∷ operations) =
     else unless_gap (first_gap operation.needs (table_of known)) (taken_in (known ++ operation ∷ []) operations)
 
 -- a site that took a packet in and knows these operations then
-abbrev pub site_with : Site → Parcel → List Operation → Site
-site_with site parcel known =
-    thinking (record site { known = known }) parcel.sender
-    (raised_by (estimate_in site.estimates parcel.sender) parcel.table)
+abbrev pub site_with : Site → Packet → List Operation → Site
+site_with site packet known =
+    thinking (record site { known = known }) packet.sender
+    (raised_by (estimate_in site.estimates packet.sender) packet.table)

@@ -68,24 +68,24 @@ abbrev pub new_tree : Identity → Identity → List ℕ → Tree
 new_tree identity element name = record { identity = identity; element = element; name = name; masters = []; versions = [] }
 
 -- the branches after one operation more, by its deed
-abbrev pub told_by : List Tree → Operation → SiteDeed → List Tree
-told_by trees operation deeds.Element = with_tree (new_tree operation.identity operation.identity (codes "main")) trees
-told_by trees operation (deeds.Branch branch number name) =
+abbrev pub after_deed : List Tree → Operation → SiteDeed → List Tree
+after_deed trees operation deeds.Element = with_tree (new_tree operation.identity operation.identity (codes "main")) trees
+after_deed trees operation (deeds.Branch branch number name) =
     with_tree (new_tree operation.identity (element_of trees branch) name) trees
-told_by trees operation (deeds.Version branch number word) =
+after_deed trees operation (deeds.Version branch number word) =
     with_change branch (λ tree. record tree {
       versions = with_version (record { number = number; identity = operation.identity; word = word }) tree.versions;
     }) trees
-told_by trees operation (deeds.Master branch site) =
+after_deed trees operation (deeds.Master branch site) =
     with_change branch (λ tree. record tree { masters = tree.masters ++ operation ∷ [] }) trees
 
 -- the branches after one operation more
-abbrev pub told : List Tree → Operation → List Tree
-told trees operation = told_by trees operation operation.deed
+abbrev pub after_operation : List Tree → Operation → List Tree
+after_operation trees operation = after_deed trees operation operation.deed
 
 -- the branches that operations made
 abbrev pub trees_of : List Operation → List Tree
-trees_of known = fold told [] known
+trees_of known = fold after_operation [] known
 
 -- whether an operation needs all others of these
 abbrev pub needs_all_others : List Operation → Operation → Bool

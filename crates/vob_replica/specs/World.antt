@@ -15,13 +15,13 @@ use Rattle.vob_replica.specs.declared.operations.SiteFault.{SiteFault}
 use Rattle.vob_replica.specs.declared.operations.SiteFault.TheVariants.{SiteExists, TooManySites, NoSite, PacketExists, NoPacket, Gap}
 use Rattle.vob_replica.specs.Tables.{table_of}
 use Rattle.vob_replica.specs.Trees.{trees_of}
-use Rattle.vob_replica.specs.Replicas.{Site, Parcel, new_site, change_fault, operation_by, site_made, parcel_for, thinking, taken_in, site_with}
+use Rattle.vob_replica.specs.Replicas.{Site, Packet, new_site, change_fault, operation_by, site_made, packet_for, thinking, taken_in, site_with}
 use Rattle.vob_replica.specs.Showing.{identity_text, show_text, reply_text}
 
 -- a packet by its name
 pub record Sent : Type 0 where
   pub name : List ℕ
-  pub parcel : Parcel
+  pub packet : Packet
 
 -- all sites, and all packets
 pub record World : Type 0 where
@@ -43,9 +43,9 @@ site_in [] name = None
 site_in (site ∷ sites) name = if bytes_eq site.name name then Some site else site_in sites name
 
 -- the packet of a name
-abbrev pub parcel_in : List Sent → List ℕ → Option Parcel
-parcel_in [] name = None
-parcel_in (sent ∷ others) name = if bytes_eq sent.name name then Some sent.parcel else parcel_in others name
+abbrev pub packet_in : List Sent → List ℕ → Option Packet
+packet_in [] name = None
+packet_in (sent ∷ others) name = if bytes_eq sent.name name then Some sent.packet else packet_in others name
 
 -- the sites with one of them changed
 abbrev pub with_site : Site → List Site → List Site
@@ -88,25 +88,25 @@ abbrev pub sends : World → Site → List ℕ → List ℕ → Stepped
 sends world site to packet = record {
   world = record {
     sites = with_site (thinking site to (table_of site.known)) world.sites;
-    packets = world.packets ++ record { name = packet; parcel = parcel_for site to } ∷ [];
+    packets = world.packets ++ record { name = packet; packet = packet_for site to } ∷ [];
   };
-  answer = Done (decimal (length (parcel_for site to).operations));
+  answer = Done (decimal (length (packet_for site to).operations));
 }
 
 abbrev pub export_step : World → List ℕ → List ℕ → List ℕ → Stepped
 export_step world name to packet =
     at_site world name (λ site. at_site world to (λ _.
-    option_map_or (λ _. refused world (PacketExists packet)) (parcel_in world.packets packet) (sends world site to packet)))
+    option_map_or (λ _. refused world (PacketExists packet)) (packet_in world.packets packet) (sends world site to packet)))
 
 -- `import S P`
-abbrev pub takes : World → Site → Parcel → Result (List Operation) Identity → Stepped
-takes world site parcel (Ok known) = done world (site_with site parcel known) (decimal (length known - length site.known))
-takes world site parcel (Err missing) = refused world (Gap missing)
+abbrev pub takes : World → Site → Packet → Result (List Operation) Identity → Stepped
+takes world site contents (Ok known) = done world (site_with site contents known) (decimal (length known - length site.known))
+takes world site contents (Err missing) = refused world (Gap missing)
 
 abbrev pub import_step : World → List ℕ → List ℕ → Stepped
 import_step world name packet =
     at_site world name (λ site.
-    option_map_or (λ parcel. takes world site parcel (taken_in site.known parcel.operations)) (parcel_in world.packets packet)
+    option_map_or (λ contents. takes world site contents (taken_in site.known contents.operations)) (packet_in world.packets packet)
     (refused world (NoPacket packet)))
 
 -- what an event comes to
