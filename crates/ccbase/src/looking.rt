@@ -21,7 +21,8 @@ pub(crate) trait Look: Disk + Sized {
         ensures same { IfOk result (λ _. Self.sight self.new ≡ Self.sight self.old) }
         ensures idles { OnErr result
             (Both Idles (Self.sight self.old).told (Self.sight self.new).told) }
-        ensures counts { OnErr result (Counted result (Self.sight self.old) (Self.sight self.new)) };
+        ensures counts { OnErr result
+            (Counted result (Self.sight self.old) (Self.sight self.new)) };
 }
 
 /// How many rows the journal of a disk has, or nothing where memory runs out; and the disk, which is the error where it failed.
