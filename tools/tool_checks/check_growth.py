@@ -56,7 +56,9 @@ def check_quadratic(bench):
     os.mkdir(bench.path("quadratic"))
     row = Row("n squared saves", "linear", 60, saves)
     _, told, passes, words = growth.carried_out(growth.Bench(bench.program, bench.path("quadratic"), 100), "made-up", row, 1.0, 1)
-    holds("a quadratic row fails", not passes and words.startswith("FAILED: seconds") and told["seconds"] > 1.6, (told, words))
+    holds("a quadratic row fails", not passes and words.startswith("FAILED: seconds"), (told, words))
+    # Memory is counted exactly. Seconds are not: fixed costs and the tick of the clock took their exponent down to 1.53.
+    holds("its memory grows as a square", told["memory"] > 1.8, (told, words))
 
 
 def check(bench):
