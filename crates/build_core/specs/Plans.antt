@@ -1,8 +1,9 @@
 -- What is decided of a clearmake.
-use Rattle.std.specs.Prelude.{◌≡◌, ℕ, ◌+◌, ◌<◌, ◌^◌, Option, Some, Result, Ok, Err, List, length}
+use Rattle.std.specs.Prelude.{◌≡◌, ℕ, ◌+◌, ◌<◌, ◌^◌, Option, Result, Ok, Err, List, length}
 use Rattle.std.specs.List.{AllByRecursion}
 use Rattle.cc_names.specs.Answers.{FaultIs}
-use Rattle.cc_names.specs.declared.commands.Command.{Command}
+use Rattle.cc_names.specs.declared.commands.Clearmake.{Clearmake}
+use Rattle.cc_names.specs.declared.commands.Command.TheVariants as commands
 use Rattle.cc_names.specs.declared.memory.Or.{Or}
 use Rattle.cc_names.specs.declared.refusals.Refusal.{Refusal}
 use Rattle.cc_names.specs.declared.rows.Tag.{Tag}
@@ -11,7 +12,7 @@ use Rattle.legal_history.specs.Base.Rows.{Base, size}
 use Rattle.legal_history.specs.Builds.Active.{Build, building, reserved}
 use Rattle.legal_history.specs.Commands.Decisions.{Scene, Decision, Begins}
 use Rattle.legal_history.specs.Commands.Lines.{decision}
-use Rattle.legal_history.specs.Stories.Steps.{new_build}
+use Rattle.legal_history.specs.Stories.Steps.{build_asked}
 use Rattle.build_core.specs.BuildForms.{IsUnitFormed}
 
 -- The scene in which a build of a view is decided: its base, the active build of the view, and how many rows there are and
@@ -31,8 +32,8 @@ abbrev pub Begun : Result (List Unit) (Or Refusal) → Result Decision Refusal �
 Begun (Ok units) decision = decision ≡ Ok (Begins units)
 Begun (Err fault) decision = FaultIs fault decision
 
--- the build that was decided to begin, as the command begins one; or the refusal that was decided
-abbrev pub Plans : Tag → Scene → Command → Result Build (Or Refusal) → Type 0
-Plans tag s command (Ok build) =
-    (decision s command ≡ Ok (Begins build.units)) × (new_build tag (size s.base) build.units command ≡ Some build)
-Plans tag s command (Err fault) = FaultIs fault (decision s command)
+-- the build that was decided to begin, as the command asks for it; or the refusal that was decided
+abbrev pub Plans : Tag → Scene → Clearmake → Result Build (Or Refusal) → Type 0
+Plans tag s asked (Ok build) =
+    (decision s (commands.Build asked) ≡ Ok (Begins build.units)) × (build ≡ build_asked tag (size s.base) build.units asked)
+Plans tag s asked (Err fault) = FaultIs fault (decision s (commands.Build asked))

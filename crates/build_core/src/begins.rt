@@ -1,10 +1,9 @@
 //! The decision on a clearmake: the build that begins, or its first refusal.
 
-ghost use Rattle.std.specs.Prelude.{◌≡◌, ℕ, ◌+◌, ◌∷◌, [], ◌<◌, ◌≤◌, ◌^◌, length, true, option_copied, IfOk, IfNone};
+ghost use Rattle.std.specs.Prelude.{◌≡◌, ℕ, ◌+◌, ◌∷◌, [], ◌<◌, ◌≤◌, ◌^◌, length, option_copied, IfOk, IfNone};
 ghost use Rattle.legal_history.specs.Base.Fits.{row_limit};
 ghost use Rattle.cc_names.specs.Answers.{Gives};
-ghost use Rattle.cc_names.specs.Commands.{builds, view_of};
-ghost use Rattle.session_text.specs.Formed.{IsCommand};
+ghost use Rattle.session_text.specs.Formed.{IsClearmake};
 ghost use Rattle.legal_history.specs.Base.Rows.{size};
 ghost use Rattle.legal_history.specs.Builds.Active.{building, reserved};
 ghost use Rattle.legal_history.specs.Commands.Decisions.{Scene, first_refusal, needs_room};
@@ -17,7 +16,7 @@ ghost use Rattle.build_core.specs.Plans.{Meets, AreUnits, Begun, Plans};
 
 use crate::active::ActiveBuild;
 use crate::plans::graph;
-use cc_names::commands::{Command, Macro};
+use cc_names::commands::{Clearmake, Macro};
 use cc_names::desks::Occasion;
 use cc_names::memory::Or;
 use cc_names::names::Name;
@@ -136,52 +135,38 @@ pub fn plan_build(
     alloc: Global,
     hashing: RandomState,
     rows: &FirstRows<'_>,
-    command: &Command,
+    asked: &Clearmake,
     occasion: Occasion,
 ) -> Result<ActiveBuild, Or<Refusal>>
-    requires builds { builds command.now ≡ true }
-    requires formed { IsCommand 16777216 command.now }
+    requires formed { IsClearmake 16777216 asked.now }
     requires taken { occasion.taken < 2 ^ 63 }
     ensures planned { (scene : Scene)
-        → Meets scene rows.now (view_of command.now) occasion.busy occasion.taken
-        → Plans occasion.tag scene command.now result }
+        → Meets scene rows.now asked.now.view occasion.busy occasion.taken
+        → Plans occasion.tag scene asked.now result }
     ensures formed { IfOk result (λ build. IsBuildFormed build) }
     ensures room { IfOk result (λ build. occasion.taken + length build.units ≤ row_limit) }
 {
-    match command {
-        Command::Clearmake {
-            view,
-            file,
-            own_only,
-            rebuild,
-            macros,
-            goals,
-            ..
-        } => {
-            let graph = begun(
-                alloc,
-                hashing,
-                rows,
-                view,
-                file.as_ref(),
-                macros.as_slice(),
-                goals.as_slice(),
-                occasion.busy,
-                occasion.taken,
-            )?;
-            let size = rows.size();
-            let view = view.copy(alloc)?;
-            let build = ActiveBuild::begin(
-                alloc,
-                occasion.tag,
-                size,
-                view,
-                *own_only,
-                *rebuild,
-                graph,
-            )?;
-            Ok(build)
-        }
-        _ => unreachable!(),
-    }
+    let graph = begun(
+        alloc,
+        hashing,
+        rows,
+        &asked.view,
+        asked.file.as_ref(),
+        asked.macros.as_slice(),
+        asked.goals.as_slice(),
+        occasion.busy,
+        occasion.taken,
+    )?;
+    let size = rows.size();
+    let view = asked.view.copy(alloc)?;
+    let build = ActiveBuild::begin(
+        alloc,
+        occasion.tag,
+        size,
+        view,
+        asked.own_only,
+        asked.rebuild,
+        graph,
+    )?;
+    Ok(build)
 }

@@ -21,9 +21,9 @@ pub struct Macro {
     pub value: Text,
 }
 
-/// One command of a lane, as its line says it.
+/// A command that makes a row, or is refused.
 #[derive(Drop)]
-pub enum Command {
+pub enum Change {
     /// Makes a view; its config spec is the default one.
     Mkview {
         view: Name,
@@ -111,11 +111,24 @@ pub enum Command {
         label: Name,
         path: Path,
     },
+    /// Puts a label on each version that the record of an object lists.
+    MklabelConfig {
+        view: Name,
+        replace: bool,
+        path: Path,
+        label: Name,
+    },
     /// Takes a label off an element.
     Rmlabel {
         view: Name,
         label: Name,
         path: Path,
+    },
+    /// Records that a version was merged into the version that the view selects.
+    Mkarrow {
+        view: Name,
+        path: Path,
+        version: VersionName,
     },
     /// Gives up the reference of a view to its object at a path.
     Rmdo {
@@ -126,16 +139,11 @@ pub enum Command {
     Scrub {
         age: u64,
     },
-    /// Builds goals in a view; without goals the first target of the makefile.
-    Clearmake {
-        view: Name,
-        file: Option<Path>,
-        own_only: bool,
-        rebuild: bool,
-        jobs: u32,
-        macros: List<Macro>,
-        goals: List<Path>,
-    },
+}
+
+/// A command that asks for a text, and makes no row.
+#[derive(Drop)]
+pub enum Query {
     /// Asks for the config spec of a view.
     Catcs {
         view: Name,
@@ -182,24 +190,11 @@ pub enum Command {
         other: Name,
         second: Path,
     },
-    /// Puts a label on each version that the record of an object lists.
-    MklabelConfig {
-        view: Name,
-        replace: bool,
-        path: Path,
-        label: Name,
-    },
     /// Asks whether what `seer` sees covers the record of the object of `view` at a path.
     Covers {
         seer: Name,
         view: Name,
         path: Path,
-    },
-    /// Records that a version was merged into the version that the view selects.
-    Mkarrow {
-        view: Name,
-        path: Path,
-        version: VersionName,
     },
     /// Asks which versions at a path and below it the last version on the element's branch of a type has not reached.
     Findmerge {
@@ -207,6 +202,31 @@ pub enum Command {
         path: Path,
         branch: Name,
     },
+}
+
+/// A command that builds goals in a view; without goals the first target of the makefile.
+#[derive(Drop)]
+pub struct Clearmake {
+    pub view: Name,
+    /// The makefile; without `-f` the path `Makefile`.
+    pub file: Option<Path>,
+    /// Whether objects of other views are left alone (`-V`).
+    pub own_only: bool,
+    /// Whether every script is run again (`-u`).
+    pub rebuild: bool,
+    /// How many scripts may run at once (`-J`), from 1 to 64.
+    pub jobs: u32,
+    /// The macros of the command line, each name once.
+    pub macros: List<Macro>,
+    pub goals: List<Path>,
+}
+
+/// One command of a lane, as its line says it.
+#[derive(Drop)]
+pub enum Command {
+    Change(Change),
+    Query(Query),
+    Build(Clearmake),
 }
 
 /// A lane of a phase: its name, and its commands in their order.

@@ -1,8 +1,6 @@
 -- What a call answers that decides a command, or a part of one.
-use Rattle.std.specs.Prelude.{◌≡◌, ℕ, ◌+◌, Bool, true, false, Option, Some, None, Result, Ok, Err, List, []}
+use Rattle.std.specs.Prelude.{◌≡◌, ℕ, ◌+◌, Option, Some, None, Result, Ok, Err, List, []}
 use Rattle.cc_names.specs.Formed.{Plain}
-use Rattle.cc_names.specs.declared.commands.Command.{Command}
-use Rattle.cc_names.specs.declared.commands.Command.TheVariants as commands
 use Rattle.cc_names.specs.declared.memory.Or.{Or}
 use Rattle.cc_names.specs.declared.memory.Or.TheVariants.{NoMemory, Is}
 use Rattle.cc_names.specs.declared.refusals.Refusal.{Refusal}
@@ -30,21 +28,15 @@ DecidesIfAny tag moment (Ok None) decision = decision ≡ Ok (Answers [])
 DecidesIfAny tag moment (Ok (Some row)) decision = Decides tag moment (Ok row) decision
 DecidesIfAny tag moment (Err refusal) decision = RefusalIs refusal decision
 
--- whether a command may find nothing for a row, and is then answered without a text
-abbrev pub may_find_nothing : Command → Bool
-may_find_nothing (commands.Scrub age) = true
-may_find_nothing (commands.MklabelConfig view replace path label) = true
-may_find_nothing command = false
+-- what was decided where there is always a row
+abbrev pub made : Result Plain (Or Refusal) → Result (Option Plain) (Or Refusal)
+made (Ok row) = Ok (Some row)
+made (Err refusal) = Err refusal
 
 -- what holds of the row that was decided, where there is one
 abbrev pub IfRow : Result (Option Plain) (Or Refusal) → (Plain → Type 0) → Type 0
 IfRow (Ok (Some row)) so = so row
 IfRow result so = Unit {0}
-
--- what holds where there is no row, and no refusal
-abbrev pub IfNone : Result (Option Plain) (Or Refusal) → Type 0 → Type 0
-IfNone (Ok None) so = so
-IfNone result so = Unit {0}
 
 -- unless memory ran out, the refusal is that of a test
 abbrev pub IsOfTest : Or Refusal → Option Refusal → Type 0

@@ -1,14 +1,13 @@
-//! The decision on a command.
+//! The decision on a change.
 
-ghost use Rattle.std.specs.Prelude.{◌≡◌, ℕ, ◌<◌, ◌≤◌, ◌^◌, length, true, false, IfOk, OnOk};
-ghost use Rattle.cc_names.specs.Commands.{builds, view_of};
+ghost use Rattle.std.specs.Prelude.{◌≡◌, ◌<◌, ◌≤◌};
+ghost use Rattle.cc_names.specs.Commands.{view_of};
 ghost use Rattle.legal_history.specs.Stories.Lawful.{last_moment};
-ghost use Rattle.session_text.specs.Formed.{IsCommand};
+ghost use Rattle.session_text.specs.Formed.{IsChange};
 ghost use Rattle.legal_history.specs.Base.Fits.{row_limit};
 ghost use Rattle.legal_history.specs.Commands.Decisions.{Scene};
-ghost use Rattle.legal_history.specs.Commands.Lines.{decision};
-ghost use Rattle.legal_history.specs.Queries.QueryLines.{is_query};
-ghost use Rattle.checkout_desk.specs.Deciding.{Decides, DecidesIfAny, IfNone, IfRow, Sees, may_find_nothing};
+ghost use Rattle.legal_history.specs.Commands.Lines.{change_decision};
+ghost use Rattle.checkout_desk.specs.Deciding.{DecidesIfAny, IfRow, Sees, made};
 
 use crate::arrows::mkarrow;
 use crate::branches::mkbranch;
@@ -25,7 +24,7 @@ use crate::saves::save;
 use crate::scrubs::scrub;
 use crate::types::mktype;
 use crate::views::{mkview, rmview};
-use cc_names::commands::Command;
+use cc_names::commands::Change;
 use cc_names::desks::Occasion;
 use cc_names::memory::Or;
 use cc_names::refusals::Refusal;
@@ -33,106 +32,95 @@ use cc_names::rows::{Kind, Row, TypeKind};
 use std::alloc::Global;
 use view_lookup::FirstRows;
 
-/// The row of a command that always makes one, or its first refusal in the order of the tests of its line.
-fn decide_row(
+/// What was decided where there is always a row.
+fn made(row: Result<Row, Or<Refusal>>) -> Result<Option<Row>, Or<Refusal>>
+    ensures { result ≡ made row }
+{
+    Ok(Some(row?))
+}
+
+/// A change's row, or its first refusal in the order of the tests of its line. A scrub for which nothing is due has no row, nor
+/// has the label of a record that lists nothing. Takes the time of its change.
+pub fn decide(
     alloc: Global,
     rows: &FirstRows<'_>,
-    command: &Command,
+    change: &Change,
     occasion: Occasion,
-) -> Result<Row, Or<Refusal>>
-    requires no_build { builds command.now ≡ false }
-    requires no_query { is_query command.now ≡ false }
-    requires row { may_find_nothing command.now ≡ false }
-    requires formed { IsCommand 16777216 command.now }
+) -> Result<Option<Row>, Or<Refusal>>
+    requires formed { IsChange 16777216 change.now }
     requires in_time { occasion.moment ≤ last_moment }
 
-    ensures decided { (scene : Scene) (now : ℕ)
-        → Sees scene rows.now now (view_of command.now) occasion.busy occasion.taken
-        → Decides occasion.tag occasion.moment result (decision scene command.now) }
-    ensures room { OnOk result (occasion.taken < row_limit) }
+    ensures decided { (scene : Scene)
+        → Sees scene rows.now occasion.moment (view_of change.now) occasion.busy occasion.taken
+        → DecidesIfAny occasion.tag occasion.moment result (change_decision scene change.now) }
+    ensures room { IfRow result (λ row. occasion.taken < row_limit) }
 {
-    match command {
-        Command::Mkview { view } => mkview(alloc, rows, view, occasion),
-        Command::Rmview { view, force } => rmview(alloc, rows, view, *force, occasion),
-        Command::Setcs { view, text } => setcs(alloc, rows, view, text, occasion),
-        Command::Mkelem { view, nco, path } => {
-            mkelem(alloc, rows, view, *nco, Kind::File, path, occasion)
-        }
-        Command::Mkdir { view, nco, path } => {
-            mkelem(alloc, rows, view, *nco, Kind::Directory, path, occasion)
-        }
-        Command::Checkout {
+    match change {
+        Change::Mkview { view } => made(mkview(alloc, rows, view, occasion)),
+        Change::Rmview { view, force } => made(rmview(alloc, rows, view, *force, occasion)),
+        Change::Setcs { view, text } => made(setcs(alloc, rows, view, text, occasion)),
+        Change::Mkelem { view, nco, path } => made(mkelem(
+            alloc,
+            rows,
+            view,
+            *nco,
+            Kind::File,
+            path,
+            occasion,
+        )),
+        Change::Mkdir { view, nco, path } => made(mkelem(
+            alloc,
+            rows,
+            view,
+            *nco,
+            Kind::Directory,
+            path,
+            occasion,
+        )),
+        Change::Checkout {
             view,
             unreserved,
             path,
-        } => checkout(alloc, rows, view, *unreserved, path, occasion),
-        Command::Mkbranch {
+        } => made(checkout(alloc, rows, view, *unreserved, path, occasion)),
+        Change::Mkbranch {
             view,
             nco,
             branch,
             path,
-        } => mkbranch(alloc, rows, view, *nco, branch, path, occasion),
-        Command::Save { view, path, text } => save(alloc, rows, view, path, text, occasion),
-        Command::Rm { view, path } => rm(alloc, rows, view, path, occasion),
-        Command::Checkin {
+        } => made(mkbranch(alloc, rows, view, *nco, branch, path, occasion)),
+        Change::Save { view, path, text } => made(save(alloc, rows, view, path, text, occasion)),
+        Change::Rm { view, path } => made(rm(alloc, rows, view, path, occasion)),
+        Change::Checkin {
             view,
             identical,
             path,
-        } => checkin(alloc, rows, view, *identical, path, occasion),
-        Command::Uncheckout { view, path } => uncheckout(alloc, rows, view, path, occasion),
-        Command::Rmname { view, path } => rmname(alloc, rows, view, path, occasion),
-        Command::Mv { view, path, name } => mv(alloc, rows, view, path, name, occasion),
-        Command::Mklbtype { name } => mktype(alloc, rows, TypeKind::Label, name, occasion),
-        Command::Mkbrtype { name } => mktype(alloc, rows, TypeKind::Branch, name, occasion),
-        Command::Mklabel {
+        } => made(checkin(alloc, rows, view, *identical, path, occasion)),
+        Change::Uncheckout { view, path } => made(uncheckout(alloc, rows, view, path, occasion)),
+        Change::Rmname { view, path } => made(rmname(alloc, rows, view, path, occasion)),
+        Change::Mv { view, path, name } => made(mv(alloc, rows, view, path, name, occasion)),
+        Change::Mklbtype { name } => made(mktype(alloc, rows, TypeKind::Label, name, occasion)),
+        Change::Mkbrtype { name } => made(mktype(alloc, rows, TypeKind::Branch, name, occasion)),
+        Change::Mklabel {
             view,
             replace,
             label,
             path,
-        } => mklabel(alloc, rows, view, *replace, label, path, occasion),
-        Command::Rmlabel { view, label, path } => {
-            rmlabel(alloc, rows, view, label, path, occasion)
-        }
-        Command::Mkarrow {
+        } => made(mklabel(alloc, rows, view, *replace, label, path, occasion)),
+        Change::Rmlabel { view, label, path } => made(rmlabel(
+            alloc, rows, view, label, path, occasion,
+        )),
+        Change::Mkarrow {
             view,
             path,
             version,
-        } => mkarrow(alloc, rows, view, path, version, occasion),
-        Command::Rmdo { view, path } => rmdo(alloc, rows, view, path, occasion),
-        _ => unreachable!(),
-    }
-}
-
-/// A command's row, or its first refusal in the order of the tests of its line. A scrub for which nothing is due has no row, nor
-/// has the label of a record that lists nothing. Takes the time of its command.
-pub fn decide(
-    alloc: Global,
-    rows: &FirstRows<'_>,
-    command: &Command,
-    occasion: Occasion,
-) -> Result<Option<Row>, Or<Refusal>>
-    requires no_build { builds command.now ≡ false }
-    requires no_query { is_query command.now ≡ false }
-    requires formed { IsCommand 16777216 command.now }
-    requires in_time { occasion.moment ≤ last_moment }
-
-    ensures decided { (scene : Scene)
-        → Sees scene rows.now occasion.moment (view_of command.now) occasion.busy occasion.taken
-        → DecidesIfAny occasion.tag occasion.moment result (decision scene command.now) }
-    ensures nothing { IfNone result (may_find_nothing command.now ≡ true) }
-    ensures room { IfRow result (λ row. occasion.taken < row_limit) }
-{
-    match command {
-        Command::Scrub { age } => scrub(alloc, rows, *age, occasion),
-        Command::MklabelConfig {
+        } => made(mkarrow(alloc, rows, view, path, version, occasion)),
+        Change::Rmdo { view, path } => made(rmdo(alloc, rows, view, path, occasion)),
+        Change::MklabelConfig {
             view,
             replace,
             path,
             label,
         } => mklabel_config(alloc, rows, view, *replace, path, label, occasion),
-        _ => match decide_row(alloc, rows, command, occasion) {
-            Ok(row) => Ok(Some(row)),
-            Err(refusal) => Err(refusal),
-        },
+        Change::Scrub { age } => scrub(alloc, rows, *age, occasion),
     }
 }

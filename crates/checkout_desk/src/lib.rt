@@ -1,8 +1,8 @@
-//! The decision on each command that makes a row.
+//! The decision on each change: the commands that make rows.
 //!
-//! What it is for: `decide` answers a command's row, or its first refusal in the order of the tests of its line.
+//! What it is for: `decide` answers a change's row, or its first refusal in the order of the tests of its line.
 //!
-//! What it promises: the answer is the model's decision on the command, and a row has the command's tag and moment.
+//! What it promises: the answer is the model's decision on the change, and a row has the command's tag and moment.
 //!
 //! What it stands on: `view_lookup` for what a view sees, `legal_history` for the definitions,
 //! `session_text` for the form of commands, `spec_text` for config specs, and `cc_names` for plain data.

@@ -16,7 +16,7 @@ tag_by None next tag e = absurd (cc)
 tag_by (Some command) next tag e = by_command command e
   where
     by_command : (command : Command) → next_by (Some command) next ≡ nexts.Build tag → next ≡ tag
-    by_command (commands.Clearmake view file own_only rebuild jobs macros goals) e = cc
+    by_command (commands.Build asked) e = cc
     by_command command e = absurd (cc)
 
 -- what is built is the next command
@@ -34,7 +34,7 @@ none_by None tag e = refl
 none_by (Some command) tag e = by_command command e
   where
     by_command : (command : Command) → next_by (Some command) tag ≡ nexts.Done → Some command ≡ None
-    by_command (commands.Clearmake view file own_only rebuild jobs macros goals) e = absurd (cc)
+    by_command (commands.Build asked) e = absurd (cc)
     by_command command e = absurd (cc)
 
 none_behind : (commands : List Command) (n m : ℕ) → n ≤ m → slice_get commands n ≡ None → slice_get commands m ≡ None

@@ -11,7 +11,7 @@ use Rattle.legal_history.specs.Stories.States.{State, next_tag}
 -- a command builds or acts; without a command the lane is done
 abbrev pub next_by : Option Command → Tag → Next
 next_by None tag = Done
-next_by (Some (commands.Clearmake view file own_only rebuild jobs macros goals)) tag = Build tag
+next_by (Some (commands.Build asked)) tag = Build tag
 next_by (Some command) tag = Act
 
 -- What the lane has to do next. A build that began is active as long as its command is the one to build.
@@ -20,5 +20,5 @@ next_of s lane = next_by (command_of s lane) (next_tag s lane)
 
 -- how many units at once a command asks to have built
 abbrev pub jobs_of : Option Command → Option ℕ
-jobs_of (Some (commands.Clearmake view file own_only rebuild jobs macros goals)) = Some jobs
+jobs_of (Some (commands.Build asked)) = Some asked.jobs
 jobs_of command = None

@@ -6,8 +6,9 @@ use Rattle.cc_names.specs.declared.refusals.Refusal.{Refusal}
 use Rattle.cc_names.specs.declared.selection.Picked.{Picked}
 use Rattle.cc_names.specs.declared.selection.Seen.{Seen}
 use Rattle.cc_names.specs.declared.selection.Seen.TheVariants.{Private, Element, Unselected, Nothing}
+use Rattle.legal_history.specs.Base.Rows.{Base}
 use Rattle.legal_history.specs.Base.Seen.{at}
-use Rattle.legal_history.specs.Commands.Decisions.{Answers, Scene, answers, past}
+use Rattle.legal_history.specs.Commands.Decisions.{Answers, answers, past}
 use Rattle.legal_history.specs.Commands.Found.{for_selected}
 use Rattle.legal_history.specs.Commands.Tests.{needs_element, needs_selected, needs_view}
 use Rattle.legal_history.specs.Queries.Merges.{findmerge_text}
@@ -32,19 +33,19 @@ refused_by path None (Unselected e) text refusal branch lines h = h
 refused_by path None Nothing text refusal branch lines h = h
 refused_by path (Some other) seen text refusal branch lines h = h
 
-module _ (s : Scene) (v path name : List ℕ) where
-  pub unselected : (refusal : Or Refusal) → FindsSelected (Err refusal) (answers_of s v path) → AnswersAs (Err refusal) (findmerge s v path name)
+module _ (b : Base) (v path name : List ℕ) where
+  pub unselected : (refusal : Or Refusal) → FindsSelected (Err refusal) (answers_of b v path) → AnswersAs (Err refusal) (findmerge b v path name)
   unselected NoMemory h = tt
   unselected (Is refusal) h =
-      refused_by path (needs_view s.base v) (at s.base v path) (λ e picked. []) refusal (needs_branch s.base name) (findmerge_text s.base v path name) (h (λ e picked. []))
+      refused_by path (needs_view b v) (at b v path) (λ e picked. []) refusal (needs_branch b name) (findmerge_text b v path name) (h (λ e picked. []))
 
-  left_to_test : (found : ℕ × Picked) → FindsSelected (Ok found) (answers_of s v path) → findmerge s v path name ≡ answers (needs_branch s.base name ∷ []) (findmerge_text s.base v path name)
+  left_to_test : (found : ℕ × Picked) → FindsSelected (Ok found) (answers_of b v path) → findmerge b v path name ≡ answers (needs_branch b name ∷ []) (findmerge_text b v path name)
   left_to_test found h =
-      selected_by path (needs_view s.base v) (at s.base v path) (λ e picked. []) [] (needs_branch s.base name) (findmerge_text s.base v path name) (h (λ e picked. []))
+      selected_by path (needs_view b v) (at b v path) (λ e picked. []) [] (needs_branch b name) (findmerge_text b v path name) (h (λ e picked. []))
 
-  pub no_branch : (found : ℕ × Picked) (refusal : Or Refusal) → FindsSelected (Ok found) (answers_of s v path) → Tests {A = Unit {0}} (Err refusal) (needs_branch s.base name) → AnswersAs (Err refusal) (findmerge s v path name)
+  pub no_branch : (found : ℕ × Picked) (refusal : Or Refusal) → FindsSelected (Ok found) (answers_of b v path) → Tests {A = Unit {0}} (Err refusal) (needs_branch b name) → AnswersAs (Err refusal) (findmerge b v path name)
   no_branch found NoMemory h test = tt
-  no_branch found (Is refusal) h test = left_to_test found h ∙ ap (λ branch. answers (branch ∷ []) (findmerge_text s.base v path name)) test
+  no_branch found (Is refusal) h test = left_to_test found h ∙ ap (λ branch. answers (branch ∷ []) (findmerge_text b v path name)) test
 
-  pub answered : (found : ℕ × Picked) → FindsSelected (Ok found) (answers_of s v path) → needs_branch s.base name ≡ None → findmerge s v path name ≡ Ok (Answers (findmerge_text s.base v path name))
-  answered found h test = left_to_test found h ∙ ap (λ branch. answers (branch ∷ []) (findmerge_text s.base v path name)) test
+  pub answered : (found : ℕ × Picked) → FindsSelected (Ok found) (answers_of b v path) → needs_branch b name ≡ None → findmerge b v path name ≡ Ok (Answers (findmerge_text b v path name))
+  answered found h test = left_to_test found h ∙ ap (λ branch. answers (branch ∷ []) (findmerge_text b v path name)) test

@@ -4,7 +4,8 @@ use Rattle.cc_names.specs.declared.memory.Or.{Or}
 use Rattle.cc_names.specs.declared.memory.Or.TheVariants.{NoMemory, Is}
 use Rattle.cc_names.specs.declared.refusals.Refusal.{Refusal}
 use Rattle.cc_names.specs.declared.selection.Picked.{Picked}
-use Rattle.legal_history.specs.Commands.Decisions.{Decision, Scene, answers}
+use Rattle.legal_history.specs.Base.Rows.{Base}
+use Rattle.legal_history.specs.Commands.Decisions.{Decision, answers}
 use Rattle.legal_history.specs.Queries.QueryLines.{ls_tests}
 use Rattle.cleartool.specs.Answering.{AnswersAs, FindsSelected}
 use Rattle.cleartool.specs.Listed.{FindsDirectory}
@@ -15,6 +16,6 @@ refused NoMemory decided text h = tt
 refused (Is refusal) decided text h = h text
 
 -- the same of a query about a directory
-pub no_directory : (s : Scene) (v path : List ℕ) (refusal : Or Refusal) (text : List ℕ) → FindsDirectory s v path (Err refusal) → AnswersAs (Err refusal) (answers (ls_tests s v path) text)
-no_directory s v path NoMemory text h = tt
-no_directory s v path (Is refusal) text h = h text
+pub no_directory : (b : Base) (v path : List ℕ) (refusal : Or Refusal) (text : List ℕ) → FindsDirectory b v path (Err refusal) → AnswersAs (Err refusal) (answers (ls_tests b v path) text)
+no_directory b v path NoMemory text h = tt
+no_directory b v path (Is refusal) text h = h text

@@ -16,7 +16,7 @@ use Rattle.legal_history.specs.Base.Changes.{held, tree}
 use Rattle.legal_history.specs.Base.Closures.{is_among}
 use Rattle.legal_history.specs.Base.Rows.{Base}
 use Rattle.legal_history.specs.Base.Seen.{at}
-use Rattle.legal_history.specs.Commands.Decisions.{Answers, Scene, answers}
+use Rattle.legal_history.specs.Commands.Decisions.{Answers, answers}
 use Rattle.legal_history.specs.Queries.ListingTexts.{name_line, object_line}
 use Rattle.legal_history.specs.Queries.QueryLines.{ls_tests}
 use Rattle.legal_history.specs.Queries.VersionNames.{line}
@@ -59,7 +59,7 @@ pub record HasNames (b : Base) (v directory : List ℕ) (e : ℕ) (names : List 
 
 -- the directory that was found is one that the view sees, and its names are answered, whatever they are; where there is none the
 -- refusal was decided
-abbrev pub FindsDirectory : Scene → List ℕ → List ℕ → Result ℕ (Or Refusal) → Type 0
-FindsDirectory s v path (Ok e) = SeesDirectory s.base v path e × ((text : List ℕ) → answers (ls_tests s v path) text ≡ Ok (Answers text))
-FindsDirectory s v path (Err (Is refusal)) = (text : List ℕ) → answers (ls_tests s v path) text ≡ Err refusal
-FindsDirectory s v path (Err NoMemory) = Unit {0}
+abbrev pub FindsDirectory : Base → List ℕ → List ℕ → Result ℕ (Or Refusal) → Type 0
+FindsDirectory b v path (Ok e) = SeesDirectory b v path e × ((text : List ℕ) → answers (ls_tests b v path) text ≡ Ok (Answers text))
+FindsDirectory b v path (Err (Is refusal)) = (text : List ℕ) → answers (ls_tests b v path) text ≡ Err refusal
+FindsDirectory b v path (Err NoMemory) = Unit {0}

@@ -1,7 +1,6 @@
 //! The query for a view's config spec.
 
 ghost use Rattle.std.specs.Prelude.{◌≡◌};
-ghost use Rattle.legal_history.specs.Commands.Decisions.{Scene};
 ghost use Rattle.legal_history.specs.Queries.QueryLines.{catcs};
 ghost use Rattle.cleartool.specs.Answering.{AnswersAs};
 
@@ -15,8 +14,7 @@ use view_lookup::{FirstRows, spec_text, view_row};
 /// The text of `catcs V`, the view's config spec as it was set, or its first refusal. Takes time linear in the text,
 /// however many rows there are.
 pub fn catcs(alloc: Global, rows: &FirstRows<'_>, view: &Name) -> Result<Text, Or<Refusal>>
-    ensures { (scene : Scene) → scene.base ≡ rows.now
-        → AnswersAs result (catcs scene view.now) }
+    ensures { AnswersAs result (catcs rows.now view.now) }
 {
     if view_row(rows, view).is_none() {
         return Err(Or::Is(Refusal::NoView));

@@ -3,7 +3,6 @@
 ghost use Rattle.std.specs.Prelude.{◌≡◌, IfOk};
 ghost use Rattle.std.specs.Option.{option_copied};
 ghost use Rattle.legal_history.specs.Builds.Reuse.{agrees};
-ghost use Rattle.legal_history.specs.Commands.Decisions.{Scene};
 ghost use Rattle.legal_history.specs.Queries.QueryLines.{covers};
 ghost use Rattle.legal_history.specs.Queries.RecordTexts.{covers_text, uncovered};
 ghost use Rattle.cleartool.specs.Answering.{AnswersAs};
@@ -81,8 +80,7 @@ pub fn covers(
     view: &Name,
     path: &Path,
 ) -> Result<Text, Or<Refusal>>
-    ensures { (scene : Scene) → scene.base ≡ rows.now
-        → AnswersAs result (covers scene seer.now view.now path.now) }
+    ensures { AnswersAs result (covers rows.now seer.now view.now path.now) }
 {
     if view_row(rows, seer).is_none() {
         return Err(Or::Is(Refusal::NoView));

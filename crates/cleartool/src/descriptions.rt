@@ -3,7 +3,6 @@
 ghost use Rattle.std.specs.Prelude.{◌≡◌, ◌++◌, IfOk, OnOk, map};
 ghost use Rattle.std.specs.List.{concat};
 ghost use Rattle.legal_history.specs.Base.Views.{out};
-ghost use Rattle.legal_history.specs.Commands.Decisions.{Scene};
 ghost use Rattle.legal_history.specs.Queries.ElementTexts.{describe_text, kind_word, selected_lines};
 ghost use Rattle.legal_history.specs.Queries.ListingTexts.{origin_name};
 ghost use Rattle.legal_history.specs.Queries.QueryLines.{describe};
@@ -116,8 +115,7 @@ pub fn describe(
     view: &Name,
     path: &Path,
 ) -> Result<Text, Or<Refusal>>
-    ensures { (scene : Scene) → scene.base ≡ rows.now
-        → AnswersAs result (describe scene view.now path.now) }
+    ensures { AnswersAs result (describe rows.now view.now path.now) }
 {
     let (element, picked) = find_selected(alloc, rows, view, path)?;
     Ok(describe_text(alloc, rows, view, element, picked)?)

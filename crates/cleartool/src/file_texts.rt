@@ -2,7 +2,7 @@
 
 ghost use Rattle.std.specs.Prelude.{◌≡◌, ◌∷◌, [], None, IfOk};
 ghost use Rattle.legal_history.specs.Base.Seen.{at};
-ghost use Rattle.legal_history.specs.Commands.Decisions.{Scene, first_refusal};
+ghost use Rattle.legal_history.specs.Commands.Decisions.{first_refusal};
 ghost use Rattle.legal_history.specs.Commands.Tests.{needs_no_directory};
 ghost use Rattle.legal_history.specs.Queries.QueryLines.{cat, needs_text, text_at, text_row};
 ghost use Rattle.cleartool.specs.Answering.{AnswersAs};
@@ -83,8 +83,7 @@ pub fn cat(
     view: &Name,
     path: &Path,
 ) -> Result<Text, Or<Refusal>>
-    ensures { (scene : Scene) → scene.base ≡ rows.now
-        → AnswersAs result (cat scene view.now path.now None) }
+    ensures { AnswersAs result (cat rows.now view.now path.now None) }
 {
     if view_row(rows, view).is_none() {
         return Err(Or::Is(Refusal::NoView));

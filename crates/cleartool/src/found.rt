@@ -3,7 +3,6 @@
 ghost use Rattle.std.specs.Prelude.{◌≡◌};
 ghost use Rattle.cc_names.specs.References.{held_at};
 ghost use Rattle.legal_history.specs.Base.Changes.{held};
-ghost use Rattle.legal_history.specs.Commands.Decisions.{Scene};
 ghost use Rattle.legal_history.specs.Commands.Found.{for_object};
 ghost use Rattle.legal_history.specs.Queries.QueryLines.{answers_of};
 ghost use Rattle.cleartool.specs.Answering.{FindsObject, FindsSelected};
@@ -23,8 +22,7 @@ pub(crate) fn find_selected(
     view: &Name,
     path: &Path,
 ) -> Result<(u64, Picked), Or<Refusal>>
-    ensures { (scene : Scene) → scene.base ≡ rows.now
-        → FindsSelected result (answers_of scene view.now path.now) }
+    ensures { FindsSelected result (answers_of rows.now view.now path.now) }
 {
     if view_row(rows, view).is_none() {
         return Err(Or::Is(Refusal::NoView));

@@ -1,7 +1,6 @@
 //! The query for the objects that a view holds.
 
 ghost use Rattle.std.specs.Prelude.{◌≡◌, ◌++◌, IfOk, OnOk};
-ghost use Rattle.legal_history.specs.Commands.Decisions.{Scene};
 ghost use Rattle.legal_history.specs.Queries.ListingTexts.{lsdo_text};
 ghost use Rattle.legal_history.specs.Queries.QueryLines.{lsdo};
 ghost use Rattle.cleartool.specs.Answering.{AnswersAs};
@@ -59,8 +58,7 @@ fn lsdo_text(alloc: Global, rows: &FirstRows<'_>, view: &Name) -> Result<Text, N
 /// time linear in the rows by which the view ever came to have something at a path, times logarithmic in the paths, and for each
 /// object that it holds the time of `count_holders`.
 pub fn lsdo(alloc: Global, rows: &FirstRows<'_>, view: &Name) -> Result<Text, Or<Refusal>>
-    ensures { (scene : Scene) → scene.base ≡ rows.now
-        → AnswersAs result (lsdo scene view.now) }
+    ensures { AnswersAs result (lsdo rows.now view.now) }
 {
     if view_row(rows, view).is_none() {
         return Err(Or::Is(Refusal::NoView));

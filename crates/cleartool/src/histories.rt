@@ -2,7 +2,6 @@
 
 ghost use Rattle.std.specs.Prelude.{◌≡◌, ◌≤◌, ◌++◌, map, IfOk, OnOk};
 ghost use Rattle.std.specs.List.{concat};
-ghost use Rattle.legal_history.specs.Commands.Decisions.{Scene};
 ghost use Rattle.legal_history.specs.Queries.HistoryTexts.{dated, history_line, line_where, lshistory_text, placed_lines};
 ghost use Rattle.legal_history.specs.Queries.QueryLines.{lshistory};
 ghost use Rattle.cleartool.specs.Answering.{AnswersAs};
@@ -182,8 +181,7 @@ pub fn lshistory(
     view: &Name,
     path: &Path,
 ) -> Result<Text, Or<Refusal>>
-    ensures { (scene : Scene) → scene.base ≡ rows.now
-        → AnswersAs result (lshistory scene view.now path.now) }
+    ensures { AnswersAs result (lshistory rows.now view.now path.now) }
 {
     let (element, _) = find_selected(alloc, rows, view, path)?;
     Ok(history_text(alloc, rows, element)?)

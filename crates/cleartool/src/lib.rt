@@ -1,6 +1,6 @@
 //! The answers to queries, and the names of versions.
 //!
-//! What it is for: `is_query` tells which commands are queries, and `answer` answers a query's text, or its first refusal in the
+//! What it is for: `answer` answers a query's text, or its first refusal in the
 //! order of the tests of its line. `version_name` and `name_told` give the names by which texts and replies speak of versions.
 //!
 //! What it promises: the answer is the model's decision on the query, and a name is the model's. A query makes no row.
@@ -23,7 +23,6 @@ mod lines;
 mod listed_names;
 mod listings;
 mod merges;
-mod queries;
 mod reached;
 mod record_differences;
 mod record_texts;
@@ -35,5 +34,4 @@ mod version_texts;
 mod version_trees;
 
 pub use answers::answer;
-pub use queries::is_query;
 pub use version_names::{name_told, version_name};

@@ -6,7 +6,6 @@ ghost use Rattle.cc_names.specs.Paths.{join_of};
 ghost use Rattle.cc_names.specs.References.{held_at};
 ghost use Rattle.legal_history.specs.Base.Changes.{held};
 ghost use Rattle.legal_history.specs.Base.Seen.{at};
-ghost use Rattle.legal_history.specs.Commands.Decisions.{Scene};
 ghost use Rattle.legal_history.specs.Queries.ListingTexts.{by_rule, ls_text, path_in, picked_line};
 ghost use Rattle.legal_history.specs.Queries.QueryLines.{ls};
 ghost use Rattle.legal_history.specs.Queries.VersionNames.{line};
@@ -192,8 +191,7 @@ fn find_directory(
     view: &Name,
     path: &Path,
 ) -> Result<u64, Or<Refusal>>
-    ensures { (scene : Scene) → scene.base ≡ rows.now
-        → FindsDirectory scene view.now path.now result }
+    ensures { FindsDirectory rows.now view.now path.now result }
 {
     if view_row(rows, view).is_none() {
         return Err(Or::Is(Refusal::NoView));
@@ -214,8 +212,7 @@ fn find_directory(
 
 /// The text of `ls V P`, or its first refusal.
 fn ls_at(alloc: Global, rows: &FirstRows<'_>, view: &Name, path: &Path) -> Result<Text, Or<Refusal>>
-    ensures { (scene : Scene) → scene.base ≡ rows.now
-        → AnswersAs result (ls scene view.now (Some path.now)) }
+    ensures { AnswersAs result (ls rows.now view.now (Some path.now)) }
 {
     let element = find_directory(alloc, rows, view, path)?;
     Ok(ls_text(alloc, rows, view, path, element)?)
@@ -223,8 +220,7 @@ fn ls_at(alloc: Global, rows: &FirstRows<'_>, view: &Name, path: &Path) -> Resul
 
 /// The text of `ls V`, the names of the root, or its first refusal.
 fn ls_root(alloc: Global, rows: &FirstRows<'_>, view: &Name) -> Result<Text, Or<Refusal>>
-    ensures { (scene : Scene) → scene.base ≡ rows.now
-        → AnswersAs result (ls scene view.now None) }
+    ensures { AnswersAs result (ls rows.now view.now None) }
 {
     let root = Path::root();
     ls_at(alloc, rows, view, &root)
@@ -239,8 +235,7 @@ pub fn ls(
     view: &Name,
     path: &Option<Path>,
 ) -> Result<Text, Or<Refusal>>
-    ensures { (scene : Scene) → scene.base ≡ rows.now
-        → AnswersAs result (ls scene view.now path.now) }
+    ensures { AnswersAs result (ls rows.now view.now path.now) }
 {
     match path {
         None => ls_root(alloc, rows, view),

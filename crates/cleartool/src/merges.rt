@@ -2,7 +2,6 @@
 
 ghost use Rattle.std.specs.Prelude.{◌≡◌, ◌++◌, codes, bytes_eq, IfOk, OnOk};
 ghost use Rattle.legal_history.specs.Base.Views.{out};
-ghost use Rattle.legal_history.specs.Commands.Decisions.{Scene};
 ghost use Rattle.legal_history.specs.Queries.Merges.{branch_of_type, findmerge_text, found_line, merge_line, merge_source, merge_target};
 ghost use Rattle.legal_history.specs.Queries.QueryLines.{findmerge, needs_branch};
 ghost use Rattle.legal_history.specs.Queries.VersionNames.{at_version, line, version_name};
@@ -181,8 +180,7 @@ pub fn findmerge(
     path: &Path,
     branch: &Name,
 ) -> Result<Text, Or<Refusal>>
-    ensures { (scene : Scene) → scene.base ≡ rows.now
-        → AnswersAs result (findmerge scene view.now path.now branch.now) }
+    ensures { AnswersAs result (findmerge rows.now view.now path.now branch.now) }
 {
     find_selected(alloc, rows, view, path)?;
     needs_branch(alloc, rows, branch)?;

@@ -8,7 +8,6 @@ ghost use Rattle.std.specs.List.Sorted.{IsStrictlySortedBy};
 ghost use Rattle.std.specs.Ordering.{nat_cmp};
 ghost use Rattle.legal_history.specs.Base.Closures.{is_among};
 ghost use Rattle.legal_history.specs.Builds.Reuse.{are_same_paths};
-ghost use Rattle.legal_history.specs.Commands.Decisions.{Scene};
 ghost use Rattle.legal_history.specs.Queries.QueryLines.{diffcr};
 ghost use Rattle.legal_history.specs.Queries.RecordTexts.{diffcr_text, is_same_row, path_lines, row_in, side_line, side_name, unless_same};
 ghost use Rattle.cleartool.specs.Answering.{AnswersAs};
@@ -214,8 +213,7 @@ pub fn diffcr(
     other: &Name,
     second: &Path,
 ) -> Result<Text, Or<Refusal>>
-    ensures { (scene : Scene) → scene.base ≡ rows.now
-        → AnswersAs result (diffcr scene view.now path.now other.now second.now) }
+    ensures { AnswersAs result (diffcr rows.now view.now path.now other.now second.now) }
 {
     if view_row(rows, view).is_none() {
         return Err(Or::Is(Refusal::NoView));

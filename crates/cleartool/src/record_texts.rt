@@ -3,7 +3,6 @@
 ghost use Rattle.std.specs.Prelude.{◌≡◌, ◌++◌, IfOk, OnOk, map};
 ghost use Rattle.std.specs.List.{concat};
 ghost use Rattle.cc_names.specs.Cuts.{lines_of};
-ghost use Rattle.legal_history.specs.Commands.Decisions.{Scene};
 ghost use Rattle.legal_history.specs.Queries.QueryLines.{catcr};
 ghost use Rattle.legal_history.specs.Queries.RecordTexts.{catcr_text, read_line};
 ghost use Rattle.cleartool.specs.Answering.{AnswersAs};
@@ -100,8 +99,7 @@ pub fn catcr(
     view: &Name,
     path: &Path,
 ) -> Result<Text, Or<Refusal>>
-    ensures { (scene : Scene) → scene.base ≡ rows.now
-        → AnswersAs result (catcr scene view.now path.now) }
+    ensures { AnswersAs result (catcr rows.now view.now path.now) }
 {
     if view_row(rows, view).is_none() {
         return Err(Or::Is(Refusal::NoView));

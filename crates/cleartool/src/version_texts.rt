@@ -1,7 +1,6 @@
 //! The query for the text of a version of an element.
 
 ghost use Rattle.std.specs.Prelude.{◌≡◌, Some, IfOk};
-ghost use Rattle.legal_history.specs.Commands.Decisions.{Scene};
 ghost use Rattle.legal_history.specs.Commands.Tests.{needs_no_directory};
 ghost use Rattle.legal_history.specs.Queries.QueryLines.{cat, version_seen};
 ghost use Rattle.cleartool.specs.Answering.{AnswersAs};
@@ -60,8 +59,7 @@ pub fn cat_version(
     path: &Path,
     name: &VersionName,
 ) -> Result<Text, Or<Refusal>>
-    ensures { (scene : Scene) → scene.base ≡ rows.now
-        → AnswersAs result (cat scene view.now path.now (Some name.now)) }
+    ensures { AnswersAs result (cat rows.now view.now path.now (Some name.now)) }
 {
     if view_row(rows, view).is_none() {
         return Err(Or::Is(Refusal::NoView));

@@ -2,7 +2,6 @@
 
 ghost use Rattle.std.specs.Prelude.{◌≡◌, ◌+◌, ◌<◌, ◌++◌, ℕ, IfOk, OnOk, map};
 ghost use Rattle.legal_history.specs.Base.Changes.{tree};
-ghost use Rattle.legal_history.specs.Commands.Decisions.{Scene};
 ghost use Rattle.legal_history.specs.Queries.ElementTexts.{branch_lines, branches_leaving, in_brackets, lsvtree_text};
 ghost use Rattle.legal_history.specs.Queries.QueryLines.{lsvtree};
 ghost use Rattle.legal_history.specs.Queries.VersionNames.{at_version, branch_name, line, version_name};
@@ -228,8 +227,7 @@ pub fn lsvtree(
     view: &Name,
     path: &Path,
 ) -> Result<Text, Or<Refusal>>
-    ensures { (scene : Scene) → scene.base ≡ rows.now
-        → AnswersAs result (lsvtree scene view.now path.now) }
+    ensures { AnswersAs result (lsvtree rows.now view.now path.now) }
 {
     let (element, _) = find_selected(alloc, rows, view, path)?;
     Ok(tree_text(alloc, rows, path, element)?)

@@ -3,8 +3,9 @@ use Rattle.std.proofs.Common.{◌≡◌, List, ℕ, [], ◌∷◌, ◌++◌, ref
 use Rattle.std.specs.Prelude.{codes}
 use Rattle.std.specs.Fmt.{digits}
 use Rattle.hex.specs.Hex.{encode_with}
+use Rattle.cc_names.specs.declared.commands.Change.TheVariants.{Mkview, Save}
 use Rattle.cc_names.specs.declared.commands.Command.{Command}
-use Rattle.cc_names.specs.declared.commands.Command.TheVariants.{Mkview, Save, Clearmake}
+use Rattle.cc_names.specs.declared.commands.Command.TheVariants.{Change, Build}
 use Rattle.cc_names.specs.declared.commands.Phase.{Phase}
 use Rattle.cc_names.specs.declared.replies.Reply.{Reply}
 use Rattle.cc_names.specs.declared.replies.Reply.TheVariants as replies
@@ -18,7 +19,8 @@ view = codes "v"
 commands : List Command
 unfolding view
 commands =
-    Mkview view ∷ Save view (codes "in") (codes "hi") ∷ Clearmake view None false false 1 [] (codes "out" ∷ []) ∷ []
+    Change (Mkview view) ∷ Change (Save view (codes "in") (codes "hi"))
+    ∷ Build (record { view = view; file = None; own_only = false; rebuild = false; jobs = 1; macros = []; goals = codes "out" ∷ [] }) ∷ []
 
 phase : Phase
 unfolding commands

@@ -2,8 +2,12 @@
 use Rattle.std.specs.Prelude.{ℕ, List, [], ◌∷◌, ◌++◌, codes}
 use Rattle.std.specs.List.{flat_map}
 use Rattle.cc_names.specs.Cuts.{lines_of}
+use Rattle.cc_names.specs.declared.commands.Change.{Change}
+use Rattle.cc_names.specs.declared.commands.Change.TheVariants as changes
 use Rattle.cc_names.specs.declared.commands.Command.{Command}
 use Rattle.cc_names.specs.declared.commands.Command.TheVariants as commands
+use Rattle.cc_names.specs.declared.commands.Query.{Query}
+use Rattle.cc_names.specs.declared.commands.Query.TheVariants as queries
 
 -- a word behind another one, with one space between
 abbrev pub spaced_word : List ℕ → List ℕ
@@ -21,38 +25,46 @@ shown_line line = 124 ∷ line ++ 10 ∷ []
 abbrev pub shown : List ℕ → List ℕ
 shown text = flat_map shown_line (lines_of text)
 
+-- the word of a change
+abbrev pub change_word : Change → List ℕ
+change_word (changes.Mkview view) = codes "mkview"
+change_word (changes.Rmview view force) = codes "rmview"
+change_word (changes.Setcs view text) = codes "setcs"
+change_word (changes.Mkelem view nco path) = codes "mkelem"
+change_word (changes.Mkdir view nco path) = codes "mkdir"
+change_word (changes.Checkout view unreserved path) = codes "checkout"
+change_word (changes.Mkbranch view nco branch path) = codes "mkbranch"
+change_word (changes.Save view path text) = codes "save"
+change_word (changes.Rm view path) = codes "rm"
+change_word (changes.Checkin view identical path) = codes "checkin"
+change_word (changes.Uncheckout view path) = codes "uncheckout"
+change_word (changes.Rmname view path) = codes "rmname"
+change_word (changes.Mv view path name) = codes "mv"
+change_word (changes.Mklbtype name) = codes "mklbtype"
+change_word (changes.Mkbrtype name) = codes "mkbrtype"
+change_word (changes.Mklabel view replace label path) = codes "mklabel"
+change_word (changes.MklabelConfig view replace path label) = codes "mklabel"
+change_word (changes.Rmlabel view label path) = codes "rmlabel"
+change_word (changes.Mkarrow view path version) = codes "mkarrow"
+change_word (changes.Rmdo view path) = codes "rmdo"
+change_word (changes.Scrub age) = codes "scrub"
+
+-- the word of a query
+abbrev pub query_word : Query → List ℕ
+query_word (queries.Catcs view) = codes "catcs"
+query_word (queries.Lsdo view) = codes "lsdo"
+query_word (queries.Ls view path) = codes "ls"
+query_word (queries.Cat view path version) = codes "cat"
+query_word (queries.Describe view path) = codes "describe"
+query_word (queries.Lsvtree view path) = codes "lsvtree"
+query_word (queries.Lshistory view path) = codes "lshistory"
+query_word (queries.Catcr view path) = codes "catcr"
+query_word (queries.Diffcr view path other second) = codes "diffcr"
+query_word (queries.Covers seer view path) = codes "covers"
+query_word (queries.Findmerge view path branch) = codes "findmerge"
+
 -- the word of a command
 abbrev pub word_of : Command → List ℕ
-word_of (commands.Mkview view) = codes "mkview"
-word_of (commands.Rmview view force) = codes "rmview"
-word_of (commands.Setcs view text) = codes "setcs"
-word_of (commands.Mkelem view nco path) = codes "mkelem"
-word_of (commands.Mkdir view nco path) = codes "mkdir"
-word_of (commands.Checkout view unreserved path) = codes "checkout"
-word_of (commands.Mkbranch view nco branch path) = codes "mkbranch"
-word_of (commands.Save view path text) = codes "save"
-word_of (commands.Rm view path) = codes "rm"
-word_of (commands.Checkin view identical path) = codes "checkin"
-word_of (commands.Uncheckout view path) = codes "uncheckout"
-word_of (commands.Rmname view path) = codes "rmname"
-word_of (commands.Mv view path name) = codes "mv"
-word_of (commands.Mklbtype name) = codes "mklbtype"
-word_of (commands.Mkbrtype name) = codes "mkbrtype"
-word_of (commands.Mklabel view replace label path) = codes "mklabel"
-word_of (commands.Rmlabel view label path) = codes "rmlabel"
-word_of (commands.Rmdo view path) = codes "rmdo"
-word_of (commands.Scrub age) = codes "scrub"
-word_of (commands.Clearmake view file own_only rebuild jobs macros goals) = codes "clearmake"
-word_of (commands.Catcs view) = codes "catcs"
-word_of (commands.Lsdo view) = codes "lsdo"
-word_of (commands.Ls view path) = codes "ls"
-word_of (commands.Cat view path version) = codes "cat"
-word_of (commands.Describe view path) = codes "describe"
-word_of (commands.Lsvtree view path) = codes "lsvtree"
-word_of (commands.Lshistory view path) = codes "lshistory"
-word_of (commands.Catcr view path) = codes "catcr"
-word_of (commands.Diffcr view path other second) = codes "diffcr"
-word_of (commands.MklabelConfig view replace path label) = codes "mklabel"
-word_of (commands.Covers seer view path) = codes "covers"
-word_of (commands.Mkarrow view path version) = codes "mkarrow"
-word_of (commands.Findmerge view path branch) = codes "findmerge"
+word_of (commands.Change change) = change_word change
+word_of (commands.Query query) = query_word query
+word_of (commands.Build asked) = codes "clearmake"

@@ -1,6 +1,6 @@
 //! The printed lines of the replies that no session is answered.
 
-use cc_names::commands::{Command, Lane, Phase};
+use cc_names::commands::{Change, Command, Lane, Phase};
 use cc_names::lists::List;
 use cc_names::names::Name;
 use cc_names::paths::Path;
@@ -15,9 +15,9 @@ use std::test::Fail;
 // The phase with the lane `a`, which has the one command `mkview v`.
 fn phase(alloc: Global) -> Result<Phase, Fail> {
     let mut commands = Vec::new(alloc);
-    commands.push(Command::Mkview {
+    commands.push(Command::Change(Change::Mkview {
         view: Name::read(alloc, b"v")?,
-    })?;
+    }))?;
     let mut lanes = Vec::new(alloc);
     lanes.push(Lane {
         name: Name::read(alloc, b"a")?,

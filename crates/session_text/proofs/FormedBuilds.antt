@@ -9,7 +9,7 @@ use Rattle.cc_names.specs.Paths.{IsPath}
 use Rattle.cc_names.specs.declared.commands.Macro.{Macro}
 use Rattle.cc_names.specs.declared.refusals.SessionCause.TheVariants.{BadWord}
 use Rattle.session_text.specs.Clearmake.{is_equals, with_macro, Asked, nothing_asked, with_goal, with_definition, with_word, with_one, with_jobs, with_file, asked_behind, is_option, with_option, asked_by, build_of, clearmake}
-use Rattle.session_text.specs.Formed.{is_macro_byte, is_word_byte, IsMacro, macro_name, IsCommand}
+use Rattle.session_text.specs.Formed.{IsClearmake, IsMacro, is_macro_byte, is_word_byte, macro_name}
 use Rattle.session_text.specs.Shapes.{first_name, behind_first}
 use Rattle.session_text.specs.Words.{Said, path_word, jobs_word, both, says}
 use Rattle.session_text.proofs.FormedWords.{both_is, says_is, path_word_is, jobs_word_is, first_name_is}
@@ -202,9 +202,9 @@ rest_fewer : (words : List (List ℕ)) → length (behind_first words) ≤ lengt
 rest_fewer [] = omega arith
 rest_fewer (word ∷ words) = omega arith
 
-pub clearmake_is : (limit : ℕ) (words : List (List ℕ)) → length words ≤ limit → AllByRecursion (λ word. length word ≤ limit) words → IfOk (clearmake words) (IsCommand limit)
+pub clearmake_is : (limit : ℕ) (words : List (List ℕ)) → length words ≤ limit → AllByRecursion (λ word. length word ≤ limit) words → IfOk (clearmake words) (IsClearmake limit)
 clearmake_is limit words few within =
-    says_is (λ said. IsName said.0 × IsAsked limit limit said.1) (IsCommand limit) (λ said. build_of said.0 said.1) (both (first_name words) (asked_by (behind_first words) nothing_asked))
+    says_is (λ said. IsName said.0 × IsAsked limit limit said.1) (IsClearmake limit) (λ said. build_of said.0 said.1) (both (first_name words) (asked_by (behind_first words) nothing_asked))
     (λ said h. let jobs = jobs_of said.1.jobs h.1.jobs in (h.0, h.1.file, jobs.0, jobs.1, ((h.1.few_macros, h.1.macros), h.1.distinct), (h.1.few_goals, h.1.goals)))
     (both_is IsName (IsAsked limit limit) (first_name words) (asked_by (behind_first words) nothing_asked) (first_name_is words)
     (asked_is limit 0 limit (behind_first words) nothing_asked (nothing_is limit) (rest_within limit words within) (omega (arith, rest_fewer words, few))))

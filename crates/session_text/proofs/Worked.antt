@@ -3,6 +3,8 @@ use Rattle.std.proofs.Common.{◌≡◌, ℕ, List, [], ◌∷◌, refl, Some, N
 use Rattle.std.specs.Prelude.{codes}
 use Rattle.cc_names.specs.declared.commands.Command.{Command}
 use Rattle.cc_names.specs.declared.commands.Command.TheVariants as commands
+use Rattle.cc_names.specs.declared.commands.Query.TheVariants as queries
+use Rattle.cc_names.specs.declared.commands.Change.TheVariants as changes
 use Rattle.cc_names.specs.declared.commands.Session.{Session}
 use Rattle.cc_names.specs.declared.refusals.SessionCause.{SessionCause}
 use Rattle.cc_names.specs.declared.refusals.SessionCause.TheVariants as causes
@@ -18,10 +20,10 @@ first_build : session_of (codes "phase\nlane a\nmkview v\nsave v Makefile\n|out:
         lanes = record {
           name = codes "a";
           commands =
-              commands.Mkview (codes "v")
-              ∷ commands.Save (codes "v") (codes "Makefile") (codes "out: in\n\tcat in > out\n")
-              ∷ commands.Save (codes "v") (codes "in") (codes "hi\n")
-              ∷ commands.Clearmake (codes "v") None false false 1 [] (codes "out" ∷ [])
+              commands.Change (changes.Mkview (codes "v"))
+              ∷ commands.Change (changes.Save (codes "v") (codes "Makefile") (codes "out: in\n\tcat in > out\n"))
+              ∷ commands.Change (changes.Save (codes "v") (codes "in") (codes "hi\n"))
+              ∷ commands.Build (record { view = codes "v"; file = None; own_only = false; rebuild = false; jobs = 1; macros = []; goals = codes "out" ∷ [] })
               ∷ [];
         } ∷ [];
       } ∷ [];
@@ -34,7 +36,7 @@ loose_lines : session_of (codes "# note\n\nphase\n\tlane  a \nsave v in\n|\n\n#\
       phases = record {
         lanes = record {
           name = codes "a";
-          commands = commands.Save (codes "v") (codes "in") (codes "\n|x\n") ∷ commands.Mkview (codes "w") ∷ [];
+          commands = commands.Change (changes.Save (codes "v") (codes "in") (codes "\n|x\n")) ∷ commands.Change (changes.Mkview (codes "w")) ∷ [];
         } ∷ [];
       } ∷ [];
     })
@@ -44,7 +46,7 @@ loose_lines = refl
 two_phases : session_of (codes "phase\nlane a\nlane b\nmkview v\nphase\n")
     ≡ Ok (record {
       phases = record {
-        lanes = record { name = codes "a"; commands = [] } ∷ record { name = codes "b"; commands = commands.Mkview (codes "v") ∷ [] } ∷ [];
+        lanes = record { name = codes "a"; commands = [] } ∷ record { name = codes "b"; commands = commands.Change (changes.Mkview (codes "v")) ∷ [] } ∷ [];
       } ∷ record { lanes = [] } ∷ [];
     })
 two_phases = refl
@@ -58,139 +60,139 @@ line_says [] = Err causes.UnknownCommand
 line_says (word ∷ words) = said_in table word words []
 
 built : line_says (codes "clearmake" ∷ codes "v" ∷ codes "A=1" ∷ codes "-u" ∷ codes "b" ∷ codes "B=" ∷ codes "-J" ∷ codes "4" ∷ codes "A=2" ∷ codes "-f" ∷ codes "." ∷ [])
-    ≡ Ok (commands.Clearmake (codes "v") (Some (codes ".")) false true 4 (record { name = codes "A"; value = codes "2" } ∷ record { name = codes "B"; value = [] } ∷ []) (codes "b" ∷ []))
+    ≡ Ok (commands.Build (record { view = codes "v"; file = Some (codes "."); own_only = false; rebuild = true; jobs = 4; macros = record { name = codes "A"; value = codes "2" } ∷ record { name = codes "B"; value = [] } ∷ []; goals = codes "b" ∷ [] }))
 unfolding line_says
 built = refl
 
-version_read : line_says (codes "cat" ∷ codes "v" ∷ codes "a@@/main/fix/3" ∷ []) ≡ Ok (commands.Cat (codes "v") (codes "a") (Some (record { branches = codes "fix" ∷ []; number = 3 })))
+version_read : line_says (codes "cat" ∷ codes "v" ∷ codes "a@@/main/fix/3" ∷ []) ≡ Ok (commands.Query (queries.Cat (codes "v") (codes "a") (Some (record { branches = codes "fix" ∷ []; number = 3 }))))
 unfolding line_says
 version_read = refl
 
-labelled : line_says (codes "mklabel" ∷ codes "v" ∷ codes "-replace" ∷ codes "-config" ∷ codes "out" ∷ codes "REL" ∷ []) ≡ Ok (commands.MklabelConfig (codes "v") true (codes "out") (codes "REL"))
+labelled : line_says (codes "mklabel" ∷ codes "v" ∷ codes "-replace" ∷ codes "-config" ∷ codes "out" ∷ codes "REL" ∷ []) ≡ Ok (commands.Change (changes.MklabelConfig (codes "v") true (codes "out") (codes "REL")))
 unfolding line_says
 labelled = refl
 
-merged : line_says (codes "findmerge" ∷ codes "w" ∷ codes "." ∷ codes "-fversion" ∷ codes ".../fix/LATEST" ∷ []) ≡ Ok (commands.Findmerge (codes "w") (codes ".") (codes "fix"))
+merged : line_says (codes "findmerge" ∷ codes "w" ∷ codes "." ∷ codes "-fversion" ∷ codes ".../fix/LATEST" ∷ []) ≡ Ok (commands.Query (queries.Findmerge (codes "w") (codes ".") (codes "fix")))
 unfolding line_says
 merged = refl
 
-ended_by_force : line_says (codes "rmview" ∷ codes "-force" ∷ codes "v" ∷ []) ≡ Ok (commands.Rmview (codes "v") true)
+ended_by_force : line_says (codes "rmview" ∷ codes "-force" ∷ codes "v" ∷ []) ≡ Ok (commands.Change (changes.Rmview (codes "v") true))
 unfolding line_says
 ended_by_force = refl
 
-rules_set : line_says (codes "setcs" ∷ codes "v" ∷ []) ≡ Ok (commands.Setcs (codes "v") [])
+rules_set : line_says (codes "setcs" ∷ codes "v" ∷ []) ≡ Ok (commands.Change (changes.Setcs (codes "v") []))
 unfolding line_says
 rules_set = refl
 
-file_made : line_says (codes "mkelem" ∷ codes "v" ∷ codes "-nco" ∷ codes "a" ∷ []) ≡ Ok (commands.Mkelem (codes "v") true (codes "a"))
+file_made : line_says (codes "mkelem" ∷ codes "v" ∷ codes "-nco" ∷ codes "a" ∷ []) ≡ Ok (commands.Change (changes.Mkelem (codes "v") true (codes "a")))
 unfolding line_says
 file_made = refl
 
-directory_made : line_says (codes "mkdir" ∷ codes "v" ∷ codes "-nco" ∷ codes "a" ∷ []) ≡ Ok (commands.Mkdir (codes "v") true (codes "a"))
+directory_made : line_says (codes "mkdir" ∷ codes "v" ∷ codes "-nco" ∷ codes "a" ∷ []) ≡ Ok (commands.Change (changes.Mkdir (codes "v") true (codes "a")))
 unfolding line_says
 directory_made = refl
 
-taken_out : line_says (codes "checkout" ∷ codes "v" ∷ codes "-unreserved" ∷ codes "." ∷ []) ≡ Ok (commands.Checkout (codes "v") true (codes "."))
+taken_out : line_says (codes "checkout" ∷ codes "v" ∷ codes "-unreserved" ∷ codes "." ∷ []) ≡ Ok (commands.Change (changes.Checkout (codes "v") true (codes ".")))
 unfolding line_says
 taken_out = refl
 
-branched : line_says (codes "mkbranch" ∷ codes "v" ∷ codes "-nco" ∷ codes "fix" ∷ codes "a" ∷ []) ≡ Ok (commands.Mkbranch (codes "v") true (codes "fix") (codes "a"))
+branched : line_says (codes "mkbranch" ∷ codes "v" ∷ codes "-nco" ∷ codes "fix" ∷ codes "a" ∷ []) ≡ Ok (commands.Change (changes.Mkbranch (codes "v") true (codes "fix") (codes "a")))
 unfolding line_says
 branched = refl
 
-saved : line_says (codes "save" ∷ codes "v" ∷ codes "a" ∷ []) ≡ Ok (commands.Save (codes "v") (codes "a") [])
+saved : line_says (codes "save" ∷ codes "v" ∷ codes "a" ∷ []) ≡ Ok (commands.Change (changes.Save (codes "v") (codes "a") []))
 unfolding line_says
 saved = refl
 
-removed : line_says (codes "rm" ∷ codes "v" ∷ codes "a" ∷ []) ≡ Ok (commands.Rm (codes "v") (codes "a"))
+removed : line_says (codes "rm" ∷ codes "v" ∷ codes "a" ∷ []) ≡ Ok (commands.Change (changes.Rm (codes "v") (codes "a")))
 unfolding line_says
 removed = refl
 
-taken_in : line_says (codes "checkin" ∷ codes "v" ∷ codes "-identical" ∷ codes "a" ∷ []) ≡ Ok (commands.Checkin (codes "v") true (codes "a"))
+taken_in : line_says (codes "checkin" ∷ codes "v" ∷ codes "-identical" ∷ codes "a" ∷ []) ≡ Ok (commands.Change (changes.Checkin (codes "v") true (codes "a")))
 unfolding line_says
 taken_in = refl
 
-given_up : line_says (codes "uncheckout" ∷ codes "v" ∷ codes "a" ∷ []) ≡ Ok (commands.Uncheckout (codes "v") (codes "a"))
+given_up : line_says (codes "uncheckout" ∷ codes "v" ∷ codes "a" ∷ []) ≡ Ok (commands.Change (changes.Uncheckout (codes "v") (codes "a")))
 unfolding line_says
 given_up = refl
 
-name_removed : line_says (codes "rmname" ∷ codes "v" ∷ codes "a" ∷ []) ≡ Ok (commands.Rmname (codes "v") (codes "a"))
+name_removed : line_says (codes "rmname" ∷ codes "v" ∷ codes "a" ∷ []) ≡ Ok (commands.Change (changes.Rmname (codes "v") (codes "a")))
 unfolding line_says
 name_removed = refl
 
-moved : line_says (codes "mv" ∷ codes "v" ∷ codes "a/b" ∷ codes "c" ∷ []) ≡ Ok (commands.Mv (codes "v") (codes "a/b") (codes "c"))
+moved : line_says (codes "mv" ∷ codes "v" ∷ codes "a/b" ∷ codes "c" ∷ []) ≡ Ok (commands.Change (changes.Mv (codes "v") (codes "a/b") (codes "c")))
 unfolding line_says
 moved = refl
 
-label_type_made : line_says (codes "mklbtype" ∷ codes "REL" ∷ []) ≡ Ok (commands.Mklbtype (codes "REL"))
+label_type_made : line_says (codes "mklbtype" ∷ codes "REL" ∷ []) ≡ Ok (commands.Change (changes.Mklbtype (codes "REL")))
 unfolding line_says
 label_type_made = refl
 
-branch_type_made : line_says (codes "mkbrtype" ∷ codes "fix" ∷ []) ≡ Ok (commands.Mkbrtype (codes "fix"))
+branch_type_made : line_says (codes "mkbrtype" ∷ codes "fix" ∷ []) ≡ Ok (commands.Change (changes.Mkbrtype (codes "fix")))
 unfolding line_says
 branch_type_made = refl
 
-label_put : line_says (codes "mklabel" ∷ codes "v" ∷ codes "-replace" ∷ codes "REL" ∷ codes "a" ∷ []) ≡ Ok (commands.Mklabel (codes "v") true (codes "REL") (codes "a"))
+label_put : line_says (codes "mklabel" ∷ codes "v" ∷ codes "-replace" ∷ codes "REL" ∷ codes "a" ∷ []) ≡ Ok (commands.Change (changes.Mklabel (codes "v") true (codes "REL") (codes "a")))
 unfolding line_says
 label_put = refl
 
-label_taken_off : line_says (codes "rmlabel" ∷ codes "v" ∷ codes "REL" ∷ codes "a" ∷ []) ≡ Ok (commands.Rmlabel (codes "v") (codes "REL") (codes "a"))
+label_taken_off : line_says (codes "rmlabel" ∷ codes "v" ∷ codes "REL" ∷ codes "a" ∷ []) ≡ Ok (commands.Change (changes.Rmlabel (codes "v") (codes "REL") (codes "a")))
 unfolding line_says
 label_taken_off = refl
 
-dropped : line_says (codes "rmdo" ∷ codes "v" ∷ codes "a" ∷ []) ≡ Ok (commands.Rmdo (codes "v") (codes "a"))
+dropped : line_says (codes "rmdo" ∷ codes "v" ∷ codes "a" ∷ []) ≡ Ok (commands.Change (changes.Rmdo (codes "v") (codes "a")))
 unfolding line_says
 dropped = refl
 
-scrubbed : line_says (codes "scrub" ∷ codes "12" ∷ []) ≡ Ok (commands.Scrub 12)
+scrubbed : line_says (codes "scrub" ∷ codes "12" ∷ []) ≡ Ok (commands.Change (changes.Scrub 12))
 unfolding line_says
 scrubbed = refl
 
-rules_asked : line_says (codes "catcs" ∷ codes "v" ∷ []) ≡ Ok (commands.Catcs (codes "v"))
+rules_asked : line_says (codes "catcs" ∷ codes "v" ∷ []) ≡ Ok (commands.Query (queries.Catcs (codes "v")))
 unfolding line_says
 rules_asked = refl
 
-objects_asked : line_says (codes "lsdo" ∷ codes "v" ∷ []) ≡ Ok (commands.Lsdo (codes "v"))
+objects_asked : line_says (codes "lsdo" ∷ codes "v" ∷ []) ≡ Ok (commands.Query (queries.Lsdo (codes "v")))
 unfolding line_says
 objects_asked = refl
 
-root_asked : line_says (codes "ls" ∷ codes "v" ∷ []) ≡ Ok (commands.Ls (codes "v") None)
+root_asked : line_says (codes "ls" ∷ codes "v" ∷ []) ≡ Ok (commands.Query (queries.Ls (codes "v") None))
 unfolding line_says
 root_asked = refl
 
-directory_asked : line_says (codes "ls" ∷ codes "v" ∷ codes "d" ∷ []) ≡ Ok (commands.Ls (codes "v") (Some (codes "d")))
+directory_asked : line_says (codes "ls" ∷ codes "v" ∷ codes "d" ∷ []) ≡ Ok (commands.Query (queries.Ls (codes "v") (Some (codes "d"))))
 unfolding line_says
 directory_asked = refl
 
-text_asked : line_says (codes "cat" ∷ codes "v" ∷ codes "a" ∷ []) ≡ Ok (commands.Cat (codes "v") (codes "a") None)
+text_asked : line_says (codes "cat" ∷ codes "v" ∷ codes "a" ∷ []) ≡ Ok (commands.Query (queries.Cat (codes "v") (codes "a") None))
 unfolding line_says
 text_asked = refl
 
-element_asked : line_says (codes "describe" ∷ codes "v" ∷ codes "a" ∷ []) ≡ Ok (commands.Describe (codes "v") (codes "a"))
+element_asked : line_says (codes "describe" ∷ codes "v" ∷ codes "a" ∷ []) ≡ Ok (commands.Query (queries.Describe (codes "v") (codes "a")))
 unfolding line_says
 element_asked = refl
 
-versions_asked : line_says (codes "lsvtree" ∷ codes "v" ∷ codes "a" ∷ []) ≡ Ok (commands.Lsvtree (codes "v") (codes "a"))
+versions_asked : line_says (codes "lsvtree" ∷ codes "v" ∷ codes "a" ∷ []) ≡ Ok (commands.Query (queries.Lsvtree (codes "v") (codes "a")))
 unfolding line_says
 versions_asked = refl
 
-history_asked : line_says (codes "lshistory" ∷ codes "v" ∷ codes "a" ∷ []) ≡ Ok (commands.Lshistory (codes "v") (codes "a"))
+history_asked : line_says (codes "lshistory" ∷ codes "v" ∷ codes "a" ∷ []) ≡ Ok (commands.Query (queries.Lshistory (codes "v") (codes "a")))
 unfolding line_says
 history_asked = refl
 
-record_asked : line_says (codes "catcr" ∷ codes "v" ∷ codes "a" ∷ []) ≡ Ok (commands.Catcr (codes "v") (codes "a"))
+record_asked : line_says (codes "catcr" ∷ codes "v" ∷ codes "a" ∷ []) ≡ Ok (commands.Query (queries.Catcr (codes "v") (codes "a")))
 unfolding line_says
 record_asked = refl
 
-difference_asked : line_says (codes "diffcr" ∷ codes "v" ∷ codes "a" ∷ codes "w" ∷ codes "b" ∷ []) ≡ Ok (commands.Diffcr (codes "v") (codes "a") (codes "w") (codes "b"))
+difference_asked : line_says (codes "diffcr" ∷ codes "v" ∷ codes "a" ∷ codes "w" ∷ codes "b" ∷ []) ≡ Ok (commands.Query (queries.Diffcr (codes "v") (codes "a") (codes "w") (codes "b")))
 unfolding line_says
 difference_asked = refl
 
-cover_asked : line_says (codes "covers" ∷ codes "w" ∷ codes "v" ∷ codes "a" ∷ []) ≡ Ok (commands.Covers (codes "w") (codes "v") (codes "a"))
+cover_asked : line_says (codes "covers" ∷ codes "w" ∷ codes "v" ∷ codes "a" ∷ []) ≡ Ok (commands.Query (queries.Covers (codes "w") (codes "v") (codes "a")))
 unfolding line_says
 cover_asked = refl
 
-merge_noted : line_says (codes "mkarrow" ∷ codes "v" ∷ codes "a" ∷ codes "/main/fix/1" ∷ []) ≡ Ok (commands.Mkarrow (codes "v") (codes "a") (record { branches = codes "fix" ∷ []; number = 1 }))
+merge_noted : line_says (codes "mkarrow" ∷ codes "v" ∷ codes "a" ∷ codes "/main/fix/1" ∷ []) ≡ Ok (commands.Change (changes.Mkarrow (codes "v") (codes "a") (record { branches = codes "fix" ∷ []; number = 1 })))
 unfolding line_says
 merge_noted = refl
 

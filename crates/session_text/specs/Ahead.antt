@@ -9,7 +9,7 @@ use Rattle.session_text.specs.declared.lanes.Ahead.TheVariants.{Nothing, Act, Bu
 -- a command builds or acts
 abbrev pub ahead_of : Option Command → Ahead
 ahead_of None = Nothing
-ahead_of (Some (commands.Clearmake view file own_only rebuild jobs macros goals)) = Build
+ahead_of (Some (commands.Build asked)) = Build
 ahead_of (Some command) = Act
 
 -- and so does what a line of this word says

@@ -2,8 +2,7 @@
 use Rattle.std.specs.Prelude.{ℕ, ◌+◌, Bool, true, false, ◌||◌, ◌&&◌, ◌==◌, not, Option, Some, None, is_none, Ok, Err, List, [], ◌∷◌, ◌++◌, codes, take, drop, length, unwrap_or, if◌then◌else◌}
 use Rattle.std.specs.List.{list_all, position}
 use Rattle.std.specs.Str.{bytes_eq}
-use Rattle.cc_names.specs.declared.commands.Command.{Command}
-use Rattle.cc_names.specs.declared.commands.Command.TheVariants as commands
+use Rattle.cc_names.specs.declared.commands.Clearmake.{Clearmake}
 use Rattle.cc_names.specs.declared.commands.Macro.{Macro}
 use Rattle.cc_names.specs.declared.refusals.SessionCause.TheVariants.{BadWord}
 use Rattle.session_text.specs.Formed.{is_macro_byte, is_word_byte}
@@ -91,12 +90,19 @@ asked_by (word ∷ next ∷ words) asked =
     if is_option word then asked_behind (asked_by words) (with_option asked word next)
     else asked_behind (asked_by (next ∷ words)) (with_one asked word)
 
--- the command of a view and what is asked: without `-J` there is one job
-abbrev pub build_of : List ℕ → Asked → Command
-build_of view asked =
-    commands.Clearmake view asked.file asked.own_only asked.rebuild (unwrap_or asked.jobs 1) asked.macros asked.goals
+-- the build of a view and what is asked: without `-J` there is one job
+abbrev pub build_of : List ℕ → Asked → Clearmake
+build_of view asked = record {
+  view = view;
+  file = asked.file;
+  own_only = asked.own_only;
+  rebuild = asked.rebuild;
+  jobs = unwrap_or asked.jobs 1;
+  macros = asked.macros;
+  goals = asked.goals;
+}
 
 -- `clearmake V ..`
-abbrev pub clearmake : List (List ℕ) → Said Command
+abbrev pub clearmake : List (List ℕ) → Said Clearmake
 clearmake words =
     says (λ said. build_of said.0 said.1) (both (first_name words) (asked_by (behind_first words) nothing_asked))

@@ -7,8 +7,13 @@ use Rattle.cc_names.specs.Paths.{IsPath, parent_of, join_of}
 use Rattle.cc_names.specs.Formed.{IsTypeName, IsBelowRoot}
 use Rattle.cc_names.specs.declared.commands.VersionName.{VersionName}
 use Rattle.cc_names.specs.declared.commands.Macro.{Macro}
+use Rattle.cc_names.specs.declared.commands.Change.{Change}
+use Rattle.cc_names.specs.declared.commands.Change.TheVariants as changes
+use Rattle.cc_names.specs.declared.commands.Clearmake.{Clearmake}
 use Rattle.cc_names.specs.declared.commands.Command.{Command}
 use Rattle.cc_names.specs.declared.commands.Command.TheVariants as commands
+use Rattle.cc_names.specs.declared.commands.Query.{Query}
+use Rattle.cc_names.specs.declared.commands.Query.TheVariants as queries
 use Rattle.cc_names.specs.declared.commands.Lane.{Lane}
 use Rattle.cc_names.specs.declared.commands.Phase.{Phase}
 use Rattle.cc_names.specs.declared.commands.Session.{Session}
@@ -52,42 +57,55 @@ MakesPath name parent = IsOk (join_of parent name)
 abbrev pub FitsBeside : List ℕ → List ℕ → Type 0
 FitsBeside path name = IfSome (parent_of path) (MakesPath name)
 
+-- The form of a change, with a limit on the bytes of its text.
+abbrev pub IsChange : ℕ → Change → Type 0
+IsChange limit (changes.Mkview view) = IsName view
+IsChange limit (changes.Rmview view force) = IsName view
+IsChange limit (changes.Setcs view text) = IsName view × (length text ≤ limit)
+IsChange limit (changes.Mkelem view nco path) = IsName view × IsBelowRoot path
+IsChange limit (changes.Mkdir view nco path) = IsName view × IsBelowRoot path
+IsChange limit (changes.Checkout view unreserved path) = IsName view × IsPath path
+IsChange limit (changes.Mkbranch view nco branch path) = IsName view × IsTypeName branch × IsPath path
+IsChange limit (changes.Save view path text) = IsName view × IsBelowRoot path × (length text ≤ limit)
+IsChange limit (changes.Rm view path) = IsName view × IsBelowRoot path
+IsChange limit (changes.Checkin view identical path) = IsName view × IsPath path
+IsChange limit (changes.Uncheckout view path) = IsName view × IsPath path
+IsChange limit (changes.Rmname view path) = IsName view × IsBelowRoot path
+IsChange limit (changes.Mv view path name) = IsName view × IsBelowRoot path × IsName name × FitsBeside path name
+IsChange limit (changes.Mklbtype name) = IsTypeName name
+IsChange limit (changes.Mkbrtype name) = IsTypeName name
+IsChange limit (changes.Mklabel view replace label path) = IsName view × IsTypeName label × IsPath path
+IsChange limit (changes.MklabelConfig view replace path label) = IsName view × IsPath path × IsTypeName label
+IsChange limit (changes.Rmlabel view label path) = IsName view × IsTypeName label × IsPath path
+IsChange limit (changes.Mkarrow view path version) = IsName view × IsBelowRoot path × IsVersionName version
+IsChange limit (changes.Rmdo view path) = IsName view × IsBelowRoot path
+IsChange limit (changes.Scrub age) = age < 2 ^ 63
+
+-- the form of a query
+abbrev pub IsQuery : Query → Type 0
+IsQuery (queries.Catcs view) = IsName view
+IsQuery (queries.Lsdo view) = IsName view
+IsQuery (queries.Ls view path) = IsName view × IfSome path IsPath
+IsQuery (queries.Cat view path version) = IsName view × IsPath path × IfSome version IsVersionName
+IsQuery (queries.Describe view path) = IsName view × IsPath path
+IsQuery (queries.Lsvtree view path) = IsName view × IsPath path
+IsQuery (queries.Lshistory view path) = IsName view × IsPath path
+IsQuery (queries.Catcr view path) = IsName view × IsBelowRoot path
+IsQuery (queries.Diffcr view path other second) = IsName view × IsBelowRoot path × IsName other × IsBelowRoot second
+IsQuery (queries.Covers seer view path) = IsName seer × IsName view × IsPath path
+IsQuery (queries.Findmerge view path branch) = IsName view × IsPath path × IsTypeName branch
+
+-- the form of a build, with a limit on the bytes of its macros and the members of its lists
+abbrev pub IsClearmake : ℕ → Clearmake → Type 0
+IsClearmake limit asked =
+    IsName asked.view × IfSome asked.file IsPath × (1 ≤ asked.jobs) × (asked.jobs ≤ 64) × AreMacros limit asked.macros
+    × AreAtMost limit IsPath asked.goals
+
 -- The form of a command, with a limit on the bytes of its texts and the members of its lists.
 abbrev pub IsCommand : ℕ → Command → Type 0
-IsCommand limit (commands.Mkview view) = IsName view
-IsCommand limit (commands.Rmview view force) = IsName view
-IsCommand limit (commands.Setcs view text) = IsName view × (length text ≤ limit)
-IsCommand limit (commands.Mkelem view nco path) = IsName view × IsBelowRoot path
-IsCommand limit (commands.Mkdir view nco path) = IsName view × IsBelowRoot path
-IsCommand limit (commands.Checkout view unreserved path) = IsName view × IsPath path
-IsCommand limit (commands.Mkbranch view nco branch path) = IsName view × IsTypeName branch × IsPath path
-IsCommand limit (commands.Save view path text) = IsName view × IsBelowRoot path × (length text ≤ limit)
-IsCommand limit (commands.Rm view path) = IsName view × IsBelowRoot path
-IsCommand limit (commands.Checkin view identical path) = IsName view × IsPath path
-IsCommand limit (commands.Uncheckout view path) = IsName view × IsPath path
-IsCommand limit (commands.Rmname view path) = IsName view × IsBelowRoot path
-IsCommand limit (commands.Mv view path name) = IsName view × IsBelowRoot path × IsName name × FitsBeside path name
-IsCommand limit (commands.Mklbtype name) = IsTypeName name
-IsCommand limit (commands.Mkbrtype name) = IsTypeName name
-IsCommand limit (commands.Mklabel view replace label path) = IsName view × IsTypeName label × IsPath path
-IsCommand limit (commands.Rmlabel view label path) = IsName view × IsTypeName label × IsPath path
-IsCommand limit (commands.Rmdo view path) = IsName view × IsBelowRoot path
-IsCommand limit (commands.Scrub age) = age < 2 ^ 63
-IsCommand limit (commands.Clearmake view file own_only rebuild jobs macros goals) =
-    IsName view × IfSome file IsPath × (1 ≤ jobs) × (jobs ≤ 64) × AreMacros limit macros × AreAtMost limit IsPath goals
-IsCommand limit (commands.Catcs view) = IsName view
-IsCommand limit (commands.Lsdo view) = IsName view
-IsCommand limit (commands.Ls view path) = IsName view × IfSome path IsPath
-IsCommand limit (commands.Cat view path version) = IsName view × IsPath path × IfSome version IsVersionName
-IsCommand limit (commands.Describe view path) = IsName view × IsPath path
-IsCommand limit (commands.Lsvtree view path) = IsName view × IsPath path
-IsCommand limit (commands.Lshistory view path) = IsName view × IsPath path
-IsCommand limit (commands.Catcr view path) = IsName view × IsBelowRoot path
-IsCommand limit (commands.Diffcr view path other second) = IsName view × IsBelowRoot path × IsName other × IsBelowRoot second
-IsCommand limit (commands.MklabelConfig view replace path label) = IsName view × IsPath path × IsTypeName label
-IsCommand limit (commands.Covers seer view path) = IsName seer × IsName view × IsPath path
-IsCommand limit (commands.Mkarrow view path version) = IsName view × IsBelowRoot path × IsVersionName version
-IsCommand limit (commands.Findmerge view path branch) = IsName view × IsPath path × IsTypeName branch
+IsCommand limit (commands.Change change) = IsChange limit change
+IsCommand limit (commands.Query query) = IsQuery query
+IsCommand limit (commands.Build asked) = IsClearmake limit asked
 
 -- the form of a lane, whose commands are within the limit
 abbrev pub IsLane : ℕ → Lane → Type 0

@@ -9,7 +9,7 @@ ghost use Rattle.session_text.specs.Clearmake.{is_equals, is_macro_name, with_ma
 
 use crate::shapes::first_name;
 use crate::words::{jobs_word, path_word};
-use cc_names::commands::{Command, Macro};
+use cc_names::commands::{Clearmake, Macro};
 use cc_names::cuts::Words;
 use cc_names::lists::List;
 use cc_names::memory::{NoMemory, Or};
@@ -232,12 +232,12 @@ impl Asked {
         self.set_file(alloc, next)
     }
 
-    /// The command of this view.
-    fn build_of(self, alloc: Global, view: Name) -> Result<Command, NoMemory>
-        ensures { IfOk result (λ command. command ≡ build_of view self) }
+    /// The build of this view.
+    fn build_of(self, alloc: Global, view: Name) -> Result<Clearmake, NoMemory>
+        ensures { IfOk result (λ asked. asked ≡ build_of view self) }
     {
         let macros = self.macros.into_list(alloc)?;
-        Ok(Command::Clearmake {
+        Ok(Clearmake {
             view,
             file: self.file,
             own_only: self.own_only,
@@ -281,7 +281,7 @@ pub(crate) fn clearmake(
     alloc: Global,
     hashing: RandomState,
     mut words: Words<'_>,
-) -> Result<Command, Or<SessionCause>>
+) -> Result<Clearmake, Or<SessionCause>>
     ensures { Gives result (clearmake words.entry) }
 {
     let view = first_name(alloc, &mut words)?;

@@ -4,10 +4,11 @@
 ghost use Rattle.std.specs.Prelude.{◌≡◌, [], IfOk};
 ghost use Rattle.std.specs.Str.{bytes_eq};
 ghost use Rattle.cc_names.specs.Answers.{Gives};
+ghost use Rattle.cc_names.specs.declared.commands.Command.TheVariants as commands;
 ghost use Rattle.session_text.specs.Kinds.{kinds_of};
 ghost use Rattle.session_text.specs.Sessions.{body_of};
 ghost use Rattle.session_text.specs.Shapes.{fits_beside};
-ghost use Rattle.session_text.specs.Commands.{mkview, rmview, setcs, mkelem, mkdir, checkout, mkbranch, save, rm, checkin, uncheckout, rmname, mv, mklbtype, mkbrtype, mklabel, rmlabel, rmdo, scrub, catcs, lsdo, ls, cat, describe, lsvtree, lshistory, catcr, diffcr, covers, mkarrow, findmerge, by_record, labels, queries, types_on, said_in, command_of, takes_body};
+ghost use Rattle.session_text.specs.Commands.{mkview, rmview, setcs, mkelem, mkdir, checkout, mkbranch, save, rm, checkin, uncheckout, rmname, mv, mklbtype, mkbrtype, mklabel, rmlabel, rmdo, scrub, catcs, lsdo, ls, cat, describe, lsvtree, lshistory, catcr, diffcr, covers, mkarrow, findmerge, by_record, labels, query_lines, types_on, GivesAs, said_in, command_of, takes_body};
 
 use crate::bodies::body_of;
 use crate::builds::clearmake;
@@ -17,7 +18,7 @@ use crate::shapes::{
     take_flag, type_path, view, view_below, view_path,
 };
 use crate::words::{age_word, cat_word, latest_word, name_word, version_word};
-use cc_names::commands::Command;
+use cc_names::commands::{Change, Clearmake, Command, Query};
 use cc_names::cuts::Words;
 use cc_names::memory::{NoMemory, Or};
 use cc_names::names::Name;
@@ -27,53 +28,53 @@ use std::alloc::Global;
 use std::hash::RandomState;
 
 /// `mkview V`
-fn mkview(alloc: Global, words: Words<'_>) -> Result<Command, Or<SessionCause>>
+fn mkview(alloc: Global, words: Words<'_>) -> Result<Change, Or<SessionCause>>
     ensures { Gives result (mkview words.entry) }
 {
     let view = view(alloc, words)?;
-    Ok(Command::Mkview { view })
+    Ok(Change::Mkview { view })
 }
 
 /// `rmview V`, `rmview -force V`
-fn rmview(alloc: Global, mut words: Words<'_>) -> Result<Command, Or<SessionCause>>
+fn rmview(alloc: Global, mut words: Words<'_>) -> Result<Change, Or<SessionCause>>
     ensures { Gives result (rmview words.entry) }
 {
     let force = take_flag(&mut words, b"-force");
     let view = view(alloc, words)?;
-    Ok(Command::Rmview { view, force })
+    Ok(Change::Rmview { view, force })
 }
 
 /// `setcs V`, with a body
-fn setcs(alloc: Global, words: Words<'_>, behind: &Rest<'_>) -> Result<Command, Or<SessionCause>>
+fn setcs(alloc: Global, words: Words<'_>, behind: &Rest<'_>) -> Result<Change, Or<SessionCause>>
     ensures { Gives result (setcs words.entry (body_of (kinds_of behind.now.bytes))) }
 {
     let view = view(alloc, words)?;
     let text = body_of(alloc, behind)?;
-    Ok(Command::Setcs { view, text })
+    Ok(Change::Setcs { view, text })
 }
 
 /// `mkelem V [-nco] P`
-fn mkelem(alloc: Global, words: Words<'_>) -> Result<Command, Or<SessionCause>>
+fn mkelem(alloc: Global, words: Words<'_>) -> Result<Change, Or<SessionCause>>
     ensures { Gives result (mkelem words.entry) }
 {
     let (view, nco, path) = flag_below(alloc, b"-nco", words)?;
-    Ok(Command::Mkelem { view, nco, path })
+    Ok(Change::Mkelem { view, nco, path })
 }
 
 /// `mkdir V [-nco] P`
-fn mkdir(alloc: Global, words: Words<'_>) -> Result<Command, Or<SessionCause>>
+fn mkdir(alloc: Global, words: Words<'_>) -> Result<Change, Or<SessionCause>>
     ensures { Gives result (mkdir words.entry) }
 {
     let (view, nco, path) = flag_below(alloc, b"-nco", words)?;
-    Ok(Command::Mkdir { view, nco, path })
+    Ok(Change::Mkdir { view, nco, path })
 }
 
 /// `checkout V [-unreserved] P`
-fn checkout(alloc: Global, words: Words<'_>) -> Result<Command, Or<SessionCause>>
+fn checkout(alloc: Global, words: Words<'_>) -> Result<Change, Or<SessionCause>>
     ensures { Gives result (checkout words.entry) }
 {
     let (view, unreserved, path) = flag_path(alloc, b"-unreserved", words)?;
-    Ok(Command::Checkout {
+    Ok(Change::Checkout {
         view,
         unreserved,
         path,
@@ -81,13 +82,13 @@ fn checkout(alloc: Global, words: Words<'_>) -> Result<Command, Or<SessionCause>
 }
 
 /// `mkbranch V [-nco] B P`
-fn mkbranch(alloc: Global, mut words: Words<'_>) -> Result<Command, Or<SessionCause>>
+fn mkbranch(alloc: Global, mut words: Words<'_>) -> Result<Change, Or<SessionCause>>
     ensures { Gives result (mkbranch words.entry) }
 {
     let view = first_name(alloc, &mut words)?;
     let nco = take_flag(&mut words, b"-nco");
     let (branch, path) = type_path(alloc, words)?;
-    Ok(Command::Mkbranch {
+    Ok(Change::Mkbranch {
         view,
         nco,
         branch,
@@ -96,28 +97,28 @@ fn mkbranch(alloc: Global, mut words: Words<'_>) -> Result<Command, Or<SessionCa
 }
 
 /// `save V P`, with a body
-fn save(alloc: Global, words: Words<'_>, behind: &Rest<'_>) -> Result<Command, Or<SessionCause>>
+fn save(alloc: Global, words: Words<'_>, behind: &Rest<'_>) -> Result<Change, Or<SessionCause>>
     ensures { Gives result (save words.entry (body_of (kinds_of behind.now.bytes))) }
 {
     let (view, path) = view_below(alloc, words)?;
     let text = body_of(alloc, behind)?;
-    Ok(Command::Save { view, path, text })
+    Ok(Change::Save { view, path, text })
 }
 
 /// `rm V P`
-fn rm(alloc: Global, words: Words<'_>) -> Result<Command, Or<SessionCause>>
+fn rm(alloc: Global, words: Words<'_>) -> Result<Change, Or<SessionCause>>
     ensures { Gives result (rm words.entry) }
 {
     let (view, path) = view_below(alloc, words)?;
-    Ok(Command::Rm { view, path })
+    Ok(Change::Rm { view, path })
 }
 
 /// `checkin V [-identical] P`
-fn checkin(alloc: Global, words: Words<'_>) -> Result<Command, Or<SessionCause>>
+fn checkin(alloc: Global, words: Words<'_>) -> Result<Change, Or<SessionCause>>
     ensures { Gives result (checkin words.entry) }
 {
     let (view, identical, path) = flag_path(alloc, b"-identical", words)?;
-    Ok(Command::Checkin {
+    Ok(Change::Checkin {
         view,
         identical,
         path,
@@ -125,19 +126,19 @@ fn checkin(alloc: Global, words: Words<'_>) -> Result<Command, Or<SessionCause>>
 }
 
 /// `uncheckout V P`
-fn uncheckout(alloc: Global, words: Words<'_>) -> Result<Command, Or<SessionCause>>
+fn uncheckout(alloc: Global, words: Words<'_>) -> Result<Change, Or<SessionCause>>
     ensures { Gives result (uncheckout words.entry) }
 {
     let (view, path) = view_path(alloc, words)?;
-    Ok(Command::Uncheckout { view, path })
+    Ok(Change::Uncheckout { view, path })
 }
 
 /// `rmname V P`
-fn rmname(alloc: Global, words: Words<'_>) -> Result<Command, Or<SessionCause>>
+fn rmname(alloc: Global, words: Words<'_>) -> Result<Change, Or<SessionCause>>
     ensures { Gives result (rmname words.entry) }
 {
     let (view, path) = view_below(alloc, words)?;
-    Ok(Command::Rmname { view, path })
+    Ok(Change::Rmname { view, path })
 }
 
 /// Whether beside this path the name makes a path.
@@ -155,7 +156,7 @@ fn fits_beside(alloc: Global, path: &Path, name: &Name) -> Result<bool, NoMemory
 }
 
 /// `mv V P NAME`, where NAME beside P makes a path
-fn mv(alloc: Global, mut words: Words<'_>) -> Result<Command, Or<SessionCause>>
+fn mv(alloc: Global, mut words: Words<'_>) -> Result<Change, Or<SessionCause>>
     ensures { Gives result (mv words.entry) }
 {
     let (Some(view), Some(path), Some(name), None) = (
@@ -171,23 +172,23 @@ fn mv(alloc: Global, mut words: Words<'_>) -> Result<Command, Or<SessionCause>>
     if !fits_beside(alloc, &path, &name)? {
         return Err(Or::Is(SessionCause::BadWord));
     }
-    Ok(Command::Mv { view, path, name })
+    Ok(Change::Mv { view, path, name })
 }
 
 /// `mklbtype L`
-fn mklbtype(alloc: Global, words: Words<'_>) -> Result<Command, Or<SessionCause>>
+fn mklbtype(alloc: Global, words: Words<'_>) -> Result<Change, Or<SessionCause>>
     ensures { Gives result (mklbtype words.entry) }
 {
     let name = only_type(alloc, words)?;
-    Ok(Command::Mklbtype { name })
+    Ok(Change::Mklbtype { name })
 }
 
 /// `mkbrtype B`
-fn mkbrtype(alloc: Global, words: Words<'_>) -> Result<Command, Or<SessionCause>>
+fn mkbrtype(alloc: Global, words: Words<'_>) -> Result<Change, Or<SessionCause>>
     ensures { Gives result (mkbrtype words.entry) }
 {
     let name = only_type(alloc, words)?;
-    Ok(Command::Mkbrtype { name })
+    Ok(Change::Mkbrtype { name })
 }
 
 /// `mklabel V [-replace] -config P L`, by the words behind `-config`
@@ -196,11 +197,11 @@ fn mklabel_config(
     view: Name,
     replace: bool,
     words: Words<'_>,
-) -> Result<Command, Or<SessionCause>>
+) -> Result<Change, Or<SessionCause>>
     ensures { Gives result (by_record view replace words.entry) }
 {
     let (path, label) = path_type(alloc, words)?;
-    Ok(Command::MklabelConfig {
+    Ok(Change::MklabelConfig {
         view,
         replace,
         path,
@@ -214,14 +215,14 @@ fn labels(
     view: Name,
     replace: bool,
     mut words: Words<'_>,
-) -> Result<Command, Or<SessionCause>>
+) -> Result<Change, Or<SessionCause>>
     ensures { Gives result (labels replace words.entry view) }
 {
     if take_flag(&mut words, b"-config") {
         return mklabel_config(alloc, view, replace, words);
     }
     let (label, path) = type_path(alloc, words)?;
-    Ok(Command::Mklabel {
+    Ok(Change::Mklabel {
         view,
         replace,
         label,
@@ -230,7 +231,7 @@ fn labels(
 }
 
 /// `mklabel V [-replace] L P`, `mklabel V [-replace] -config P L`
-fn mklabel(alloc: Global, mut words: Words<'_>) -> Result<Command, Or<SessionCause>>
+fn mklabel(alloc: Global, mut words: Words<'_>) -> Result<Change, Or<SessionCause>>
     ensures { Gives result (mklabel words.entry) }
 {
     let view = first_name(alloc, &mut words)?;
@@ -239,136 +240,16 @@ fn mklabel(alloc: Global, mut words: Words<'_>) -> Result<Command, Or<SessionCau
 }
 
 /// `rmlabel V L P`
-fn rmlabel(alloc: Global, mut words: Words<'_>) -> Result<Command, Or<SessionCause>>
+fn rmlabel(alloc: Global, mut words: Words<'_>) -> Result<Change, Or<SessionCause>>
     ensures { Gives result (rmlabel words.entry) }
 {
     let view = first_name(alloc, &mut words)?;
     let (label, path) = type_path(alloc, words)?;
-    Ok(Command::Rmlabel { view, label, path })
-}
-
-/// `rmdo V P`
-fn rmdo(alloc: Global, words: Words<'_>) -> Result<Command, Or<SessionCause>>
-    ensures { Gives result (rmdo words.entry) }
-{
-    let (view, path) = view_below(alloc, words)?;
-    Ok(Command::Rmdo { view, path })
-}
-
-/// `scrub AGE`
-fn scrub(mut words: Words<'_>) -> Result<Command, Or<SessionCause>>
-    ensures { Gives result (scrub words.entry) }
-{
-    let (Some(age), None) = (words.next(), words.next()) else {
-        return Err(Or::Is(SessionCause::BadWord));
-    };
-    match age_word(age) {
-        Ok(age) => Ok(Command::Scrub { age }),
-        Err(cause) => Err(Or::Is(cause)),
-    }
-}
-
-/// `catcs V`
-fn catcs(alloc: Global, words: Words<'_>) -> Result<Command, Or<SessionCause>>
-    ensures { Gives result (catcs words.entry) }
-{
-    let view = view(alloc, words)?;
-    Ok(Command::Catcs { view })
-}
-
-/// `lsdo V`
-fn lsdo(alloc: Global, words: Words<'_>) -> Result<Command, Or<SessionCause>>
-    ensures { Gives result (lsdo words.entry) }
-{
-    let view = view(alloc, words)?;
-    Ok(Command::Lsdo { view })
-}
-
-/// `ls V`, `ls V P`
-fn ls(alloc: Global, mut words: Words<'_>) -> Result<Command, Or<SessionCause>>
-    ensures { Gives result (ls words.entry) }
-{
-    let view = first_name(alloc, &mut words)?;
-    let path = maybe_path(alloc, words)?;
-    Ok(Command::Ls { view, path })
-}
-
-/// `cat V P`, `cat V P@@VERSION`
-fn cat(alloc: Global, mut words: Words<'_>) -> Result<Command, Or<SessionCause>>
-    ensures { Gives result (cat words.entry) }
-{
-    let (Some(view), Some(word), None) = (words.next(), words.next(), words.next()) else {
-        return Err(Or::Is(SessionCause::BadWord));
-    };
-    let view = name_word(alloc, view)?;
-    let (path, version) = cat_word(alloc, word)?;
-    Ok(Command::Cat {
-        view,
-        path,
-        version,
-    })
-}
-
-/// `describe V P`
-fn describe(alloc: Global, words: Words<'_>) -> Result<Command, Or<SessionCause>>
-    ensures { Gives result (describe words.entry) }
-{
-    let (view, path) = view_path(alloc, words)?;
-    Ok(Command::Describe { view, path })
-}
-
-/// `lsvtree V P`
-fn lsvtree(alloc: Global, words: Words<'_>) -> Result<Command, Or<SessionCause>>
-    ensures { Gives result (lsvtree words.entry) }
-{
-    let (view, path) = view_path(alloc, words)?;
-    Ok(Command::Lsvtree { view, path })
-}
-
-/// `lshistory V P`
-fn lshistory(alloc: Global, words: Words<'_>) -> Result<Command, Or<SessionCause>>
-    ensures { Gives result (lshistory words.entry) }
-{
-    let (view, path) = view_path(alloc, words)?;
-    Ok(Command::Lshistory { view, path })
-}
-
-/// `catcr V P`
-fn catcr(alloc: Global, words: Words<'_>) -> Result<Command, Or<SessionCause>>
-    ensures { Gives result (catcr words.entry) }
-{
-    let (view, path) = view_below(alloc, words)?;
-    Ok(Command::Catcr { view, path })
-}
-
-/// `diffcr V P W Q`
-fn diffcr(alloc: Global, mut words: Words<'_>) -> Result<Command, Or<SessionCause>>
-    ensures { Gives result (diffcr words.entry) }
-{
-    let (Some(view), Some(path)) = (words.next(), words.next()) else {
-        return Err(Or::Is(SessionCause::BadWord));
-    };
-    let (view, path) = named_below(alloc, view, path)?;
-    let (other, second) = view_below(alloc, words)?;
-    Ok(Command::Diffcr {
-        view,
-        path,
-        other,
-        second,
-    })
-}
-
-/// `covers W V P`
-fn covers(alloc: Global, mut words: Words<'_>) -> Result<Command, Or<SessionCause>>
-    ensures { Gives result (covers words.entry) }
-{
-    let seer = first_name(alloc, &mut words)?;
-    let (view, path) = view_path(alloc, words)?;
-    Ok(Command::Covers { seer, view, path })
+    Ok(Change::Rmlabel { view, label, path })
 }
 
 /// `mkarrow V P VERSION`
-fn mkarrow(alloc: Global, mut words: Words<'_>) -> Result<Command, Or<SessionCause>>
+fn mkarrow(alloc: Global, mut words: Words<'_>) -> Result<Change, Or<SessionCause>>
     ensures { Gives result (mkarrow words.entry) }
 {
     let (Some(view), Some(path), Some(version), None) = (
@@ -381,15 +262,135 @@ fn mkarrow(alloc: Global, mut words: Words<'_>) -> Result<Command, Or<SessionCau
     };
     let (view, path) = named_below(alloc, view, path)?;
     let version = version_word(alloc, version)?;
-    Ok(Command::Mkarrow {
+    Ok(Change::Mkarrow {
         view,
         path,
         version,
     })
 }
 
+/// `rmdo V P`
+fn rmdo(alloc: Global, words: Words<'_>) -> Result<Change, Or<SessionCause>>
+    ensures { Gives result (rmdo words.entry) }
+{
+    let (view, path) = view_below(alloc, words)?;
+    Ok(Change::Rmdo { view, path })
+}
+
+/// `scrub AGE`
+fn scrub(mut words: Words<'_>) -> Result<Change, Or<SessionCause>>
+    ensures { Gives result (scrub words.entry) }
+{
+    let (Some(age), None) = (words.next(), words.next()) else {
+        return Err(Or::Is(SessionCause::BadWord));
+    };
+    match age_word(age) {
+        Ok(age) => Ok(Change::Scrub { age }),
+        Err(cause) => Err(Or::Is(cause)),
+    }
+}
+
+/// `catcs V`
+fn catcs(alloc: Global, words: Words<'_>) -> Result<Query, Or<SessionCause>>
+    ensures { Gives result (catcs words.entry) }
+{
+    let view = view(alloc, words)?;
+    Ok(Query::Catcs { view })
+}
+
+/// `lsdo V`
+fn lsdo(alloc: Global, words: Words<'_>) -> Result<Query, Or<SessionCause>>
+    ensures { Gives result (lsdo words.entry) }
+{
+    let view = view(alloc, words)?;
+    Ok(Query::Lsdo { view })
+}
+
+/// `ls V`, `ls V P`
+fn ls(alloc: Global, mut words: Words<'_>) -> Result<Query, Or<SessionCause>>
+    ensures { Gives result (ls words.entry) }
+{
+    let view = first_name(alloc, &mut words)?;
+    let path = maybe_path(alloc, words)?;
+    Ok(Query::Ls { view, path })
+}
+
+/// `cat V P`, `cat V P@@VERSION`
+fn cat(alloc: Global, mut words: Words<'_>) -> Result<Query, Or<SessionCause>>
+    ensures { Gives result (cat words.entry) }
+{
+    let (Some(view), Some(word), None) = (words.next(), words.next(), words.next()) else {
+        return Err(Or::Is(SessionCause::BadWord));
+    };
+    let view = name_word(alloc, view)?;
+    let (path, version) = cat_word(alloc, word)?;
+    Ok(Query::Cat {
+        view,
+        path,
+        version,
+    })
+}
+
+/// `describe V P`
+fn describe(alloc: Global, words: Words<'_>) -> Result<Query, Or<SessionCause>>
+    ensures { Gives result (describe words.entry) }
+{
+    let (view, path) = view_path(alloc, words)?;
+    Ok(Query::Describe { view, path })
+}
+
+/// `lsvtree V P`
+fn lsvtree(alloc: Global, words: Words<'_>) -> Result<Query, Or<SessionCause>>
+    ensures { Gives result (lsvtree words.entry) }
+{
+    let (view, path) = view_path(alloc, words)?;
+    Ok(Query::Lsvtree { view, path })
+}
+
+/// `lshistory V P`
+fn lshistory(alloc: Global, words: Words<'_>) -> Result<Query, Or<SessionCause>>
+    ensures { Gives result (lshistory words.entry) }
+{
+    let (view, path) = view_path(alloc, words)?;
+    Ok(Query::Lshistory { view, path })
+}
+
+/// `catcr V P`
+fn catcr(alloc: Global, words: Words<'_>) -> Result<Query, Or<SessionCause>>
+    ensures { Gives result (catcr words.entry) }
+{
+    let (view, path) = view_below(alloc, words)?;
+    Ok(Query::Catcr { view, path })
+}
+
+/// `diffcr V P W Q`
+fn diffcr(alloc: Global, mut words: Words<'_>) -> Result<Query, Or<SessionCause>>
+    ensures { Gives result (diffcr words.entry) }
+{
+    let (Some(view), Some(path)) = (words.next(), words.next()) else {
+        return Err(Or::Is(SessionCause::BadWord));
+    };
+    let (view, path) = named_below(alloc, view, path)?;
+    let (other, second) = view_below(alloc, words)?;
+    Ok(Query::Diffcr {
+        view,
+        path,
+        other,
+        second,
+    })
+}
+
+/// `covers W V P`
+fn covers(alloc: Global, mut words: Words<'_>) -> Result<Query, Or<SessionCause>>
+    ensures { Gives result (covers words.entry) }
+{
+    let seer = first_name(alloc, &mut words)?;
+    let (view, path) = view_path(alloc, words)?;
+    Ok(Query::Covers { seer, view, path })
+}
+
 /// `findmerge V P -fversion .../B/LATEST`
-fn findmerge(alloc: Global, mut words: Words<'_>) -> Result<Command, Or<SessionCause>>
+fn findmerge(alloc: Global, mut words: Words<'_>) -> Result<Query, Or<SessionCause>>
     ensures { Gives result (findmerge words.entry) }
 {
     let (Some(view), Some(path)) = (words.next(), words.next()) else {
@@ -403,7 +404,7 @@ fn findmerge(alloc: Global, mut words: Words<'_>) -> Result<Command, Or<SessionC
     }
     let (view, path) = named_path(alloc, view, path)?;
     let branch = latest_word(alloc, latest)?;
-    Ok(Command::Findmerge { view, path, branch })
+    Ok(Query::Findmerge { view, path, branch })
 }
 
 fn is(word: &[u8], text: &[u8]) -> bool
@@ -412,32 +413,52 @@ fn is(word: &[u8], text: &[u8]) -> bool
     word == text
 }
 
+/// The command that a change is.
+fn of_change(said: Result<Change, Or<SessionCause>>) -> Result<Command, Or<SessionCause>>
+    ensures { GivesAs commands.Change said result }
+{
+    Ok(Command::Change(said?))
+}
+
+/// The command that a query is.
+fn of_query(said: Result<Query, Or<SessionCause>>) -> Result<Command, Or<SessionCause>>
+    ensures { GivesAs commands.Query said result }
+{
+    Ok(Command::Query(said?))
+}
+
+/// The command that a build is.
+fn of_build(said: Result<Clearmake, Or<SessionCause>>) -> Result<Command, Or<SessionCause>>
+    ensures { GivesAs commands.Build said result }
+{
+    Ok(Command::Build(said?))
+}
+
 /// The command of a line where it is a query. None of them takes a body.
 fn said_of_queries(
     alloc: Global,
     word: &[u8],
     words: Words<'_>,
 ) -> Result<Command, Or<SessionCause>>
-    ensures { Gives result (said_in queries word.now words.entry []) }
+    ensures { Gives result (said_in query_lines word.now words.entry []) }
 {
     match word {
-        _ if is(word, b"catcs") => catcs(alloc, words),
-        _ if is(word, b"lsdo") => lsdo(alloc, words),
-        _ if is(word, b"ls") => ls(alloc, words),
-        _ if is(word, b"cat") => cat(alloc, words),
-        _ if is(word, b"describe") => describe(alloc, words),
-        _ if is(word, b"lsvtree") => lsvtree(alloc, words),
-        _ if is(word, b"lshistory") => lshistory(alloc, words),
-        _ if is(word, b"catcr") => catcr(alloc, words),
-        _ if is(word, b"diffcr") => diffcr(alloc, words),
-        _ if is(word, b"covers") => covers(alloc, words),
-        _ if is(word, b"mkarrow") => mkarrow(alloc, words),
-        _ if is(word, b"findmerge") => findmerge(alloc, words),
+        _ if is(word, b"catcs") => of_query(catcs(alloc, words)),
+        _ if is(word, b"lsdo") => of_query(lsdo(alloc, words)),
+        _ if is(word, b"ls") => of_query(ls(alloc, words)),
+        _ if is(word, b"cat") => of_query(cat(alloc, words)),
+        _ if is(word, b"describe") => of_query(describe(alloc, words)),
+        _ if is(word, b"lsvtree") => of_query(lsvtree(alloc, words)),
+        _ if is(word, b"lshistory") => of_query(lshistory(alloc, words)),
+        _ if is(word, b"catcr") => of_query(catcr(alloc, words)),
+        _ if is(word, b"diffcr") => of_query(diffcr(alloc, words)),
+        _ if is(word, b"covers") => of_query(covers(alloc, words)),
+        _ if is(word, b"findmerge") => of_query(findmerge(alloc, words)),
         _ => Err(Or::Is(SessionCause::UnknownCommand)),
     }
 }
 
-/// The command of a line where it is on types, labels or objects, or a query. None of them takes a body.
+/// The command of a line where it is a change of types, labels, arrows or objects, a build, or a query. None of them takes a body.
 fn said_of_types_on(
     alloc: Global,
     hashing: RandomState,
@@ -447,13 +468,14 @@ fn said_of_types_on(
     ensures { Gives result (said_in types_on word.now words.entry []) }
 {
     match word {
-        _ if is(word, b"mklbtype") => mklbtype(alloc, words),
-        _ if is(word, b"mkbrtype") => mkbrtype(alloc, words),
-        _ if is(word, b"mklabel") => mklabel(alloc, words),
-        _ if is(word, b"rmlabel") => rmlabel(alloc, words),
-        _ if is(word, b"rmdo") => rmdo(alloc, words),
-        _ if is(word, b"scrub") => scrub(words),
-        _ if is(word, b"clearmake") => clearmake(alloc, hashing, words),
+        _ if is(word, b"mklbtype") => of_change(mklbtype(alloc, words)),
+        _ if is(word, b"mkbrtype") => of_change(mkbrtype(alloc, words)),
+        _ if is(word, b"mklabel") => of_change(mklabel(alloc, words)),
+        _ if is(word, b"rmlabel") => of_change(rmlabel(alloc, words)),
+        _ if is(word, b"mkarrow") => of_change(mkarrow(alloc, words)),
+        _ if is(word, b"rmdo") => of_change(rmdo(alloc, words)),
+        _ if is(word, b"scrub") => of_change(scrub(words)),
+        _ if is(word, b"clearmake") => of_build(clearmake(alloc, hashing, words)),
         _ => said_of_queries(alloc, word, words),
     }
 }
@@ -469,19 +491,19 @@ pub(crate) fn command_of(
     ensures { Gives result (command_of word.now words.entry (body_of (kinds_of behind.now.bytes))) }
 {
     match word {
-        _ if is(word, b"mkview") => mkview(alloc, words),
-        _ if is(word, b"rmview") => rmview(alloc, words),
-        _ if is(word, b"setcs") => setcs(alloc, words, behind),
-        _ if is(word, b"mkelem") => mkelem(alloc, words),
-        _ if is(word, b"mkdir") => mkdir(alloc, words),
-        _ if is(word, b"checkout") => checkout(alloc, words),
-        _ if is(word, b"mkbranch") => mkbranch(alloc, words),
-        _ if is(word, b"save") => save(alloc, words, behind),
-        _ if is(word, b"rm") => rm(alloc, words),
-        _ if is(word, b"checkin") => checkin(alloc, words),
-        _ if is(word, b"uncheckout") => uncheckout(alloc, words),
-        _ if is(word, b"rmname") => rmname(alloc, words),
-        _ if is(word, b"mv") => mv(alloc, words),
+        _ if is(word, b"mkview") => of_change(mkview(alloc, words)),
+        _ if is(word, b"rmview") => of_change(rmview(alloc, words)),
+        _ if is(word, b"setcs") => of_change(setcs(alloc, words, behind)),
+        _ if is(word, b"mkelem") => of_change(mkelem(alloc, words)),
+        _ if is(word, b"mkdir") => of_change(mkdir(alloc, words)),
+        _ if is(word, b"checkout") => of_change(checkout(alloc, words)),
+        _ if is(word, b"mkbranch") => of_change(mkbranch(alloc, words)),
+        _ if is(word, b"save") => of_change(save(alloc, words, behind)),
+        _ if is(word, b"rm") => of_change(rm(alloc, words)),
+        _ if is(word, b"checkin") => of_change(checkin(alloc, words)),
+        _ if is(word, b"uncheckout") => of_change(uncheckout(alloc, words)),
+        _ if is(word, b"rmname") => of_change(rmname(alloc, words)),
+        _ if is(word, b"mv") => of_change(mv(alloc, words)),
         _ => said_of_types_on(alloc, hashing, word, words),
     }
 }
@@ -495,5 +517,8 @@ pub(crate) fn let_go(command: Command) {
 pub(crate) fn takes_body(command: &Command) -> bool
     ensures { result ≡ takes_body command.now }
 {
-    matches!(command, Command::Setcs { .. } | Command::Save { .. })
+    matches!(
+        command,
+        Command::Change(Change::Setcs { .. } | Change::Save { .. })
+    )
 }

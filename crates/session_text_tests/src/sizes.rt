@@ -1,7 +1,7 @@
 //! A session of the greatest size.
 
 use crate::places::read_bytes;
-use cc_names::commands::Command;
+use cc_names::commands::{Change, Command};
 use session_text::CommandsLeft;
 use std::alloc::Global;
 use std::hash::RandomState;
@@ -48,7 +48,7 @@ fn first_lane(
 // Whether a command saves this text.
 fn saves(command: &Command, wanted: &[u8]) -> bool {
     match command {
-        Command::Save { text, .. } => text.as_bytes() == wanted,
+        Command::Change(Change::Save { text, .. }) => text.as_bytes() == wanted,
         _ => false,
     }
 }

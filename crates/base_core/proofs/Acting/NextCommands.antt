@@ -1,13 +1,14 @@
 -- What a lane's next command is, and what is decided of it.
-use Rattle.std.proofs.Common.{◌≡◌, ℕ, zero, suc, ◌+◌, ◌<◌, ◌≤◌, ◌==◌, true, false, ◌&&◌, ◌||◌, Option, Some, None, Result, Ok, Err, List, [], length, refl, ap, ap₂, sym, subst, ◌∙◌, arith}
+use Rattle.std.proofs.Common.{◌≡◌, ℕ, zero, suc, ◌+◌, ◌<◌, ◌≤◌, ◌==◌, true, ◌&&◌, Option, Some, None, Result, Ok, Err, List, [], length, refl, ap, ap₂, sym, subst, ◌∙◌, arith}
 use Rattle.std.specs.Prelude.{option_and_then, option_map, is_none, slice_get}
 use Rattle.std.proofs.lemmas.Bool.Decides.{nat_tests}
 use Rattle.std.proofs.lemmas.Option.{slice_get_within}
-use Rattle.cc_names.specs.Commands.{builds, lane_at}
-use Rattle.legal_history.specs.Queries.QueryLines.{is_query}
+use Rattle.cc_names.specs.Commands.{lane_at}
 use Rattle.cc_names.specs.Formed.{Plain}
+use Rattle.cc_names.specs.declared.commands.Change.{Change}
 use Rattle.cc_names.specs.declared.commands.Command.{Command}
 use Rattle.cc_names.specs.declared.commands.Command.TheVariants as commands
+use Rattle.cc_names.specs.declared.commands.Query.{Query}
 use Rattle.cc_names.specs.declared.commands.Lane.{Lane}
 use Rattle.cc_names.specs.declared.commands.Phase.{Phase}
 use Rattle.cc_names.specs.declared.desks.Occasion.{Occasion}
@@ -17,13 +18,13 @@ use Rattle.cc_names.specs.declared.refusals.Refusal.{Refusal}
 use Rattle.cc_names.specs.declared.replies.Reply.TheVariants as replies
 use Rattle.cc_names.specs.declared.rows.Tag.{Tag}
 use Rattle.cc_names.specs.declared.steps.StoryStep.{StoryStep}
-use Rattle.checkout_desk.specs.Deciding.{DecidesIfAny, IfNone, IfRow, Sees, may_find_nothing}
+use Rattle.checkout_desk.specs.Deciding.{DecidesIfAny, IfRow, Sees}
 use Rattle.cleartool.specs.Answering.{AnswersAs}
 use Rattle.legal_history.specs.Base.Fits.{row_limit}
 use Rattle.legal_history.specs.Base.Rows.{Base, size, only_where}
 use Rattle.legal_history.specs.Builds.Active.{building, build_of, reserved}
 use Rattle.legal_history.specs.Commands.Decisions.{Scene}
-use Rattle.legal_history.specs.Commands.Lines.{decision}
+use Rattle.legal_history.specs.Commands.Lines.{change_decision, decision, query_decision}
 use Rattle.legal_history.specs.Stories.Commanded.{command_of}
 use Rattle.legal_history.specs.Stories.States.{State, scene, done_of, command_behind, same_tag, next_tag, next_command, decided}
 use Rattle.legal_history.specs.Stories.Steps.{state_of}
@@ -31,7 +32,7 @@ use Rattle.legal_history.specs.Stories.Lawful.{Legal}
 use Rattle.base_core.specs.Calls.Acting.{AnswersNext, DecidesNext}
 use Rattle.base_core.specs.Story.Replying.{reply_to_answer}
 use Rattle.base_core.proofs.Acting.Fitting.{may_fits}
-use Rattle.base_core.proofs.Acting.PlainRows.{command_finishes}
+use Rattle.base_core.proofs.Acting.PlainRows.{change_finishes}
 
 -- the lane of a command is one of the phase
 pub in_phase : (phase : Phase) (lane done : ℕ) (command : Command) → option_and_then (command_behind done) (lane_at phase lane) ≡ Some command → (1 ≤ lane) × (lane ≤ length phase.lanes)
@@ -55,20 +56,14 @@ pub next_is : (s : State) (lane : ℕ) (command : Command) → build_of s.active
 next_is s lane command free e =
     ap (λ is. only_where is (option_and_then (command_behind (done_of s.done lane)) (lane_at s.phase lane))) (ap₂ ◌&&◌ (same_as_itself (next_tag s lane)) (ap is_none free)) ∙ e
 
--- a command that finds nothing counts nothing
-nothing_counted : (command : Command) → may_find_nothing command ≡ true → reply_to_answer (Some command) [] ≡ replies.Count 0
-nothing_counted (commands.Scrub age) nothing = refl
-nothing_counted (commands.MklabelConfig view replace path label) nothing = refl
-nothing_counted command nothing = absurd (cc)
-
 -- what is decided of the command that waits
-pub decides_next : (story : List StoryStep) (lane taken now : ℕ) (command : Command) (result : Result (Option Plain) (Or Refusal)) → Legal story → builds command ≡ false → is_query command ≡ false → (let s : State = state_of story in build_of s.active lane ≡ None → s.moment ≡ now → option_and_then (command_behind (done_of s.done lane)) (lane_at s.phase lane) ≡ Some command → taken ≡ size s.base + reserved s.active → DecidesIfAny (next_tag s lane) now result (decision (scene s) command) → IfNone result (may_find_nothing command ≡ true) → IfRow result (λ row. taken < row_limit) → DecidesNext s (next_tag s lane) result)
-decides_next story lane taken now command (Ok (Some row)) legal idle quiet free moment e count decides nothing space =
+pub decides_next : (story : List StoryStep) (lane taken now : ℕ) (change : Change) (result : Result (Option Plain) (Or Refusal)) → Legal story → (let s : State = state_of story in build_of s.active lane ≡ None → s.moment ≡ now → option_and_then (command_behind (done_of s.done lane)) (lane_at s.phase lane) ≡ Some (commands.Change change) → taken ≡ size s.base + reserved s.active → DecidesIfAny (next_tag s lane) now result (change_decision (scene s) change) → IfRow result (λ row. taken < row_limit) → DecidesNext s (next_tag s lane) result)
+decides_next story lane taken now change (Ok (Some row)) legal free moment e count decides space =
     let s : State = state_of story in
-    let within = in_phase s.phase lane (done_of s.done lane) command e in
-    let made : decided s (next_tag s lane) ≡ Some (decision (scene s) command) = ap (option_map (decision (scene s))) (next_is s lane command free e) in
+    let within = in_phase s.phase lane (done_of s.done lane) (commands.Change change) e in
+    let made : decided s (next_tag s lane) ≡ Some (change_decision (scene s) change) = ap (option_map (decision (scene s))) (next_is s lane (commands.Change change) free e) in
     let at_lane : row.tag.lane ≡ lane = ap (λ t. t.lane) decides.1 in
-    let finishes = command_finishes (scene s) command row.deed (ap₂ ◌||◌ idle quiet) decides.0 in
+    let finishes = change_finishes (scene s) change row.deed decides.0 in
     let row_made = ap (decided s) decides.1 ∙ made ∙ ap Some decides.0 in (
       record {
         of_next = record {
@@ -84,54 +79,48 @@ decides_next story lane taken now command (Ok (Some row)) legal idle quiet free 
       },
       decides.1,
     )
-decides_next story lane taken now command (Ok None) legal idle quiet free moment e count decides nothing space =
+decides_next story lane taken now change (Ok None) legal free moment e count decides space =
     let s : State = state_of story in
-    let within = in_phase s.phase lane (done_of s.done lane) command e in
-    let next = next_is s lane command free e in
+    let within = in_phase s.phase lane (done_of s.done lane) (commands.Change change) e in
+    let next = next_is s lane (commands.Change change) free e in
     record {
       of_next = record { next = refl; from = within.0; upto = within.1 };
       made = ap (option_map (decision (scene s))) next ∙ ap Some decides;
-      reply = ap (λ found. reply_to_answer found []) next ∙ nothing_counted command nothing;
+      reply = ap (λ found. reply_to_answer found []) next;
     }
-decides_next story lane taken now command (Err NoMemory) legal idle quiet free moment e count decides nothing space = tt
-decides_next story lane taken now command (Err (Is refusal)) legal idle quiet free moment e count decides nothing space =
+decides_next story lane taken now change (Err NoMemory) legal free moment e count decides space = tt
+decides_next story lane taken now change (Err (Is refusal)) legal free moment e count decides space =
     let s : State = state_of story in
-    let within = in_phase s.phase lane (done_of s.done lane) command e in
-    let made : decided s (next_tag s lane) ≡ Some (decision (scene s) command) = ap (option_map (decision (scene s))) (next_is s lane command free e) in
+    let within = in_phase s.phase lane (done_of s.done lane) (commands.Change change) e in
+    let made : decided s (next_tag s lane) ≡ Some (change_decision (scene s) change) = ap (option_map (decision (scene s))) (next_is s lane (commands.Change change) free e) in
     record {
       of_next = record { next = refl; from = within.0; upto = within.1 };
       made = made ∙ ap Some decides;
     }
 
 -- what is decided of a lane's next command
-pub decided_so : (story : List StoryStep) (lane : ℕ) (on : Occasion) (command : Command) (view : List ℕ) (rows : Base) (result : Result (Option Plain) (Or Refusal)) → Legal story → builds command ≡ false → is_query command ≡ false → build_of (state_of story).active lane ≡ None
-    → command_of (state_of story) lane ≡ Some command → on.tag ≡ next_tag (state_of story) lane → on.moment ≡ (state_of story).moment → rows ≡ (state_of story).base → on.busy ≡ building (state_of story).active view → on.taken ≡ size (state_of story).base + reserved (state_of story).active
-    → ((scene : Scene) → Sees scene rows on.moment view on.busy on.taken → DecidesIfAny on.tag on.moment result (decision scene command)) → IfNone result (may_find_nothing command ≡ true) → IfRow result (λ row. on.taken < row_limit) → DecidesNext (state_of story) (next_tag (state_of story) lane) result
-decided_so story lane on command view rows result legal idle quiet free e tagged moment rows_are is count decides nothing space =
+pub decided_so : (story : List StoryStep) (lane : ℕ) (on : Occasion) (change : Change) (view : List ℕ) (rows : Base) (result : Result (Option Plain) (Or Refusal)) → Legal story → build_of (state_of story).active lane ≡ None
+    → command_of (state_of story) lane ≡ Some (commands.Change change) → on.tag ≡ next_tag (state_of story) lane → on.moment ≡ (state_of story).moment → rows ≡ (state_of story).base → on.busy ≡ building (state_of story).active view → on.taken ≡ size (state_of story).base + reserved (state_of story).active
+    → ((scene : Scene) → Sees scene rows on.moment view on.busy on.taken → DecidesIfAny on.tag on.moment result (change_decision scene change)) → IfRow result (λ row. on.taken < row_limit) → DecidesNext (state_of story) (next_tag (state_of story) lane) result
+decided_so story lane on change view rows result legal free e tagged moment rows_are is count decides space =
     let s = state_of story in
     let sees : Sees (scene s) rows on.moment view on.busy on.taken = record { base = sym rows_are; moment = sym moment; busy = sym is; taken = sym count } in
-    decides_next story lane on.taken on.moment command result legal idle quiet free (sym moment) e count (subst (λ t. DecidesIfAny t on.moment result (decision (scene s) command)) tagged (decides (scene s) sees)) nothing space
-
--- a query is replied with its text
-replied_so : (command : Command) (text : List ℕ) → is_query command ≡ true → reply_to_answer (Some command) text ≡ replies.Answer text
-replied_so (commands.Scrub age) text query = absurd (cc)
-replied_so (commands.MklabelConfig view replace path label) text query = absurd (cc)
-replied_so command text query = refl
+    decides_next story lane on.taken on.moment change result legal free (sym moment) e count (subst (λ t. DecidesIfAny t on.moment result (change_decision (scene s) change)) tagged (decides (scene s) sees)) space
 
 -- what is answered to the query that waits
-pub answered_so : (s : State) (lane : ℕ) (command : Command) (result : Result (List ℕ) (Or Refusal)) → is_query command ≡ true → build_of s.active lane ≡ None → command_of s lane ≡ Some command → AnswersAs result (decision (scene s) command) → AnswersNext s (next_tag s lane) result
-answered_so s lane command (Ok text) query free e answers =
-    let within = in_phase s.phase lane (done_of s.done lane) command e in
-    let next = next_is s lane command free e in
+pub answered_so : (s : State) (lane : ℕ) (query : Query) (result : Result (List ℕ) (Or Refusal)) → build_of s.active lane ≡ None → command_of s lane ≡ Some (commands.Query query) → AnswersAs result (query_decision s.base query) → AnswersNext s (next_tag s lane) result
+answered_so s lane query (Ok text) free e answers =
+    let within = in_phase s.phase lane (done_of s.done lane) (commands.Query query) e in
+    let next = next_is s lane (commands.Query query) free e in
     record {
       of_next = record { next = refl; from = within.0; upto = within.1 };
       made = ap (option_map (decision (scene s))) next ∙ ap Some answers;
-      reply = ap (λ found. reply_to_answer found text) next ∙ replied_so command text query;
+      reply = ap (λ found. reply_to_answer found text) next;
     }
-answered_so s lane command (Err NoMemory) query free e answers = tt
-answered_so s lane command (Err (Is refusal)) query free e answers =
-    let within = in_phase s.phase lane (done_of s.done lane) command e in
+answered_so s lane query (Err NoMemory) free e answers = tt
+answered_so s lane query (Err (Is refusal)) free e answers =
+    let within = in_phase s.phase lane (done_of s.done lane) (commands.Query query) e in
     record {
       of_next = record { next = refl; from = within.0; upto = within.1 };
-      made = ap (option_map (decision (scene s))) (next_is s lane command free e) ∙ ap Some answers;
+      made = ap (option_map (decision (scene s))) (next_is s lane (commands.Query query) free e) ∙ ap Some answers;
     }

@@ -1,10 +1,8 @@
 -- The rows that commands make which build nothing.
-use Rattle.std.proofs.Common.{◌≡◌, ℕ, Bool, not, ◌||◌, false, Option, Some, None, Result, Ok, List, [], ◌∷◌, refl, subst}
-use Rattle.cc_names.specs.Commands.{builds}
+use Rattle.std.proofs.Common.{◌≡◌, ℕ, Bool, not, Option, Some, None, Result, Ok, List, [], ◌∷◌, refl, subst}
 use Rattle.cc_names.specs.References.{held_at}
-use Rattle.legal_history.specs.Queries.QueryLines.{is_query}
-use Rattle.cc_names.specs.declared.commands.Command.{Command}
-use Rattle.cc_names.specs.declared.commands.Command.TheVariants as commands
+use Rattle.cc_names.specs.declared.commands.Change.{Change}
+use Rattle.cc_names.specs.declared.commands.Change.TheVariants as changes
 use Rattle.cc_names.specs.declared.commands.VersionName.{VersionName}
 use Rattle.cc_names.specs.declared.refusals.Refusal.{Refusal}
 use Rattle.cc_names.specs.declared.rows.Deed.{Deed}
@@ -27,7 +25,7 @@ use Rattle.legal_history.specs.Commands.DirectoryLines.{mkelem_in, mv_in, mv_tes
 use Rattle.legal_history.specs.Commands.FileLines.{last_name, save_deed}
 use Rattle.legal_history.specs.Commands.Found.{for_element, for_object, for_selected}
 use Rattle.legal_history.specs.Commands.LabelLines.{labels_or_nothing, mkarrow_from, mkarrow_of, mkarrow_tests, mklabel_config_of, mklabel_config_tests, mklabel_of, mklabel_tests, placed_by, rmlabel_of, rmlabel_tests, version_named}
-use Rattle.legal_history.specs.Commands.Lines.{decision}
+use Rattle.legal_history.specs.Commands.Lines.{change_decision}
 use Rattle.legal_history.specs.Commands.ObjectLines.{due, scrub_of}
 use Rattle.legal_history.specs.Commands.Tests.{needs_free_path, needs_idle, needs_view}
 use Rattle.legal_history.specs.Base.Views.{out}
@@ -171,38 +169,36 @@ for_selected_finishes tests path seen more so = past_is Finishes tests (for_sele
 for_element_finishes : (tests : List (Option Refusal)) (path : List ℕ) (seen : Seen) (more : ℕ → Result Decision Refusal) → ((e : ℕ) → IfDecided Finishes (more e)) → IfDecided Finishes (past tests (for_element path seen more))
 for_element_finishes tests path seen more so = past_is Finishes tests (for_element path seen more) (λ pass. element_is Finishes path seen more so)
 
--- the row of a command that neither builds nor asks finishes the command
-pub command_finishes : (s : Scene) (command : Command) (deed : Deed) → (builds command || is_query command) ≡ false → decision s command ≡ Ok (Makes deed) → FinishesCommand deed
-command_finishes s (commands.Mkview v) deed idle e = subst FinishesCommand (same_deed _ (deeds.Mkview v) deed e) (finishes_mkview v)
-command_finishes s (commands.Rmview v force) deed idle e = subst FinishesCommand (same_deed _ (deeds.Rmview v) deed e) (finishes_rmview v)
-command_finishes s (commands.Setcs v text) deed idle e = subst FinishesCommand (same_deed _ (deeds.Setcs v text) deed e) (finishes_setcs v text)
-command_finishes s (commands.Mkelem v nco path) deed idle e = change_is Finishes s v path (mkelem_in s v nco File path) (λ d changes. mkelem_finishes s v nco File path d) (Makes deed) e
-command_finishes s (commands.Mkdir v nco path) deed idle e = change_is Finishes s v path (mkelem_in s v nco Directory path) (λ d changes. mkelem_finishes s v nco Directory path d) (Makes deed) e
-command_finishes s (commands.Checkout v unreserved path) deed idle e =
+-- the row of a change finishes its command
+pub change_finishes : (s : Scene) (change : Change) (deed : Deed) → change_decision s change ≡ Ok (Makes deed) → FinishesCommand deed
+change_finishes s (changes.Mkview v) deed e = subst FinishesCommand (same_deed _ (deeds.Mkview v) deed e) (finishes_mkview v)
+change_finishes s (changes.Rmview v force) deed e = subst FinishesCommand (same_deed _ (deeds.Rmview v) deed e) (finishes_rmview v)
+change_finishes s (changes.Setcs v text) deed e = subst FinishesCommand (same_deed _ (deeds.Setcs v text) deed e) (finishes_setcs v text)
+change_finishes s (changes.Mkelem v nco path) deed e = change_is Finishes s v path (mkelem_in s v nco File path) (λ d changes. mkelem_finishes s v nco File path d) (Makes deed) e
+change_finishes s (changes.Mkdir v nco path) deed e = change_is Finishes s v path (mkelem_in s v nco Directory path) (λ d changes. mkelem_finishes s v nco Directory path d) (Makes deed) e
+change_finishes s (changes.Checkout v unreserved path) deed e =
     for_selected_finishes (needs_view s.base v ∷ needs_idle s v ∷ []) path (at s.base v path) (checkout_of s v unreserved) (checkout_finishes s v unreserved) (Makes deed) e
-command_finishes s (commands.Mkbranch v nco name path) deed idle e =
+change_finishes s (changes.Mkbranch v nco name path) deed e =
     for_selected_finishes (needs_view s.base v ∷ needs_idle s v ∷ []) path (at s.base v path) (mkbranch_of s v nco name) (mkbranch_finishes s v nco name) (Makes deed) e
-command_finishes s (commands.Save v path text) deed idle e = subst FinishesCommand (same_deed _ (save_deed v path text (at s.base v path)) deed e) (finishes_save v path text (at s.base v path))
-command_finishes s (commands.Rm v path) deed idle e = subst FinishesCommand (same_deed _ (deeds.Rm v path) deed e) (finishes_rm v path)
-command_finishes s (commands.Checkin v identical path) deed idle e =
+change_finishes s (changes.Save v path text) deed e = subst FinishesCommand (same_deed _ (save_deed v path text (at s.base v path)) deed e) (finishes_save v path text (at s.base v path))
+change_finishes s (changes.Rm v path) deed e = subst FinishesCommand (same_deed _ (deeds.Rm v path) deed e) (finishes_rm v path)
+change_finishes s (changes.Checkin v identical path) deed e =
     for_element_finishes (needs_view s.base v ∷ needs_idle s v ∷ []) path (at s.base v path) (checkin_of s v identical path) (checkin_finishes s v identical path) (Makes deed) e
-command_finishes s (commands.Uncheckout v path) deed idle e =
+change_finishes s (changes.Uncheckout v path) deed e =
     for_element_finishes (needs_view s.base v ∷ needs_idle s v ∷ []) path (at s.base v path) (uncheckout_of s v path) (uncheckout_finishes s v path) (Makes deed) e
-command_finishes s (commands.Rmname v path) deed idle e = change_is Finishes s v path (rmname_in s v path) (λ d changes. rmname_finishes s v path d) (Makes deed) e
-command_finishes s (commands.Mv v path name) deed idle e = change_is Finishes s v path (mv_in s v path name) (λ d changes. mv_finishes s v path name d) (Makes deed) e
-command_finishes s (commands.Mklbtype name) deed idle e = subst FinishesCommand (same_deed _ (deeds.Mktype type_kinds.Label name) deed e) (finishes_mktype type_kinds.Label name)
-command_finishes s (commands.Mkbrtype name) deed idle e = subst FinishesCommand (same_deed _ (deeds.Mktype type_kinds.Branch name) deed e) (finishes_mktype type_kinds.Branch name)
-command_finishes s (commands.Mklabel v replace label path) deed idle e =
+change_finishes s (changes.Rmname v path) deed e = change_is Finishes s v path (rmname_in s v path) (λ d changes. rmname_finishes s v path d) (Makes deed) e
+change_finishes s (changes.Mv v path name) deed e = change_is Finishes s v path (mv_in s v path name) (λ d changes. mv_finishes s v path name d) (Makes deed) e
+change_finishes s (changes.Mklbtype name) deed e = subst FinishesCommand (same_deed _ (deeds.Mktype type_kinds.Label name) deed e) (finishes_mktype type_kinds.Label name)
+change_finishes s (changes.Mkbrtype name) deed e = subst FinishesCommand (same_deed _ (deeds.Mktype type_kinds.Branch name) deed e) (finishes_mktype type_kinds.Branch name)
+change_finishes s (changes.Mklabel v replace label path) deed e =
     for_selected_finishes (needs_view s.base v ∷ []) path (at s.base v path) (mklabel_of s v replace label) (mklabel_finishes s v replace label) (Makes deed) e
-command_finishes s (commands.Rmlabel v label path) deed idle e =
+change_finishes s (changes.Rmlabel v label path) deed e =
     for_element_finishes (needs_view s.base v ∷ []) path (at s.base v path) (rmlabel_of s label path) (rmlabel_finishes s label path) (Makes deed) e
-command_finishes s (commands.Mkarrow v path name) deed idle e =
+change_finishes s (changes.Mkarrow v path name) deed e =
     for_selected_finishes (needs_view s.base v ∷ []) path (at s.base v path) (mkarrow_of s v path name) (mkarrow_finishes s v path name) (Makes deed) e
-command_finishes s (commands.Rmdo v path) deed idle e = subst FinishesCommand (same_deed _ (deeds.Drop v path) deed e) (finishes_drop v path)
-command_finishes s (commands.Scrub age) deed idle e = scrub_finishes s (due s.base s.moment age) deed e
-command_finishes s (commands.MklabelConfig v replace path label) deed idle e =
+change_finishes s (changes.Rmdo v path) deed e = subst FinishesCommand (same_deed _ (deeds.Drop v path) deed e) (finishes_drop v path)
+change_finishes s (changes.Scrub age) deed e = scrub_finishes s (due s.base s.moment age) deed e
+change_finishes s (changes.MklabelConfig v replace path label) deed e =
     past_is Finishes (needs_view s.base v ∷ []) (for_object path (held_at (held s.base) v path) (mklabel_config_of s replace label))
     (λ pass. object_is Finishes path (held_at (held s.base) v path) (mklabel_config_of s replace label)
     (λ id is. labels_finish s (mklabel_config_tests s replace label id) label (placed_by s.base id))) (Makes deed) e
-command_finishes s (commands.Clearmake v file own_only rebuild jobs macros goals) deed idle e = absurd (cc)
-command_finishes s command deed idle e = absurd (cc)

@@ -74,7 +74,7 @@ next_ahead aheads.Build tag = nexts.Build tag
 
 by_ahead : (found : Option Command) (tag : Tag) → next_by found tag ≡ next_ahead (ahead_of found) tag
 by_ahead None tag = refl
-by_ahead (Some (commands.Clearmake view file own_only rebuild jobs macros goals)) tag = refl
+by_ahead (Some (commands.Build asked)) tag = refl
 by_ahead (Some command) tag = refl
 
 pub next_so : (log : Logged) (lanes : List LaneKept) (now lane : ℕ) (story : List StoryStep) (ahead : Ahead) → log.story ≡ story → IsCoreKept log lanes now → ahead ≡ ahead_of (next_in lanes lane) → next_of (state_of story) lane ≡ next_ahead ahead (next_tag (state_of story) lane)

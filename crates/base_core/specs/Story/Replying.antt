@@ -41,10 +41,9 @@ row_reply (Some name) count = replies.Version name
 row_reply None (Some count) = replies.Count count
 row_reply None None = replies.Good
 
--- the reply to a command that was answered: a scrub or the labels of a record that found nothing count nothing
+-- the reply to a command that was answered: a change that found nothing to change counts nothing
 abbrev pub reply_to_answer : Option Command → List ℕ → Reply
-reply_to_answer (Some (commands.Scrub age)) text = replies.Count 0
-reply_to_answer (Some (commands.MklabelConfig view replace path label)) text = replies.Count 0
+reply_to_answer (Some (commands.Change change)) text = replies.Count 0
 reply_to_answer command text = replies.Answer text
 
 -- the reply to a command under which the disk failed, where it was not building

@@ -5,6 +5,7 @@ ghost use Rattle.base_core.specs.Calls.Answering.{append_reply, append_done};
 ghost use Rattle.base_core.specs.Story.Replying.{count_told, row_reply};
 
 use super::Core;
+use cc_names::commands::{Change, Command, Query};
 use cc_names::copies::Copied;
 use cc_names::desks::Done;
 use cc_names::memory::{NoMemory, Or};
@@ -14,7 +15,7 @@ use cc_names::rows::{Deed, Row, Tag};
 use cc_names::steps::Step;
 use cc_names::texts::Text;
 use checkout_desk::{decide, view_of};
-use cleartool::{answer, is_query, name_told};
+use cleartool::{answer, name_told};
 use disk_model::Disk;
 use std::alloc::Global;
 use story_log::Appended;
@@ -65,8 +66,10 @@ fn append_done(appended: Appended) -> Done
 }
 
 impl<D: Disk> Core<D> {
-    ghost use Rattle.std.specs.Prelude.{◌≡◌, true, false, [], OnOk, OnErr, IfOk, IfSome};
-    ghost use Rattle.legal_history.specs.Queries.QueryLines.{is_query};
+    ghost use Rattle.std.specs.Prelude.{◌≡◌, Some, [], OnOk, OnErr, IfOk};
+    ghost use Rattle.cc_names.specs.declared.commands.Command.TheVariants as commands;
+    ghost use Rattle.session_text.specs.Formed.{IsChange};
+    ghost use Rattle.base_core.specs.Keeping.Kept.{command_limit};
     ghost use Rattle.cc_names.specs.declared.desks.Done.TheVariants as dones;
     ghost use Rattle.cc_names.specs.declared.desks.Next.TheVariants as nexts;
     ghost use Rattle.cc_names.specs.declared.replies.Reply.TheVariants as replies;
@@ -84,41 +87,28 @@ impl<D: Disk> Core<D> {
     ghost use Rattle.base_core.specs.Story.Counted.{KeepsCount};
     ghost use Rattle.clearmake.specs.Nexts.{next_of};
 
-    /// Whether a lane's next command is a query.
-    fn asks(&self, alloc: Global, lane: u32) -> Result<bool, NoMemory>
+    /// What is decided of a lane's next command, a change: the row, none where there is nothing to change, or its first refusal.
+    fn decide(&self, alloc: Global, lane: u32, change: &Change) -> Result<Option<Row>, Or<Refusal>>
         requires act { next_of (state_of self.now.story) lane ≡ nexts.Act }
-        ensures { IfOk result
-            (λ asks. IfSome (command_of (state_of self.now.story) lane)
-            (λ command. is_query command ≡ asks)) }
-    {
-        let command = self.command(alloc, lane)?;
-        Ok(is_query(&command))
-    }
-
-    /// What is decided of a lane's next command, which makes a row: the row, none where it finds nothing for one, or its first
-    /// refusal.
-    fn decide(&self, alloc: Global, lane: u32) -> Result<Option<Row>, Or<Refusal>>
-        requires act { next_of (state_of self.now.story) lane ≡ nexts.Act }
-        requires no_query { IfSome (command_of (state_of self.now.story) lane)
-            (λ command. is_query command ≡ false) }
+        requires command { command_of (state_of self.now.story) lane
+            ≡ Some (commands.Change change.now) }
+        requires formed { IsChange command_limit change.now }
         ensures { DecidesNext (state_of self.now.story) (next_tag (state_of self.now.story) lane)
             result }
     {
-        let command = self.command(alloc, lane)?;
-        let occasion = self.occasion(lane, view_of(&command));
-        decide(alloc, &self.log.rows(), &command, occasion)
+        let occasion = self.occasion(lane, view_of(change));
+        decide(alloc, &self.log.rows(), change, occasion)
     }
 
-    /// What is decided of a lane's next command, which is a query: its text, or its first refusal.
-    fn find_answer(&self, alloc: Global, lane: u32) -> Result<Text, Or<Refusal>>
+    /// What is decided of a lane's next command, a query: its text, or its first refusal.
+    fn find_answer(&self, alloc: Global, lane: u32, query: &Query) -> Result<Text, Or<Refusal>>
         requires act { next_of (state_of self.now.story) lane ≡ nexts.Act }
-        requires query { IfSome (command_of (state_of self.now.story) lane)
-            (λ command. is_query command ≡ true) }
+        requires command { command_of (state_of self.now.story) lane
+            ≡ Some (commands.Query query.now) }
         ensures { AnswersNext (state_of self.now.story) (next_tag (state_of self.now.story) lane)
             result }
     {
-        let command = self.command(alloc, lane)?;
-        answer(alloc, &self.log.rows(), &command)
+        answer(alloc, &self.log.rows(), query)
     }
 
     /// Commits the row of its lane's next command, or tells that the disk failed under it. An `Err` changes nothing.
@@ -180,18 +170,19 @@ impl<D: Disk> Core<D> {
         Ok(())
     }
 
-    /// Carries out a lane's next command, which makes a row: the row is committed, there is nothing for one, the command is
-    /// refused, or the disk fails under it. An `Err` changes nothing.
-    fn make_row(&mut self, alloc: Global, lane: u32) -> Result<Done, NoMemory>
+    /// Carries out a lane's next command, a change: its row is committed, there is nothing to change, the command is refused, or
+    /// the disk fails under it. An `Err` changes nothing.
+    fn make_row(&mut self, alloc: Global, lane: u32, change: &Change) -> Result<Done, NoMemory>
         requires act { next_of (state_of self.old.story) lane ≡ nexts.Act }
-        requires no_query { IfSome (command_of (state_of self.old.story) lane)
-            (λ command. is_query command ≡ false) }
+        requires command { command_of (state_of self.old.story) lane
+            ≡ Some (commands.Change change.now) }
+        requires formed { IsChange command_limit change.now }
         ensures ok { IfOk result (λ done. Acts self.old.story self.new.story lane done) }
         ensures err { OnErr result (self.new ≡ self.old) }
         ensures counted { KeepsCount self.old self.new }
     {
         let tag = self.tag(lane);
-        match self.decide(alloc, lane) {
+        match self.decide(alloc, lane, change) {
             Ok(Some(row)) => self.commit(alloc, row),
             Ok(None) => {
                 self.tell_nothing(alloc, tag)?;
@@ -205,17 +196,17 @@ impl<D: Disk> Core<D> {
         }
     }
 
-    /// Carries out a lane's next command, which is a query: it is answered, or refused. An `Err` changes nothing.
-    fn ask(&mut self, alloc: Global, lane: u32) -> Result<Done, NoMemory>
+    /// Carries out a lane's next command, a query: it is answered, or refused. An `Err` changes nothing.
+    fn ask(&mut self, alloc: Global, lane: u32, query: &Query) -> Result<Done, NoMemory>
         requires act { next_of (state_of self.old.story) lane ≡ nexts.Act }
-        requires query { IfSome (command_of (state_of self.old.story) lane)
-            (λ command. is_query command ≡ true) }
+        requires command { command_of (state_of self.old.story) lane
+            ≡ Some (commands.Query query.now) }
         ensures ok { IfOk result (λ done. Acts self.old.story self.new.story lane done) }
         ensures err { OnErr result (self.new ≡ self.old) }
         ensures counted { KeepsCount self.old self.new }
     {
         let tag = self.tag(lane);
-        match self.find_answer(alloc, lane) {
+        match self.find_answer(alloc, lane, query) {
             Ok(text) => {
                 self.tell_answer(alloc, tag, text)?;
                 Ok(Done::Answered)
@@ -233,16 +224,17 @@ impl<D: Disk> Core<D> {
     /// counted. A fault has the counts of faults as this call begins and ends, and the ticks as it ends. An answer, a refusal
     /// and an `Err` make no device call. Takes time linear in the command, in the row or the answer, in the lanes and in the
     /// steps since the last commit or fault, and what `decide` or `answer` takes of the base.
+    #[tactic(auto, using(crate::proofs::Acting::Commanded::acts_on_no_build, crate::proofs::Building::UnitCalls::acts_waits))]
     pub fn act(&mut self, alloc: Global, lane: u32) -> Result<Done, NoMemory>
         requires { next_of (state_of self.old.story) lane ≡ nexts.Act }
         ensures ok { IfOk result (λ done. Acts self.old.story self.new.story lane done) }
         ensures err { OnErr result (self.new ≡ self.old) }
         ensures counted { KeepsCount self.old self.new }
     {
-        if self.asks(alloc, lane)? {
-            self.ask(alloc, lane)
-        } else {
-            self.make_row(alloc, lane)
+        match self.command(alloc, lane)? {
+            Command::Change(change) => self.make_row(alloc, lane, &change),
+            Command::Query(query) => self.ask(alloc, lane, &query),
+            Command::Build(_) => unreachable!(),
         }
     }
 }

@@ -1,26 +1,12 @@
 //! What a core answers the builders of a lane's build.
 
-ghost use Rattle.std.specs.Prelude.{◌≡◌, Some};
-ghost use Rattle.clearmake.specs.Nexts.{jobs_of};
-
 use super::Core;
 use build_core::{fetch_for_unit, released};
 use build_script::files::Got;
-use cc_names::commands::Command;
 use cc_names::memory::NoMemory;
 use cc_names::paths::Path;
 use disk_model::Disk;
 use std::alloc::Global;
-
-/// How many units at once a command asks to have built, if it builds.
-fn jobs_of(command: &Command) -> Option<u32>
-    ensures { result ≡ jobs_of (Some command.now) }
-{
-    match command {
-        Command::Clearmake { jobs, .. } => Some(*jobs),
-        _ => None,
-    }
-}
 
 impl<D: Disk> Core<D> {
     ghost use Rattle.std.specs.Prelude.{◌≡◌, ◌<◌, ◌≤◌, ℕ, Some, IfOk};
@@ -40,8 +26,8 @@ impl<D: Disk> Core<D> {
             (λ jobs. jobs_of (command_of (state_of self.now.story) lane) ≡ Some jobs) }
         ensures within { IfOk result (λ jobs. (1 ≤ jobs) × (jobs ≤ 64)) }
     {
-        let command = self.command(alloc, lane)?;
-        Ok(jobs_of(&command).unwrap())
+        let asked = self.asked(alloc, lane)?;
+        Ok(asked.jobs)
     }
 
     /// What a unit of a lane's build that was started finds at a path, which is the same at every moment since its start, or

@@ -6,7 +6,6 @@ use cc_names::desks::Begun;
 use cc_names::memory::{NoMemory, Or};
 use cc_names::refusals::Refusal;
 use cc_names::steps::Step;
-use checkout_desk::view_of;
 use disk_model::Disk;
 use std::alloc::Global;
 
@@ -31,9 +30,9 @@ impl<D: Disk> Core<D> {
         ensures { PlansNext (state_of self.now.story) (next_tag (state_of self.now.story) lane)
             result }
     {
-        let command = self.command(alloc, lane)?;
-        let occasion = self.occasion(lane, view_of(&command));
-        plan_build(alloc, self.hashing, &self.rows(), &command, occasion)
+        let asked = self.asked(alloc, lane)?;
+        let occasion = self.occasion(lane, asked.view.as_bytes());
+        plan_build(alloc, self.hashing, &self.rows(), &asked, occasion)
     }
 
     /// Begins the build that was decided for the next command of its lane. An `Err` changes nothing.

@@ -2,7 +2,7 @@
 
 use super::Core;
 use build_core::ActiveBuild;
-use cc_names::commands::Command;
+use cc_names::commands::{Clearmake, Command};
 use cc_names::desks::{Next, Occasion};
 use cc_names::memory::NoMemory;
 use cc_names::rows::Tag;
@@ -13,7 +13,9 @@ use view_lookup::FirstRows;
 
 impl<D: Disk> Core<D> {
     ghost use Rattle.std.specs.Prelude.{◌≡◌, ◌<◌, ◌≤◌, ◌+◌, ◌^◌, true, Some, IfOk, IsSome, option_copied};
-    ghost use Rattle.session_text.specs.Formed.{IsCommand};
+    ghost use Rattle.cc_names.specs.declared.commands.Command.TheVariants as commands;
+    ghost use Rattle.cc_names.specs.declared.desks.Next.TheVariants as nexts;
+    ghost use Rattle.session_text.specs.Formed.{IsClearmake, IsCommand};
     ghost use Rattle.legal_history.specs.Base.Rows.{size};
     ghost use Rattle.legal_history.specs.Builds.Active.{Build, build_of, building, reserved};
     ghost use Rattle.legal_history.specs.Stories.Commanded.{command_of};
@@ -79,6 +81,21 @@ impl<D: Disk> Core<D> {
     {
         let command = self.lanes.next(alloc, lane)?;
         Ok(command.unwrap())
+    }
+
+    /// The build that a lane's next command asks for. Takes what `command` takes.
+    #[tactic(auto, using(crate::proofs::Acting::Commanded::builds_no_change, crate::proofs::Acting::Commanded::builds_no_query, crate::proofs::Building::UnitCalls::builds_waits))]
+    pub(super) fn asked(&self, alloc: Global, lane: u32) -> Result<Clearmake, NoMemory>
+        requires { next_of (state_of self.now.story) lane
+            ≡ nexts.Build (next_tag (state_of self.now.story) lane) }
+        ensures next { IfOk result
+            (λ asked. command_of (state_of self.now.story) lane ≡ Some (commands.Build asked)) }
+        ensures formed { IfOk result (λ asked. IsClearmake command_limit asked) }
+    {
+        match self.command(alloc, lane)? {
+            Command::Build(asked) => Ok(asked),
+            _ => unreachable!(),
+        }
     }
 
     /// What a lane has to do next. Takes time linear in the line of its next command and those before it that are left, whatever

@@ -12,6 +12,7 @@ use Rattle.std.specs.declared.cmp.Ordering.TheVariants.{Equal, Greater}
 use Rattle.cc_names.specs.References.{held_at}
 use Rattle.cc_names.specs.Versions.{version_id}
 use Rattle.cc_names.specs.declared.commands.Command.TheVariants as commands
+use Rattle.cc_names.specs.declared.commands.Change.TheVariants as changes
 use Rattle.cc_names.specs.declared.refusals.Refusal.{Refusal}
 use Rattle.cc_names.specs.declared.refusals.Refusal.TheVariants as refusals
 use Rattle.cc_names.specs.declared.rows.Deed.TheVariants as deeds
@@ -138,12 +139,12 @@ labelled_by s v path label replace id (one ∷ places) is are =
     row_is (IsLabelled s v path label replace) s (mklabel_config_tests s replace label id) (deeds.Labels label (one ∷ places))
     (λ m. record { id = id; is_held = is; pass = m.pass; are = are })
 
-labelled : (s : Scene) (v path label name : List ℕ) (replace : Bool) (given : List Placed) → decision s (commands.MklabelConfig v replace path label) ≡ Ok (Makes (deeds.Labels name given)) →
+labelled : (s : Scene) (v path label name : List ℕ) (replace : Bool) (given : List Placed) → decision s (commands.Change (changes.MklabelConfig v replace path label)) ≡ Ok (Makes (deeds.Labels name given)) →
     Labelled s v path label replace given
 unfolding IsLabelled
 labelled s v path label name replace given h = by (Makes (deeds.Labels name given)) h
   where
-    by : IfDecided (IsLabelled s v path label replace) (decision s (commands.MklabelConfig v replace path label))
+    by : IfDecided (IsLabelled s v path label replace) (decision s (commands.Change (changes.MklabelConfig v replace path label)))
     by =
         past_is (IsLabelled s v path label replace) (needs_view s.base v ∷ []) (for_object path (held_at (held s.base) v path) (mklabel_config_of s replace label))
         (λ before. object_is (IsLabelled s v path label replace) path (held_at (held s.base) v path) (mklabel_config_of s replace label)
@@ -153,14 +154,14 @@ labelled s v path label name replace given h = by (Makes (deeds.Labels name give
 same_object : (s : Scene) (v path label : List ℕ) (replace : Bool) (given : List Placed) (l : Labelled s v path label replace given) (id : ℕ) → held_at (held s.base) v path ≡ Some id → l.id ≡ id
 same_object s v path label replace given l id is = let held_is = l.is_held in cc
 
-pub labels_in_order : (s : Scene) (v path label name : List ℕ) (replace : Bool) (given : List Placed) → decision s (commands.MklabelConfig v replace path label) ≡ Ok (Makes (deeds.Labels name given)) → IsStrictlyIncreasing (map (λ one. one.element) given)
+pub labels_in_order : (s : Scene) (v path label name : List ℕ) (replace : Bool) (given : List Placed) → decision s (commands.Change (changes.MklabelConfig v replace path label)) ≡ Ok (Makes (deeds.Labels name given)) → IsStrictlyIncreasing (map (λ one. one.element) given)
 labels_in_order s v path label name replace given h =
     let l = labelled s v path label name replace given h in
     let sorted = true_by (is_sorted nat_cmp (listing s.base l.id)) (in_order s.base (closure s.base l.id)) in
     subst (λ places. IsStrictlyIncreasing (map (λ one. one.element) places)) (sym l.are) (ascending (listing s.base l.id) sorted)
 
 -- what is labelled is what is found
-labels_found : (s : Scene) (v path label name : List ℕ) (replace : Bool) (given : List Placed) (id : ℕ) (one : Placed) → decision s (commands.MklabelConfig v replace path label) ≡ Ok (Makes (deeds.Labels name given)) → held_at (held s.base) v path ≡ Some id →
+labels_found : (s : Scene) (v path label name : List ℕ) (replace : Bool) (given : List Placed) (id : ℕ) (one : Placed) → decision s (commands.Change (changes.MklabelConfig v replace path label)) ≡ Ok (Makes (deeds.Labels name given)) → held_at (held s.base) v path ≡ Some id →
     Contains given one ↔ (find nat_cmp one.element (listing s.base id) ≡ Some one.version)
 labels_found s v path label name replace given id one h is =
     let sorted = true_by (is_sorted nat_cmp (listing s.base id)) (in_order s.base (closure s.base id)) in
@@ -170,7 +171,7 @@ labels_found s v path label name replace given id one h is =
       λ at. subst (λ places. Contains places one) (sym are) (placed (listing s.base id) one at),
     )
 
-pub labels_exactly : (s : Scene) (v path label name : List ℕ) (replace : Bool) (given : List Placed) (id : ℕ) (one : Placed) → decision s (commands.MklabelConfig v replace path label) ≡ Ok (Makes (deeds.Labels name given)) → held_at (held s.base) v path ≡ Some id →
+pub labels_exactly : (s : Scene) (v path label name : List ℕ) (replace : Bool) (given : List Placed) (id : ℕ) (one : Placed) → decision s (commands.Change (changes.MklabelConfig v replace path label)) ≡ Ok (Makes (deeds.Labels name given)) → held_at (held s.base) v path ≡ Some id →
     Contains given one ↔ IsListed s.base (closure s.base id) one.element one.version
 labels_exactly s v path label name replace given id one h is =
     let both = labels_found s v path label name replace given id one h is in
@@ -179,7 +180,7 @@ labels_exactly s v path label name replace given id one h is =
       λ greatest. both.1 (is_listed s.base (closure s.base id) one.element one.version _ says greatest),
     )
 
-pub labels_selected : (s : Scene) (v path label name : List ℕ) (replace : Bool) (given : List Placed) (id : ℕ) (target : List ℕ) (one : Placed) → decision s (commands.MklabelConfig v replace path label) ≡ Ok (Makes (deeds.Labels name given)) → held_at (held s.base) v path ≡ Some id →
+pub labels_selected : (s : Scene) (v path label name : List ℕ) (replace : Bool) (given : List Placed) (id : ℕ) (target : List ℕ) (one : Placed) → decision s (commands.Change (changes.MklabelConfig v replace path label)) ≡ Ok (Makes (deeds.Labels name given)) → held_at (held s.base) v path ≡ Some id →
     is_among target (targets_of s.base id) ≡ true → Contains given one ↔ (listed s.base id target one.element ≡ Some one.version)
 labels_selected s v path label name replace given id target one h is of_object =
     let both = labels_found s v path label name replace given id one h is in
@@ -188,7 +189,7 @@ labels_selected s v path label name replace given id target one h is of_object =
       λ at. both.1 (sym there ∙ at),
     )
 
-pub labels_versions : (s : Scene) (v path label name : List ℕ) (replace : Bool) (given : List Placed) (id : ℕ) (input : Input × ℕ) → decision s (commands.MklabelConfig v replace path label) ≡ Ok (Makes (deeds.Labels name given)) → held_at (held s.base) v path ≡ Some id →
+pub labels_versions : (s : Scene) (v path label name : List ℕ) (replace : Bool) (given : List Placed) (id : ℕ) (input : Input × ℕ) → decision s (commands.Change (changes.MklabelConfig v replace path label)) ≡ Ok (Makes (deeds.Labels name given)) → held_at (held s.base) v path ≡ Some id →
     Contains (closure s.base id) input → 0 < input.1 → is_some (version_id (tree s.base) input.1) ≡ true
 labels_versions s v path label name replace given id input h is among there =
     let l = labelled s v path label name replace given h in

@@ -21,7 +21,7 @@ use Rattle.legal_history.specs.Commands.Decisions.{Makes, Begins}
 use Rattle.legal_history.specs.Base.Fits.{is_base}
 use Rattle.legal_history.specs.Builds.Fresh.{texts}
 use Rattle.legal_history.specs.Stories.States.{State, decided, build_by}
-use Rattle.legal_history.specs.Stories.Steps.{after, after_step, noted, came_by_starting, active_after, begun}
+use Rattle.legal_history.specs.Stories.Steps.{after, after_step, noted, came_by_starting, active_after, begun, build_asked}
 use Rattle.legal_history.specs.Stories.Committing.{MakesRow}
 use Rattle.legal_history.specs.Stories.Lawful.{Lawful, LawfulStep}
 use Rattle.legal_history.specs.Builds.UnitTurns.{ComesTo, EndsEarly, Starts}
@@ -32,7 +32,7 @@ use Rattle.legal_history.proofs.Builds.AllBuilds.{Each, each_without, each_begun
 use Rattle.legal_history.proofs.Builds.OrderedUnits.{units_in_order}
 use Rattle.legal_history.proofs.Builds.Published.{is_publish, published_object}
 use Rattle.legal_history.proofs.Builds.ReadyUnits.{ready_by}
-use Rattle.legal_history.proofs.Stories.DecidedSteps.{decided_of, says_of, begun_by, begun_is}
+use Rattle.legal_history.proofs.Stories.DecidedSteps.{decided_of, says_of, begun_is}
 use Rattle.legal_history.proofs.Builds.UnitsCome.{start_came, start_without}
 use Rattle.legal_history.proofs.Builds.FineBuilds.{IsFine, fine_stays, some_same, waited_fine, takes_for}
 use Rattle.legal_history.proofs.Reuse.KeptObjects.{chosen_object}
@@ -67,17 +67,17 @@ started_fine s tag n h e =
 
 -- the build that a command begins, before any of its units came to anything
 pub begun_begins : (s : State) (tag : Tag) (us : List Unit) → is_base s.base ≡ true → (h : decided s tag ≡ Some (Ok (Begins us))) → let says = says_of s tag (Begins us) (decided_of s tag (Begins us) h) in
-    IsBegun s.base (begun_by s tag us says.view says.own_only says.rebuild)
+    IsBegun s.base (build_asked tag (size s.base) us says.asked)
 begun_begins s tag us base h =
     let says = says_of s tag (Begins us) (decided_of s tag (Begins us) h) in
-    record { rows = refl; base = base; in_order = units_in_order (texts s.base says.view) says.file says.macros says.goals us says.of_makefile; nothing = refl }
+    record { rows = refl; base = base; in_order = units_in_order (texts s.base says.asked.view) says.asked.file says.asked.macros says.asked.goals us says.of_makefile; nothing = refl }
 
 begun_fine : (s : State) (tag : Tag) (us : List Unit) → is_base s.base ≡ true → decided s tag ≡ Some (Ok (Begins us)) → (build : Build) → begun s tag ≡ Some build → IsFine s.base build
 begun_fine s tag us base h build is =
     let says = says_of s tag (Begins us) (decided_of s tag (Begins us) h) in
-    let made : Some (begun_by s tag us says.view says.own_only says.rebuild) ≡ Some build = sym (begun_is s tag us h) ∙ is in
+    let made : Some (build_asked tag (size s.base) us says.asked) ≡ Some build = sym (begun_is s tag us h) ∙ is in
     subst (IsFine s.base) (some_same made) (record {
-      consistent = begins_consistent s.base (begun_by s tag us says.view says.own_only says.rebuild) (begun_begins s tag us base h);
+      consistent = begins_consistent s.base (build_asked tag (size s.base) us says.asked) (begun_begins s tag us base h);
       there = says.there;
     })
 

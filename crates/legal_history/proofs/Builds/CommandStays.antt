@@ -11,13 +11,13 @@ use Rattle.legal_history.specs.Builds.Active.{Build, Came, build_of}
 use Rattle.legal_history.specs.Commands.Decisions.{Begins}
 use Rattle.legal_history.specs.Builds.Fresh.{all_finished, fresh, fresh_of}
 use Rattle.legal_history.specs.Stories.States.{State, all_done, command_behind, decided, done_of, is_next, lanes_done, next_command, next_tag, same_tag, with_done}
-use Rattle.legal_history.specs.Stories.Steps.{begun, with_came}
+use Rattle.legal_history.specs.Stories.Steps.{begun, build_asked, with_came}
 use Rattle.legal_history.proofs.Stories.Goes.{same_number}
 use Rattle.legal_history.proofs.Bases.Owned.{and_first, and_second}
 use Rattle.legal_history.proofs.Bases.Stay.{all_rows}
 use Rattle.legal_history.proofs.Stories.Tables.{find_put_other}
 use Rattle.legal_history.specs.Stories.Commanded.{command_of, IsOfCommand}
-use Rattle.legal_history.proofs.Stories.DecidedSteps.{decided_of, says_of, begun_by, begun_is}
+use Rattle.legal_history.proofs.Stories.DecidedSteps.{decided_of, says_of, begun_is}
 
 -- a state in which a lane has come as far as in another
 pub record SameLane (s t : State) (lane : ℕ) (rows : ℕ) : Type 0 where
@@ -107,15 +107,15 @@ begun_commanded s tag us h build is =
     let d = decided_of s tag (Begins us) h in
     let says = says_of s tag (Begins us) d in
     let next = next_is s tag d.command d.next in
-    let made : Some (begun_by s tag us says.view says.own_only says.rebuild) ≡ Some build = sym (begun_is s tag us h) ∙ is in
-    let same : begun_by s tag us says.view says.own_only says.rebuild ≡ build = cc in
+    let made : Some (build_asked tag (size s.base) us says.asked) ≡ Some build = sym (begun_is s tag us h) ∙ is in
+    let same : build_asked tag (size s.base) us says.asked ≡ build = cc in
     subst (IsOfCommand s tag.lane) same (record {
-      file = says.file;
-      jobs = says.jobs;
-      macros = says.macros;
-      goals = says.goals;
+      file = says.asked.file;
+      jobs = says.asked.jobs;
+      macros = says.asked.macros;
+      goals = says.asked.goals;
       tag = next.tag_is;
       command = next.command_is ∙ ap Some says.is;
-      finished = subst (λ rows. fresh rows says.view says.file says.macros says.goals ≡ Ok (all_finished rows says.view us)) (sym (all_rows s.base (size s.base) (omega arith)))
-          (ap (fresh_of s.base says.view) says.of_makefile);
+      finished = subst (λ rows. fresh rows says.asked.view says.asked.file says.asked.macros says.asked.goals ≡ Ok (all_finished rows says.asked.view us)) (sym (all_rows s.base (size s.base) (omega arith)))
+          (ap (fresh_of s.base says.asked.view) says.of_makefile);
     })

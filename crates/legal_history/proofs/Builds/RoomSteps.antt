@@ -23,12 +23,12 @@ use Rattle.legal_history.specs.Base.Changes.{targets_of}
 use Rattle.legal_history.specs.Commands.Decisions.{Makes, Begins}
 use Rattle.legal_history.specs.Base.Fits.{row_limit}
 use Rattle.legal_history.specs.Stories.States.{State, decided, build_by}
-use Rattle.legal_history.specs.Stories.Steps.{after, after_step, noted, noted_in, with_came, came_by_starting, active_after, begun, with_build, without_build, faulted_in}
+use Rattle.legal_history.specs.Stories.Steps.{after, after_step, noted, noted_in, with_came, came_by_starting, active_after, begun, build_asked, with_build, without_build, faulted_in}
 use Rattle.legal_history.specs.Stories.Committing.{MakesRow}
 use Rattle.legal_history.specs.Stories.Lawful.{Lawful, LawfulStep}
 use Rattle.legal_history.specs.Builds.UnitTurns.{ComesTo, Waits}
 use Rattle.legal_history.proofs.Stories.Goes.{of_lane, decided_is_idle}
-use Rattle.legal_history.proofs.Stories.DecidedSteps.{decided_of, says_of, begun_by, begun_is}
+use Rattle.legal_history.proofs.Stories.DecidedSteps.{decided_of, says_of, begun_is}
 use Rattle.legal_history.proofs.Builds.Room.{waiting, all_waiting, all_reserved, no_more_wait, fewer_wait, few_wait, put_waiting, put_new_waiting, without_waiting}
 
 -- there is room for a row of each unit that waits
@@ -82,7 +82,7 @@ room_for b row active h = let room = h.room in lt-ltb _ _ (omega arith)
 begun_room : (s : State) (tag : Tag) (us : List Unit) → HasRoom s.base s.active → decided s tag ≡ Some (Ok (Begins us)) → HasRoom s.base (with_build s.active tag.lane (begun s tag))
 begun_room s tag us h e =
     let says = says_of s tag (Begins us) (decided_of s tag (Begins us) e) in
-    let new : Build = begun_by s tag us says.view says.own_only says.rebuild in
+    let new : Build = build_asked tag (size s.base) us says.asked in
     subst (λ o. HasRoom s.base (with_build s.active tag.lane o)) (sym (begun_is s tag us e)) (record {
       sorted = is_sorted-put nat_cmp nat_cmp_total tag.lane new s.active h.sorted;
       room =

@@ -1,8 +1,9 @@
 -- Whatever is decided of a command says what a decision says, for each command.
-use Rattle.std.proofs.Common.{refl, ℕ, Bool, not, List, [], ◌∷◌}
+use Rattle.std.proofs.Common.{ℕ, Bool, not, List, [], ◌∷◌}
 use Rattle.cc_names.specs.References.{held_at}
 use Rattle.cc_names.specs.declared.commands.Command.{Command}
 use Rattle.cc_names.specs.declared.commands.Command.TheVariants as commands
+use Rattle.cc_names.specs.declared.commands.Change.TheVariants as changes
 use Rattle.cc_names.specs.declared.rows.Deed.TheVariants as deeds
 use Rattle.cc_names.specs.declared.rows.Kind.{Kind}
 use Rattle.cc_names.specs.declared.rows.Kind.TheVariants.{File, Directory}
@@ -32,47 +33,47 @@ by_element s command v path kind nco =
 
 -- What was decided of a command says this.
 pub decided_says : (s : Scene) (command : Command) → IfDecided (Says s command) (decision s command)
-decided_says s (commands.Mkview v) = by_row s _ (mkview_tests s v) (deeds.Mkview v) (λ p. tt)
-decided_says s (commands.Rmview v force) = by_row s _ (rmview_tests s v force) (deeds.Rmview v) (λ p. was_idle (building s.active v) p.1.0)
-decided_says s (commands.Setcs v text) = by_row s _ (setcs_tests s v text) (deeds.Setcs v text) (λ p. tt)
-decided_says s (commands.Mkelem v nco path) = by_element s _ v path File nco
-decided_says s (commands.Mkdir v nco path) = by_element s _ v path Directory nco
-decided_says s (commands.Checkout v unreserved path) =
+decided_says s (commands.Change (changes.Mkview v)) = by_row s _ (mkview_tests s v) (deeds.Mkview v) (λ p. tt)
+decided_says s (commands.Change (changes.Rmview v force)) = by_row s _ (rmview_tests s v force) (deeds.Rmview v) (λ p. was_idle (building s.active v) p.1.0)
+decided_says s (commands.Change (changes.Setcs v text)) = by_row s _ (setcs_tests s v text) (deeds.Setcs v text) (λ p. tt)
+decided_says s (commands.Change (changes.Mkelem v nco path)) = by_element s _ v path File nco
+decided_says s (commands.Change (changes.Mkdir v nco path)) = by_element s _ v path Directory nco
+decided_says s (commands.Change (changes.Checkout v unreserved path)) =
     past_is (Says s _) (needs_view s.base v ∷ needs_idle s v ∷ []) (for_selected path (at s.base v path) (checkout_of s v unreserved))
     (λ before. selected_is (Says s _) path (at s.base v path) (checkout_of s v unreserved) (λ e picked is. by_checkout s _ v unreserved e picked))
-decided_says s (commands.Mkbranch v nco branch path) =
+decided_says s (commands.Change (changes.Mkbranch v nco branch path)) =
     past_is (Says s _) (needs_view s.base v ∷ needs_idle s v ∷ []) (for_selected path (at s.base v path) (mkbranch_of s v nco branch))
     (λ before. selected_is (Says s _) path (at s.base v path) (mkbranch_of s v nco branch)
     (λ e picked is. by_row s _ (mkbranch_tests s v branch e) (deeds.Branch v e picked.row branch (out_unless nco)) (λ p. tt)))
-decided_says s (commands.Save v path text) = by_row s _ (save_tests s v path) (save_deed v path text (at s.base v path)) (λ p. saved_suits s.active (commands.Save v path text) v path text (at s.base v path))
-decided_says s (commands.Rm v path) = by_row s _ (rm_tests s v path) (deeds.Rm v path) (λ p. tt)
-decided_says s (commands.Checkin v identical path) =
+decided_says s (commands.Change (changes.Save v path text)) = by_row s _ (save_tests s v path) (save_deed v path text (at s.base v path)) (λ p. saved_suits s.active (commands.Change (changes.Save v path text)) v path text (at s.base v path))
+decided_says s (commands.Change (changes.Rm v path)) = by_row s _ (rm_tests s v path) (deeds.Rm v path) (λ p. tt)
+decided_says s (commands.Change (changes.Checkin v identical path)) =
     past_is (Says s _) (needs_view s.base v ∷ needs_idle s v ∷ []) (for_element path (at s.base v path) (checkin_of s v identical path))
     (λ before. element_is (Says s _) path (at s.base v path) (checkin_of s v identical path) (λ e. by_row s _ (checkin_tests s v identical path e) (deeds.Checkin v e) (λ p. tt)))
-decided_says s (commands.Uncheckout v path) =
+decided_says s (commands.Change (changes.Uncheckout v path)) =
     past_is (Says s _) (needs_view s.base v ∷ needs_idle s v ∷ []) (for_element path (at s.base v path) (uncheckout_of s v path))
     (λ before. element_is (Says s _) path (at s.base v path) (uncheckout_of s v path) (λ e. by_row s _ (needs_out path (out s.base v e) ∷ []) (deeds.Uncheckout v e) (λ p. tt)))
-decided_says s (commands.Rmname v path) = change_is (Says s _) s v path (rmname_in s v path) (λ d changes. by_row s _ (rmname_tests s v path d) (deeds.Rmname v d (last_name path)) (λ p. tt))
-decided_says s (commands.Mv v path name) = change_is (Says s _) s v path (mv_in s v path name) (λ d changes. by_row s _ (mv_tests s v path name d) (deeds.Mv v d (last_name path) name) (λ p. tt))
-decided_says s (commands.Mklbtype name) = by_row s _ (needs_free_type s.base name ∷ []) (deeds.Mktype type_kinds.Label name) (λ p. tt)
-decided_says s (commands.Mkbrtype name) = by_row s _ (needs_free_type s.base name ∷ []) (deeds.Mktype type_kinds.Branch name) (λ p. tt)
-decided_says s (commands.Mklabel v replace label path) =
+decided_says s (commands.Change (changes.Rmname v path)) = change_is (Says s _) s v path (rmname_in s v path) (λ d changes. by_row s _ (rmname_tests s v path d) (deeds.Rmname v d (last_name path)) (λ p. tt))
+decided_says s (commands.Change (changes.Mv v path name)) = change_is (Says s _) s v path (mv_in s v path name) (λ d changes. by_row s _ (mv_tests s v path name d) (deeds.Mv v d (last_name path) name) (λ p. tt))
+decided_says s (commands.Change (changes.Mklbtype name)) = by_row s _ (needs_free_type s.base name ∷ []) (deeds.Mktype type_kinds.Label name) (λ p. tt)
+decided_says s (commands.Change (changes.Mkbrtype name)) = by_row s _ (needs_free_type s.base name ∷ []) (deeds.Mktype type_kinds.Branch name) (λ p. tt)
+decided_says s (commands.Change (changes.Mklabel v replace label path)) =
     past_is (Says s _) (needs_view s.base v ∷ []) (for_selected path (at s.base v path) (mklabel_of s v replace label))
     (λ before. selected_is (Says s _) path (at s.base v path) (mklabel_of s v replace label)
     (λ e picked is. by_row s _ (mklabel_tests s v replace label e picked) (deeds.Label label e picked.row) (λ p. tt)))
-decided_says s (commands.Rmlabel v label path) =
+decided_says s (commands.Change (changes.Rmlabel v label path)) =
     past_is (Says s _) (needs_view s.base v ∷ []) (for_element path (at s.base v path) (rmlabel_of s label path))
     (λ before. element_is (Says s _) path (at s.base v path) (rmlabel_of s label path) (λ e. by_row s _ (rmlabel_tests s label path e) (deeds.Unlabel label e) (λ p. tt)))
-decided_says s (commands.Rmdo v path) = by_row s _ (rmdo_tests s v path) (deeds.Drop v path) (λ p. was_idle (building s.active v) p.1.0)
-decided_says s (commands.Scrub age) = by_scrub s age (due s.base s.moment age)
-decided_says s (commands.Clearmake v file own_only rebuild jobs macros goals) = by_build s v file own_only rebuild jobs macros goals
-decided_says s (commands.MklabelConfig v replace path label) =
+decided_says s (commands.Change (changes.Rmdo v path)) = by_row s _ (rmdo_tests s v path) (deeds.Drop v path) (λ p. was_idle (building s.active v) p.1.0)
+decided_says s (commands.Change (changes.Scrub age)) = by_scrub s age (due s.base s.moment age)
+decided_says s (commands.Change (changes.MklabelConfig v replace path label)) =
     past_is (Says s _) (needs_view s.base v ∷ []) (for_object path (held_at (held s.base) v path) (mklabel_config_of s replace label))
     (λ before. object_is (Says s _) path (held_at (held s.base) v path) (mklabel_config_of s replace label)
     (λ id is. by_labels s _ (mklabel_config_tests s replace label id) label (placed_by s.base id)))
-decided_says s (commands.Mkarrow v path version) =
+decided_says s (commands.Change (changes.Mkarrow v path version)) =
     past_is (Says s _) (needs_view s.base v ∷ []) (for_selected path (at s.base v path) (mkarrow_of s v path version))
     (λ before. selected_is (Says s _) path (at s.base v path) (mkarrow_of s v path version)
     (λ e picked is. version_is (Says s _) path (version_named s.base e version) (mkarrow_from s v e picked)
     (λ tail found. by_row s _ (mkarrow_tests s v e picked tail) (deeds.Arrow e tail picked.row) (λ p. tt))))
-decided_says s command = query_is (Says s command) s command refl (λ text. tt)
+decided_says s (commands.Query query) = query_is (Says s (commands.Query query)) s.base query (λ text. tt)
+decided_says s (commands.Build build) = by_build s build

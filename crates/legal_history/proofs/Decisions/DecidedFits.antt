@@ -13,6 +13,7 @@ use Rattle.cc_names.specs.Versions.{version_id, put_if}
 use Rattle.cc_names.specs.declared.changes.VersionId.{VersionId}
 use Rattle.cc_names.specs.declared.commands.Command.{Command}
 use Rattle.cc_names.specs.declared.commands.Command.TheVariants as commands
+use Rattle.cc_names.specs.declared.commands.Change.TheVariants as changes
 use Rattle.cc_names.specs.declared.refusals.Refusal.{Refusal}
 use Rattle.cc_names.specs.declared.rows.Deed.{Deed}
 use Rattle.cc_names.specs.declared.rows.Deed.TheVariants as deeds
@@ -142,30 +143,30 @@ build_fits s None (Ok us) d h = begin_fits s (needs_room s (length us)) us d h
 
 -- what is decided of a command
 command_fits : (s : Scene) (command : Command) → is_base s.base ≡ true → RowFits s (decision s command)
-command_fits s (commands.Mkview v) base = mkview_fits s v
-command_fits s (commands.Rmview v force) base = rmview_fits s v force
-command_fits s (commands.Setcs v text) base = setcs_fits s v text
-command_fits s (commands.Mkelem v nco path) base = mkelem_fits s v nco File path
-command_fits s (commands.Mkdir v nco path) base = mkelem_fits s v nco Directory path
-command_fits s (commands.Checkout v unreserved path) base = checkout_fits s v unreserved path base
-command_fits s (commands.Mkbranch v nco branch path) base = mkbranch_fits s v nco branch path base
-command_fits s (commands.Save v path text) base = save_fits s v path text base
-command_fits s (commands.Rm v path) base = rm_fits s v path
-command_fits s (commands.Checkin v identical path) base = checkin_fits s v identical path base
-command_fits s (commands.Uncheckout v path) base = uncheckout_fits s v path
-command_fits s (commands.Rmname v path) base = rmname_fits s v path
-command_fits s (commands.Mv v path name) base = mv_fits s v path name
-command_fits s (commands.Mklbtype name) base = mktype_fits s type_kinds.Label name
-command_fits s (commands.Mkbrtype name) base = mktype_fits s type_kinds.Branch name
-command_fits s (commands.Mklabel v replace label path) base = mklabel_fits s v replace label path base
-command_fits s (commands.Rmlabel v label path) base = rmlabel_fits s v label path
-command_fits s (commands.Rmdo v path) base = rmdo_fits s v path
-command_fits s (commands.Scrub age) base = scrub_fits s age
-command_fits s (commands.Clearmake v file own_only rebuild jobs macros goals) base =
-    build_fits s (first_refusal (clearmake_tests s v)) (units (texts s.base v) file macros goals)
-command_fits s (commands.MklabelConfig v replace path label) base = mklabel_config_fits s v replace path label
-command_fits s (commands.Mkarrow v path version) base = mkarrow_fits s v path version base
-command_fits s command base = query_is (Fits s) s command refl (λ text. tt)
+command_fits s (commands.Change (changes.Mkview v)) base = mkview_fits s v
+command_fits s (commands.Change (changes.Rmview v force)) base = rmview_fits s v force
+command_fits s (commands.Change (changes.Setcs v text)) base = setcs_fits s v text
+command_fits s (commands.Change (changes.Mkelem v nco path)) base = mkelem_fits s v nco File path
+command_fits s (commands.Change (changes.Mkdir v nco path)) base = mkelem_fits s v nco Directory path
+command_fits s (commands.Change (changes.Checkout v unreserved path)) base = checkout_fits s v unreserved path base
+command_fits s (commands.Change (changes.Mkbranch v nco branch path)) base = mkbranch_fits s v nco branch path base
+command_fits s (commands.Change (changes.Save v path text)) base = save_fits s v path text base
+command_fits s (commands.Change (changes.Rm v path)) base = rm_fits s v path
+command_fits s (commands.Change (changes.Checkin v identical path)) base = checkin_fits s v identical path base
+command_fits s (commands.Change (changes.Uncheckout v path)) base = uncheckout_fits s v path
+command_fits s (commands.Change (changes.Rmname v path)) base = rmname_fits s v path
+command_fits s (commands.Change (changes.Mv v path name)) base = mv_fits s v path name
+command_fits s (commands.Change (changes.Mklbtype name)) base = mktype_fits s type_kinds.Label name
+command_fits s (commands.Change (changes.Mkbrtype name)) base = mktype_fits s type_kinds.Branch name
+command_fits s (commands.Change (changes.Mklabel v replace label path)) base = mklabel_fits s v replace label path base
+command_fits s (commands.Change (changes.Rmlabel v label path)) base = rmlabel_fits s v label path
+command_fits s (commands.Change (changes.Rmdo v path)) base = rmdo_fits s v path
+command_fits s (commands.Change (changes.Scrub age)) base = scrub_fits s age
+command_fits s (commands.Change (changes.MklabelConfig v replace path label)) base = mklabel_config_fits s v replace path label
+command_fits s (commands.Change (changes.Mkarrow v path version)) base = mkarrow_fits s v path version base
+command_fits s (commands.Query query) base = query_is (Fits s) s.base query (λ text. tt)
+command_fits s (commands.Build asked) base =
+    build_fits s (first_refusal (clearmake_tests s asked.view)) (units (texts s.base asked.view) asked.file asked.macros asked.goals)
 
 -- A row that is decided fits, for every command that makes one.
 pub decided_fits : (s : Scene) (command : Command) → is_base s.base ≡ true → (made : Deed) → decision s command ≡ Ok (Makes made) → fits s.base made ≡ true

@@ -4,9 +4,10 @@ use Rattle.std.proofs.Common.{◌≡◌, refl, subst, ℕ, ◌+◌, ◌≤◌, B
 use Rattle.std.proofs.lemmas.Bool.{ltb-false}
 use Rattle.std.specs.Bool.{⊤}
 use Rattle.std.specs.Prelude.{if◌then◌else◌, option_map}
+use Rattle.cc_names.specs.declared.commands.Clearmake.{Clearmake}
 use Rattle.cc_names.specs.declared.commands.Command.{Command}
 use Rattle.cc_names.specs.declared.commands.Command.TheVariants as commands
-use Rattle.cc_names.specs.declared.commands.Macro.{Macro}
+use Rattle.cc_names.specs.declared.commands.Change.TheVariants as changes
 use Rattle.cc_names.specs.declared.refusals.Refusal.{Refusal}
 use Rattle.cc_names.specs.declared.refusals.Refusal.TheVariants.{Building}
 use Rattle.cc_names.specs.declared.rows.Deed.{Deed}
@@ -28,7 +29,7 @@ use Rattle.legal_history.specs.Commands.FileLines.{save_deed}
 use Rattle.legal_history.specs.Base.Fits.{row_limit}
 use Rattle.legal_history.specs.Builds.Fresh.{texts}
 use Rattle.legal_history.specs.Commands.LabelLines.{labels_or_nothing}
-use Rattle.legal_history.specs.Commands.ObjectLines.{scrub_of, clearmake_tests, build_unless}
+use Rattle.legal_history.specs.Commands.ObjectLines.{scrub_of, clearmake, clearmake_tests, build_unless}
 use Rattle.legal_history.proofs.Decisions.Handed.{IfDecided, answer_is}
 use Rattle.legal_history.proofs.Decisions.Passed.{AllPass, all_pass, front_passes, rest_passes, unless_passes}
 
@@ -41,7 +42,7 @@ Idle active deed = ⊤
 -- a command that scrubs
 pub record IsScrub (command : Command) : Type 0 where
   pub age : ℕ
-  pub is : command ≡ commands.Scrub age
+  pub is : command ≡ commands.Change (changes.Scrub age)
 
 -- a row scrubs only where the command does
 abbrev pub ScrubsBy : Command → Deed → Type 0
@@ -75,16 +76,10 @@ pub record IsMade (s : Scene) (command : Command) (deed : Deed) : Type 0 where
 
 -- a build that was decided: by a command that builds, in a view that exists, of the units of its makefile
 pub record BeginsBy (s : Scene) (command : Command) (us : List Unit) : Type 0 where
-  pub view : List ℕ
-  pub file : Option (List ℕ)
-  pub own_only : Bool
-  pub rebuild : Bool
-  pub jobs : ℕ
-  pub macros : List Macro
-  pub goals : List (List ℕ)
-  pub is : command ≡ commands.Clearmake view file own_only rebuild jobs macros goals
-  pub there : exists s.base view ≡ true
-  pub of_makefile : units (texts s.base view) file macros goals ≡ Ok us
+  pub asked : Clearmake
+  pub is : command ≡ commands.Build asked
+  pub there : exists s.base asked.view ≡ true
+  pub of_makefile : units (texts s.base asked.view) asked.file asked.macros asked.goals ≡ Ok us
   pub room : size s.base + reserved s.active + length us ≤ row_limit
 
 abbrev pub Says : Scene → Command → Decision → Type 0
@@ -142,31 +137,24 @@ pub by_labels : (s : Scene) (command : Command) (tests : List (Option Refusal)) 
 by_labels s command tests label [] = by_answer s command tests []
 by_labels s command tests label (one ∷ more) = by_row s command tests (deeds.Labels label (one ∷ more)) (λ p. tt)
 
-pub by_scrub : (s : Scene) (age : ℕ) (objects : List ℕ) → IfDecided (Says s (commands.Scrub age)) (scrub_of s objects)
-by_scrub s age [] = by_answer s (commands.Scrub age) [] []
+pub by_scrub : (s : Scene) (age : ℕ) (objects : List ℕ) → IfDecided (Says s (commands.Change (changes.Scrub age))) (scrub_of s objects)
+by_scrub s age [] = by_answer s (commands.Change (changes.Scrub age)) [] []
 by_scrub s age (id ∷ ids) =
-    by_row s (commands.Scrub age) [] (deeds.Scrub (id ∷ ids)) (λ p. record { age = age; is = refl })
+    by_row s (commands.Change (changes.Scrub age)) [] (deeds.Scrub (id ∷ ids)) (λ p. record { age = age; is = refl })
 
-pub by_build : (s : Scene) (v : List ℕ) (file : Option (List ℕ)) (own_only rebuild : Bool) (jobs : ℕ) (macros : List Macro) (goals : List (List ℕ)) →
-    IfDecided (Says s (commands.Clearmake v file own_only rebuild jobs macros goals)) (build_unless s (first_refusal (clearmake_tests s v)) (units (texts s.base v) file macros goals))
-by_build s v file own_only rebuild jobs macros goals d h = by (first_refusal (clearmake_tests s v)) (units (texts s.base v) file macros goals) refl refl h
+pub by_build : (s : Scene) (asked : Clearmake) → IfDecided (Says s (commands.Build asked)) (clearmake s asked.view asked.file asked.macros asked.goals)
+by_build s asked d h = by (first_refusal (clearmake_tests s asked.view)) (units (texts s.base asked.view) asked.file asked.macros asked.goals) refl refl h
   where
-    by : (o : Option Refusal) (r : Result (List Unit) Refusal) → first_refusal (clearmake_tests s v) ≡ o → units (texts s.base v) file macros goals ≡ r → build_unless s o r ≡ Ok d →
-        Says s (commands.Clearmake v file own_only rebuild jobs macros goals) d
+    by : (o : Option Refusal) (r : Result (List Unit) Refusal) → first_refusal (clearmake_tests s asked.view) ≡ o → units (texts s.base asked.view) asked.file asked.macros asked.goals ≡ r → build_unless s o r ≡ Ok d →
+        Says s (commands.Build asked) d
     by (Some refusal) r passes is h = absurd (cc)
     by None (Err refusal) passes is h = absurd (cc)
     by None (Ok us) passes is h =
         let p = passed (needs_room s (length us)) (Begins us) d h in
-        subst (Says s (commands.Clearmake v file own_only rebuild jobs macros goals)) p.1 (record {
-          view = v;
-          file = file;
-          own_only = own_only;
-          rebuild = rebuild;
-          jobs = jobs;
-          macros = macros;
-          goals = goals;
+        subst (Says s (commands.Build asked)) p.1 (record {
+          asked = asked;
           is = refl;
-          there = unless_passes _ _ (all_pass (clearmake_tests s v) passes).0;
+          there = unless_passes _ _ (all_pass (clearmake_tests s asked.view) passes).0;
           of_makefile = is;
           room = has_room s (length us) p.0;
         })

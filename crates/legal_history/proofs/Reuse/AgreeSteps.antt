@@ -21,7 +21,7 @@ use Rattle.legal_history.specs.Base.Fits.{is_base}
 use Rattle.legal_history.specs.Builds.Freshness.{AgreesSoFar}
 use Rattle.legal_history.specs.Base.Values as values
 use Rattle.legal_history.specs.Stories.States.{State, decided, build_by}
-use Rattle.legal_history.specs.Stories.Steps.{after, after_step, active_after, begun, came_by_starting, noted}
+use Rattle.legal_history.specs.Stories.Steps.{after, after_step, active_after, begun, build_asked, came_by_starting, noted}
 use Rattle.legal_history.specs.Stories.Lawful.{Lawful, LawfulStep}
 use Rattle.legal_history.specs.Builds.Turns.{came_by_start, unreadable}
 use Rattle.legal_history.specs.Builds.UnitTurns.{EndsEarly, ComesTo, Starts}
@@ -33,7 +33,7 @@ use Rattle.legal_history.proofs.Builds.FreshSeen.{early_same}
 use Rattle.legal_history.proofs.Builds.Published.{is_publish}
 use Rattle.legal_history.proofs.Builds.ReadyUnits.{ready_by}
 use Rattle.legal_history.proofs.Builds.UnitsCome.{start_came, start_may, early_may, fails_may, given_may}
-use Rattle.legal_history.proofs.Stories.DecidedSteps.{decided_of, says_of, begun_by, begun_is}
+use Rattle.legal_history.proofs.Stories.DecidedSteps.{decided_of, says_of, begun_is}
 use Rattle.legal_history.proofs.Stories.Goes.{of_lane}
 use Rattle.legal_history.proofs.Stories.SoundStories.{IsSound}
 use Rattle.legal_history.proofs.Reuse.GivenCommits.{AllHeld}
@@ -81,8 +81,8 @@ started_agrees s tag n h e =
 begun_agrees : (s : State) (tag : Tag) (us : List Unit) → is_base s.base ≡ true → decided s tag ≡ Some (Ok (Begins us)) → (build : Build) → begun s tag ≡ Some build → AgreesSoFar s.base build
 begun_agrees s tag us base h build is =
     let says = says_of s tag (Begins us) (decided_of s tag (Begins us) h) in
-    let made : Some (begun_by s tag us says.view says.own_only says.rebuild) ≡ Some build = sym (begun_is s tag us h) ∙ is in
-    subst (AgreesSoFar s.base) (some_same made) (begins_so s.base (begun_by s tag us says.view says.own_only says.rebuild) (begun_begins s tag us base h))
+    let made : Some (build_asked tag (size s.base) us says.asked) ≡ Some build = sym (begun_is s tag us h) ∙ is in
+    subst (AgreesSoFar s.base) (some_same made) (begins_so s.base (build_asked tag (size s.base) us says.asked) (begun_begins s tag us base h))
 
 told_agrees : (s : State) (step : Step) → values.IsSound s.base → is_base s.base ≡ true → AllHeld s → BuildsAgree s → LawfulStep s step → Each (λ lane. AgreesSoFar (after_step s step).base) (after_step s step).active
 told_agrees s (steps.Refused tag refusal) whole base held h e = h

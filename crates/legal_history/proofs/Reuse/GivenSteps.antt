@@ -8,18 +8,19 @@ use Rattle.cc_names.specs.declared.steps.StoryStep.TheVariants as story_steps
 use Rattle.cc_names.specs.declared.steps.UnitEnd.{UnitEnd}
 use Rattle.cc_names.specs.declared.steps.UnitEnd.TheVariants as ends
 use Rattle.cc_names.specs.declared.units.Unit.{Unit}
+use Rattle.legal_history.specs.Base.Rows.{size}
 use Rattle.legal_history.specs.Builds.Active.{Build, Came, Concluded, build_of, object_of, unit_at}
 use Rattle.legal_history.specs.Commands.Decisions.{Begins}
 use Rattle.legal_history.specs.Base.Fits.{is_base}
 use Rattle.legal_history.specs.Stories.States.{State, decided, build_by}
-use Rattle.legal_history.specs.Stories.Steps.{after, after_step, noted, came_by_starting, came_of_unit, begun, with_came}
+use Rattle.legal_history.specs.Stories.Steps.{after, after_step, noted, came_by_starting, came_of_unit, begun, build_asked, with_came}
 use Rattle.legal_history.specs.Stories.Lawful.{Lawful, LawfulStep}
 use Rattle.legal_history.specs.Builds.UnitTurns.{ComesTo, Keeps}
 use Rattle.legal_history.specs.Builds.Turns.{unreadable}
 use Rattle.legal_history.proofs.Stories.Goes.{of_lane}
 use Rattle.legal_history.proofs.Bases.Owned.{row_fits}
 use Rattle.legal_history.proofs.Builds.AllBuilds.{Each, each_noted, each_without, each_begun, each_faulted}
-use Rattle.legal_history.proofs.Stories.DecidedSteps.{decided_of, says_of, begun_by, begun_is}
+use Rattle.legal_history.proofs.Stories.DecidedSteps.{decided_of, says_of, begun_is}
 use Rattle.legal_history.proofs.Builds.FineBuilds.{some_same}
 use Rattle.legal_history.proofs.Builds.UnitsCome.{start_without}
 use Rattle.legal_history.proofs.Stories.SoundStories.{IsSound, sound_step}
@@ -68,7 +69,7 @@ settled_given s tag n ends.Bare base h e = without_object s tag.lane (λ b. Some
 begun_given : (s : State) (tag : Tag) (us : List Unit) → decided s tag ≡ Some (Ok (Begins us)) → (build : Build) → begun s tag ≡ Some build → HoldsGiven s.base build
 begun_given s tag us h build is =
     let says = says_of s tag (Begins us) (decided_of s tag (Begins us) h) in
-    let made : begun_by s tag us says.view says.own_only says.rebuild ≡ build = some_same (sym (begun_is s tag us h) ∙ is) in
+    let made : build_asked tag (size s.base) us says.asked ≡ build = some_same (sym (begun_is s tag us h) ∙ is) in
     subst (HoldsGiven s.base) made (record { given = λ n id own. absurd (cc) })
 
 told_given : (s : State) (step : Step) → is_base s.base ≡ true → AllHeld s → LawfulStep s step → Each (λ lane. HoldsGiven (after_step s step).base) (after_step s step).active

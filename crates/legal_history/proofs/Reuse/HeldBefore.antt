@@ -25,13 +25,13 @@ use Rattle.legal_history.specs.Commands.Decisions.{Begins}
 use Rattle.legal_history.specs.Stories.Growth.{Continues, On, Over, StaysTheBuild}
 use Rattle.legal_history.specs.Stories.Lawful.{Lawful, Legal, LegalFrom, LawfulStep}
 use Rattle.legal_history.specs.Stories.States.{State, build_by, decided, start}
-use Rattle.legal_history.specs.Stories.Steps.{active_after, after, after_step, begun, came_by_starting, noted, state_from, state_of, with_came}
+use Rattle.legal_history.specs.Stories.Steps.{active_after, after, after_step, begun, build_asked, came_by_starting, noted, state_from, state_of, with_came}
 use Rattle.legal_history.proofs.Bases.Stay.{row_stays_all}
 use Rattle.legal_history.proofs.Builds.AllBuilds.{Each, each_begun, each_faulted, each_noted, each_without}
 use Rattle.legal_history.proofs.Builds.FineBuilds.{some_same}
 use Rattle.legal_history.proofs.Builds.FreshSeen.{bytes_itself, or_first, or_second}
 use Rattle.legal_history.proofs.Builds.ReadyUnits.{ready_by}
-use Rattle.legal_history.proofs.Stories.DecidedSteps.{begun_by, begun_is, decided_of, says_of}
+use Rattle.legal_history.proofs.Stories.DecidedSteps.{begun_is, decided_of, says_of}
 use Rattle.legal_history.proofs.Stories.Goes.{of_lane, same_number, step_goes}
 use Rattle.legal_history.proofs.Stories.GoingOn.{GoesOnSo}
 use Rattle.legal_history.proofs.Stories.Grows.{step_extends}
@@ -135,7 +135,7 @@ started_now s tag m came starts = each_noted (AreStartedBy s) s.active tag.lane 
 begun_before : (s : State) (tag : Tag) (us : List Unit) → decided s tag ≡ Some (Ok (Begins us)) → (build : Build) → begun s tag ≡ Some build → (n : ℕ) → came_to build n ≡ Some Started → StartedBy s tag.lane n
 begun_before s tag us h build is n e =
     let says = says_of s tag (Begins us) (decided_of s tag (Begins us) h) in
-    let made : begun_by s tag us says.view says.own_only says.rebuild ≡ build = some_same (sym (begun_is s tag us h) ∙ is) in
+    let made : build_asked tag (size s.base) us says.asked ≡ build = some_same (sym (begun_is s tag us h) ∙ is) in
     let nothing : None ≡ Some Started = ap (λ (b : Build). came_to b n) made ∙ e in
     absurd (cc)
 

@@ -7,19 +7,20 @@ use Rattle.cc_names.specs.declared.refusals.Refusal.{Refusal}
 use Rattle.cc_names.specs.declared.rows.Tag.{Tag}
 use Rattle.cc_names.specs.declared.units.Unit.{Unit}
 use Rattle.make_grammar.specs.Graphs.{units}
+use Rattle.legal_history.specs.Base.Rows.{size}
 use Rattle.legal_history.specs.Builds.Active.{Active, Build, Came, build_of, building}
 use Rattle.legal_history.specs.Commands.Decisions.{Scene, Begins, first_refusal}
 use Rattle.legal_history.specs.Builds.Fresh.{texts}
 use Rattle.legal_history.specs.Commands.Lines.{decision}
 use Rattle.legal_history.specs.Commands.ObjectLines.{clearmake_tests, build_unless}
 use Rattle.legal_history.specs.Stories.States.{State, scene, decided}
-use Rattle.legal_history.specs.Stories.Steps.{begun, noted, with_came, with_build, without_build, faulted_in}
+use Rattle.legal_history.specs.Stories.Steps.{begun, build_asked, noted, with_came, with_build, without_build, faulted_in}
 use Rattle.legal_history.proofs.Stories.Goes.{same_number}
 use Rattle.legal_history.proofs.Decisions.Passed.{all_pass}
 use Rattle.legal_history.proofs.Stories.Tables.{find_after_put}
 use Rattle.legal_history.proofs.Builds.AllBuilds.{Each, each_noted, each_without, each_faulted, builds_there}
 use Rattle.legal_history.proofs.Decisions.DecidedSays.{was_idle}
-use Rattle.legal_history.proofs.Stories.DecidedSteps.{decided_of, says_of, begun_by, begun_is}
+use Rattle.legal_history.proofs.Stories.DecidedSteps.{decided_of, says_of, begun_is}
 use Rattle.legal_history.proofs.Builds.FineBuilds.{some_same}
 use Rattle.std.proofs.Common.{subst}
 
@@ -92,7 +93,7 @@ pub begun_idle : (s : State) (tag : Tag) (us : List Unit) → decided s tag ≡ 
 begun_idle s tag us h build is =
     let d = decided_of s tag (Begins us) h in
     let says = says_of s tag (Begins us) d in
-    let made : begun_by s tag us says.view says.own_only says.rebuild ≡ build = some_same (sym (begun_is s tag us h) ∙ is) in
-    let of_command : decision (scene s) (commands.Clearmake says.view says.file says.own_only says.rebuild says.jobs says.macros says.goals) ≡ Ok (Begins us) = ap (decision (scene s)) (sym says.is) ∙ d.is in
+    let made : build_asked tag (size s.base) us says.asked ≡ build = some_same (sym (begun_is s tag us h) ∙ is) in
+    let of_command : decision (scene s) (commands.Build says.asked) ≡ Ok (Begins us) = ap (decision (scene s)) (sym says.is) ∙ d.is in
     subst (λ (x : Build). building s.active x.view ≡ None) made
-    (clearmake_idle (scene s) says.view us (units (texts s.base says.view) says.file says.macros says.goals) of_command)
+    (clearmake_idle (scene s) says.asked.view us (units (texts s.base says.asked.view) says.asked.file says.asked.macros says.asked.goals) of_command)

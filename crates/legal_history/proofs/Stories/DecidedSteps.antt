@@ -10,7 +10,7 @@ use Rattle.legal_history.specs.Builds.Active.{Build}
 use Rattle.legal_history.specs.Commands.Decisions.{Decision, Begins}
 use Rattle.legal_history.specs.Commands.Lines.{decision}
 use Rattle.legal_history.specs.Stories.States.{State, scene, decided, next_command}
-use Rattle.legal_history.specs.Stories.Steps.{begun, new_build, units_begun}
+use Rattle.legal_history.specs.Stories.Steps.{begun, build_asked, new_build, units_begun}
 use Rattle.legal_history.proofs.Decisions.Decided.{decided_says}
 use Rattle.legal_history.proofs.Decisions.DecidedSays.{Says}
 
@@ -30,14 +30,11 @@ decided_of s tag d h = by (next_command s tag) refl h
 pub says_of : (s : State) (tag : Tag) (d : Decision) (h : DecidedOf s tag d) → Says (scene s) h.command d
 says_of s tag d h = decided_says (scene s) h.command d h.is
 
--- the build that a command begins
-abbrev pub begun_by : (s : State) (tag : Tag) (us : List Unit) (view : List ℕ) (own_only rebuild : Bool) → Build
-begun_by s tag us view own_only rebuild = record { tag = tag; view = view; rows = size s.base; own_only = own_only; rebuild = rebuild; units = us; comes = []; faulted = false }
-
+-- the build that a command begins is the one that it asks for
 pub begun_is : (s : State) (tag : Tag) (us : List Unit) (h : decided s tag ≡ Some (Ok (Begins us))) → let says = says_of s tag (Begins us) (decided_of s tag (Begins us) h) in
-    begun s tag ≡ Some (begun_by s tag us says.view says.own_only says.rebuild)
+    begun s tag ≡ Some (build_asked tag (size s.base) us says.asked)
 begun_is s tag us h =
     let d = decided_of s tag (Begins us) h in
     let says = says_of s tag (Begins us) d in
     ap (λ o. option_and_then (new_build tag (size s.base) (units_begun (decided s tag))) o) (d.next ∙ ap Some says.is)
-    ∙ ap (λ o. new_build tag (size s.base) (units_begun o) (commands.Clearmake says.view says.file says.own_only says.rebuild says.jobs says.macros says.goals)) h
+    ∙ ap (λ o. new_build tag (size s.base) (units_begun o) (commands.Build says.asked)) h

@@ -1,8 +1,8 @@
 -- A command that builds is finished by its refusal, or by the end of its build.
 use Rattle.std.proofs.Common.{◌≡◌, refl, ap, sym, subst, ◌∙◌, inl, inr, ℕ, ◌+◌, Bool, true, false, ◌==◌, Option, Some, None, Result, Ok, Err, List, length, arith}
 use Rattle.std.specs.Prelude.{option_map}
-use Rattle.cc_names.specs.Commands.{builds}
 use Rattle.cc_names.specs.Formed.{Plain}
+use Rattle.cc_names.specs.declared.commands.Clearmake.{Clearmake}
 use Rattle.cc_names.specs.declared.commands.Command.{Command}
 use Rattle.cc_names.specs.declared.commands.Command.TheVariants as commands
 use Rattle.cc_names.specs.declared.refusals.Refusal.{Refusal}
@@ -70,9 +70,8 @@ same_decision s tag other command r next h number =
     subst (λ c. decision (scene s) c ≡ r) one o.is
 
 -- a command that builds makes no row by itself, and is answered nothing
-makes_none : (s : Scene) (command : Command) (deed : Deed) → builds command ≡ true → decision s command ≡ Ok (Makes deed) → ⊥
-makes_none s (commands.Clearmake v file own_only rebuild jobs macros goals) deed b h = builds_nothing s (first_refusal (clearmake_tests s v)) (units (texts s.base v) file macros goals) deed h
-makes_none s command deed b h = cc
+makes_none : (s : Scene) (asked : Clearmake) (deed : Deed) → decision s (commands.Build asked) ≡ Ok (Makes deed) → ⊥
+makes_none s asked deed h = builds_nothing s (first_refusal (clearmake_tests s asked.view)) (units (texts s.base asked.view) asked.file asked.macros asked.goals) deed h
 
 begins_unless : (o : Option Refusal) (us : List Unit) (text : List ℕ) → unless_refused o (Begins us) ≡ Ok (Answers text) → ⊥
 begins_unless (Some refusal) us text h = cc
@@ -83,9 +82,8 @@ answers_nothing s (Some refusal) us text h = cc
 answers_nothing s None (Err refusal) text h = cc
 answers_nothing s None (Ok us) text h = begins_unless (needs_room s (length us)) us text h
 
-answers_none : (s : Scene) (command : Command) (text : List ℕ) → builds command ≡ true → decision s command ≡ Ok (Answers text) → ⊥
-answers_none s (commands.Clearmake v file own_only rebuild jobs macros goals) text b h = answers_nothing s (first_refusal (clearmake_tests s v)) (units (texts s.base v) file macros goals) text h
-answers_none s command text b h = cc
+answers_none : (s : Scene) (asked : Clearmake) (text : List ℕ) → decision s (commands.Build asked) ≡ Ok (Answers text) → ⊥
+answers_none s asked text h = answers_nothing s (first_refusal (clearmake_tests s asked.view)) (units (texts s.base asked.view) asked.file asked.macros asked.goals) text h
 
 -- a lane in which nothing builds has no active build
 no_build : (s : State) (tag other : Tag) (build : Build) → build_of s.active tag.lane ≡ None → build_by s other ≡ Some build → tag.lane ≡ other.lane → ⊥
@@ -96,26 +94,26 @@ idle_next : (s : State) (tag : Tag) (command : Command) → next_command s tag �
 idle_next s tag command next = decided_is_idle s tag (ap (option_map (decision (scene s))) next)
 
 -- a row is committed for no command that builds, where that has not begun
-no_row : (s : State) (tag : Tag) (command : Command) (row : Plain) (deed : Deed) → next_command s tag ≡ Some command → builds command ≡ true → MakesRow s row deed → tag.lane ≡ row.tag.lane → ⊥
-no_row s tag command row (deeds.Publish view targets script entries outputs) next b e number = no_build s tag row.tag e.build (idle_next s tag command next) e.running.waits.active number
-no_row s tag command row (deeds.Wink view id) next b e number = elim e.may [
-  | inl o ↦ no_build s tag row.tag e.build (idle_next s tag command next) o.waits.active number
-  | inr r ↦ no_build s tag row.tag e.build (idle_next s tag command next) r.waits.active number
+no_row : (s : State) (tag : Tag) (asked : Clearmake) (row : Plain) (deed : Deed) → next_command s tag ≡ Some (commands.Build asked) → MakesRow s row deed → tag.lane ≡ row.tag.lane → ⊥
+no_row s tag asked row (deeds.Publish view targets script entries outputs) next e number = no_build s tag row.tag e.build (idle_next s tag (commands.Build asked) next) e.running.waits.active number
+no_row s tag asked row (deeds.Wink view id) next e number = elim e.may [
+  | inl o ↦ no_build s tag row.tag e.build (idle_next s tag (commands.Build asked) next) o.waits.active number
+  | inr r ↦ no_build s tag row.tag e.build (idle_next s tag (commands.Build asked) next) r.waits.active number
 ]
-no_row s tag command row deed next b e number = makes_none (scene s) command row.deed b (same_decision s tag row.tag command (Ok (Makes row.deed)) next e number)
+no_row s tag asked row deed next e number = makes_none (scene s) asked row.deed (same_decision s tag row.tag (commands.Build asked) (Ok (Makes row.deed)) next e number)
 
-committed_none : (s : State) (tag : Tag) (command : Command) (row : Plain) (deed : Deed) → next_command s tag ≡ Some command → builds command ≡ true → MakesRow s row deed →
+committed_none : (s : State) (tag : Tag) (asked : Clearmake) (row : Plain) (deed : Deed) → next_command s tag ≡ Some (commands.Build asked) → MakesRow s row deed →
     done_of (done_after s.done row.tag.lane deed) tag.lane ≡ done_of s.done tag.lane + 1 → ⊥
-committed_none s tag command row (deeds.Publish view targets script entries outputs) next b e h = not_more (done_of s.done tag.lane) h
-committed_none s tag command row (deeds.Wink view id) next b e h = not_more (done_of s.done tag.lane) h
-committed_none s tag command row deed next b e h = no_row s tag command row deed next b e (finished_lane s.done tag.lane row.tag.lane h)
+committed_none s tag asked row (deeds.Publish view targets script entries outputs) next e h = not_more (done_of s.done tag.lane) h
+committed_none s tag asked row (deeds.Wink view id) next e h = not_more (done_of s.done tag.lane) h
+committed_none s tag asked row deed next e h = no_row s tag asked row deed next e (finished_lane s.done tag.lane row.tag.lane h)
 
-faulted_none : (s : State) (tag other : Tag) (command : Command) (left : Option Plain) (before faults tick : ℕ) (o : Option Build) → next_command s tag ≡ Some command → builds command ≡ true → FaultsAt s other left before faults tick →
+faulted_none : (s : State) (tag other : Tag) (asked : Clearmake) (left : Option Plain) (before faults tick : ℕ) (o : Option Build) → next_command s tag ≡ Some (commands.Build asked) → FaultsAt s other left before faults tick →
     done_of (done_by_fault s.done other.lane o) tag.lane ≡ done_of s.done tag.lane + 1 → ⊥
-faulted_none s tag other command left before faults tick (Some build) next b e h = not_more (done_of s.done tag.lane) h
-faulted_none s tag other command left before faults tick None next b e h =
+faulted_none s tag other asked left before faults tick (Some build) next e h = not_more (done_of s.done tag.lane) h
+faulted_none s tag other asked left before faults tick None next e h =
     let wanted = e.wanted in
-    no_row s tag command wanted.row wanted.row.deed next b wanted.may.made (finished_lane s.done tag.lane other.lane h ∙ ap (λ (t : Tag). t.lane) (sym wanted.of_tag))
+    no_row s tag asked wanted.row wanted.row.deed next wanted.may.made (finished_lane s.done tag.lane other.lane h ∙ ap (λ (t : Tag). t.lane) (sym wanted.of_tag))
 
 ended_none : (s : State) (tag other : Tag) (command : Command) (build : Build) → next_command s tag ≡ Some command → build_by s other ≡ Some build → done_of (with_done s.done other.lane) tag.lane ≡ done_of s.done tag.lane + 1 → ⊥
 ended_none s tag other command build next active h = no_build s tag other build (idle_next s tag command next) active (finished_lane s.done tag.lane other.lane h)
@@ -126,23 +124,23 @@ refused_so s tag other refusal command next e number =
     let same : tag ≡ other = one_next s tag other command o.command next o.next number in
     record { refusal = refusal; is = ap (λ t. story_steps.Other (steps.Refused t refusal)) (sym same); decided_so = ap (decided s) same ∙ e }
 
-told_refused : (s : State) (step : Step) (tag : Tag) (command : Command) → next_command s tag ≡ Some command → builds command ≡ true → LawfulStep s step →
+told_refused : (s : State) (step : Step) (tag : Tag) (asked : Clearmake) → next_command s tag ≡ Some (commands.Build asked) → LawfulStep s step →
     done_of (after_step s step).done tag.lane ≡ done_of s.done tag.lane + 1 → IsRefused s (story_steps.Other step) tag
-told_refused s (steps.Refused other refusal) tag command next b e h = refused_so s tag other refusal command next e (finished_lane s.done tag.lane other.lane h)
-told_refused s (steps.Answer other text) tag command next b e h =
-    absurd (answers_none (scene s) command text b (same_decision s tag other command (Ok (Answers text)) next e (finished_lane s.done tag.lane other.lane h)))
-told_refused s (steps.Begin other rows count) tag command next b e h = absurd (not_more (done_of s.done tag.lane) h)
-told_refused s (steps.Start other n) tag command next b e h = absurd (not_more (done_of s.done tag.lane) h)
-told_refused s (steps.Concluded other n end) tag command next b e h = absurd (not_more (done_of s.done tag.lane) h)
-told_refused s (steps.End other) tag command next b e h = absurd (ended_none s tag other command e.build next e.active h)
-told_refused s (steps.Fault other left before faults tick) tag command next b e h = absurd (faulted_none s tag other command left before faults tick (build_by s other) next b e h)
-told_refused s step tag command next b e h = absurd e
+told_refused s (steps.Refused other refusal) tag asked next e h = refused_so s tag other refusal (commands.Build asked) next e (finished_lane s.done tag.lane other.lane h)
+told_refused s (steps.Answer other text) tag asked next e h =
+    absurd (answers_none (scene s) asked text (same_decision s tag other (commands.Build asked) (Ok (Answers text)) next e (finished_lane s.done tag.lane other.lane h)))
+told_refused s (steps.Begin other rows count) tag asked next e h = absurd (not_more (done_of s.done tag.lane) h)
+told_refused s (steps.Start other n) tag asked next e h = absurd (not_more (done_of s.done tag.lane) h)
+told_refused s (steps.Concluded other n end) tag asked next e h = absurd (not_more (done_of s.done tag.lane) h)
+told_refused s (steps.End other) tag asked next e h = absurd (ended_none s tag other (commands.Build asked) e.build next e.active h)
+told_refused s (steps.Fault other left before faults tick) tag asked next e h = absurd (faulted_none s tag other asked left before faults tick (build_by s other) next e h)
+told_refused s step tag asked next e h = absurd e
 
-pub is_refused : (s : State) (x : StoryStep) (tag : Tag) (command : Command) → next_command s tag ≡ Some command → builds command ≡ true → Lawful s x → done_of (after s x).done tag.lane ≡ done_of s.done tag.lane + 1 → IsRefused s x tag
-is_refused s (story_steps.Opened rows counts tells) tag command next b e h = absurd (not_more (done_of s.done tag.lane) h)
-is_refused s (story_steps.PhaseBegun phase moment) tag command next b e h = absurd (none_before (done_of s.done tag.lane) h)
-is_refused s (story_steps.Commit row tick) tag command next b e h = absurd (committed_none s tag command row row.deed next b e.may.made h)
-is_refused s (story_steps.Other step) tag command next b e h = told_refused s step tag command next b e h
+pub is_refused : (s : State) (x : StoryStep) (tag : Tag) (asked : Clearmake) → next_command s tag ≡ Some (commands.Build asked) → Lawful s x → done_of (after s x).done tag.lane ≡ done_of s.done tag.lane + 1 → IsRefused s x tag
+is_refused s (story_steps.Opened rows counts tells) tag asked next e h = absurd (not_more (done_of s.done tag.lane) h)
+is_refused s (story_steps.PhaseBegun phase moment) tag asked next e h = absurd (none_before (done_of s.done tag.lane) h)
+is_refused s (story_steps.Commit row tick) tag asked next e h = absurd (committed_none s tag asked row row.deed next e.may.made h)
+is_refused s (story_steps.Other step) tag asked next e h = told_refused s step tag asked next e h
 
 -- In a lane with an active build no command is decided.
 not_decided : (s : State) (lane : ℕ) (build : Build) (other : Tag) (r : Result Decision Refusal) → build_of s.active lane ≡ Some build → decided s other ≡ Some r → lane ≡ other.lane → ⊥

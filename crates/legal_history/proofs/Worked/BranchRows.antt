@@ -3,6 +3,8 @@ use Rattle.std.proofs.Common.{◌≡◌, refl, ℕ, true, false, Some, Ok, Err, 
 use Rattle.std.specs.Prelude.{codes}
 use Rattle.std.specs.Fmt.{digits}
 use Rattle.cc_names.specs.declared.commands.Command.TheVariants as commands
+use Rattle.cc_names.specs.declared.commands.Query.TheVariants as queries
+use Rattle.cc_names.specs.declared.commands.Change.TheVariants as changes
 use Rattle.cc_names.specs.declared.refusals.Refusal.TheVariants as refusals
 use Rattle.cc_names.specs.declared.rows.Deed.TheVariants as deeds
 use Rattle.cc_names.specs.declared.rows.Out.TheVariants as outs
@@ -26,13 +28,13 @@ spec =
 
 a_rule_makes_a_branch :
     decisions two_views (
-    commands.Mkbrtype (codes "fix")
-    ∷ commands.Setcs w spec
-    ∷ commands.Checkout w false a_file
-    ∷ commands.Save w a_file (line (codes "foo"))
-    ∷ commands.Checkin w false a_file
-    ∷ commands.Checkout w false (codes "Makefile")
-    ∷ commands.Checkout w false a_file ∷ [])
+    commands.Change (changes.Mkbrtype (codes "fix"))
+    ∷ commands.Change (changes.Setcs w spec)
+    ∷ commands.Change (changes.Checkout w false a_file)
+    ∷ commands.Change (changes.Save w a_file (line (codes "foo")))
+    ∷ commands.Change (changes.Checkin w false a_file)
+    ∷ commands.Change (changes.Checkout w false (codes "Makefile"))
+    ∷ commands.Change (changes.Checkout w false a_file) ∷ [])
     ≡
     Ok (Makes (deeds.Mktype type_kinds.Branch (codes "fix")))
     ∷ Ok (Makes (deeds.Setcs w spec))
@@ -72,7 +74,7 @@ both_branches_fit : is_base branched_twice ≡ true
 both_branches_fit = refl
 
 branches_are_told_behind_their_versions :
-    decisions branched_twice (commands.Lsvtree v a_file ∷ [])
+    decisions branched_twice (commands.Query (queries.Lsvtree v a_file) ∷ [])
     ≡ Ok (Answers (line (codes "in@@/main") ++ line (codes "in@@/main/0") ++ line (codes "in@@/main/1")
     ++ line (codes "in@@/main/fix") ++ line (codes "in@@/main/fix/0") ++ line (codes "in@@/main/fix/1")
     ++ line (codes "in@@/main/fix/sub") ++ line (codes "in@@/main/fix/sub/0")

@@ -4,6 +4,7 @@ use Rattle.std.specs.Prelude.{codes}
 use Rattle.std.specs.Fmt.{digits}
 use Rattle.cc_names.specs.Versions.{Version, versions_on}
 use Rattle.cc_names.specs.declared.commands.Command.TheVariants as commands
+use Rattle.cc_names.specs.declared.commands.Change.TheVariants as changes
 use Rattle.cc_names.specs.declared.refusals.Refusal.TheVariants as refusals
 use Rattle.cc_names.specs.declared.rows.Deed.TheVariants as deeds
 use Rattle.legal_history.specs.Base.Rows.{Base, first_rows}
@@ -22,16 +23,16 @@ a_file = codes "in"
 
 two_views_check_out :
     decisions two_views (
-    commands.Checkout v true a_file
-    ∷ commands.Checkout w false a_file
-    ∷ commands.Save v a_file (line (codes "foo"))
-    ∷ commands.Checkin v false a_file
-    ∷ commands.Save w a_file (line (codes "bar"))
-    ∷ commands.Checkin w false a_file
-    ∷ commands.Checkin v false a_file
-    ∷ commands.Uncheckout v a_file
-    ∷ commands.Checkout v false a_file
-    ∷ commands.Checkin v false a_file ∷ [])
+    commands.Change (changes.Checkout v true a_file)
+    ∷ commands.Change (changes.Checkout w false a_file)
+    ∷ commands.Change (changes.Save v a_file (line (codes "foo")))
+    ∷ commands.Change (changes.Checkin v false a_file)
+    ∷ commands.Change (changes.Save w a_file (line (codes "bar")))
+    ∷ commands.Change (changes.Checkin w false a_file)
+    ∷ commands.Change (changes.Checkin v false a_file)
+    ∷ commands.Change (changes.Uncheckout v a_file)
+    ∷ commands.Change (changes.Checkout v false a_file)
+    ∷ commands.Change (changes.Checkin v false a_file) ∷ [])
     ≡
     Ok (Makes (deeds.Checkout v 6 8 false))
     ∷ Ok (Makes (deeds.Checkout w 6 8 true))

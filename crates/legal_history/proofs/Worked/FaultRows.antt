@@ -5,6 +5,7 @@ use native.Mathlib.Bridge.{le_by_compare, IsLe}
 use Rattle.cc_names.specs.Formed.{Plain}
 use Rattle.cc_names.specs.declared.commands.Command.{Command}
 use Rattle.cc_names.specs.declared.commands.Command.TheVariants as commands
+use Rattle.cc_names.specs.declared.commands.Change.TheVariants as changes
 use Rattle.cc_names.specs.declared.rows.Deed.TheVariants as deeds
 use Rattle.cc_names.specs.declared.steps.Step.TheVariants as steps
 use Rattle.cc_names.specs.declared.steps.StoryStep.{StoryStep}
@@ -20,7 +21,7 @@ use Rattle.legal_history.proofs.Worked.StoryParts.{one_lane, opened, comes_after
 use Rattle.legal_history.proofs.Worked.TwoViews.{v, hi, makefile, script}
 
 abbrev build : Command
-build = commands.Clearmake v None false false 1 [] (codes "out" ∷ [])
+build = commands.Build (record { view = v; file = None; own_only = false; rebuild = false; jobs = 1; macros = []; goals = codes "out" ∷ [] })
 
 -- the row that the first of two builds of private files publishes, and that of the second
 abbrev pub published : ℕ → Plain
@@ -30,7 +31,7 @@ published n = row n (deeds.Publish v (codes "out" ∷ []) script (record { path 
 abbrev pub before_build : List StoryStep
 before_build =
     opened
-    ∷ story_steps.PhaseBegun (one_lane (commands.Mkview v ∷ commands.Save v (codes "Makefile") makefile ∷ commands.Save v (codes "in") hi
+    ∷ story_steps.PhaseBegun (one_lane (commands.Change (changes.Mkview v) ∷ commands.Change (changes.Save v (codes "Makefile") makefile) ∷ commands.Change (changes.Save v (codes "in") hi)
     ∷ build ∷ build ∷ [])) 1700000000
     ∷ story_steps.Commit (row 1 (deeds.Mkview v)) 7
     ∷ story_steps.Commit (row 2 (deeds.Put v (codes "Makefile") makefile)) 11

@@ -4,6 +4,7 @@ use Rattle.std.specs.Prelude.{codes}
 use native.Mathlib.Bridge.{le_by_compare, IsLe}
 use Rattle.cc_names.specs.Formed.{Plain}
 use Rattle.cc_names.specs.declared.commands.Command.TheVariants as commands
+use Rattle.cc_names.specs.declared.commands.Change.TheVariants as changes
 use Rattle.cc_names.specs.declared.commands.Phase.{Phase}
 use Rattle.cc_names.specs.declared.rows.Deed.TheVariants as deeds
 use Rattle.cc_names.specs.declared.steps.Step.TheVariants as steps
@@ -60,10 +61,10 @@ phase = record {
   lanes = record {
     name = codes "a";
     commands =
-        commands.Mkview (codes "v")
-        ∷ commands.Save (codes "v") (codes "Makefile") makefile
-        ∷ commands.Save (codes "v") (codes "in") (line (codes "hi"))
-        ∷ commands.Clearmake (codes "v") None false false 1 [] (codes "out" ∷ []) ∷ [];
+        commands.Change (changes.Mkview (codes "v"))
+        ∷ commands.Change (changes.Save (codes "v") (codes "Makefile") makefile)
+        ∷ commands.Change (changes.Save (codes "v") (codes "in") (line (codes "hi")))
+        ∷ commands.Build (record { view = codes "v"; file = None; own_only = false; rebuild = false; jobs = 1; macros = []; goals = codes "out" ∷ [] }) ∷ [];
   } ∷ [];
 }
 

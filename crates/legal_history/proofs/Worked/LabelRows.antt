@@ -3,6 +3,7 @@ use Rattle.std.proofs.Common.{◌≡◌, refl, ℕ, true, false, Some, None, Ok,
 use Rattle.std.specs.Prelude.{codes}
 use Rattle.cc_names.specs.Labels.{holder}
 use Rattle.cc_names.specs.declared.commands.Command.TheVariants as commands
+use Rattle.cc_names.specs.declared.commands.Change.TheVariants as changes
 use Rattle.cc_names.specs.declared.refusals.Refusal.TheVariants as refusals
 use Rattle.cc_names.specs.declared.rows.Deed.TheVariants as deeds
 use Rattle.cc_names.specs.declared.rows.TypeKind.TheVariants as type_kinds
@@ -18,15 +19,15 @@ a_file = codes "in"
 
 others_are_refused :
     decisions two_views (
-    commands.Mklabel v false (codes "REL") a_file
-    ∷ commands.Mklbtype (codes "REL")
-    ∷ commands.Mklbtype (codes "main")
-    ∷ commands.Mklabel v false (codes "REL") a_file
-    ∷ commands.Rmlabel v (codes "REL") (codes "Makefile")
-    ∷ commands.Mkelem v false (codes "new")
-    ∷ commands.Save v a_file []
-    ∷ commands.Save v (codes "out") []
-    ∷ commands.Mkview v ∷ [])
+    commands.Change (changes.Mklabel v false (codes "REL") a_file)
+    ∷ commands.Change (changes.Mklbtype (codes "REL"))
+    ∷ commands.Change (changes.Mklbtype (codes "main"))
+    ∷ commands.Change (changes.Mklabel v false (codes "REL") a_file)
+    ∷ commands.Change (changes.Rmlabel v (codes "REL") (codes "Makefile"))
+    ∷ commands.Change (changes.Mkelem v false (codes "new"))
+    ∷ commands.Change (changes.Save v a_file [])
+    ∷ commands.Change (changes.Save v (codes "out") [])
+    ∷ commands.Change (changes.Mkview v) ∷ [])
     ≡
     Err (refusals.NoType (codes "REL"))
     ∷ Ok (Makes (deeds.Mktype type_kinds.Label (codes "REL")))

@@ -4,6 +4,8 @@ use Rattle.std.specs.Prelude.{codes}
 use Rattle.std.specs.Fmt.{digits}
 use Rattle.cc_names.specs.declared.commands.Command.{Command}
 use Rattle.cc_names.specs.declared.commands.Command.TheVariants as commands
+use Rattle.cc_names.specs.declared.commands.Query.TheVariants as queries
+use Rattle.cc_names.specs.declared.commands.Change.TheVariants as changes
 use Rattle.cc_names.specs.declared.refusals.Refusal.TheVariants as refusals
 use Rattle.cc_names.specs.declared.rows.Deed.TheVariants as deeds
 use Rattle.cc_names.specs.declared.rows.Out.TheVariants as outs
@@ -17,17 +19,17 @@ use Rattle.legal_history.specs.Worked.{base_of, decisions}
 use Rattle.legal_history.proofs.Worked.TwoViews.{v, w, two_views, all_deeds}
 
 abbrev findmerge : Command
-findmerge = commands.Findmerge w (codes ".") (codes "fix")
+findmerge = commands.Query (queries.Findmerge w (codes ".") (codes "fix"))
 
 abbrev mkarrow : Command
-mkarrow = commands.Mkarrow w (codes "in") (record { branches = codes "fix" ∷ []; number = 1 })
+mkarrow = commands.Change (changes.Mkarrow w (codes "in") (record { branches = codes "fix" ∷ []; number = 1 }))
 
 a_branch_is_merged :
     decisions two_views (
-    commands.Mkbrtype (codes "fix")
-    ∷ commands.Mkbranch v false (codes "fix") (codes "in")
-    ∷ commands.Save v (codes "in") (line (codes "foo"))
-    ∷ commands.Checkin v false (codes "in")
+    commands.Change (changes.Mkbrtype (codes "fix"))
+    ∷ commands.Change (changes.Mkbranch v false (codes "fix") (codes "in"))
+    ∷ commands.Change (changes.Save v (codes "in") (line (codes "foo")))
+    ∷ commands.Change (changes.Checkin v false (codes "in"))
     ∷ findmerge
     ∷ mkarrow
     ∷ findmerge
@@ -64,8 +66,8 @@ the_arrow_reaches = refl
 
 nothing_else_is_merged :
     decisions two_views (
-    commands.Mkarrow w (codes "in") (record { branches = []; number = 9 })
-    ∷ commands.Mkarrow w (codes "in") (record { branches = []; number = 1 })
+    commands.Change (changes.Mkarrow w (codes "in") (record { branches = []; number = 9 }))
+    ∷ commands.Change (changes.Mkarrow w (codes "in") (record { branches = []; number = 1 }))
     ∷ findmerge ∷ [])
     ≡ Err (refusals.NoVersion (codes "in")) ∷ Err (refusals.SameVersion 8) ∷ Err (refusals.NoType (codes "fix")) ∷ []
 nothing_else_is_merged = refl

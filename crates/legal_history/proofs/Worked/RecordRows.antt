@@ -4,6 +4,8 @@ use Rattle.std.specs.Prelude.{codes}
 use Rattle.std.specs.Fmt.{digits}
 use Rattle.cc_names.specs.Labels.{holder}
 use Rattle.cc_names.specs.declared.commands.Command.TheVariants as commands
+use Rattle.cc_names.specs.declared.commands.Query.TheVariants as queries
+use Rattle.cc_names.specs.declared.commands.Change.TheVariants as changes
 use Rattle.cc_names.specs.declared.refusals.Refusal.TheVariants as refusals
 use Rattle.cc_names.specs.declared.refusals.SpecCause.TheVariants as causes
 use Rattle.cc_names.specs.declared.rows.Deed.{Deed}
@@ -24,13 +26,13 @@ use Rattle.legal_history.proofs.Worked.TwoViews.{v, w, hi, makefile, script, uni
 
 a_record_is_labelled_and_covered :
     decisions two_views (
-    commands.Mklbtype (codes "REL")
-    ∷ commands.MklabelConfig v false (codes "out") (codes "REL")
-    ∷ commands.Covers v w (codes "out")
-    ∷ commands.Checkout v false (codes "in")
-    ∷ commands.Save v (codes "in") (line (codes "foo"))
-    ∷ commands.Checkin v false (codes "in")
-    ∷ commands.Covers v w (codes "out") ∷ [])
+    commands.Change (changes.Mklbtype (codes "REL"))
+    ∷ commands.Change (changes.MklabelConfig v false (codes "out") (codes "REL"))
+    ∷ commands.Query (queries.Covers v w (codes "out"))
+    ∷ commands.Change (changes.Checkout v false (codes "in"))
+    ∷ commands.Change (changes.Save v (codes "in") (line (codes "foo")))
+    ∷ commands.Change (changes.Checkin v false (codes "in"))
+    ∷ commands.Query (queries.Covers v w (codes "out")) ∷ [])
     ≡
     Ok (Makes (deeds.Mktype type_kinds.Label (codes "REL")))
     ∷ Ok (Makes (deeds.Labels (codes "REL") (record { element = 6; version = 8 } ∷ [])))
@@ -71,7 +73,7 @@ private_build = base_of (deeds.Mkview v ∷ deeds.Put v (codes "Makefile") makef
     ∷ deeds.Publish v (codes "out" ∷ []) script (record { path = codes "in"; row = 3 } ∷ []) (hi ∷ []) ∷ [])
 
 a_private_file_has_no_version :
-    decisions private_build (commands.Mklbtype (codes "REL") ∷ commands.MklabelConfig v false (codes "out") (codes "REL") ∷ [])
+    decisions private_build (commands.Change (changes.Mklbtype (codes "REL")) ∷ commands.Change (changes.MklabelConfig v false (codes "out") (codes "REL")) ∷ [])
     ≡ Ok (Makes (deeds.Mktype type_kinds.Label (codes "REL"))) ∷ Err (refusals.NotVersion (codes "in")) ∷ []
 a_private_file_has_no_version = refl
 
@@ -86,7 +88,7 @@ abbrev by_record : List ℕ
 by_record = line (codes "element in -config out@@10") ++ line (codes "element * /main/LATEST")
 
 a_view_selects_by_the_record :
-    decisions (base_of recorded) (commands.Mkview x ∷ commands.Setcs x by_record ∷ clearmake x ∷ [])
+    decisions (base_of recorded) (commands.Change (changes.Mkview x) ∷ commands.Change (changes.Setcs x by_record) ∷ clearmake x ∷ [])
     ≡ Ok (Makes (deeds.Mkview x)) ∷ Ok (Makes (deeds.Setcs x by_record)) ∷ Ok (Begins (unit ∷ [])) ∷ []
 a_view_selects_by_the_record = refl
 
@@ -112,9 +114,9 @@ the_record_decides = refl
 the_latest_is_newer : file_at selected_by_record w (codes "in") ≡ Some 17
 the_latest_is_newer = refl
 
-such_a_view_covers_the_record : decisions selected_by_record (commands.Covers x w (codes "out") ∷ []) ≡ Ok (Answers (line (codes "covered"))) ∷ []
+such_a_view_covers_the_record : decisions selected_by_record (commands.Query (queries.Covers x w (codes "out")) ∷ []) ≡ Ok (Answers (line (codes "covered"))) ∷ []
 such_a_view_covers_the_record = refl
 
 a_record_needs_a_row :
-    decisions two_views (commands.Setcs w (line (codes "element in -config out")) ∷ []) ≡ Err (refusals.BadSpec 1 causes.BadSelector) ∷ []
+    decisions two_views (commands.Change (changes.Setcs w (line (codes "element in -config out"))) ∷ []) ≡ Err (refusals.BadSpec 1 causes.BadSelector) ∷ []
 a_record_needs_a_row = refl

@@ -80,10 +80,10 @@ both_orders_fit = refl
 
 -- a build with `-V` looks at the view's own object alone, one with `-u` at none
 abbrev own_clearmake : Command
-own_clearmake = commands.Clearmake w None true false 1 [] []
+own_clearmake = commands.Build (record { view = w; file = None; own_only = true; rebuild = false; jobs = 1; macros = []; goals = [] })
 
 abbrev anew_clearmake : Command
-anew_clearmake = commands.Clearmake w None false true 1 [] []
+anew_clearmake = commands.Build (record { view = w; file = None; own_only = false; rebuild = true; jobs = 1; macros = []; goals = [] })
 
 own_is_of_the_view : new_build (tag 1 1 1) 12 (unit ∷ []) own_clearmake ≡ Some (build_with true false w 12)
 own_is_of_the_view = refl

@@ -2,6 +2,8 @@
 use Rattle.std.proofs.Common.{◌≡◌, refl, true, false, Some, None, Ok, [], ◌∷◌, ◌++◌}
 use Rattle.std.specs.Prelude.{codes}
 use Rattle.cc_names.specs.declared.commands.Command.TheVariants as commands
+use Rattle.cc_names.specs.declared.commands.Query.TheVariants as queries
+use Rattle.cc_names.specs.declared.commands.Change.TheVariants as changes
 use Rattle.cc_names.specs.declared.rows.Deed.TheVariants as deeds
 use Rattle.legal_history.specs.Base.Rows.{Base, first_rows}
 use Rattle.legal_history.specs.Base.Changes.{held, live}
@@ -17,7 +19,7 @@ use Rattle.legal_history.proofs.Worked.TwoViews.{v, w, hi, unit, built, clearmak
 
 -- the first scrub finds nothing, since one view still holds the object, and the second one takes it
 scrubs_are_decided :
-    decisions two_views (commands.Rmdo w (codes "out") ∷ commands.Scrub 0 ∷ commands.Rmdo v (codes "out") ∷ commands.Scrub 0 ∷ clearmake w ∷ [])
+    decisions two_views (commands.Change (changes.Rmdo w (codes "out")) ∷ commands.Change (changes.Scrub 0) ∷ commands.Change (changes.Rmdo v (codes "out")) ∷ commands.Change (changes.Scrub 0) ∷ clearmake w ∷ [])
     ≡ Ok (Makes (deeds.Drop w (codes "out"))) ∷ Ok (Answers []) ∷ Ok (Makes (deeds.Drop v (codes "out"))) ∷ Ok (Makes (deeds.Scrub (10 ∷ [])))
     ∷ Ok (Begins (unit ∷ [])) ∷ []
 scrubs_are_decided = refl
@@ -54,7 +56,7 @@ its_build_from_nothing = refl
 the_new_object_has_its_text : text scrubbed 16 (codes "out") ≡ Some hi
 the_new_object_has_its_text = refl
 
-the_other_view_holds_nothing : decisions scrubbed (commands.Lsdo v ∷ []) ≡ Ok (Answers []) ∷ []
+the_other_view_holds_nothing : decisions scrubbed (commands.Query (queries.Lsdo v) ∷ []) ≡ Ok (Answers []) ∷ []
 the_other_view_holds_nothing = refl
 
 one_view_holds_it : held scrubbed ≡ ((w, codes "out"), 16) ∷ []

@@ -5,6 +5,7 @@ use Rattle.std.specs.Prelude.{codes}
 use native.Mathlib.Bridge.{le_by_compare, IsLe}
 use Rattle.cc_names.specs.Formed.{Plain}
 use Rattle.cc_names.specs.declared.commands.Command.TheVariants as commands
+use Rattle.cc_names.specs.declared.commands.Change.TheVariants as changes
 use Rattle.cc_names.specs.declared.commands.Phase.{Phase}
 use Rattle.cc_names.specs.declared.rows.Deed.{Deed}
 use Rattle.cc_names.specs.declared.rows.Deed.TheVariants as deeds
@@ -34,7 +35,7 @@ row_of lane deed = record { tag = tag 2 lane 1; moment = 1700000060; deed = deed
 abbrev side_by_side : List StoryStep
 side_by_side =
     opened
-    ∷ story_steps.PhaseBegun (one_lane (first_commands ++ (commands.Mkview w ∷ []))) 1700000000
+    ∷ story_steps.PhaseBegun (one_lane (first_commands ++ (commands.Change (changes.Mkview w) ∷ []))) 1700000000
     ∷ story_steps.Commit (row 1 (deeds.Mkview v)) 7
     ∷ story_steps.Commit (row 2 (deeds.Checkout v 0 0 true)) 11
     ∷ story_steps.Commit (row 3 (deeds.Mkelem v 0 (codes "Makefile") File true)) 15

@@ -3,6 +3,7 @@ use Rattle.std.proofs.Common.{◌≡◌, refl, inl, true, Some, List, [], ◌∷
 use Rattle.std.specs.Prelude.{codes}
 use native.Mathlib.Bridge.{le_by_compare, IsLe}
 use Rattle.cc_names.specs.declared.commands.Command.TheVariants as commands
+use Rattle.cc_names.specs.declared.commands.Change.TheVariants as changes
 use Rattle.cc_names.specs.declared.rows.Deed.TheVariants as deeds
 use Rattle.cc_names.specs.declared.rows.Kind.TheVariants.{File}
 use Rattle.cc_names.specs.declared.steps.Step.TheVariants as steps
@@ -21,7 +22,7 @@ use Rattle.legal_history.proofs.Worked.TwoViews.{v, w, hi, makefile, first_comma
 abbrev both_build : List StoryStep
 both_build =
     opened
-    ∷ story_steps.PhaseBegun (one_lane (first_commands ++ (clearmake v ∷ commands.Mkview w ∷ clearmake w ∷ clearmake v ∷ []))) 1700000000
+    ∷ story_steps.PhaseBegun (one_lane (first_commands ++ (clearmake v ∷ commands.Change (changes.Mkview w) ∷ clearmake w ∷ clearmake v ∷ []))) 1700000000
     ∷ story_steps.Commit (row 1 (deeds.Mkview v)) 7
     ∷ story_steps.Commit (row 2 (deeds.Checkout v 0 0 true)) 11
     ∷ story_steps.Commit (row 3 (deeds.Mkelem v 0 (codes "Makefile") File true)) 15

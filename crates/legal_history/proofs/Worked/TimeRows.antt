@@ -5,6 +5,8 @@ use Rattle.std.specs.Prelude.{codes}
 use Rattle.cc_names.specs.Formed.{Plain}
 use Rattle.cc_names.specs.declared.commands.Command.{Command}
 use Rattle.cc_names.specs.declared.commands.Command.TheVariants as commands
+use Rattle.cc_names.specs.declared.commands.Query.TheVariants as queries
+use Rattle.cc_names.specs.declared.commands.Change.TheVariants as changes
 use Rattle.cc_names.specs.declared.refusals.Refusal.{Refusal}
 use Rattle.cc_names.specs.declared.rows.Deed.{Deed}
 use Rattle.cc_names.specs.declared.rows.Deed.TheVariants as deeds
@@ -45,12 +47,12 @@ all_fit = refl
 
 the_first_phase_is_decided :
     decisions [] (
-    commands.Mkview v
-    ∷ commands.Checkout v false (codes ".")
-    ∷ commands.Mkelem v false (codes "in")
-    ∷ commands.Save v (codes "in") (line (codes "foo"))
-    ∷ commands.Checkin v false (codes "in")
-    ∷ commands.Checkin v false (codes ".") ∷ [])
+    commands.Change (changes.Mkview v)
+    ∷ commands.Change (changes.Checkout v false (codes "."))
+    ∷ commands.Change (changes.Mkelem v false (codes "in"))
+    ∷ commands.Change (changes.Save v (codes "in") (line (codes "foo")))
+    ∷ commands.Change (changes.Checkin v false (codes "in"))
+    ∷ commands.Change (changes.Checkin v false (codes ".")) ∷ [])
     ≡ map (λ deed. Ok (Makes deed)) first_phase
 the_first_phase_is_decided = refl
 
@@ -69,13 +71,13 @@ later_decisions n b (command ∷ commands) =
 -- the moment of the second version is the time of the rule, and so not before it
 the_second_phase_is_decided :
     later_decisions 1 (base_of first_phase) (
-    commands.Checkout v false (codes "in")
-    ∷ commands.Save v (codes "in") (line (codes "bar"))
-    ∷ commands.Checkin v false (codes "in")
-    ∷ commands.Mkview w
-    ∷ commands.Setcs w by_time
-    ∷ commands.Cat w (codes "in") None
-    ∷ commands.Cat v (codes "in") None ∷ [])
+    commands.Change (changes.Checkout v false (codes "in"))
+    ∷ commands.Change (changes.Save v (codes "in") (line (codes "bar")))
+    ∷ commands.Change (changes.Checkin v false (codes "in"))
+    ∷ commands.Change (changes.Mkview w)
+    ∷ commands.Change (changes.Setcs w by_time)
+    ∷ commands.Query (queries.Cat w (codes "in") None)
+    ∷ commands.Query (queries.Cat v (codes "in") None) ∷ [])
     ≡
     Ok (Makes (deeds.Checkout v 3 5 true))
     ∷ Ok (Makes (deeds.Save v 3 (line (codes "bar"))))

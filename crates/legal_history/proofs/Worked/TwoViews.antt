@@ -5,6 +5,7 @@ use Rattle.std.specs.Prelude.{codes}
 use Rattle.std.specs.Fmt.{digits}
 use Rattle.cc_names.specs.declared.commands.Command.{Command}
 use Rattle.cc_names.specs.declared.commands.Command.TheVariants as commands
+use Rattle.cc_names.specs.declared.commands.Change.TheVariants as changes
 use Rattle.cc_names.specs.declared.rows.Deed.{Deed}
 use Rattle.cc_names.specs.declared.rows.Deed.TheVariants as deeds
 use Rattle.cc_names.specs.declared.rows.Kind.TheVariants.{File}
@@ -40,15 +41,15 @@ hi = line (codes "hi")
 -- the commands that make the elements
 abbrev pub first_commands : List Command
 first_commands =
-    commands.Mkview v
-    ∷ commands.Checkout v false (codes ".")
-    ∷ commands.Mkelem v false (codes "Makefile")
-    ∷ commands.Save v (codes "Makefile") makefile
-    ∷ commands.Checkin v false (codes "Makefile")
-    ∷ commands.Mkelem v false (codes "in")
-    ∷ commands.Save v (codes "in") hi
-    ∷ commands.Checkin v false (codes "in")
-    ∷ commands.Checkin v false (codes ".")
+    commands.Change (changes.Mkview v)
+    ∷ commands.Change (changes.Checkout v false (codes "."))
+    ∷ commands.Change (changes.Mkelem v false (codes "Makefile"))
+    ∷ commands.Change (changes.Save v (codes "Makefile") makefile)
+    ∷ commands.Change (changes.Checkin v false (codes "Makefile"))
+    ∷ commands.Change (changes.Mkelem v false (codes "in"))
+    ∷ commands.Change (changes.Save v (codes "in") hi)
+    ∷ commands.Change (changes.Checkin v false (codes "in"))
+    ∷ commands.Change (changes.Checkin v false (codes "."))
     ∷ []
 
 -- the rows that they make
@@ -72,7 +73,7 @@ abbrev pub unit : Unit
 unit = record { targets = codes "out" ∷ []; prerequisites = codes "in" ∷ []; script = scripts.Lines script }
 
 abbrev pub clearmake : List ℕ → Command
-clearmake view = commands.Clearmake view None false false 1 [] []
+clearmake view = commands.Build (record { view = view; file = None; own_only = false; rebuild = false; jobs = 1; macros = []; goals = [] })
 
 first_build_begins : decisions (base_of first_deeds) (clearmake v ∷ []) ≡ Ok (Begins (unit ∷ [])) ∷ []
 first_build_begins = refl
@@ -99,7 +100,7 @@ all_fit : is_base two_views ≡ true
 all_fit = refl
 
 second_build_begins :
-    decisions (base_of (first_deeds ++ (publish ∷ []))) (commands.Mkview w ∷ clearmake w ∷ [])
+    decisions (base_of (first_deeds ++ (publish ∷ []))) (commands.Change (changes.Mkview w) ∷ clearmake w ∷ [])
     ≡ Ok (Makes (deeds.Mkview w)) ∷ Ok (Begins (unit ∷ [])) ∷ []
 second_build_begins = refl
 

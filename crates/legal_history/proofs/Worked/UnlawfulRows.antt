@@ -2,6 +2,8 @@
 use Rattle.std.proofs.Common.{◌≡◌, refl, sym, ⊎_elim, ℕ, ◌≤◌, Bool, true, false, Option, Some, None, Result, Ok, Err, List, [], ◌∷◌, ◌++◌, length, arith}
 use Rattle.std.specs.Prelude.{codes, is_some, is_none, not, nat_eq, reverse, bytes_eq}
 use Rattle.cc_names.specs.declared.commands.Command.TheVariants as commands
+use Rattle.cc_names.specs.declared.commands.Query.TheVariants as queries
+use Rattle.cc_names.specs.declared.commands.Change.TheVariants as changes
 use Rattle.cc_names.specs.declared.refusals.Refusal.{Refusal}
 use Rattle.cc_names.specs.declared.refusals.Refusal.TheVariants as refusals
 use Rattle.cc_names.specs.declared.rows.Deed.TheVariants as deeds
@@ -46,7 +48,7 @@ planned_after_the_last_moment h = let late : 253402300800 ≤ 253402300799 = h.i
 abbrev scrubbing : State
 scrubbing = state_of (
     story_steps.Opened (reverse (base_of (all_deeds ++ (publish ∷ deeds.Drop w (codes "out") ∷ [])))) (record { ticks = 0; faults = 0 }) true
-    ∷ story_steps.PhaseBegun (one_lane (commands.Scrub 0 ∷ commands.Lsdo v ∷ [])) 1700000000 ∷ [])
+    ∷ story_steps.PhaseBegun (one_lane (commands.Change (changes.Scrub 0) ∷ commands.Query (queries.Lsdo v) ∷ [])) 1700000000 ∷ [])
 
 the_scrub_takes_one : decided scrubbing (tag 1 1 1) ≡ Some (Ok (Makes (deeds.Scrub (10 ∷ []))))
 the_scrub_takes_one = refl
@@ -97,7 +99,7 @@ a_fault_without_a_rise h = apart not h.rose refl refl
 
 -- a query is the next command
 abbrev asked : State
-asked = state_of (opened ∷ story_steps.PhaseBegun (one_lane (commands.Mkview v ∷ commands.Lsdo v ∷ [])) 1700000000 ∷ story_steps.Commit (row 1 (deeds.Mkview v)) 7 ∷ [])
+asked = state_of (opened ∷ story_steps.PhaseBegun (one_lane (commands.Change (changes.Mkview v) ∷ commands.Query (queries.Lsdo v) ∷ [])) 1700000000 ∷ story_steps.Commit (row 1 (deeds.Mkview v)) 7 ∷ [])
 
 an_answer_of_another_text : Lawful asked (story_steps.Other (steps.Answer (tag 1 1 2) (codes "out"))) → ⊥
 unfolding answers

@@ -1,10 +1,15 @@
--- The decision on each command, a line a command.
+-- The decision on each command, a line a command: on changes, on queries, and on builds.
 use Rattle.std.specs.Prelude.{Result}
+use Rattle.cc_names.specs.declared.commands.Change.{Change}
+use Rattle.cc_names.specs.declared.commands.Change.TheVariants as changes
 use Rattle.cc_names.specs.declared.commands.Command.{Command}
 use Rattle.cc_names.specs.declared.commands.Command.TheVariants as commands
+use Rattle.cc_names.specs.declared.commands.Query.{Query}
+use Rattle.cc_names.specs.declared.commands.Query.TheVariants as queries
 use Rattle.cc_names.specs.declared.refusals.Refusal.{Refusal}
 use Rattle.cc_names.specs.declared.rows.Kind.TheVariants.{File, Directory}
 use Rattle.cc_names.specs.declared.rows.TypeKind.TheVariants as type_kinds
+use Rattle.legal_history.specs.Base.Rows.{Base}
 use Rattle.legal_history.specs.Commands.CheckoutLines.{checkout, mkbranch, checkin, uncheckout}
 use Rattle.legal_history.specs.Commands.Decisions.{Scene, Decision}
 use Rattle.legal_history.specs.Commands.DirectoryLines.{mkelem, rmname, mv}
@@ -13,38 +18,46 @@ use Rattle.legal_history.specs.Commands.LabelLines.{mktype, mklabel, rmlabel, mk
 use Rattle.legal_history.specs.Commands.ObjectLines.{rmdo, scrub, clearmake}
 use Rattle.legal_history.specs.Queries.QueryLines.{catcs, lsdo, ls, cat, describe, lsvtree, lshistory, catcr, diffcr, covers, findmerge}
 
--- What is decided of a command: its first refusal in the order of its tests, else its row, its answer, or its build.
+-- What is decided of a change: its first refusal in the order of its tests, else its row; or that there is nothing to change.
+abbrev pub change_decision : Scene → Change → Result Decision Refusal
+change_decision s (changes.Mkview v) = mkview s v
+change_decision s (changes.Rmview v force) = rmview s v force
+change_decision s (changes.Setcs v text) = setcs s v text
+change_decision s (changes.Mkelem v nco path) = mkelem s v nco File path
+change_decision s (changes.Mkdir v nco path) = mkelem s v nco Directory path
+change_decision s (changes.Checkout v unreserved path) = checkout s v unreserved path
+change_decision s (changes.Mkbranch v nco branch path) = mkbranch s v nco branch path
+change_decision s (changes.Save v path text) = save s v path text
+change_decision s (changes.Rm v path) = rm s v path
+change_decision s (changes.Checkin v identical path) = checkin s v identical path
+change_decision s (changes.Uncheckout v path) = uncheckout s v path
+change_decision s (changes.Rmname v path) = rmname s v path
+change_decision s (changes.Mv v path name) = mv s v path name
+change_decision s (changes.Mklbtype name) = mktype s type_kinds.Label name
+change_decision s (changes.Mkbrtype name) = mktype s type_kinds.Branch name
+change_decision s (changes.Mklabel v replace label path) = mklabel s v replace label path
+change_decision s (changes.MklabelConfig v replace path label) = mklabel_config s v replace path label
+change_decision s (changes.Rmlabel v label path) = rmlabel s v label path
+change_decision s (changes.Mkarrow v path version) = mkarrow s v path version
+change_decision s (changes.Rmdo v path) = rmdo s v path
+change_decision s (changes.Scrub age) = scrub s age
+
+-- What is decided of a query, by the base alone: its first refusal in the order of its tests, else its text.
+abbrev pub query_decision : Base → Query → Result Decision Refusal
+query_decision b (queries.Catcs v) = catcs b v
+query_decision b (queries.Lsdo v) = lsdo b v
+query_decision b (queries.Ls v path) = ls b v path
+query_decision b (queries.Cat v path version) = cat b v path version
+query_decision b (queries.Describe v path) = describe b v path
+query_decision b (queries.Lsvtree v path) = lsvtree b v path
+query_decision b (queries.Lshistory v path) = lshistory b v path
+query_decision b (queries.Catcr v path) = catcr b v path
+query_decision b (queries.Diffcr v path other second) = diffcr b v path other second
+query_decision b (queries.Covers seer v path) = covers b seer v path
+query_decision b (queries.Findmerge v path branch) = findmerge b v path branch
+
+-- What is decided of a command: of a change, of a query, or of a build, which begins or is refused.
 abbrev pub decision : Scene → Command → Result Decision Refusal
-decision s (commands.Mkview v) = mkview s v
-decision s (commands.Rmview v force) = rmview s v force
-decision s (commands.Setcs v text) = setcs s v text
-decision s (commands.Mkelem v nco path) = mkelem s v nco File path
-decision s (commands.Mkdir v nco path) = mkelem s v nco Directory path
-decision s (commands.Checkout v unreserved path) = checkout s v unreserved path
-decision s (commands.Mkbranch v nco branch path) = mkbranch s v nco branch path
-decision s (commands.Save v path text) = save s v path text
-decision s (commands.Rm v path) = rm s v path
-decision s (commands.Checkin v identical path) = checkin s v identical path
-decision s (commands.Uncheckout v path) = uncheckout s v path
-decision s (commands.Rmname v path) = rmname s v path
-decision s (commands.Mv v path name) = mv s v path name
-decision s (commands.Mklbtype name) = mktype s type_kinds.Label name
-decision s (commands.Mkbrtype name) = mktype s type_kinds.Branch name
-decision s (commands.Mklabel v replace label path) = mklabel s v replace label path
-decision s (commands.Rmlabel v label path) = rmlabel s v label path
-decision s (commands.Rmdo v path) = rmdo s v path
-decision s (commands.Scrub age) = scrub s age
-decision s (commands.Clearmake v file own_only rebuild jobs macros goals) = clearmake s v file macros goals
-decision s (commands.MklabelConfig v replace path label) = mklabel_config s v replace path label
-decision s (commands.Mkarrow v path version) = mkarrow s v path version
-decision s (commands.Catcs v) = catcs s v
-decision s (commands.Lsdo v) = lsdo s v
-decision s (commands.Ls v path) = ls s v path
-decision s (commands.Cat v path version) = cat s v path version
-decision s (commands.Describe v path) = describe s v path
-decision s (commands.Lsvtree v path) = lsvtree s v path
-decision s (commands.Lshistory v path) = lshistory s v path
-decision s (commands.Catcr v path) = catcr s v path
-decision s (commands.Diffcr v path other second) = diffcr s v path other second
-decision s (commands.Covers seer v path) = covers s seer v path
-decision s (commands.Findmerge v path branch) = findmerge s v path branch
+decision s (commands.Change change) = change_decision s change
+decision s (commands.Query query) = query_decision s.base query
+decision s (commands.Build build) = clearmake s build.view build.file build.macros build.goals

@@ -1,8 +1,8 @@
 -- What holds of the builds of legal stories. Each is promised by a function of `laws::builds`.
 use Rattle.std.specs.Prelude.{◌≡◌, ℕ, ◌+◌, List, ◌++◌, Some, None, is_some, true, false}
-use Rattle.cc_names.specs.Commands.{builds}
 use Rattle.cc_names.specs.References.{held_at}
-use Rattle.cc_names.specs.declared.commands.Command.{Command}
+use Rattle.cc_names.specs.declared.commands.Clearmake.{Clearmake}
+use Rattle.cc_names.specs.declared.commands.Command.TheVariants as commands
 use Rattle.cc_names.specs.declared.rows.Tag.{Tag}
 use Rattle.cc_names.specs.declared.steps.StoryStep.{StoryStep}
 use Rattle.cc_names.specs.declared.units.Unit.{Unit}
@@ -41,8 +41,8 @@ BuildIsLeftByItsEnd = (s : State) (x : StoryStep) (lane : ℕ) (build : Build)
 -- A command that builds is finished by its refusal, or by the end of its build, and by nothing else: neither by a row, nor
 -- by an answer, nor by a fault of the disk.
 abbrev pub BuildIsFinishedByItsRefusalOrItsEndRefusal : Type 0
-BuildIsFinishedByItsRefusalOrItsEndRefusal = (s : State) (x : StoryStep) (tag : Tag) (command : Command)
-    → next_command s tag ≡ Some command → builds command ≡ true → Lawful s x
+BuildIsFinishedByItsRefusalOrItsEndRefusal = (s : State) (x : StoryStep) (tag : Tag) (asked : Clearmake)
+    → next_command s tag ≡ Some (commands.Build asked) → Lawful s x
     → done_of (after s x).done tag.lane ≡ done_of s.done tag.lane + 1 → IsRefused s x tag
 
 -- The same law, its part *end*.

@@ -6,6 +6,7 @@ use Rattle.cc_names.specs.References.{held_at}
 use Rattle.cc_names.specs.Versions.{version_id}
 use Rattle.cc_names.specs.declared.commands.Command.{Command}
 use Rattle.cc_names.specs.declared.commands.Command.TheVariants as commands
+use Rattle.cc_names.specs.declared.commands.Change.TheVariants as changes
 use Rattle.cc_names.specs.declared.rows.Deed.{Deed}
 use Rattle.cc_names.specs.declared.rows.Deed.TheVariants as deeds
 use Rattle.cc_names.specs.declared.rows.Placed.{Placed}
@@ -26,7 +27,7 @@ DecidedRowFits = (s : Scene) (command : Command) (deed : Deed) → is_base s.bas
 -- holds, and that were published at least the age ago, in seconds.
 abbrev pub ScrubListsWhatIsDue : Type 0
 ScrubListsWhatIsDue = (s : Scene) (age : ℕ) (objects : List ℕ) (id : ℕ)
-    → decision s (commands.Scrub age) ≡ Ok (Makes (deeds.Scrub objects))
+    → decision s (commands.Change (changes.Scrub age)) ≡ Ok (Makes (deeds.Scrub objects))
     → list_any (λ object. object == id) objects ≡ is_due_object s.base s.moment age id
 
 -- The row that is decided to label the record of the object that a view holds at a path places the label on exactly the
@@ -35,38 +36,38 @@ ScrubListsWhatIsDue = (s : Scene) (age : ℕ) (objects : List ℕ) (id : ℕ)
 -- 0 is a version then.
 abbrev pub RecordIsLabelledAsListedLabel : Type 0
 RecordIsLabelledAsListedLabel = (s : Scene) (v path label name : List ℕ) (replace : Bool) (placed : List Placed)
-    → decision s (commands.MklabelConfig v replace path label) ≡ Ok (Makes (deeds.Labels name placed))
+    → decision s (commands.Change (changes.MklabelConfig v replace path label)) ≡ Ok (Makes (deeds.Labels name placed))
     → name ≡ label
 
 -- The same law, its part *object*.
 abbrev pub RecordIsLabelledAsListedObject : Type 0
 RecordIsLabelledAsListedObject = (s : Scene) (v path label name : List ℕ) (replace : Bool) (placed : List Placed)
-    → decision s (commands.MklabelConfig v replace path label) ≡ Ok (Makes (deeds.Labels name placed))
+    → decision s (commands.Change (changes.MklabelConfig v replace path label)) ≡ Ok (Makes (deeds.Labels name placed))
     → is_some (held_at (held s.base) v path) ≡ true
 
 -- The same law, its part *exactly*.
 abbrev pub RecordIsLabelledAsListedExactly : Type 0
 RecordIsLabelledAsListedExactly = (s : Scene) (v path label name : List ℕ) (replace : Bool) (placed : List Placed) (id : ℕ) (one : Placed)
-    → decision s (commands.MklabelConfig v replace path label) ≡ Ok (Makes (deeds.Labels name placed))
+    → decision s (commands.Change (changes.MklabelConfig v replace path label)) ≡ Ok (Makes (deeds.Labels name placed))
     → held_at (held s.base) v path ≡ Some id
     → Contains placed one ↔ IsListed s.base (closure s.base id) one.element one.version
 
 -- The same law, its part *order*.
 abbrev pub RecordIsLabelledAsListedOrder : Type 0
 RecordIsLabelledAsListedOrder = (s : Scene) (v path label name : List ℕ) (replace : Bool) (placed : List Placed)
-    → decision s (commands.MklabelConfig v replace path label) ≡ Ok (Makes (deeds.Labels name placed))
+    → decision s (commands.Change (changes.MklabelConfig v replace path label)) ≡ Ok (Makes (deeds.Labels name placed))
     → IsStrictlyIncreasing (map (λ one. one.element) placed)
 
 -- The same law, its part *selected*.
 abbrev pub RecordIsLabelledAsListedSelected : Type 0
 RecordIsLabelledAsListedSelected = (s : Scene) (v path label name : List ℕ) (replace : Bool) (placed : List Placed) (id : ℕ) (target : List ℕ) (one : Placed)
-    → decision s (commands.MklabelConfig v replace path label) ≡ Ok (Makes (deeds.Labels name placed))
+    → decision s (commands.Change (changes.MklabelConfig v replace path label)) ≡ Ok (Makes (deeds.Labels name placed))
     → held_at (held s.base) v path ≡ Some id → is_among target (targets_of s.base id) ≡ true
     → Contains placed one ↔ (listed s.base id target one.element ≡ Some one.version)
 
 -- The same law, its part *versions*.
 abbrev pub RecordIsLabelledAsListedVersions : Type 0
 RecordIsLabelledAsListedVersions = (s : Scene) (v path label name : List ℕ) (replace : Bool) (placed : List Placed) (id : ℕ) (input : Input × ℕ)
-    → decision s (commands.MklabelConfig v replace path label) ≡ Ok (Makes (deeds.Labels name placed))
+    → decision s (commands.Change (changes.MklabelConfig v replace path label)) ≡ Ok (Makes (deeds.Labels name placed))
     → held_at (held s.base) v path ≡ Some id → Contains (closure s.base id) input → 0 < input.1
     → is_some (version_id (tree s.base) input.1) ≡ true

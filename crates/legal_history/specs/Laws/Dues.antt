@@ -4,6 +4,7 @@ use Rattle.std.specs.List.{list_any}
 use Rattle.std.specs.List.Sorted.{IsStrictlyIncreasing}
 use Rattle.cc_names.specs.Formed.{Plain}
 use Rattle.cc_names.specs.declared.commands.Command.TheVariants as commands
+use Rattle.cc_names.specs.declared.commands.Change.TheVariants as changes
 use Rattle.cc_names.specs.declared.rows.Tag.{Tag}
 use Rattle.legal_history.specs.Base.Rows.{Base, row_at}
 use Rattle.legal_history.specs.Commands.ObjectLines.{is_due}
@@ -23,7 +24,7 @@ is_due_object b moment age id = due_by b moment age id (row_at b id)
 -- first, so that each is listed once.
 pub record AreDue (s : State) (tag : Tag) (objects : List ℕ) : Type 0 where
   pub age : ℕ
-  pub command : next_command s tag ≡ Some (commands.Scrub age)
+  pub command : next_command s tag ≡ Some (commands.Change (changes.Scrub age))
   pub exactly : (id : ℕ)
       → list_any (λ object. object == id) objects ≡ is_due_object s.base s.moment age id
   pub ascend : IsStrictlyIncreasing objects

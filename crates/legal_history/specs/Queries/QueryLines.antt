@@ -1,9 +1,7 @@
--- The queries: which commands they are, the tests of each in their order, and its text.
+-- The queries: the tests of each in their order, and its text.
 use Rattle.std.specs.Prelude.{ℕ, Bool, true, false, ◌||◌, is_none, Option, Some, None, Result, List, [], ◌∷◌, codes, unwrap_or, option_and_then, bytes_eq}
 use Rattle.cc_names.specs.Paths.{root}
 use Rattle.cc_names.specs.References.{held_at}
-use Rattle.cc_names.specs.declared.commands.Command.{Command}
-use Rattle.cc_names.specs.declared.commands.Command.TheVariants as commands
 use Rattle.cc_names.specs.declared.commands.VersionName.{VersionName}
 use Rattle.cc_names.specs.declared.refusals.Refusal.{Refusal}
 use Rattle.cc_names.specs.declared.refusals.Refusal.TheVariants as refusals
@@ -13,7 +11,7 @@ use Rattle.cc_names.specs.declared.selection.Seen.TheVariants.{Element, Unselect
 use Rattle.legal_history.specs.Base.Rows.{Base}
 use Rattle.legal_history.specs.Base.Changes.{held}
 use Rattle.legal_history.specs.Base.Conditions.{is_branch_type}
-use Rattle.legal_history.specs.Commands.Decisions.{Scene, Decision, past, answers}
+use Rattle.legal_history.specs.Commands.Decisions.{Decision, past, answers}
 use Rattle.legal_history.specs.Queries.ElementTexts.{describe_text, lsvtree_text}
 use Rattle.legal_history.specs.Commands.Found.{for_selected, for_object}
 use Rattle.legal_history.specs.Queries.HistoryTexts.{lshistory_text}
@@ -26,37 +24,22 @@ use Rattle.legal_history.specs.Commands.Tests.{refused_where, refused_unless, ne
 use Rattle.legal_history.specs.Base.Texts.{text}
 use Rattle.legal_history.specs.Base.Views.{spec_text}
 
--- whether a command is a query: it asks for a text, and makes no row
-abbrev pub is_query : Command → Bool
-is_query (commands.Catcs v) = true
-is_query (commands.Lsdo v) = true
-is_query (commands.Ls v path) = true
-is_query (commands.Cat v path version) = true
-is_query (commands.Describe v path) = true
-is_query (commands.Lsvtree v path) = true
-is_query (commands.Lshistory v path) = true
-is_query (commands.Catcr v path) = true
-is_query (commands.Diffcr v path other second) = true
-is_query (commands.Covers seer v path) = true
-is_query (commands.Findmerge v path branch) = true
-is_query command = false
-
 -- `catcs V`: the view's config spec as it was set; a view that exists has one
-abbrev pub catcs : Scene → List ℕ → Result Decision Refusal
-catcs s v = answers (needs_view s.base v ∷ []) (unwrap_or (spec_text s.base v) [])
+abbrev pub catcs : Base → List ℕ → Result Decision Refusal
+catcs b v = answers (needs_view b v ∷ []) (unwrap_or (spec_text b v) [])
 
 -- `lsdo V`: the objects that the view holds
-abbrev pub lsdo : Scene → List ℕ → Result Decision Refusal
-lsdo s v = answers (needs_view s.base v ∷ []) (lsdo_text s.base v)
+abbrev pub lsdo : Base → List ℕ → Result Decision Refusal
+lsdo b v = answers (needs_view b v ∷ []) (lsdo_text b v)
 
 -- the tests of `ls V [P]`
-abbrev pub ls_tests : Scene → List ℕ → List ℕ → List (Option Refusal)
-ls_tests s v path =
-    needs_view s.base v ∷ needs_selected path (at s.base v path) ∷ needs_directory s.base path (at s.base v path) ∷ []
+abbrev pub ls_tests : Base → List ℕ → List ℕ → List (Option Refusal)
+ls_tests b v path =
+    needs_view b v ∷ needs_selected path (at b v path) ∷ needs_directory b path (at b v path) ∷ []
 
 -- `ls V [P]`: the names of a directory, of the root where none is named
-abbrev pub ls : Scene → List ℕ → Option (List ℕ) → Result Decision Refusal
-ls s v path = answers (ls_tests s v (unwrap_or path root)) (ls_text s.base v (unwrap_or path root))
+abbrev pub ls : Base → List ℕ → Option (List ℕ) → Result Decision Refusal
+ls b v path = answers (ls_tests b v (unwrap_or path root)) (ls_text b v (unwrap_or path root))
 
 -- something is selected at the path; or nothing stands there, and the view holds an object
 abbrev pub needs_text : Base → List ℕ → List ℕ → Seen → Option Refusal
@@ -74,8 +57,8 @@ abbrev pub text_at : Base → List ℕ → Option ℕ → List ℕ
 text_at b path row = unwrap_or (option_and_then (λ r. text b r path) row) []
 
 -- the tests of `cat V P`
-abbrev pub cat_tests : Scene → List ℕ → List ℕ → Seen → List (Option Refusal)
-cat_tests s v path seen = needs_view s.base v ∷ needs_text s.base v path seen ∷ needs_no_directory s.base path seen ∷ []
+abbrev pub cat_tests : Base → List ℕ → List ℕ → Seen → List (Option Refusal)
+cat_tests b v path seen = needs_view b v ∷ needs_text b v path seen ∷ needs_no_directory b path seen ∷ []
 
 -- the version of an element that stands at a path, selected or not
 abbrev pub version_seen : Base → Seen → VersionName → Option ℕ
@@ -84,62 +67,62 @@ version_seen b (Unselected e) name = version_named b e name
 version_seen b seen name = None
 
 -- the tests of `cat V P@@VERSION`
-abbrev pub cat_version_tests : Scene → List ℕ → List ℕ → Seen → VersionName → List (Option Refusal)
-cat_version_tests s v path seen name =
-    needs_view s.base v ∷ refused_where (is_none (version_seen s.base seen name)) (refusals.NoPath path)
-    ∷ needs_no_directory s.base path seen ∷ []
+abbrev pub cat_version_tests : Base → List ℕ → List ℕ → Seen → VersionName → List (Option Refusal)
+cat_version_tests b v path seen name =
+    needs_view b v ∷ refused_where (is_none (version_seen b seen name)) (refusals.NoPath path)
+    ∷ needs_no_directory b path seen ∷ []
 
 -- `cat V P` and `cat V P@@VERSION`: the text that the view sees there, or that of a version
-abbrev pub cat : Scene → List ℕ → List ℕ → Option VersionName → Result Decision Refusal
-cat s v path None = answers (cat_tests s v path (at s.base v path)) (text_at s.base path (text_row s.base v path (at s.base v path)))
-cat s v path (Some name) =
-    answers (cat_version_tests s v path (at s.base v path) name) (text_at s.base path (version_seen s.base (at s.base v path) name))
+abbrev pub cat : Base → List ℕ → List ℕ → Option VersionName → Result Decision Refusal
+cat b v path None = answers (cat_tests b v path (at b v path)) (text_at b path (text_row b v path (at b v path)))
+cat b v path (Some name) =
+    answers (cat_version_tests b v path (at b v path) name) (text_at b path (version_seen b (at b v path) name))
 
 -- what is answered of the element that the view selects at a path, and of what it picks of it
-abbrev pub answers_of : Scene → List ℕ → List ℕ → (ℕ → Picked → List ℕ) → Result Decision Refusal
-answers_of s v path text = past (needs_view s.base v ∷ []) (for_selected path (at s.base v path) (λ e picked. answers [] (text e picked)))
+abbrev pub answers_of : Base → List ℕ → List ℕ → (ℕ → Picked → List ℕ) → Result Decision Refusal
+answers_of b v path text = past (needs_view b v ∷ []) (for_selected path (at b v path) (λ e picked. answers [] (text e picked)))
 
 -- `describe V P`: the element, its kind, what is selected of it, and its labels
-abbrev pub describe : Scene → List ℕ → List ℕ → Result Decision Refusal
-describe s v path = answers_of s v path (describe_text s.base v)
+abbrev pub describe : Base → List ℕ → List ℕ → Result Decision Refusal
+describe b v path = answers_of b v path (describe_text b v)
 
 -- `lsvtree V P`: the versions of the element, branch by branch
-abbrev pub lsvtree : Scene → List ℕ → List ℕ → Result Decision Refusal
-lsvtree s v path = answers_of s v path (λ e picked. lsvtree_text s.base path e)
+abbrev pub lsvtree : Base → List ℕ → List ℕ → Result Decision Refusal
+lsvtree b v path = answers_of b v path (λ e picked. lsvtree_text b path e)
 
 -- `lshistory V P`: what made the element, its branches and versions and moved its labels, newest first
-abbrev pub lshistory : Scene → List ℕ → List ℕ → Result Decision Refusal
-lshistory s v path = answers_of s v path (λ e picked. lshistory_text s.base e)
+abbrev pub lshistory : Base → List ℕ → List ℕ → Result Decision Refusal
+lshistory b v path = answers_of b v path (λ e picked. lshistory_text b e)
 
 -- what is answered of the object that the view holds at a path
-abbrev pub answers_of_object : Scene → List ℕ → List ℕ → (ℕ → List ℕ) → Result Decision Refusal
-answers_of_object s v path text = for_object path (held_at (held s.base) v path) (λ id. answers [] (text id))
+abbrev pub answers_of_object : Base → List ℕ → List ℕ → (ℕ → List ℕ) → Result Decision Refusal
+answers_of_object b v path text = for_object path (held_at (held b) v path) (λ id. answers [] (text id))
 
 -- `catcr V P`: the record of the view's object
-abbrev pub catcr : Scene → List ℕ → List ℕ → Result Decision Refusal
-catcr s v path = past (needs_view s.base v ∷ []) (answers_of_object s v path (catcr_text s.base))
+abbrev pub catcr : Base → List ℕ → List ℕ → Result Decision Refusal
+catcr b v path = past (needs_view b v ∷ []) (answers_of_object b v path (catcr_text b))
 
 -- `diffcr V P W Q`: where the records of two objects differ
-abbrev pub diffcr : Scene → List ℕ → List ℕ → List ℕ → List ℕ → Result Decision Refusal
-diffcr s v path w second =
-    past (needs_view s.base v ∷ needs_view s.base w ∷ [])
-    (for_object path (held_at (held s.base) v path) (λ one. answers_of_object s w second (diffcr_text s.base one)))
+abbrev pub diffcr : Base → List ℕ → List ℕ → List ℕ → List ℕ → Result Decision Refusal
+diffcr b v path w second =
+    past (needs_view b v ∷ needs_view b w ∷ [])
+    (for_object path (held_at (held b) v path) (λ one. answers_of_object b w second (diffcr_text b one)))
 
 -- `covers W V P`: whether view W sees each input of the object that V holds at P
-abbrev pub covers : Scene → List ℕ → List ℕ → List ℕ → Result Decision Refusal
-covers s seer v path =
-    past (needs_view s.base seer ∷ needs_view s.base v ∷ [])
-    (answers_of_object s v path (λ id. covers_text (uncovered s.base seer id)))
+abbrev pub covers : Base → List ℕ → List ℕ → List ℕ → Result Decision Refusal
+covers b seer v path =
+    past (needs_view b seer ∷ needs_view b v ∷ [])
+    (answers_of_object b v path (λ id. covers_text (uncovered b seer id)))
 
 -- `main`, or a branch type
 abbrev pub needs_branch : Base → List ℕ → Option Refusal
 needs_branch b name = refused_unless (bytes_eq name (codes "main") || is_branch_type b name) (refusals.NoType name)
 
 -- the tests of `findmerge V P -fversion .../B/LATEST`
-abbrev pub findmerge_tests : Scene → List ℕ → List ℕ → List ℕ → Seen → List (Option Refusal)
-findmerge_tests s v path name seen =
-    needs_view s.base v ∷ needs_selected path seen ∷ needs_element path seen ∷ needs_branch s.base name ∷ []
+abbrev pub findmerge_tests : Base → List ℕ → List ℕ → List ℕ → Seen → List (Option Refusal)
+findmerge_tests b v path name seen =
+    needs_view b v ∷ needs_selected path seen ∷ needs_element path seen ∷ needs_branch b name ∷ []
 
 -- `findmerge V P -fversion .../B/LATEST`: what is on the branch and has not reached the selected versions at the path and below
-abbrev pub findmerge : Scene → List ℕ → List ℕ → List ℕ → Result Decision Refusal
-findmerge s v path name = answers (findmerge_tests s v path name (at s.base v path)) (findmerge_text s.base v path name)
+abbrev pub findmerge : Base → List ℕ → List ℕ → List ℕ → Result Decision Refusal
+findmerge b v path name = answers (findmerge_tests b v path name (at b v path)) (findmerge_text b v path name)

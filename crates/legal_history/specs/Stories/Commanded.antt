@@ -21,5 +21,5 @@ pub record IsOfCommand (s : State) (lane : ℕ) (build : Build) : Type 0 where
   pub macros : List Macro
   pub goals : List (List ℕ)
   pub tag : build.tag ≡ next_tag s lane
-  pub command : command_of s lane ≡ Some (commands.Clearmake build.view file build.own_only build.rebuild jobs macros goals)
+  pub command : command_of s lane ≡ Some (commands.Build (record { view = build.view; file = file; own_only = build.own_only; rebuild = build.rebuild; jobs = jobs; macros = macros; goals = goals }))
   pub finished : fresh (first_rows build.rows s.base) build.view file macros goals ≡ Ok (all_finished (first_rows build.rows s.base) build.view build.units)

@@ -2,6 +2,7 @@
 use Rattle.std.specs.Prelude.{ℕ, ◌+◌, true, false, not, ◌==◌, Option, Some, None, Result, Ok, List, [], ◌∷◌, reverse, option_and_then}
 use Rattle.std.specs.Ordering.{nat_cmp}
 use Rattle.std.specs.FinMap.Entries.{put, where_key}
+use Rattle.cc_names.specs.declared.commands.Clearmake.{Clearmake}
 use Rattle.cc_names.specs.declared.commands.Command.{Command}
 use Rattle.cc_names.specs.declared.commands.Command.TheVariants as commands
 use Rattle.cc_names.specs.declared.refusals.Refusal.{Refusal}
@@ -56,10 +57,22 @@ active_after b active lane (deeds.Publish v targets script entries outputs) = no
 active_after b active lane (deeds.Wink v id) = noted active lane (λ build. unit_with_first build (targets_of b id)) (Given id)
 active_after b active lane deed = active
 
--- a build of some units by a clearmake command
+-- the build of some units that a clearmake command asks for
+abbrev pub build_asked : Tag → ℕ → List Unit → Clearmake → Build
+build_asked tag rows units asked = record {
+  tag = tag;
+  view = asked.view;
+  rows = rows;
+  own_only = asked.own_only;
+  rebuild = asked.rebuild;
+  units = units;
+  comes = [];
+  faulted = false;
+}
+
+-- the build of some units that a command asks for, where it builds
 abbrev pub new_build : Tag → ℕ → List Unit → Command → Option Build
-new_build tag rows units (commands.Clearmake v file own_only rebuild jobs macros goals) =
-    Some (record { tag = tag; view = v; rows = rows; own_only = own_only; rebuild = rebuild; units = units; comes = []; faulted = false })
+new_build tag rows units (commands.Build asked) = Some (build_asked tag rows units asked)
 new_build tag rows units command = None
 
 -- the units with which a decision begins a build

@@ -5,13 +5,16 @@ use Rattle.std.specs.List.{AllByRecursion}
 use Rattle.std.specs.Io.KnownBytes.{Consumes, IsAtEnd}
 use Rattle.std.proofs.lemmas.List.{append-nil}
 use Rattle.cc_names.specs.Counts.{raised}
+use Rattle.cc_names.specs.declared.commands.Change.{Change}
+use Rattle.cc_names.specs.declared.commands.Change.TheVariants as changes
+use Rattle.cc_names.specs.declared.commands.Clearmake.{Clearmake}
 use Rattle.cc_names.specs.declared.commands.Command.{Command}
 use Rattle.cc_names.specs.declared.commands.Command.TheVariants as commands
 use Rattle.cc_names.specs.declared.commands.Macro.{Macro}
 use Rattle.cc_names.specs.declared.commands.Lane.{Lane}
 use Rattle.cc_names.specs.declared.commands.Phase.{Phase}
 use Rattle.cc_names.specs.declared.commands.Session.{Session}
-use Rattle.session_text.specs.Formed.{IsCommand, IsMacro, IsLane, IsPhase, IsFormedSession}
+use Rattle.session_text.specs.Formed.{IsChange, IsClearmake, IsCommand, IsFormedSession, IsLane, IsMacro, IsPhase}
 use Rattle.session_text.specs.Sessions.{session_of}
 use Rattle.session_run.specs.Calls.Asked.{is_run, text_limit, phases_spelled, is_session, phases_read, is_read}
 use Rattle.session_run.specs.Running.Runs.{IsReadyPhase, IsRunnable}
@@ -25,12 +28,19 @@ all_wider P Q (x ∷ xs) f h = (f x h.0, all_wider P Q xs f h.1)
 wider_macro : (l m : ℕ) → l ≤ m → (x : Macro) → IsMacro l x → IsMacro m x
 wider_macro l m le x h = (h.0, h.1, omega (arith, le, h.2), omega (arith, le, h.3), h.4)
 
+wider_change : (l m : ℕ) → l ≤ m → (change : Change) → IsChange l change → IsChange m change
+wider_change l m le (changes.Setcs view text) h = (h.0, omega (arith, le, h.1))
+wider_change l m le (changes.Save view path text) h = (h.0, h.1, omega (arith, le, h.2))
+wider_change l m le change h = h
+
+wider_build : (l m : ℕ) → l ≤ m → (asked : Clearmake) → IsClearmake l asked → IsClearmake m asked
+wider_build l m le asked h =
+    (h.0, h.1, h.2, h.3, ((omega (arith, le, h.4.0.0), all_wider _ _ asked.macros (wider_macro l m le) h.4.0.1), h.4.1), (omega (arith, le, h.5.0), h.5.1))
+
 wider_command : (l m : ℕ) → l ≤ m → (command : Command) → IsCommand l command → IsCommand m command
-wider_command l m le (commands.Setcs view text) h = (h.0, omega (arith, le, h.1))
-wider_command l m le (commands.Save view path text) h = (h.0, h.1, omega (arith, le, h.2))
-wider_command l m le (commands.Clearmake view file own_only rebuild jobs macros goals) h =
-    (h.0, h.1, h.2, h.3, ((omega (arith, le, h.4.0.0), all_wider _ _ macros (wider_macro l m le) h.4.0.1), h.4.1), (omega (arith, le, h.5.0), h.5.1))
-wider_command l m le command h = h
+wider_command l m le (commands.Change change) h = wider_change l m le change h
+wider_command l m le (commands.Query query) h = h
+wider_command l m le (commands.Build asked) h = wider_build l m le asked h
 
 wider_lane : (l m : ℕ) → l ≤ m → (lane : Lane) → IsLane l lane → IsLane m lane
 wider_lane l m le lane h = (h.0, (omega (arith, le, h.1.0), all_wider _ _ lane.commands (wider_command l m le) h.1.1))

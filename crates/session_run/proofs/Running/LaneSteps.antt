@@ -1,9 +1,10 @@
 -- What a command of a lane that builds nothing does to the story.
-use Rattle.std.proofs.Common.{◌≡◌, ℕ, Bool, true, false, ◌||◌, Option, Some, None, Result, Ok, Err, List, [], ◌∷◌, refl, ap, ap₂, sym, subst, ◌∙◌}
+use Rattle.std.proofs.Common.{◌≡◌, ℕ, Bool, true, false, Option, Some, None, Result, Ok, Err, List, [], ◌∷◌, refl, ap, sym, subst, ◌∙◌}
 use Rattle.std.specs.Prelude.{option_map, option_and_then}
-use Rattle.cc_names.specs.Commands.{builds}
+use Rattle.cc_names.specs.declared.commands.Change.{Change}
 use Rattle.cc_names.specs.declared.commands.Command.{Command}
 use Rattle.cc_names.specs.declared.commands.Command.TheVariants as commands
+use Rattle.cc_names.specs.declared.commands.Query.{Query}
 use Rattle.cc_names.specs.declared.desks.Done.{Done}
 use Rattle.cc_names.specs.declared.desks.Done.TheVariants.{Committed, Refused, Answered, Faulted}
 use Rattle.cc_names.specs.declared.desks.Next.TheVariants as nexts
@@ -13,16 +14,15 @@ use Rattle.cc_names.specs.declared.rows.Deed.{Deed}
 use Rattle.cc_names.specs.declared.steps.Step.TheVariants as steps
 use Rattle.cc_names.specs.declared.steps.StoryStep.{StoryStep}
 use Rattle.cc_names.specs.declared.steps.StoryStep.TheVariants as story_steps
-use Rattle.base_core.proofs.Acting.PlainRows.{command_finishes}
+use Rattle.base_core.proofs.Acting.PlainRows.{change_finishes}
 use Rattle.base_core.proofs.Keeping.Idle.{decided_is_free}
 use Rattle.base_core.specs.Calls.Acting.{Acts, IsStepOf}
-use Rattle.legal_history.specs.Queries.QueryLines.{is_query}
 use Rattle.legal_history.specs.Stories.Commanded.{command_of}
 use Rattle.clearmake.specs.Going.{SamePhase, Finishes}
 use Rattle.clearmake.specs.Nexts.{next_of, next_by}
-use Rattle.legal_history.specs.Base.Rows.{only_where}
+use Rattle.legal_history.specs.Base.Rows.{Base, only_where}
 use Rattle.legal_history.specs.Commands.Decisions.{Scene, Decision, Makes, Answers, Begins}
-use Rattle.legal_history.specs.Commands.Lines.{decision}
+use Rattle.legal_history.specs.Commands.Lines.{change_decision, decision, query_decision}
 use Rattle.legal_history.proofs.Decisions.Handed.{IfDecided}
 use Rattle.legal_history.proofs.Decisions.Queried.{query_is}
 use Rattle.legal_history.specs.Stories.States.{State, start, scene, done_of, with_done, is_next, next_tag, decided, build_if, build_by}
@@ -41,32 +41,25 @@ unfolding EndsCommand
 ends_if (Ok decision) so = so decision refl
 ends_if (Err refusal) so = tt
 
--- a query makes no row
-query_ends : (sc : Scene) (command : Command) → is_query command ≡ true → EndsCommand (Some (decision sc command))
+-- the row of a change finishes it
+change_ends : (sc : Scene) (change : Change) → EndsCommand (Some (change_decision sc change))
 unfolding EndsCommand
-query_ends sc command h =
-    ends_if (decision sc command) (query_is (λ decision. EndsCommand (Some (Ok decision))) sc command h (λ text. tt))
-
--- a command that is acted on builds nothing
-acts_alone : (command : Command) (tag : Tag) → next_by (Some command) tag ≡ nexts.Act → builds command ≡ false
-acts_alone (commands.Clearmake v file own_only rebuild jobs macros goals) tag acts = absurd (cc)
-acts_alone command tag acts = refl
-
-decision_ends : (sc : Scene) (command : Command) (tag : Tag) → is_query command ≡ false → next_by (Some command) tag ≡ nexts.Act → EndsCommand (Some (decision sc command))
-unfolding EndsCommand
-decision_ends sc command tag quiet acts = ends_if (decision sc command) by
+change_ends sc change = ends_if (change_decision sc change) by
   where
-    by : (made : Decision) → decision sc command ≡ Ok made → EndsCommand (Some (Ok made))
-    by (Makes deed) is = (command_finishes sc command deed (ap₂ ◌||◌ (acts_alone command tag acts) quiet) is).done
+    by : (made : Decision) → change_decision sc change ≡ Ok made → EndsCommand (Some (Ok made))
+    by (Makes deed) is = (change_finishes sc change deed is).done
     by (Answers text) is = tt
     by (Begins units) is = tt
 
+-- a query makes no row
+query_ends : (b : Base) (query : Query) → EndsCommand (Some (query_decision b query))
+unfolding EndsCommand
+query_ends b query = ends_if (query_decision b query) (query_is (λ decision. EndsCommand (Some (Ok decision))) b query (λ text. tt))
+
 command_ends : (sc : Scene) (command : Command) (tag : Tag) → next_by (Some command) tag ≡ nexts.Act → EndsCommand (Some (decision sc command))
-command_ends sc command tag acts = by (is_query command) refl
-  where
-    by : (query : Bool) → is_query command ≡ query → EndsCommand (Some (decision sc command))
-    by true is = query_ends sc command is
-    by false is = decision_ends sc command tag is acts
+command_ends sc (commands.Change change) tag acts = change_ends sc change
+command_ends sc (commands.Query query) tag acts = query_ends sc.base query
+command_ends sc (commands.Build asked) tag acts = absurd (cc)
 
 found_ends : (sc : Scene) (is : Bool) (found : Option Command) (tag : Tag) → next_by found tag ≡ nexts.Act → EndsCommand (option_map (decision sc) (only_where is found))
 unfolding EndsCommand

@@ -20,7 +20,7 @@ none_by None tag e = refl
 none_by (Some command) tag e = by_command command e
   where
     by_command : (command : Command) → next_by (Some command) tag ≡ nexts.Done → Some command ≡ None
-    by_command (commands.Clearmake view file own_only rebuild jobs macros goals) e = absurd (cc)
+    by_command (commands.Build asked) e = absurd (cc)
     by_command command e = absurd (cc)
 
 phase_is_done : (story : List StoryStep) (lanes number : ℕ) → lanes ≡ length (state_of story).phase.lanes → ((k : ℕ) → IsWithin (state_of story) k) → AreLanesDone story 1 lanes number → all_done (state_of story) ≡ true

@@ -7,5 +7,5 @@ use Rattle.cleartool.proofs.Refused.{refused}
 use Rattle.cleartool.proofs.histories.lshistory.Goals as goal
 
 pub returns-in_err-element : goal.returns-in_err-element
-returns-in_err-element c = λ scene base.
-    grind (arith, common_steps, refused c.in_err-element.field-0.0 (answers_of scene c.args.view.now c.args.path.now) (λ e picked. lshistory_text scene.base e) (c.in_err-element.ensures scene base))
+returns-in_err-element c =
+    grind (arith, common_steps, refused c.in_err-element.field-0.0 (answers_of c.args.rows.now c.args.view.now c.args.path.now) (λ e picked. lshistory_text c.args.rows.now e) (c.in_err-element.ensures))

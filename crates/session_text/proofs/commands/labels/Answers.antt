@@ -1,6 +1,6 @@
 use Rattle.std.proofs.Common.{◌≡◌, ℕ, Bool, false, cond, List, [], ◌∷◌, refl, sym, ap, ◌∙◌}
 use Rattle.std.specs.Prelude.{Ok, codes}
-use Rattle.cc_names.specs.declared.commands.Command.TheVariants as commands
+use Rattle.cc_names.specs.declared.commands.Change.TheVariants as changes
 use Rattle.session_text.specs.Commands.{by_record, labels}
 use Rattle.session_text.specs.Shapes.{has_flag, without_flag, type_path}
 use Rattle.session_text.specs.Words.{says}
@@ -10,11 +10,11 @@ without_flag-none : (flag : List ℕ) (words : List (List ℕ)) → has_flag fla
 without_flag-none flag [] h = refl
 without_flag-none flag (word ∷ words) h = ap (λ v. cond v words (word ∷ words)) h
 
-says_label : (replace : Bool) (words left : List (List ℕ)) (v label path : List ℕ) → has_flag (codes "-config") words ≡ false → left ≡ without_flag (codes "-config") words → type_path left ≡ Ok (label, path) → labels replace words v ≡ Ok (commands.Mklabel v replace label path)
+says_label : (replace : Bool) (words left : List (List ℕ)) (v label path : List ℕ) → has_flag (codes "-config") words ≡ false → left ≡ without_flag (codes "-config") words → type_path left ≡ Ok (label, path) → labels replace words v ≡ Ok (changes.Mklabel v replace label path)
 says_label replace words left v label path h l e =
-    ap (λ b. cond b (by_record v replace (without_flag (codes "-config") words)) (says (λ at. commands.Mklabel v replace at.0 at.1) (type_path words))) h
-    ∙ ap (λ w. says (λ at. commands.Mklabel v replace at.0 at.1) (type_path w)) (sym (l ∙ without_flag-none (codes "-config") words h))
-    ∙ ap (λ s. says (λ at. commands.Mklabel v replace at.0 at.1) s) e
+    ap (λ b. cond b (by_record v replace (without_flag (codes "-config") words)) (says (λ at. changes.Mklabel v replace at.0 at.1) (type_path words))) h
+    ∙ ap (λ w. says (λ at. changes.Mklabel v replace at.0 at.1) (type_path w)) (sym (l ∙ without_flag-none (codes "-config") words h))
+    ∙ ap (λ s. says (λ at. changes.Mklabel v replace at.0 at.1) s) e
 
 pub returns : goal.returns
 returns c =
