@@ -242,6 +242,19 @@ pub struct Phase {
     pub lanes: List<Lane>,
 }
 
+/// A lane as its transcript names it: its name, and the word of each of its commands.
+#[derive(Drop)]
+pub struct LaneWords {
+    pub name: Name,
+    pub words: List<Text>,
+}
+
+/// A phase as its transcript names it: its lanes, in the order of their numbers.
+#[derive(Drop)]
+pub struct PhaseWords {
+    pub lanes: List<LaneWords>,
+}
+
 /// A session: its phases, one after the other.
 #[derive(Drop)]
 pub struct Session {

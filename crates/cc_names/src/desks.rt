@@ -1,5 +1,7 @@
 //! What a lane is told of its next command, on what occasion it is decided, and what became of it.
 
+ghost use Rattle.std.specs.Prelude.{◌≤◌};
+
 use crate::rows::Tag;
 
 /// On what occasion a command is decided.
@@ -7,12 +9,13 @@ use crate::rows::Tag;
 pub struct Occasion {
     /// The tag of the command.
     pub tag: Tag,
-    /// The moment of its phase, in seconds since 1970.
+    /// The moment of its phase, in seconds since 1970, at most the last of the year 9999.
     pub moment: u64,
     /// The command that builds in the same view, if one does.
     pub busy: Option<Tag>,
     /// How many rows there are, row 0 included, and are reserved for the units of active builds.
     pub taken: u64,
+    ghost in_time: { moment ≤ 253402300799 },
 }
 
 /// What a lane has to do next.

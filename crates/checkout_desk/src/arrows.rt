@@ -1,8 +1,7 @@
 //! Arrows between the versions of an element: that one was merged into the other.
 
-ghost use Rattle.std.specs.Prelude.{◌≡◌, ◌==◌, ℕ, ◌<◌, ◌≤◌, OnOk, IfOk, option_map, true};
+ghost use Rattle.std.specs.Prelude.{◌≡◌, ◌==◌, ℕ, ◌<◌, OnOk, IfOk, option_map, true};
 ghost use Rattle.cc_names.specs.declared.refusals.Refusal.TheVariants as refusals;
-ghost use Rattle.legal_history.specs.Stories.Lawful.{last_moment};
 ghost use Rattle.legal_history.specs.Base.Conditions.{arrow_row};
 ghost use Rattle.legal_history.specs.Base.Fits.{row_limit};
 ghost use Rattle.legal_history.specs.Commands.Decisions.{Scene};
@@ -71,7 +70,6 @@ fn mkarrow_from(
     tail: u64,
     occasion: Occasion,
 ) -> Result<Row, Or<Refusal>>
-    requires in_time { occasion.moment ≤ last_moment }
     ensures decided { (scene : Scene) (now : ℕ)
         → Sees scene rows.now now view.now occasion.busy occasion.taken
         → Decides occasion.tag occasion.moment result
@@ -101,7 +99,6 @@ fn mkarrow_of(
     selected: Selected,
     occasion: Occasion,
 ) -> Result<Row, Or<Refusal>>
-    requires in_time { occasion.moment ≤ last_moment }
     ensures decided { (scene : Scene) (now : ℕ)
         → Sees scene rows.now now view.now occasion.busy occasion.taken
         → Decides occasion.tag occasion.moment result
@@ -121,7 +118,6 @@ pub fn mkarrow(
     name: &VersionName,
     occasion: Occasion,
 ) -> Result<Row, Or<Refusal>>
-    requires in_time { occasion.moment ≤ last_moment }
     ensures decided { (scene : Scene) (now : ℕ)
         → Sees scene rows.now now view.now occasion.busy occasion.taken
         → Decides occasion.tag occasion.moment result

@@ -1,7 +1,6 @@
 //! Making branches.
 
-ghost use Rattle.std.specs.Prelude.{◌≡◌, ℕ, ◌<◌, ◌≤◌, OnOk, true, IfOk};
-ghost use Rattle.legal_history.specs.Stories.Lawful.{last_moment};
+ghost use Rattle.std.specs.Prelude.{◌≡◌, ℕ, ◌<◌, OnOk, true, IfOk};
 ghost use Rattle.cc_names.specs.Formed.{IsTypeName};
 ghost use Rattle.legal_history.specs.Base.Fits.{row_limit};
 ghost use Rattle.legal_history.specs.Commands.CheckoutLines.{mkbranch, mkbranch_of, out_unless};
@@ -39,7 +38,6 @@ fn mkbranch_of(
     occasion: Occasion,
 ) -> Result<Row, Or<Refusal>>
     requires name { IsTypeName branch.now }
-    requires in_time { occasion.moment ≤ last_moment }
     ensures decided { (scene : Scene) (now : ℕ)
         → Sees scene rows.now now view.now occasion.busy occasion.taken
         → Decides occasion.tag occasion.moment result
@@ -71,7 +69,6 @@ pub fn mkbranch(
     occasion: Occasion,
 ) -> Result<Row, Or<Refusal>>
     requires name { IsTypeName branch.now }
-    requires in_time { occasion.moment ≤ last_moment }
     ensures decided { (scene : Scene) (now : ℕ)
         → Sees scene rows.now now view.now occasion.busy occasion.taken
         → Decides occasion.tag occasion.moment result

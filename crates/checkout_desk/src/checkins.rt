@@ -1,7 +1,6 @@
 //! Ending checkouts, with a version or without.
 
-ghost use Rattle.std.specs.Prelude.{◌≡◌, ℕ, ◌<◌, ◌≤◌, OnOk, option_map, true, IfOk};
-ghost use Rattle.legal_history.specs.Stories.Lawful.{last_moment};
+ghost use Rattle.std.specs.Prelude.{◌≡◌, ℕ, ◌<◌, OnOk, option_map, true, IfOk};
 ghost use Rattle.legal_history.specs.Base.Fits.{row_limit};
 ghost use Rattle.legal_history.specs.Commands.CheckoutLines.{changes_unless, checkin, checkin_of, uncheckout, uncheckout_of};
 ghost use Rattle.legal_history.specs.Commands.CheckoutTests.{needs_change};
@@ -50,7 +49,6 @@ fn checkin_of(
     element: u64,
     occasion: Occasion,
 ) -> Result<Row, Or<Refusal>>
-    requires in_time { occasion.moment ≤ last_moment }
     ensures decided { (scene : Scene) (now : ℕ)
         → Sees scene rows.now now view.now occasion.busy occasion.taken
         → Decides occasion.tag occasion.moment result
@@ -81,7 +79,6 @@ pub fn checkin(
     path: &Path,
     occasion: Occasion,
 ) -> Result<Row, Or<Refusal>>
-    requires in_time { occasion.moment ≤ last_moment }
     ensures decided { (scene : Scene) (now : ℕ)
         → Sees scene rows.now now view.now occasion.busy occasion.taken
         → Decides occasion.tag occasion.moment result
@@ -101,7 +98,6 @@ fn uncheckout_of(
     element: u64,
     occasion: Occasion,
 ) -> Result<Row, Or<Refusal>>
-    requires in_time { occasion.moment ≤ last_moment }
     ensures decided { (scene : Scene) (now : ℕ)
         → Sees scene rows.now now view.now occasion.busy occasion.taken
         → Decides occasion.tag occasion.moment result
@@ -126,7 +122,6 @@ pub fn uncheckout(
     path: &Path,
     occasion: Occasion,
 ) -> Result<Row, Or<Refusal>>
-    requires in_time { occasion.moment ≤ last_moment }
     ensures decided { (scene : Scene) (now : ℕ)
         → Sees scene rows.now now view.now occasion.busy occasion.taken
         → Decides occasion.tag occasion.moment result (uncheckout scene view.now path.now) }

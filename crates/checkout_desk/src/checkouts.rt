@@ -1,8 +1,7 @@
 //! Checking elements out.
 
-ghost use Rattle.std.specs.Prelude.{◌≡◌, ℕ, ◌<◌, ◌≤◌, ◌∷◌, [], OnOk, IfOk, IfSome, true};
+ghost use Rattle.std.specs.Prelude.{◌≡◌, ℕ, ◌<◌, ◌∷◌, [], OnOk, IfOk, IfSome, true};
 ghost use Rattle.std.specs.Option.{option_copied};
-ghost use Rattle.legal_history.specs.Stories.Lawful.{last_moment};
 ghost use Rattle.cc_names.specs.Formed.{IsDeedFormed, IsTypeName};
 ghost use Rattle.legal_history.specs.Base.Fits.{row_limit};
 ghost use Rattle.legal_history.specs.Commands.CheckoutLines.{branch_by, checkout, checkout_by, checkout_deed, checkout_of, deciding_rule, out_by};
@@ -133,7 +132,6 @@ fn checkout_of(
     selected: Selected,
     occasion: Occasion,
 ) -> Result<Row, Or<Refusal>>
-    requires in_time { occasion.moment ≤ last_moment }
     ensures decided { (scene : Scene) (now : ℕ)
         → Sees scene rows.now now view.now occasion.busy occasion.taken
         → Decides occasion.tag occasion.moment result
@@ -160,7 +158,6 @@ pub fn checkout(
     path: &Path,
     occasion: Occasion,
 ) -> Result<Row, Or<Refusal>>
-    requires in_time { occasion.moment ≤ last_moment }
     ensures decided { (scene : Scene) (now : ℕ)
         → Sees scene rows.now now view.now occasion.busy occasion.taken
         → Decides occasion.tag occasion.moment result

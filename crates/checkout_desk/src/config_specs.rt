@@ -1,7 +1,6 @@
 //! Setting the config spec of a view.
 
 ghost use Rattle.std.specs.Prelude.{◌≡◌, ℕ, ◌<◌, ◌≤◌, length, OnOk, true, IfOk};
-ghost use Rattle.legal_history.specs.Stories.Lawful.{last_moment};
 ghost use Rattle.spec_text.specs.Specs.{rules_of};
 ghost use Rattle.legal_history.specs.Base.Fits.{row_limit};
 ghost use Rattle.legal_history.specs.Commands.Decisions.{Scene};
@@ -42,7 +41,6 @@ pub fn setcs(
     occasion: Occasion,
 ) -> Result<Row, Or<Refusal>>
     requires short { length text.now ≤ 16777216 }
-    requires in_time { occasion.moment ≤ last_moment }
     ensures decided { (scene : Scene) (now : ℕ)
         → Sees scene rows.now now view.now occasion.busy occasion.taken
         → Decides occasion.tag occasion.moment result (setcs scene view.now text.now) }

@@ -1,8 +1,7 @@
 //! The decision on a change.
 
-ghost use Rattle.std.specs.Prelude.{◌≡◌, ◌<◌, ◌≤◌};
+ghost use Rattle.std.specs.Prelude.{◌≡◌, ◌<◌};
 ghost use Rattle.cc_names.specs.Commands.{view_of};
-ghost use Rattle.legal_history.specs.Stories.Lawful.{last_moment};
 ghost use Rattle.session_text.specs.Formed.{IsChange};
 ghost use Rattle.legal_history.specs.Base.Fits.{row_limit};
 ghost use Rattle.legal_history.specs.Commands.Decisions.{Scene};
@@ -48,7 +47,6 @@ pub fn decide(
     occasion: Occasion,
 ) -> Result<Option<Row>, Or<Refusal>>
     requires formed { IsChange 16777216 change.now }
-    requires in_time { occasion.moment ≤ last_moment }
 
     ensures decided { (scene : Scene)
         → Sees scene rows.now occasion.moment (view_of change.now) occasion.busy occasion.taken

@@ -1,7 +1,6 @@
 //! Making elements.
 
-ghost use Rattle.std.specs.Prelude.{◌≡◌, ℕ, ◌<◌, ◌≤◌, OnOk, true, IfOk};
-ghost use Rattle.legal_history.specs.Stories.Lawful.{last_moment};
+ghost use Rattle.std.specs.Prelude.{◌≡◌, ℕ, ◌<◌, OnOk, true, IfOk};
 ghost use Rattle.cc_names.specs.Formed.{IsBelowRoot};
 ghost use Rattle.legal_history.specs.Base.Fits.{row_limit};
 ghost use Rattle.legal_history.specs.Commands.Decisions.{Scene};
@@ -32,7 +31,6 @@ fn mkelem_in(
     occasion: Occasion,
 ) -> Result<Row, Or<Refusal>>
     requires below { IsBelowRoot path.now }
-    requires in_time { occasion.moment ≤ last_moment }
     ensures decided { (scene : Scene) (now : ℕ)
         → Sees scene rows.now now view.now occasion.busy occasion.taken
         → Decides occasion.tag occasion.moment result
@@ -64,7 +62,6 @@ pub fn mkelem(
     occasion: Occasion,
 ) -> Result<Row, Or<Refusal>>
     requires below { IsBelowRoot path.now }
-    requires in_time { occasion.moment ≤ last_moment }
     ensures decided { (scene : Scene) (now : ℕ)
         → Sees scene rows.now now view.now occasion.busy occasion.taken
         → Decides occasion.tag occasion.moment result (mkelem scene view.now nco kind path.now) }

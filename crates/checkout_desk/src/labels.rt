@@ -1,7 +1,6 @@
 //! Putting labels on versions, and taking them off.
 
-ghost use Rattle.std.specs.Prelude.{◌≡◌, ℕ, Option, List, ◌<◌, ◌≤◌, OnOk, ◌∷◌, [], true, IfOk};
-ghost use Rattle.legal_history.specs.Stories.Lawful.{last_moment};
+ghost use Rattle.std.specs.Prelude.{◌≡◌, ℕ, Option, List, ◌<◌, OnOk, ◌∷◌, [], true, IfOk};
 ghost use Rattle.cc_names.specs.Formed.{IsTypeName};
 ghost use Rattle.cc_names.specs.declared.rows.Tag.{Tag};
 ghost use Rattle.legal_history.specs.Base.Fits.{row_limit};
@@ -62,7 +61,6 @@ fn mklabel_of(
     occasion: Occasion,
 ) -> Result<Row, Or<Refusal>>
     requires name { IsTypeName label.now }
-    requires in_time { occasion.moment ≤ last_moment }
     ensures decided { (scene : Scene) (now : ℕ)
         → Sees scene rows.now now view.now occasion.busy occasion.taken
         → Decides occasion.tag occasion.moment result
@@ -97,7 +95,6 @@ pub fn mklabel(
     occasion: Occasion,
 ) -> Result<Row, Or<Refusal>>
     requires name { IsTypeName label.now }
-    requires in_time { occasion.moment ≤ last_moment }
     ensures decided { (scene : Scene) (now : ℕ)
         → Sees scene rows.now now view.now occasion.busy occasion.taken
         → Decides occasion.tag occasion.moment result
@@ -134,7 +131,6 @@ fn rmlabel_of(
     occasion: Occasion,
 ) -> Result<Row, Or<Refusal>>
     requires name { IsTypeName label.now }
-    requires in_time { occasion.moment ≤ last_moment }
     ensures decided { (scene : Scene) (now : ℕ) (view : List ℕ) (busy : Option Tag)
         → Sees scene rows.now now view busy occasion.taken
         → Decides occasion.tag occasion.moment result
@@ -179,7 +175,6 @@ pub fn rmlabel(
     occasion: Occasion,
 ) -> Result<Row, Or<Refusal>>
     requires name { IsTypeName label.now }
-    requires in_time { occasion.moment ≤ last_moment }
     ensures decided { (scene : Scene) (now : ℕ)
         → Sees scene rows.now now view.now occasion.busy occasion.taken
         → Decides occasion.tag occasion.moment result

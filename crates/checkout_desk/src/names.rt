@@ -1,7 +1,6 @@
 //! The names of elements in their directories.
 
-ghost use Rattle.std.specs.Prelude.{◌≡◌, ℕ, Option, ◌∷◌, [], ◌++◌, ◌<◌, ◌≤◌, OnOk, IfOk, option_and_then, option_map, true};
-ghost use Rattle.legal_history.specs.Stories.Lawful.{last_moment};
+ghost use Rattle.std.specs.Prelude.{◌≡◌, ℕ, Option, ◌∷◌, [], ◌++◌, ◌<◌, OnOk, IfOk, option_and_then, option_map, true};
 ghost use Rattle.cc_names.specs.Formed.{IsBelowRoot};
 ghost use Rattle.cc_names.specs.Names.{IsName};
 ghost use Rattle.legal_history.specs.Base.Catalogs.{named, own_of};
@@ -47,7 +46,6 @@ fn rmname_in(
     occasion: Occasion,
 ) -> Result<Row, Or<Refusal>>
     requires below { IsBelowRoot path.now }
-    requires in_time { occasion.moment ≤ last_moment }
     ensures decided { (scene : Scene) (now : ℕ)
         → Sees scene rows.now now view.now occasion.busy occasion.taken
         → Decides occasion.tag occasion.moment result
@@ -75,7 +73,6 @@ pub fn rmname(
     occasion: Occasion,
 ) -> Result<Row, Or<Refusal>>
     requires below { IsBelowRoot path.now }
-    requires in_time { occasion.moment ≤ last_moment }
     ensures decided { (scene : Scene) (now : ℕ)
         → Sees scene rows.now now view.now occasion.busy occasion.taken
         → Decides occasion.tag occasion.moment result (rmname scene view.now path.now) }
@@ -135,7 +132,6 @@ fn mv_in(
     occasion: Occasion,
 ) -> Result<Row, Or<Refusal>>
     requires below { IsBelowRoot path.now }
-    requires in_time { occasion.moment ≤ last_moment }
     ensures decided { (scene : Scene) (now : ℕ)
         → Sees scene rows.now now view.now occasion.busy occasion.taken
         → Decides occasion.tag occasion.moment result
@@ -163,7 +159,6 @@ pub fn mv(
     occasion: Occasion,
 ) -> Result<Row, Or<Refusal>>
     requires below { IsBelowRoot path.now }
-    requires in_time { occasion.moment ≤ last_moment }
     ensures decided { (scene : Scene) (now : ℕ)
         → Sees scene rows.now now view.now occasion.busy occasion.taken
         → Decides occasion.tag occasion.moment result (mv scene view.now path.now name.now) }

@@ -1,10 +1,9 @@
 //! Putting labels on the versions that the record of an object lists.
 
-ghost use Rattle.std.specs.Prelude.{◌≡◌, ℕ, Option, List, ◌<◌, ◌≤◌, ◌∷◌, [], map, option_map, true, IfOk};
+ghost use Rattle.std.specs.Prelude.{◌≡◌, ℕ, Option, List, ◌<◌, ◌∷◌, [], map, option_map, true, IfOk};
 ghost use Rattle.std.specs.List.Sorted.{IsStrictlySortedBy};
 ghost use Rattle.std.specs.Option.{option_copied};
 ghost use Rattle.std.specs.Ordering.{nat_cmp};
-ghost use Rattle.legal_history.specs.Stories.Lawful.{last_moment};
 ghost use Rattle.cc_names.specs.Formed.{IsListOf, IsPlaced, IsTypeName, element_of};
 ghost use Rattle.cc_names.specs.References.{held_at};
 ghost use Rattle.cc_names.specs.declared.refusals.Refusal.TheVariants.{NotVersion};
@@ -119,7 +118,6 @@ fn mklabel_config_of(
     occasion: Occasion,
 ) -> Result<Option<Row>, Or<Refusal>>
     requires name { IsTypeName label.now }
-    requires in_time { occasion.moment ≤ last_moment }
     ensures decided { (scene : Scene) (now : ℕ) (view : List ℕ) (busy : Option Tag)
         → Sees scene rows.now now view busy occasion.taken
         → DecidesIfAny occasion.tag occasion.moment result
@@ -168,7 +166,6 @@ pub fn mklabel_config(
     occasion: Occasion,
 ) -> Result<Option<Row>, Or<Refusal>>
     requires name { IsTypeName label.now }
-    requires in_time { occasion.moment ≤ last_moment }
     ensures decided { (scene : Scene) (now : ℕ)
         → Sees scene rows.now now view.now occasion.busy occasion.taken
         → DecidesIfAny occasion.tag occasion.moment result

@@ -1,7 +1,6 @@
 //! Saving the text of a file.
 
 ghost use Rattle.std.specs.Prelude.{◌≡◌, ℕ, ◌<◌, ◌≤◌, length, IfOk, OnOk, ◌++◌, ◌∷◌, [], true};
-ghost use Rattle.legal_history.specs.Stories.Lawful.{last_moment};
 ghost use Rattle.cc_names.specs.Formed.{IsBelowRoot, IsDeedFormed};
 ghost use Rattle.legal_history.specs.Base.Fits.{row_limit};
 ghost use Rattle.legal_history.specs.Base.Seen.{at};
@@ -137,7 +136,6 @@ pub fn save(
 ) -> Result<Row, Or<Refusal>>
     requires below { IsBelowRoot path.now }
     requires short { length text.now ≤ 16777216 }
-    requires in_time { occasion.moment ≤ last_moment }
     ensures decided { (scene : Scene) (now : ℕ)
         → Sees scene rows.now now view.now occasion.busy occasion.taken
         → Decides occasion.tag occasion.moment result (save scene view.now path.now text.now) }

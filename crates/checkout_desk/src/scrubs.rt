@@ -1,9 +1,8 @@
 //! Scrubbing the objects that are due: those that no view holds any more, and that were published long enough ago.
 
-ghost use Rattle.std.specs.Prelude.{◌≡◌, ℕ, ◌<◌, ◌≤◌, ◌+◌, ◌&&◌, nat_le, true, Some, IfOk, List};
+ghost use Rattle.std.specs.Prelude.{◌≡◌, ℕ, ◌<◌, ◌+◌, ◌&&◌, nat_le, true, Some, IfOk, List};
 ghost use Rattle.std.specs.List.Sorted.{IsStrictlySortedBy};
 ghost use Rattle.std.specs.Ordering.{nat_cmp};
-ghost use Rattle.legal_history.specs.Stories.Lawful.{last_moment};
 ghost use Rattle.cc_names.specs.Formed.{IsListOf, IsLong};
 ghost use Rattle.legal_history.specs.Base.Closures.{is_publish_deed};
 ghost use Rattle.legal_history.specs.Base.Fits.{row_limit};
@@ -82,7 +81,6 @@ pub fn scrub(
     age: u64,
     occasion: Occasion,
 ) -> Result<Option<Row>, Or<Refusal>>
-    requires in_time { occasion.moment ≤ last_moment }
     ensures decided { (scene : Scene) (view : List ℕ)
         → Sees scene rows.now occasion.moment view occasion.busy occasion.taken
         → DecidesIfAny occasion.tag occasion.moment result (scrub scene age) }

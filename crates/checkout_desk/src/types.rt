@@ -1,7 +1,6 @@
 //! The types of labels and of branches.
 
-ghost use Rattle.std.specs.Prelude.{◌≡◌, ℕ, Option, List, ◌<◌, ◌≤◌, true, IfOk, OnOk};
-ghost use Rattle.legal_history.specs.Stories.Lawful.{last_moment};
+ghost use Rattle.std.specs.Prelude.{◌≡◌, ℕ, Option, List, ◌<◌, true, IfOk, OnOk};
 ghost use Rattle.cc_names.specs.Formed.{IsTypeName};
 ghost use Rattle.cc_names.specs.declared.rows.Tag.{Tag};
 ghost use Rattle.legal_history.specs.Base.Fits.{row_limit};
@@ -39,7 +38,6 @@ pub fn mktype(
     occasion: Occasion,
 ) -> Result<Row, Or<Refusal>>
     requires name { IsTypeName name.now }
-    requires in_time { occasion.moment ≤ last_moment }
     ensures decided { (scene : Scene) (now : ℕ) (view : List ℕ) (busy : Option Tag)
         → Sees scene rows.now now view busy occasion.taken
         → Decides occasion.tag occasion.moment result (mktype scene kind name.now) }
