@@ -1,5 +1,5 @@
 -- What a lane's next command is, and what is decided of it.
-use Rattle.std.proofs.Common.{◌≡◌, ℕ, zero, suc, ◌+◌, ◌<◌, ◌≤◌, ◌==◌, true, ◌&&◌, Option, Some, None, Result, Ok, Err, List, [], length, refl, ap, ap₂, sym, subst, ◌∙◌, arith}
+use Rattle.std.proofs.Common.{◌≡◌, ℕ, zero, suc, ◌+◌, ◌≤◌, ◌==◌, true, ◌&&◌, Option, Some, None, Result, Ok, Err, List, [], length, refl, ap, ap₂, sym, subst, ◌∙◌, arith}
 use Rattle.std.specs.Prelude.{option_and_then, option_map, is_none, slice_get}
 use Rattle.std.proofs.lemmas.Bool.Decides.{nat_tests}
 use Rattle.std.proofs.lemmas.Option.{slice_get_within}
@@ -18,17 +18,17 @@ use Rattle.cc_names.specs.declared.refusals.Refusal.{Refusal}
 use Rattle.cc_names.specs.declared.replies.Reply.TheVariants as replies
 use Rattle.cc_names.specs.declared.rows.Tag.{Tag}
 use Rattle.cc_names.specs.declared.steps.StoryStep.{StoryStep}
-use Rattle.checkout_desk.specs.Deciding.{DecidesIfAny, IfRow, Sees}
+use Rattle.checkout_desk.specs.Deciding.{DecidesIfAny, Sees}
 use Rattle.cleartool.specs.Answering.{AnswersAs}
-use Rattle.legal_history.specs.Base.Fits.{row_limit}
 use Rattle.legal_history.specs.Base.Rows.{Base, size, only_where}
 use Rattle.legal_history.specs.Builds.Active.{building, build_of, reserved}
-use Rattle.legal_history.specs.Commands.Decisions.{Scene}
+use Rattle.legal_history.specs.Commands.Decisions.{Makes, Scene}
 use Rattle.legal_history.specs.Commands.Lines.{change_decision, decision, query_decision}
 use Rattle.legal_history.specs.Stories.Commanded.{command_of}
 use Rattle.legal_history.specs.Stories.States.{State, scene, done_of, command_behind, same_tag, next_tag, next_command, decided}
 use Rattle.legal_history.specs.Stories.Steps.{state_of}
 use Rattle.legal_history.specs.Stories.Lawful.{Legal}
+use Rattle.legal_history.proofs.Decisions.Decided.{decided_says}
 use Rattle.base_core.specs.Calls.Acting.{AnswersNext, DecidesNext}
 use Rattle.base_core.specs.Story.Replying.{reply_to_answer}
 use Rattle.base_core.proofs.Acting.Fitting.{may_fits}
@@ -57,8 +57,8 @@ next_is s lane command free e =
     ap (λ is. only_where is (option_and_then (command_behind (done_of s.done lane)) (lane_at s.phase lane))) (ap₂ ◌&&◌ (same_as_itself (next_tag s lane)) (ap is_none free)) ∙ e
 
 -- what is decided of the command that waits
-pub decides_next : (story : List StoryStep) (lane taken now : ℕ) (change : Change) (result : Result (Option Plain) (Or Refusal)) → Legal story → (let s : State = state_of story in build_of s.active lane ≡ None → s.moment ≡ now → option_and_then (command_behind (done_of s.done lane)) (lane_at s.phase lane) ≡ Some (commands.Change change) → taken ≡ size s.base + reserved s.active → DecidesIfAny (next_tag s lane) now result (change_decision (scene s) change) → IfRow result (λ row. taken < row_limit) → DecidesNext s (next_tag s lane) result)
-decides_next story lane taken now change (Ok (Some row)) legal free moment e count decides space =
+pub decides_next : (story : List StoryStep) (lane taken now : ℕ) (change : Change) (result : Result (Option Plain) (Or Refusal)) → Legal story → (let s : State = state_of story in build_of s.active lane ≡ None → s.moment ≡ now → option_and_then (command_behind (done_of s.done lane)) (lane_at s.phase lane) ≡ Some (commands.Change change) → taken ≡ size s.base + reserved s.active → DecidesIfAny (next_tag s lane) now result (change_decision (scene s) change) → DecidesNext s (next_tag s lane) result)
+decides_next story lane taken now change (Ok (Some row)) legal free moment e count decides =
     let s : State = state_of story in
     let within = in_phase s.phase lane (done_of s.done lane) (commands.Change change) e in
     let made : decided s (next_tag s lane) ≡ Some (change_decision (scene s) change) = ap (option_map (decision (scene s))) (next_is s lane (commands.Change change) free e) in
@@ -75,11 +75,11 @@ decides_next story lane taken now change (Ok (Some row)) legal free moment e cou
         at_moment = decides.2 ∙ sym moment;
         finishes = finishes;
         fits = may_fits story row legal (record { moment = decides.2 ∙ sym moment; made = finishes.made s row row_made });
-        room = omega (arith, count, space);
+        room = omega (arith, (decided_says (scene s) (commands.Change change) (Makes row.deed) decides.0).room);
       },
       decides.1,
     )
-decides_next story lane taken now change (Ok None) legal free moment e count decides space =
+decides_next story lane taken now change (Ok None) legal free moment e count decides =
     let s : State = state_of story in
     let within = in_phase s.phase lane (done_of s.done lane) (commands.Change change) e in
     let next = next_is s lane (commands.Change change) free e in
@@ -88,8 +88,8 @@ decides_next story lane taken now change (Ok None) legal free moment e count dec
       made = ap (option_map (decision (scene s))) next ∙ ap Some decides;
       reply = ap (λ found. reply_to_answer found []) next;
     }
-decides_next story lane taken now change (Err NoMemory) legal free moment e count decides space = tt
-decides_next story lane taken now change (Err (Is refusal)) legal free moment e count decides space =
+decides_next story lane taken now change (Err NoMemory) legal free moment e count decides = tt
+decides_next story lane taken now change (Err (Is refusal)) legal free moment e count decides =
     let s : State = state_of story in
     let within = in_phase s.phase lane (done_of s.done lane) (commands.Change change) e in
     let made : decided s (next_tag s lane) ≡ Some (change_decision (scene s) change) = ap (option_map (decision (scene s))) (next_is s lane (commands.Change change) free e) in
@@ -101,11 +101,11 @@ decides_next story lane taken now change (Err (Is refusal)) legal free moment e 
 -- what is decided of a lane's next command
 pub decided_so : (story : List StoryStep) (lane : ℕ) (on : Occasion) (change : Change) (view : List ℕ) (rows : Base) (result : Result (Option Plain) (Or Refusal)) → Legal story → build_of (state_of story).active lane ≡ None
     → command_of (state_of story) lane ≡ Some (commands.Change change) → on.tag ≡ next_tag (state_of story) lane → on.moment ≡ (state_of story).moment → rows ≡ (state_of story).base → on.busy ≡ building (state_of story).active view → on.taken ≡ size (state_of story).base + reserved (state_of story).active
-    → ((scene : Scene) → Sees scene rows on.moment view on.busy on.taken → DecidesIfAny on.tag on.moment result (change_decision scene change)) → IfRow result (λ row. on.taken < row_limit) → DecidesNext (state_of story) (next_tag (state_of story) lane) result
-decided_so story lane on change view rows result legal free e tagged moment rows_are is count decides space =
+    → ((scene : Scene) → Sees scene rows on.moment view on.busy on.taken → DecidesIfAny on.tag on.moment result (change_decision scene change)) → DecidesNext (state_of story) (next_tag (state_of story) lane) result
+decided_so story lane on change view rows result legal free e tagged moment rows_are is count decides =
     let s = state_of story in
     let sees : Sees (scene s) rows on.moment view on.busy on.taken = record { base = sym rows_are; moment = sym moment; busy = sym is; taken = sym count } in
-    decides_next story lane on.taken on.moment change result legal free (sym moment) e count (subst (λ t. DecidesIfAny t on.moment result (change_decision (scene s) change)) tagged (decides (scene s) sees)) space
+    decides_next story lane on.taken on.moment change result legal free (sym moment) e count (subst (λ t. DecidesIfAny t on.moment result (change_decision (scene s) change)) tagged (decides (scene s) sees))
 
 -- what is answered to the query that waits
 pub answered_so : (s : State) (lane : ℕ) (query : Query) (result : Result (List ℕ) (Or Refusal)) → build_of s.active lane ≡ None → command_of s lane ≡ Some (commands.Query query) → AnswersAs result (query_decision s.base query) → AnswersNext s (next_tag s lane) result

@@ -19,7 +19,7 @@ impl<D: Disk> Core<D> {
     ghost use Rattle.legal_history.specs.Base.Rows.{size};
     ghost use Rattle.legal_history.specs.Builds.Active.{Build, build_of, building, reserved};
     ghost use Rattle.legal_history.specs.Stories.Commanded.{command_of};
-    ghost use Rattle.legal_history.specs.Stories.Lawful.{last_moment, Legal};
+    ghost use Rattle.legal_history.specs.Stories.Lawful.{Legal};
     ghost use Rattle.legal_history.specs.Stories.States.{next_tag};
     ghost use Rattle.legal_history.specs.Stories.Steps.{state_of};
     ghost use Rattle.base_core.specs.Calls.Building.{IsBuildKept};
@@ -61,7 +61,6 @@ impl<D: Disk> Core<D> {
         ensures taken { result.taken
             ≡ size (state_of self.now.story).base + reserved (state_of self.now.story).active }
         ensures few { result.taken < 2 ^ 63 }
-        ensures in_time { result.moment ≤ last_moment }
     {
         Occasion {
             tag: self.tag(lane),

@@ -22,4 +22,4 @@ returns g c =
     (subst Legal same c.self.invariant.story.legal) free
     c.requires.command c.occasion-occasion.ensures.tag c.occasion-occasion.ensures.moment (c.rows.ensures ∙ sym c.self.invariant.story.base ∙ ap (λ t. (state_of t).base) same)
     (c.occasion-occasion.ensures.busy ∙ ap (building (state_of c.args.self.now.story).active) c.view_of.ensures) c.occasion-occasion.ensures.taken
-    (λ scene sees. c.decide.ensures.decided scene sees) c.decide.ensures.room
+    (λ scene sees. c.decide.ensures scene sees)
