@@ -17,6 +17,7 @@ mod looking;
 use crate::help::HELP;
 use crate::looking::LookingDisk;
 use cc_names::memory::NoMemory;
+use cc_names::refusals::SessionCause;
 use cc_names::texts::Text;
 use cc_outside::{OpenGate, StdSink, StdSource, SystemClock, write_whole};
 use disk_model::FileDisk;
@@ -94,6 +95,20 @@ fn texts_of(alloc: Global, words: &[String]) -> Result<Vec<Text>, NoMemory> {
     Ok(texts)
 }
 
+/// What is wrong with a line of a session, for its writer.
+fn fault_of(cause: SessionCause) -> &'static str {
+    match cause {
+        SessionCause::NoPhase => "there is no line 'phase' above it",
+        SessionCause::NoLane => "there is no line 'lane NAME' above it in this phase",
+        SessionCause::NoBody => "a line of text ('|') stands where none may",
+        SessionCause::TwoLanes => "a lane of this name is in this phase already",
+        SessionCause::TooManyLanes => "a phase has at most 64 lanes",
+        SessionCause::UnknownCommand => "no such command",
+        SessionCause::NotBuilt => "not carried out",
+        SessionCause::BadWord => "a word is missing, wrong, or one too many",
+    }
+}
+
 /// Writes why a call did not carry its session out to standard error, in one line. What was carried out, and what memory was
 /// wanting for, has none.
 fn tell_cause(
@@ -105,8 +120,10 @@ fn tell_cause(
     match status {
         Status::Good | Status::SomeFailed | Status::NoMemory => Ok(()),
         Status::BadWords => eprintln!(rt; "{USAGE} (see ccbase --help)"),
-        Status::BadSession => eprintln!(rt;
-            "ccbase: standard input: no session: standard output names the first wrong line, and why"
+        Status::BadSession(error) => eprintln!(rt;
+            "ccbase: standard input: line {}: {}",
+            error.line,
+            fault_of(error.cause)
         ),
         Status::Damaged(row) => eprintln!(rt;
             "ccbase: {file}: row {row} is damaged: nothing was run, and nothing is changed"

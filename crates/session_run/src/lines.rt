@@ -39,7 +39,7 @@ fn status_of(unstarted: Unstarted) -> Status
         Unstarted::BadWords => Status::BadWords,
         Unstarted::ReadFault => Status::ReadFault,
         Unstarted::TooLong => Status::TooLong,
-        Unstarted::BadSession(_) => Status::BadSession,
+        Unstarted::BadSession(error) => Status::BadSession(error),
         Unstarted::Unopened(OpenCause::Damaged(row)) => Status::Damaged(row),
         Unstarted::Unopened(OpenCause::DiskFault) => Status::DiskFault,
         Unstarted::Unopened(OpenCause::NoMemory) => Status::NoMemory,
@@ -93,12 +93,21 @@ fn line_of(unstarted: Unstarted) -> ArrayString<80>
     }
 }
 
-/// Writes the line that says why no session was started, and answers the status. Takes no memory.
-#[tactic(auto, using(crate::proofs::Calls::UnstartedStatuses::only_memory))]
+/// Writes the line that says why no session was started, and answers the status. Want of memory has no line. Takes no memory.
+#[tactic(
+    auto,
+    using(
+        crate::proofs::Calls::UnstartedStatuses::only_memory,
+        crate::proofs::Calls::UnstartedStatuses::has_line
+    )
+)]
 pub(crate) fn write_unstarted<K: Sink>(unstarted: Unstarted, sink: &mut K) -> Status
     ensures { WritesUnstarted unstarted result (K.sight sink.old).held (K.sight sink.new).held
         (sink_faults (K.sight sink.old) (K.sight sink.new)) }
 {
+    if matches!(unstarted, Unstarted::Unopened(OpenCause::NoMemory)) {
+        return Status::NoMemory;
+    }
     let line = line_of(unstarted);
     match write_whole(sink, line.as_str().as_bytes()) {
         Ok(()) => status_of(unstarted),

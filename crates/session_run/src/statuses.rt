@@ -3,6 +3,8 @@
 ghost use Rattle.std.specs.Prelude.{◌≡◌};
 ghost use Rattle.session_run.specs.Calls.Statuses.{number_of};
 
+use cc_names::refusals::SessionError;
+
 /// How a call of the program ends.
 #[derive(Clone, Copy, Debug, PartialEq, Eq)]
 pub enum Status {
@@ -12,8 +14,8 @@ pub enum Status {
     SomeFailed,
     /// The words have none of the forms.
     BadWords,
-    /// The source's bytes spell no session.
-    BadSession,
+    /// The source's bytes spell no session: their first line that stands wrong, and why.
+    BadSession(SessionError),
     /// The frame of this number, counted from 1, is the first of the disk's journal that spells no row, or whose row does
     /// not fit those before it or is of a deed that is not made yet.
     Damaged(u64),
@@ -38,7 +40,7 @@ impl Status {
             Status::Good => 0,
             Status::SomeFailed => 1,
             Status::BadWords => 2,
-            Status::BadSession => 3,
+            Status::BadSession(_) => 3,
             Status::Damaged(_) => 4,
             Status::ReadFault => 5,
             Status::WriteFault => 6,

@@ -1,13 +1,15 @@
 -- A status other than those of a failed sink and of want of memory comes exactly where its cause does.
 use Rattle.std.proofs.Common.{◌≡◌, ℕ, ◌<◌, ◌≤◌, true, false, Option, Some, None, is_some, List, [], length, refl, ap, arith}
-use Rattle.std.specs.Prelude.{IfSome}
+use Rattle.std.specs.Prelude.{Err, IfSome}
+use Rattle.cc_names.specs.declared.refusals.SessionError.{SessionError}
 use Rattle.cc_names.specs.declared.steps.StoryStep.{StoryStep}
 use Rattle.disk_model.specs.Devices.{Device, bytes_of}
 use Rattle.disk_model.specs.Told.{Sight, IfTold}
 use Rattle.vob_journal.specs.Frames.{frames}
 use Rattle.story_log.specs.Bases.Opening.{IsDamaged, IsUndamaged}
 use Rattle.story_log.proofs.Bases.Damages.{damaged_once}
-use Rattle.session_run.specs.Calls.Asked.{is_run, is_session, text_limit}
+use Rattle.session_text.specs.Sessions.{session_of}
+use Rattle.session_run.specs.Calls.Asked.{is_read, is_run, is_session, text_limit}
 use Rattle.session_run.specs.Calls.Causes.{Change, Intake, DiskDamaged, FindsDamage, HasCause, IsToldToOpen, disk_rose}
 use Rattle.session_run.specs.Calls.Statuses.{is_cut}
 use Rattle.session_run.specs.Story.Begun.{is_opened, is_through}
@@ -20,7 +22,7 @@ pub bad_words : (status : Status) (intake : Intake) (faults : Change ℕ) (disk 
 bad_words statuses.Good intake faults disk story h c e = let words = h.0.read.words in absurd (cc)
 bad_words statuses.SomeFailed intake faults disk story h c e = let words = h.0.read.words in absurd (cc)
 bad_words statuses.BadWords intake faults disk story h c e = refl
-bad_words statuses.BadSession intake faults disk story h c e = let words = h.0.words in absurd (cc)
+bad_words (statuses.BadSession error) intake faults disk story h c e = let words = h.0.words in absurd (cc)
 bad_words (statuses.Damaged row) intake faults disk story h c e = let words = h.0.read.words in absurd (cc)
 bad_words statuses.ReadFault intake faults disk story h c e = let words = h.0.words in absurd (cc)
 bad_words statuses.WriteFault intake faults disk story h c e = absurd (cc)
@@ -37,7 +39,7 @@ pub disk_failed : (status : Status) (intake : Intake) (faults : Change ℕ) (dis
 disk_failed statuses.Good intake faults disk story h c o e = let sound = h.2 in absurd (cc)
 disk_failed statuses.SomeFailed intake faults disk story h c o e = let sound = h.2 in absurd (cc)
 disk_failed statuses.BadWords intake faults disk story h c o e = absurd (none_opened story h.2.story_is o)
-disk_failed statuses.BadSession intake faults disk story h c o e = absurd (none_opened story h.2.story_is o)
+disk_failed (statuses.BadSession error) intake faults disk story h c o e = absurd (none_opened story h.2.story_is o)
 disk_failed (statuses.Damaged row) intake faults disk story h c o e = let sound = h.2 in absurd (cc)
 disk_failed statuses.ReadFault intake faults disk story h c o e = absurd (none_opened story h.1.story_is o)
 disk_failed statuses.WriteFault intake faults disk story h c o e = absurd (cc)
@@ -68,9 +70,9 @@ damaged_where None one row tells first second = absurd (cc)
 damaged_where (Some d) one row tells first second = damaged_once (frames (bytes_of 0 d)) one row first second
 
 -- what is told of a session that was read
-session_or_not : (text : Option (List ℕ)) → is_some text ≡ true → IfSome text (λ bytes. is_session bytes ≡ true) → IfSome text (λ bytes. is_session bytes ≡ false) → ⊥
-session_or_not None tells one other = absurd (cc)
-session_or_not (Some bytes) tells one other = absurd (cc)
+session_or_not : (text : Option (List ℕ)) (error : SessionError) → is_some text ≡ true → IfSome text (λ bytes. is_session bytes ≡ true) → IfSome text (λ bytes. session_of bytes ≡ Err error) → ⊥
+session_or_not None error tells one other = absurd (cc)
+session_or_not (Some bytes) error tells one other = let none = ap is_read other in absurd (cc)
 
 within_or_not : (text : Option (List ℕ)) (count : ℕ) → is_some text ≡ true → count ≤ text_limit → IfSome text (λ bytes. length bytes ≡ count) → IfSome text (λ bytes. text_limit < length bytes) → ⊥
 within_or_not None count tells within is more = absurd (cc)
@@ -81,7 +83,7 @@ damaged : (status : Status) (intake : Intake) (faults : Change ℕ) (disk : Chan
 damaged statuses.Good intake faults disk story row h o t d s c = absurd (damaged_or_not disk.before.told row t d h.3)
 damaged statuses.SomeFailed intake faults disk story row h o t d s c = absurd (damaged_or_not disk.before.told row t d h.3)
 damaged statuses.BadWords intake faults disk story row h o t d s c = let words = o.asked.read.words in let not = h.0 in absurd (cc)
-damaged statuses.BadSession intake faults disk story row h o t d s c = absurd (session_or_not intake.text.before o.text o.asked.session h.1)
+damaged (statuses.BadSession error) intake faults disk story row h o t d s c = absurd (session_or_not intake.text.before error o.text o.asked.session h.1)
 damaged (statuses.Damaged one) intake faults disk story row h o t d s c = ap statuses.Damaged (damaged_where disk.before.told one row t h.1 d)
 damaged statuses.ReadFault intake faults disk story row h o t d s c = absurd (o.sound h.0.rose)
 damaged statuses.WriteFault intake faults disk story row h o t d s c = absurd (cc)

@@ -6,14 +6,11 @@ use Rattle.std.proofs.lemmas.List.{append-nil}
 use Rattle.cc_names.specs.declared.commands.Phase.{Phase}
 use Rattle.cc_names.specs.declared.memory.Or.{Or}
 use Rattle.cc_names.specs.declared.memory.Or.TheVariants.{NoMemory, Is}
-use Rattle.cc_names.specs.declared.refusals.SessionError.{SessionError}
-use Rattle.cc_names.specs.declared.refusals.SessionCause.TheVariants as causes
 use Rattle.cc_names.specs.declared.steps.StoryStep.{StoryStep}
 use Rattle.cc_names.specs.declared.steps.StoryStep.TheVariants as story_steps
 use Rattle.cc_names.specs.Counts.{Rose, raised, rises}
 use Rattle.cc_outside.specs.Feeds.{AppendsFront}
 use Rattle.cc_outside.specs.declared.sinks.WriteFault.{WriteFault}
-use Rattle.session_text.specs.Sessions.{session_of}
 use Rattle.disk_model.specs.Devices.{bytes_of}
 use Rattle.disk_model.specs.Told.{Sight, Both, IsCounted}
 use Rattle.vob_journal.specs.Reads.{SameFiles}
@@ -28,7 +25,7 @@ use Rattle.story_log.specs.declared.opening.OpenCause.{OpenCause}
 use Rattle.story_log.specs.declared.opening.OpenCause.TheVariants as opens
 use Rattle.legal_history.specs.Stories.Steps.{state_of}
 use Rattle.legal_history.specs.Stories.Lawful.{Legal}
-use Rattle.session_run.specs.Calls.Asked.{is_session, is_read, phases_spelled}
+use Rattle.session_run.specs.Calls.Asked.{is_session, phases_spelled}
 use Rattle.session_run.specs.Calls.Causes.{Change, DiskUndamaged, Intake, IsAsked, IsUntouched, IsWhole, HasCause, disk_rose}
 use Rattle.session_run.specs.Calls.Statuses.{is_cut, status_line}
 use Rattle.session_run.specs.Faults.Accounted.{CountsFrom, IsAccountedFor, KeepsFiles, Settles}
@@ -36,7 +33,7 @@ use Rattle.session_run.specs.Faults.Stopped.{AllOpenAgain, IsHandedIn, IsMended,
 use Rattle.session_run.specs.Promises.Headline.{BeginsOn, IsSession, ReadsClock, IsOneHistory, ArePrinted, clock_moments}
 use Rattle.session_run.specs.Running.Outcomes.{RunsOpened, RunsSession}
 use Rattle.session_run.specs.Running.Runs.{IsJustOpened, Outside, HasRunPhases, HasRunSo, IsRunGivenUp, OnWriteFault, run_status}
-use Rattle.session_run.specs.Running.Unstarted.{GivesPhases, IsUnstarted, WritesUnstarted, of_unopened, unstarted_status, unstarted_line}
+use Rattle.session_run.specs.Running.Unstarted.{GivesPhases, IsUnstarted, WritesUnstarted, of_unopened, unstarted_status}
 use Rattle.session_run.specs.Story.Begun.{IsFront, first_step, is_opened, is_through, phases_begun, moments_begun}
 use Rattle.session_run.specs.Story.Rendered.{rendered}
 use Rattle.session_run.specs.declared.sessions.Unstarted.{Unstarted}
@@ -168,10 +165,6 @@ run_cause (Ok false) false story phases intake outside faults disk by gives ran 
 run_cause (Err NoMemory) rose story phases intake outside faults disk by gives left wrote sound = λ closed. not_false (is_opened story) left.opened closed
 run_cause (Err (Is fault)) rose story phases intake outside faults disk by gives left wrote sound = wrote
 
--- Where no base was opened
-no_error : SessionError
-no_error = record { line = 0; cause = causes.NoPhase }
-
 -- the steps since a base was opened, and the settling of its journal, have the disk's counts
 counts_from : (one ran : Shown) (settled : List StoryStep) (sight : Sight) → IsJustOpened one.story → KeepsCount one ran → settled ≡ ran.story → Settles (may_be_open (state_of ran.story).ends) ran.sight sight → CountsFrom one.sight sight settled
 counts_from one ran settled sight just keeps same settles = record {
@@ -215,38 +208,6 @@ pub record Promised (status : Status) (story : List StoryStep) (intake : Intake)
   pub accounted : is_opened story ≡ true → IsAccountedFor disk story
   pub files : KeepsFiles disk story
 
--- the line that says why no session was started is that of its status
-unstarted_error : Unstarted → SessionError
-unstarted_error (why.BadSession error) = error
-unstarted_error unstarted = no_error
-
-line_is : (unstarted : Unstarted) → unstarted_line unstarted ≡ status_line (unstarted_status unstarted) (unstarted_error unstarted)
-unfolding unstarted_error
-line_is why.BadWords = refl
-line_is why.ReadFault = refl
-line_is why.TooLong = refl
-line_is (why.BadSession error) = refl
-line_is (why.Unopened (opens.Damaged row)) = refl
-line_is (why.Unopened opens.DiskFault) = refl
-line_is (why.Unopened opens.NoMemory) = refl
-
--- where the session is the reason, this is its first error
-IsFirst : Unstarted → Intake → Type 0
-IsFirst unstarted intake = unstarted_status unstarted ≡ statuses.BadSession → IfSome intake.text.before (λ bytes. session_of bytes ≡ Err (unstarted_error unstarted))
-
-first_is : (unstarted : Unstarted) (intake : Intake) → IsUnstarted unstarted intake → IsFirst unstarted intake
-unfolding unstarted_error IsFirst
-first_is why.BadWords intake h e = absurd (cc)
-first_is why.ReadFault intake h e = absurd (cc)
-first_is why.TooLong intake h e = absurd (cc)
-first_is (why.BadSession error) intake h e = h.1
-first_is (why.Unopened (opens.Damaged row)) intake h e = absurd h
-first_is (why.Unopened opens.DiskFault) intake h e = absurd h
-first_is (why.Unopened opens.NoMemory) intake h e = absurd (cc)
-
-none_read : (intake : Intake) (error : SessionError) → IfSome intake.text.before (λ bytes. session_of bytes ≡ Err error) → IfSome intake.text.before (λ bytes. is_session bytes ≡ false)
-none_read intake error h = told_so intake.text.before _ (λ bytes. is_session bytes ≡ false) h (λ bytes e. ap is_read e)
-
 pub untouched : (disk : Sight) → IsUntouched (record { before = disk; after = disk }) []
 untouched disk = record { disk_is = refl; story_is = refl }
 
@@ -254,7 +215,7 @@ unstarted_cause : (unstarted : Unstarted) (intake : Intake) (faults : Change ℕ
 unstarted_cause why.BadWords intake faults disk h = (h.0, h.1, untouched disk)
 unstarted_cause why.ReadFault intake faults disk h = (h, untouched disk)
 unstarted_cause why.TooLong intake faults disk h = (h, untouched disk)
-unstarted_cause (why.BadSession error) intake faults disk h = (h.0, none_read intake error h.1, untouched disk)
+unstarted_cause (why.BadSession error) intake faults disk h = (h.0, h.1, untouched disk)
 unstarted_cause (why.Unopened (opens.Damaged row)) intake faults disk h = absurd h
 unstarted_cause (why.Unopened opens.DiskFault) intake faults disk h = absurd h
 unstarted_cause (why.Unopened opens.NoMemory) intake faults disk h = λ closed. refl
@@ -290,33 +251,27 @@ has_cause unstarted status intake faults disk true e h is rose memory =
     cut_cause status intake faults disk e rose (λ so. subst (λ s. HasCause (unstarted_status s) intake faults disk []) (memory so) h refl)
 has_cause unstarted status intake faults disk false e h is rose memory = subst (λ s. HasCause s intake faults disk []) (sym (is e)) h
 
-unstarted_printed : (unstarted : Unstarted) (status : Status) (intake : Intake) (old new : Option (List ℕ)) (faults : Change ℕ) (disk : Change Sight) → IsFirst unstarted intake → HasCause (unstarted_status unstarted) intake faults disk [] → WritesUnstarted unstarted status old new faults → ArePrinted status [] intake faults disk old new
-unfolding IsFirst
-unstarted_printed unstarted status intake old new faults disk first cause wrote = record {
+unstarted_printed : (unstarted : Unstarted) (status : Status) (intake : Intake) (old new : Option (List ℕ)) (faults : Change ℕ) (disk : Change Sight) → HasCause (unstarted_status unstarted) intake faults disk [] → WritesUnstarted unstarted status old new faults → ArePrinted status [] intake faults disk old new
+unstarted_printed unstarted status intake old new faults disk cause wrote = record {
   whole = λ o c. absurd (cc);
   front = λ o c. absurd (cc);
-  line = λ o c. record {
-    error = unstarted_error unstarted;
-    written = subst (Appends old new) (line_is unstarted ∙ ap (λ s. status_line s (unstarted_error unstarted)) (sym (wrote.answer c))) (wrote.whole c);
-    first = λ e. first (sym (wrote.answer c) ∙ e);
-  };
+  line = λ o c. subst (Appends old new) (ap status_line (sym (wrote.answer c))) (wrote.whole c);
   line_front = λ o e. record {
     status = unstarted_status unstarted;
-    error = unstarted_error unstarted;
     cause = cause;
-    first = first;
-    written = subst (AppendsFront old new) (line_is unstarted) (wrote.front e);
+    uncut = wrote.line e;
+    written = wrote.front e;
   };
   nothing = λ o e. wrote.nothing e;
 }
 
-unstarted_so : (unstarted : Unstarted) (status : Status) (intake : Intake) (outside : Outside) (faults : Change ℕ) (disk : Change Sight) → Both SameFiles disk.before.told disk.after.told → outside.reading ≡ outside.first → IsFirst unstarted intake → HasCause (unstarted_status unstarted) intake faults disk [] → WritesUnstarted unstarted status outside.held outside.holds faults → IsStopped disk.before disk.after [] → Promised status [] intake outside faults disk
-unstarted_so unstarted status intake outside faults disk same unread first cause wrote stopped =
+unstarted_so : (unstarted : Unstarted) (status : Status) (intake : Intake) (outside : Outside) (faults : Change ℕ) (disk : Change Sight) → Both SameFiles disk.before.told disk.after.told → outside.reading ≡ outside.first → HasCause (unstarted_status unstarted) intake faults disk [] → WritesUnstarted unstarted status outside.held outside.holds faults → IsStopped disk.before disk.after [] → Promised status [] intake outside faults disk
+unstarted_so unstarted status intake outside faults disk same unread cause wrote stopped =
     let not = not_through unstarted status (is_cut status) refl wrote.answer in
     record {
       session = session_none status intake outside not unread;
       history = history_none status disk.before outside.held outside.holds not;
-      printed = unstarted_printed unstarted status intake outside.held outside.holds faults disk first cause wrote;
+      printed = unstarted_printed unstarted status intake outside.held outside.holds faults disk cause wrote;
       stopped = stopped;
       cause = has_cause unstarted status intake faults disk (is_cut status) refl cause wrote.answer wrote.fault wrote.memory;
       accounted = λ opened. absurd (cc);
@@ -326,16 +281,9 @@ unstarted_so unstarted status intake outside faults disk same unread first cause
 -- The promises where the source gave no session
 pub promised_unstarted : (unstarted : Unstarted) (status : Status) (intake : Intake) (outside : Outside) (faults : Change ℕ) (disk : Sight) → outside.reading ≡ outside.first → IsCounted disk → IsHandedIn disk → IsUnstarted unstarted intake → WritesUnstarted unstarted status outside.held outside.holds faults → Promised status [] intake outside faults (record { before = disk; after = disk })
 promised_unstarted unstarted status intake outside faults disk unread counted handed h wrote =
-    unstarted_so unstarted status intake outside faults (record { before = disk; after = disk }) (told_stay disk.told) unread (first_is unstarted intake h) (unstarted_cause unstarted intake faults disk h) wrote (stays_untouched disk counted handed)
+    unstarted_so unstarted status intake outside faults (record { before = disk; after = disk }) (told_stay disk.told) unread (unstarted_cause unstarted intake faults disk h) wrote (stays_untouched disk counted handed)
 
 -- why a base is not opened is the cause of the status
-open_first : (because : OpenCause) (rose : Bool) (intake : Intake) → IsFirst (of_unopened because rose) intake
-unfolding IsFirst
-open_first opens.NoMemory rose intake e = absurd (cc)
-open_first (opens.Damaged row) true intake e = absurd (cc)
-open_first (opens.Damaged row) false intake e = absurd (cc)
-open_first opens.DiskFault rose intake e = absurd (cc)
-
 open_cause : (because : OpenCause) (rose : Bool) (intake : Intake) (faults : Change ℕ) (disk : Change Sight) → disk_rose disk ≡ rose → IsAsked intake → StopsBy disk.before.told (λ d. frames (bytes_of 0 d)) because disk.before.faults disk.after.faults → HasCause (unstarted_status (of_unopened because rose)) intake faults disk []
 open_cause opens.NoMemory rose intake faults disk by asked is = λ closed. is
 open_cause (opens.Damaged row) true intake faults disk by asked is = (asked, by, λ opened. absurd (cc))
@@ -344,7 +292,7 @@ open_cause opens.DiskFault rose intake faults disk by asked is = (asked, is, λ 
 
 promised_closed : (because : OpenCause) (status : Status) (intake : Intake) (outside : Outside) (faults : Change ℕ) (disk : Change Sight) → outside.reading ≡ outside.first → IsAsked intake → FailsToOpen disk.before because disk.after → WritesUnstarted (of_unopened because (disk_rose disk)) status outside.held outside.holds faults → Promised status [] intake outside faults disk
 promised_closed because status intake outside faults disk unread asked fails wrote =
-    unstarted_so (of_unopened because (disk_rose disk)) status intake outside faults disk fails.files unread (open_first because (disk_rose disk) intake)
+    unstarted_so (of_unopened because (disk_rose disk)) status intake outside faults disk fails.files unread
     (open_cause because (disk_rose disk) intake faults disk refl asked fails.because) wrote
     (stays_closed disk.before disk.after [] refl fails.tells fails.unchanged fails.files)
 

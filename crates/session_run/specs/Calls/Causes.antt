@@ -1,6 +1,7 @@
 -- The cause of each status of a call.
-use Rattle.std.specs.Prelude.{◌≡◌, ℕ, ◌+◌, ◌<◌, ◌≤◌, ◌⊎◌, Bool, true, false, Option, is_some, IfSome, List, [], length}
+use Rattle.std.specs.Prelude.{◌≡◌, ℕ, ◌+◌, ◌<◌, ◌≤◌, ◌⊎◌, Bool, true, false, Option, is_some, IfSome, Err, List, [], length}
 use Rattle.std.specs.Io.KnownBytes.{IsAtEnd}
+use Rattle.cc_names.specs.declared.refusals.SessionError.{SessionError}
 use Rattle.cc_names.specs.declared.steps.StoryStep.{StoryStep}
 use Rattle.cc_names.specs.Counts.{raised, Rose, RoseAbove, RoseAtMost, rises}
 use Rattle.cc_outside.specs.Sights.{SinkSight, SourceSight}
@@ -10,6 +11,7 @@ use Rattle.vob_journal.specs.Frames.{frames}
 use Rattle.story_log.specs.Bases.Opening.{IsDamaged, IsUndamaged}
 use Rattle.legal_history.specs.Stories.States.{all_done}
 use Rattle.legal_history.specs.Stories.Steps.{state_of}
+use Rattle.session_text.specs.Sessions.{session_of}
 use Rattle.session_run.specs.Calls.Asked.{text_limit, is_run, is_session}
 use Rattle.session_run.specs.Calls.Statuses.{is_cut}
 use Rattle.session_run.specs.Story.Begun.{is_opened}
@@ -67,9 +69,9 @@ pub record IsAsked (intake : Intake) : Type 0 where
   pub read : IsRead intake
   pub session : IfSome intake.text.before (λ bytes. is_session bytes ≡ true)
 
--- the source's bytes spell no session
-abbrev pub SpellsNone : Intake → Type 0
-SpellsNone intake = IfSome intake.text.before (λ bytes. is_session bytes ≡ false)
+-- the source's bytes spell no session: this is their first line that stands wrong, and why
+abbrev pub IsFirstWrong : Intake → SessionError → Type 0
+IsFirstWrong intake error = IfSome intake.text.before (λ bytes. session_of bytes ≡ Err error)
 
 -- the source was not read
 pub record IsUnread (intake : Intake) : Type 0 where
@@ -113,7 +115,7 @@ abbrev pub HasCause : Status → Intake → Change ℕ → Change Sight → List
 HasCause statuses.Good intake sink_faults disk story = IsWhole intake story × (has_failure story ≡ false) × (disk_rose disk ≡ false) × DiskUndamaged disk
 HasCause statuses.SomeFailed intake sink_faults disk story = IsWhole intake story × (has_failure story ≡ true) × (disk_rose disk ≡ false) × DiskUndamaged disk
 HasCause statuses.BadWords intake sink_faults disk story = (is_run intake.words ≡ false) × IsUnread intake × IsUntouched disk story
-HasCause statuses.BadSession intake sink_faults disk story = IsRead intake × SpellsNone intake × IsUntouched disk story
+HasCause (statuses.BadSession error) intake sink_faults disk story = IsRead intake × IsFirstWrong intake error × IsUntouched disk story
 HasCause (statuses.Damaged row) intake sink_faults disk story = IsAsked intake × DiskDamaged disk row × (disk_rose disk ≡ false) × (story ≡ [])
 HasCause statuses.ReadFault intake sink_faults disk story = SourceFailed intake × IsUntouched disk story
 HasCause statuses.WriteFault intake sink_faults disk story = Rose sink_faults.before sink_faults.after

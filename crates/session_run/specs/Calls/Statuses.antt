@@ -12,7 +12,7 @@ abbrev pub number_of : Status → ℕ
 number_of statuses.Good = 0
 number_of statuses.SomeFailed = 1
 number_of statuses.BadWords = 2
-number_of statuses.BadSession = 3
+number_of (statuses.BadSession error) = 3
 number_of (statuses.Damaged row) = 4
 number_of statuses.ReadFault = 5
 number_of statuses.WriteFault = 6
@@ -41,12 +41,12 @@ cause_word causes.BadWord = codes "BadWord"
 abbrev pub error_words : SessionError → List ℕ
 error_words error = decimal error.line ++ 32 ∷ cause_word error.cause
 
--- the line of a status, with the session's error where it is one of a bad session
-abbrev pub status_line : Status → SessionError → List ℕ
-status_line statuses.BadWords error = codes "bad words\n"
-status_line statuses.BadSession error = codes "bad session " ++ error_words error ++ 10 ∷ []
-status_line (statuses.Damaged row) error = codes "damaged " ++ decimal row ++ 10 ∷ []
-status_line statuses.DiskFault error = codes "disk fault\n"
-status_line statuses.ReadFault error = codes "read fault\n"
-status_line statuses.TooLong error = codes "too long\n"
-status_line status error = []
+-- the line of a status
+abbrev pub status_line : Status → List ℕ
+status_line statuses.BadWords = codes "bad words\n"
+status_line (statuses.BadSession error) = codes "bad session " ++ error_words error ++ 10 ∷ []
+status_line (statuses.Damaged row) = codes "damaged " ++ decimal row ++ 10 ∷ []
+status_line statuses.DiskFault = codes "disk fault\n"
+status_line statuses.ReadFault = codes "read fault\n"
+status_line statuses.TooLong = codes "too long\n"
+status_line status = []

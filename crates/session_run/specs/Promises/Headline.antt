@@ -12,9 +12,8 @@
 -- or faults, each failed call on the disk lies, `Objects` which objects a scrub takes and that those that views hold are live,
 -- `Reused` which objects builds take in place of runs. What they say of bytes, moments and stops holds where the source, the
 -- sink, the clock and the disk tell them.
-use Rattle.std.specs.Prelude.{◌≡◌, ◌≢◌, ◌⊎◌, ℕ, zero, suc, ◌+◌, ◌<◌, min, true, false, Option, Some, IfSome, Err, List, [], ◌∷◌, ◌++◌, length}
+use Rattle.std.specs.Prelude.{◌≡◌, ◌≢◌, ◌⊎◌, ℕ, zero, suc, ◌+◌, ◌<◌, min, true, false, Option, Some, IfSome, List, [], ◌∷◌, ◌++◌, length}
 use Rattle.std.specs.Io.KnownBytes.{Appends}
-use Rattle.cc_names.specs.declared.refusals.SessionError.{SessionError}
 use Rattle.cc_names.specs.declared.rows.Tag.{Tag}
 use Rattle.cc_names.specs.declared.steps.Step.TheVariants as steps
 use Rattle.cc_names.specs.declared.steps.StoryStep.{StoryStep}
@@ -28,7 +27,6 @@ use Rattle.story_log.specs.Bases.Opening.{IsBaseOn}
 use Rattle.story_log.specs.Story.Handed.{Handed}
 use Rattle.view_lookup.specs.Order.{oldest_first}
 use Rattle.legal_history.specs.Base.Rows.{Base}
-use Rattle.session_text.specs.Sessions.{session_of}
 use Rattle.legal_history.specs.Stories.Commanded.{IsOfCommand}
 use Rattle.legal_history.specs.Builds.Replied.{reply_of, reply_from_nothing}
 use Rattle.legal_history.specs.Builds.Active.{Build}
@@ -111,19 +109,12 @@ pub record AreFromNothing (story : List StoryStep) : Type 0 where
       → build_by (state_of front) tag ≡ Some build → build.faulted ≡ false
       → reply_of (state_of front).base build ≡ reply_from_nothing (state_of front).base build
 
--- the status's line was written; the line of a bad session names the first line that stands wrong
-pub record PrintsLine (status : Status) (text old new : Option (List ℕ)) : Type 0 where
-  pub error : SessionError
-  pub written : Appends old new (status_line status error)
-  pub first : status ≡ statuses.BadSession → IfSome text (λ bytes. session_of bytes ≡ Err error)
-
--- a front of the line of a status was written, whose cause had come
+-- a front of the line of a status was written, whose cause had come, and which has a line
 pub record PrintsFront (intake : Intake) (faults : Change ℕ) (disk : Change Sight) (old new : Option (List ℕ)) : Type 0 where
   pub status : Status
-  pub error : SessionError
   pub cause : HasCause status intake faults disk []
-  pub first : status ≡ statuses.BadSession → IfSome intake.text.before (λ bytes. session_of bytes ≡ Err error)
-  pub written : AppendsFront old new (status_line status error)
+  pub uncut : is_cut status ≡ false
+  pub written : AppendsFront old new (status_line status)
 
 -- *Printed replies*: what the sink holds more is the text of the history, where a base was opened; else it is the
 -- status's line. Where the sink failed it is a front of the history's text, or of the line of the cause that had come. Where
@@ -131,6 +122,6 @@ pub record PrintsFront (intake : Intake) (faults : Change ℕ) (disk : Change Si
 pub record ArePrinted (status : Status) (story : List StoryStep) (intake : Intake) (faults : Change ℕ) (disk : Change Sight) (old new : Option (List ℕ)) : Type 0 where
   pub whole : is_opened story ≡ true → is_cut status ≡ false → Appends old new (rendered story)
   pub front : is_opened story ≡ true → is_cut status ≡ true → AppendsFront old new (rendered story)
-  pub line : is_opened story ≡ false → is_cut status ≡ false → PrintsLine status intake.text.before old new
+  pub line : is_opened story ≡ false → is_cut status ≡ false → Appends old new (status_line status)
   pub line_front : is_opened story ≡ false → status ≡ statuses.WriteFault → PrintsFront intake faults disk old new
   pub nothing : is_opened story ≡ false → status ≡ statuses.NoMemory → Appends old new []

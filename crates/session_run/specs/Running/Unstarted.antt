@@ -1,6 +1,5 @@
 -- Why a session is not started, and what is written then.
-use Rattle.std.specs.Prelude.{◌≡◌, ℕ, Bool, true, false, IfSome, Option, Err, List, [], ◌∷◌, ◌++◌, codes}
-use Rattle.std.specs.Fmt.{decimal}
+use Rattle.std.specs.Prelude.{◌≡◌, ℕ, Bool, true, false, IfSome, Option, Err, List, []}
 use Rattle.std.specs.Io.KnownBytes.{Appends}
 use Rattle.cc_names.specs.declared.commands.Phase.{Phase}
 use Rattle.cc_names.specs.declared.memory.Or.{Or}
@@ -13,10 +12,9 @@ use Rattle.cc_outside.specs.declared.sources.Unread.TheVariants.{Fault}
 use Rattle.cc_outside.specs.declared.sources.Unread.TheVariants as unreads
 use Rattle.story_log.specs.declared.opening.OpenCause.{OpenCause}
 use Rattle.story_log.specs.declared.opening.OpenCause.TheVariants as opens
-use Rattle.session_text.specs.Sessions.{session_of}
 use Rattle.session_run.specs.Calls.Asked.{is_run, is_session, phases_spelled}
-use Rattle.session_run.specs.Calls.Causes.{Change, Intake, IsRead, IsUnread, SourceFailed, GaveTooMuch}
-use Rattle.session_run.specs.Calls.Statuses.{is_cut, error_words}
+use Rattle.session_run.specs.Calls.Causes.{Change, Intake, IsFirstWrong, IsRead, IsUnread, SourceFailed, GaveTooMuch}
+use Rattle.session_run.specs.Calls.Statuses.{is_cut, status_line}
 use Rattle.session_run.specs.Running.Runs.{IsRunnable}
 use Rattle.session_run.specs.declared.sessions.Unstarted.{Unstarted}
 use Rattle.session_run.specs.declared.sessions.Unstarted.TheVariants as why
@@ -48,7 +46,7 @@ IsUnstarted why.ReadFault intake = SourceFailed intake
 IsUnstarted why.TooLong intake = GaveTooMuch intake
 IsUnstarted (why.Unopened (opens.Damaged row)) intake = ⊥
 IsUnstarted (why.Unopened opens.DiskFault) intake = ⊥
-IsUnstarted (why.BadSession error) intake = IsRead intake × IfSome intake.text.before (λ bytes. session_of bytes ≡ Err error)
+IsUnstarted (why.BadSession error) intake = IsRead intake × IsFirstWrong intake error
 IsUnstarted (why.Unopened opens.NoMemory) intake = Unit {0}
 
 -- where the base could not be opened: where the disk's faults rose, the disk failed
@@ -63,20 +61,14 @@ abbrev pub unstarted_status : Unstarted → Status
 unstarted_status why.BadWords = statuses.BadWords
 unstarted_status why.ReadFault = statuses.ReadFault
 unstarted_status why.TooLong = statuses.TooLong
-unstarted_status (why.BadSession error) = statuses.BadSession
+unstarted_status (why.BadSession error) = statuses.BadSession error
 unstarted_status (why.Unopened (opens.Damaged row)) = statuses.Damaged row
 unstarted_status (why.Unopened opens.DiskFault) = statuses.DiskFault
 unstarted_status (why.Unopened opens.NoMemory) = statuses.NoMemory
 
 -- the line that says it
 abbrev pub unstarted_line : Unstarted → List ℕ
-unstarted_line why.BadWords = codes "bad words\n"
-unstarted_line why.ReadFault = codes "read fault\n"
-unstarted_line why.TooLong = codes "too long\n"
-unstarted_line (why.BadSession error) = codes "bad session " ++ error_words error ++ 10 ∷ []
-unstarted_line (why.Unopened (opens.Damaged row)) = codes "damaged " ++ decimal row ++ 10 ∷ []
-unstarted_line (why.Unopened opens.DiskFault) = codes "disk fault\n"
-unstarted_line (why.Unopened opens.NoMemory) = []
+unstarted_line unstarted = status_line (unstarted_status unstarted)
 
 -- that line was written, unless the sink failed, which then took a front of it; want of memory has no line
 pub record WritesUnstarted (unstarted : Unstarted) (status : Status) (old new : Option (List ℕ)) (faults : Change ℕ) : Type 0 where
@@ -86,3 +78,4 @@ pub record WritesUnstarted (unstarted : Unstarted) (status : Status) (old new : 
   pub nothing : status ≡ statuses.NoMemory → Appends old new []
   pub memory : status ≡ statuses.NoMemory → unstarted ≡ why.Unopened opens.NoMemory
   pub fault : status ≡ statuses.WriteFault → Rose faults.before faults.after
+  pub line : status ≡ statuses.WriteFault → is_cut (unstarted_status unstarted) ≡ false
