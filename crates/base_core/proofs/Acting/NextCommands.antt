@@ -15,7 +15,6 @@ use Rattle.cc_names.specs.declared.desks.Occasion.{Occasion}
 use Rattle.cc_names.specs.declared.memory.Or.{Or}
 use Rattle.cc_names.specs.declared.memory.Or.TheVariants.{NoMemory, Is}
 use Rattle.cc_names.specs.declared.refusals.Refusal.{Refusal}
-use Rattle.cc_names.specs.declared.replies.Reply.TheVariants as replies
 use Rattle.cc_names.specs.declared.rows.Tag.{Tag}
 use Rattle.cc_names.specs.declared.steps.StoryStep.{StoryStep}
 use Rattle.checkout_desk.specs.Deciding.{DecidesIfAny, Sees}
