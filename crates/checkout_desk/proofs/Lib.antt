@@ -3,3 +3,4 @@ pub mod FirstRefusals
 pub mod RuleBranches
 pub mod Outsiders
 pub mod RecordedLabels
+pub mod MatchedChanges

@@ -33,11 +33,6 @@ abbrev pub made : Result Plain (Or Refusal) → Result (Option Plain) (Or Refusa
 made (Ok row) = Ok (Some row)
 made (Err refusal) = Err refusal
 
--- what holds of the row that was decided, where there is one
-abbrev pub IfRow : Result (Option Plain) (Or Refusal) → (Plain → Type 0) → Type 0
-IfRow (Ok (Some row)) so = so row
-IfRow result so = Unit {0}
-
 -- unless memory ran out, the refusal is that of a test
 abbrev pub IsOfTest : Or Refusal → Option Refusal → Type 0
 IsOfTest NoMemory test = Unit {0}

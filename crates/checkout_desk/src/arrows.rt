@@ -1,9 +1,8 @@
 //! Arrows between the versions of an element: that one was merged into the other.
 
-ghost use Rattle.std.specs.Prelude.{◌≡◌, ◌==◌, ℕ, ◌<◌, OnOk, IfOk, option_map, true};
+ghost use Rattle.std.specs.Prelude.{◌==◌, ℕ, option_map};
 ghost use Rattle.cc_names.specs.declared.refusals.Refusal.TheVariants as refusals;
 ghost use Rattle.legal_history.specs.Base.Conditions.{arrow_row};
-ghost use Rattle.legal_history.specs.Base.Fits.{row_limit};
 ghost use Rattle.legal_history.specs.Commands.Decisions.{Scene};
 ghost use Rattle.legal_history.specs.Commands.Found.{for_version};
 ghost use Rattle.legal_history.specs.Commands.LabelLines.{mkarrow, mkarrow_from, mkarrow_of, version_named};
@@ -70,11 +69,10 @@ fn mkarrow_from(
     tail: u64,
     occasion: Occasion,
 ) -> Result<Row, Or<Refusal>>
-    ensures decided { (scene : Scene) (now : ℕ)
+    ensures { (scene : Scene) (now : ℕ)
         → Sees scene rows.now now view.now occasion.busy occasion.taken
         → Decides occasion.tag occasion.moment result
         (mkarrow_from scene view.now selected.element selected.picked tail) }
-    ensures room { OnOk result (occasion.taken < row_limit) }
 {
     let taken = checked_out(rows, view, selected.element);
     needs_version_picked(selected.picked.out, taken)?;
@@ -99,11 +97,10 @@ fn mkarrow_of(
     selected: Selected,
     occasion: Occasion,
 ) -> Result<Row, Or<Refusal>>
-    ensures decided { (scene : Scene) (now : ℕ)
+    ensures { (scene : Scene) (now : ℕ)
         → Sees scene rows.now now view.now occasion.busy occasion.taken
         → Decides occasion.tag occasion.moment result
         (mkarrow_of scene view.now path.now name.now selected.element selected.picked) }
-    ensures room { OnOk result (occasion.taken < row_limit) }
 {
     let tail = find_version(alloc, rows, selected, path, name)?;
     mkarrow_from(rows, view, selected, tail, occasion)
@@ -118,11 +115,10 @@ pub fn mkarrow(
     name: &VersionName,
     occasion: Occasion,
 ) -> Result<Row, Or<Refusal>>
-    ensures decided { (scene : Scene) (now : ℕ)
+    ensures { (scene : Scene) (now : ℕ)
         → Sees scene rows.now now view.now occasion.busy occasion.taken
         → Decides occasion.tag occasion.moment result
         (mkarrow scene view.now path.now name.now) }
-    ensures room { OnOk result (occasion.taken < row_limit) }
 {
     let selected = find_selected_in(alloc, rows, view, path)?;
     mkarrow_of(alloc, rows, view, path, name, selected, occasion)

@@ -1,8 +1,7 @@
 //! Making branches.
 
-ghost use Rattle.std.specs.Prelude.{◌≡◌, ℕ, ◌<◌, OnOk, true, IfOk};
+ghost use Rattle.std.specs.Prelude.{◌≡◌, ℕ};
 ghost use Rattle.cc_names.specs.Formed.{IsTypeName};
-ghost use Rattle.legal_history.specs.Base.Fits.{row_limit};
 ghost use Rattle.legal_history.specs.Commands.CheckoutLines.{mkbranch, mkbranch_of, out_unless};
 ghost use Rattle.legal_history.specs.Commands.Decisions.{Scene};
 ghost use Rattle.checkout_desk.specs.Deciding.{Sees, Decides};
@@ -37,12 +36,11 @@ fn mkbranch_of(
     selected: Selected,
     occasion: Occasion,
 ) -> Result<Row, Or<Refusal>>
-    requires name { IsTypeName branch.now }
-    ensures decided { (scene : Scene) (now : ℕ)
+    requires { IsTypeName branch.now }
+    ensures { (scene : Scene) (now : ℕ)
         → Sees scene rows.now now view.now occasion.busy occasion.taken
         → Decides occasion.tag occasion.moment result
         (mkbranch_of scene view.now nco branch.now selected.element selected.picked) }
-    ensures room { OnOk result (occasion.taken < row_limit) }
 {
     needs_not_out(checked_out(rows, view, selected.element))?;
     needs_branch_type(alloc, rows, branch)?;
@@ -68,12 +66,11 @@ pub fn mkbranch(
     path: &Path,
     occasion: Occasion,
 ) -> Result<Row, Or<Refusal>>
-    requires name { IsTypeName branch.now }
-    ensures decided { (scene : Scene) (now : ℕ)
+    requires { IsTypeName branch.now }
+    ensures { (scene : Scene) (now : ℕ)
         → Sees scene rows.now now view.now occasion.busy occasion.taken
         → Decides occasion.tag occasion.moment result
         (mkbranch scene view.now nco branch.now path.now) }
-    ensures room { OnOk result (occasion.taken < row_limit) }
 {
     let selected = find_selected_idle(alloc, rows, view, path, occasion.busy)?;
     mkbranch_of(alloc, rows, view, nco, branch, selected, occasion)

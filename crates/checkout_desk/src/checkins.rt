@@ -1,7 +1,6 @@
 //! Ending checkouts, with a version or without.
 
-ghost use Rattle.std.specs.Prelude.{◌≡◌, ℕ, ◌<◌, OnOk, option_map, true, IfOk};
-ghost use Rattle.legal_history.specs.Base.Fits.{row_limit};
+ghost use Rattle.std.specs.Prelude.{ℕ, option_map};
 ghost use Rattle.legal_history.specs.Commands.CheckoutLines.{changes_unless, checkin, checkin_of, uncheckout, uncheckout_of};
 ghost use Rattle.legal_history.specs.Commands.CheckoutTests.{needs_change};
 ghost use Rattle.legal_history.specs.Commands.Decisions.{Scene, first_refusal};
@@ -49,11 +48,10 @@ fn checkin_of(
     element: u64,
     occasion: Occasion,
 ) -> Result<Row, Or<Refusal>>
-    ensures decided { (scene : Scene) (now : ℕ)
+    ensures { (scene : Scene) (now : ℕ)
         → Sees scene rows.now now view.now occasion.busy occasion.taken
         → Decides occasion.tag occasion.moment result
         (checkin_of scene view.now identical path.now element) }
-    ensures room { OnOk result (occasion.taken < row_limit) }
 {
     let taken = checked_out(rows, view, element);
     needs_out(alloc, path, taken)?;
@@ -79,11 +77,10 @@ pub fn checkin(
     path: &Path,
     occasion: Occasion,
 ) -> Result<Row, Or<Refusal>>
-    ensures decided { (scene : Scene) (now : ℕ)
+    ensures { (scene : Scene) (now : ℕ)
         → Sees scene rows.now now view.now occasion.busy occasion.taken
         → Decides occasion.tag occasion.moment result
         (checkin scene view.now identical path.now) }
-    ensures room { OnOk result (occasion.taken < row_limit) }
 {
     let element = find_standing_idle(alloc, rows, view, path, occasion.busy)?;
     checkin_of(alloc, rows, view, identical, path, element, occasion)
@@ -98,11 +95,10 @@ fn uncheckout_of(
     element: u64,
     occasion: Occasion,
 ) -> Result<Row, Or<Refusal>>
-    ensures decided { (scene : Scene) (now : ℕ)
+    ensures { (scene : Scene) (now : ℕ)
         → Sees scene rows.now now view.now occasion.busy occasion.taken
         → Decides occasion.tag occasion.moment result
         (uncheckout_of scene view.now path.now element) }
-    ensures room { OnOk result (occasion.taken < row_limit) }
 {
     needs_out(alloc, path, checked_out(rows, view, element))?;
     needs_room(occasion.taken)?;
@@ -122,10 +118,9 @@ pub fn uncheckout(
     path: &Path,
     occasion: Occasion,
 ) -> Result<Row, Or<Refusal>>
-    ensures decided { (scene : Scene) (now : ℕ)
+    ensures { (scene : Scene) (now : ℕ)
         → Sees scene rows.now now view.now occasion.busy occasion.taken
         → Decides occasion.tag occasion.moment result (uncheckout scene view.now path.now) }
-    ensures room { OnOk result (occasion.taken < row_limit) }
 {
     let element = find_standing_idle(alloc, rows, view, path, occasion.busy)?;
     uncheckout_of(alloc, rows, view, path, element, occasion)

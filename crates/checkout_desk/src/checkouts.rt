@@ -1,9 +1,8 @@
 //! Checking elements out.
 
-ghost use Rattle.std.specs.Prelude.{◌≡◌, ℕ, ◌<◌, ◌∷◌, [], OnOk, IfOk, IfSome, true};
+ghost use Rattle.std.specs.Prelude.{◌≡◌, ℕ, ◌∷◌, [], IfOk, IfSome};
 ghost use Rattle.std.specs.Option.{option_copied};
 ghost use Rattle.cc_names.specs.Formed.{IsDeedFormed, IsTypeName};
-ghost use Rattle.legal_history.specs.Base.Fits.{row_limit};
 ghost use Rattle.legal_history.specs.Commands.CheckoutLines.{branch_by, checkout, checkout_by, checkout_deed, checkout_of, deciding_rule, out_by};
 ghost use Rattle.legal_history.specs.Commands.Decisions.{Scene, first_refusal};
 ghost use Rattle.legal_history.specs.Commands.Tests.{needs_branch_type, needs_no_branch};
@@ -132,11 +131,10 @@ fn checkout_of(
     selected: Selected,
     occasion: Occasion,
 ) -> Result<Row, Or<Refusal>>
-    ensures decided { (scene : Scene) (now : ℕ)
+    ensures { (scene : Scene) (now : ℕ)
         → Sees scene rows.now now view.now occasion.busy occasion.taken
         → Decides occasion.tag occasion.moment result
         (checkout_of scene view.now unreserved selected.element selected.picked) }
-    ensures room { OnOk result (occasion.taken < row_limit) }
 {
     needs_not_out(checked_out(rows, view, selected.element))?;
     let rule = deciding_rule(rows, view, selected.picked);
@@ -158,11 +156,10 @@ pub fn checkout(
     path: &Path,
     occasion: Occasion,
 ) -> Result<Row, Or<Refusal>>
-    ensures decided { (scene : Scene) (now : ℕ)
+    ensures { (scene : Scene) (now : ℕ)
         → Sees scene rows.now now view.now occasion.busy occasion.taken
         → Decides occasion.tag occasion.moment result
         (checkout scene view.now unreserved path.now) }
-    ensures room { OnOk result (occasion.taken < row_limit) }
 {
     let selected = find_selected_idle(alloc, rows, view, path, occasion.busy)?;
     checkout_of(alloc, rows, view, unreserved, selected, occasion)

@@ -1,8 +1,7 @@
 //! Setting the config spec of a view.
 
-ghost use Rattle.std.specs.Prelude.{◌≡◌, ℕ, ◌<◌, ◌≤◌, length, OnOk, true, IfOk};
+ghost use Rattle.std.specs.Prelude.{ℕ, ◌≤◌, length};
 ghost use Rattle.spec_text.specs.Specs.{rules_of};
-ghost use Rattle.legal_history.specs.Base.Fits.{row_limit};
 ghost use Rattle.legal_history.specs.Commands.Decisions.{Scene};
 ghost use Rattle.legal_history.specs.Commands.FileLines.{setcs};
 ghost use Rattle.legal_history.specs.Commands.Tests.{needs_rules};
@@ -40,11 +39,10 @@ pub fn setcs(
     text: &Text,
     occasion: Occasion,
 ) -> Result<Row, Or<Refusal>>
-    requires short { length text.now ≤ 16777216 }
-    ensures decided { (scene : Scene) (now : ℕ)
+    requires { length text.now ≤ 16777216 }
+    ensures { (scene : Scene) (now : ℕ)
         → Sees scene rows.now now view.now occasion.busy occasion.taken
         → Decides occasion.tag occasion.moment result (setcs scene view.now text.now) }
-    ensures room { OnOk result (occasion.taken < row_limit) }
 {
     needs_view(rows, view)?;
     needs_idle(occasion.busy)?;

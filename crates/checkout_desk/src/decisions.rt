@@ -1,12 +1,11 @@
 //! The decision on a change.
 
-ghost use Rattle.std.specs.Prelude.{◌≡◌, ◌<◌};
+ghost use Rattle.std.specs.Prelude.{◌≡◌};
 ghost use Rattle.cc_names.specs.Commands.{view_of};
 ghost use Rattle.session_text.specs.Formed.{IsChange};
-ghost use Rattle.legal_history.specs.Base.Fits.{row_limit};
 ghost use Rattle.legal_history.specs.Commands.Decisions.{Scene};
 ghost use Rattle.legal_history.specs.Commands.Lines.{change_decision};
-ghost use Rattle.checkout_desk.specs.Deciding.{DecidesIfAny, IfRow, Sees, made};
+ghost use Rattle.checkout_desk.specs.Deciding.{DecidesIfAny, Sees, made};
 
 use crate::arrows::mkarrow;
 use crate::branches::mkbranch;
@@ -46,12 +45,10 @@ pub fn decide(
     change: &Change,
     occasion: Occasion,
 ) -> Result<Option<Row>, Or<Refusal>>
-    requires formed { IsChange 16777216 change.now }
-
-    ensures decided { (scene : Scene)
+    requires { IsChange 16777216 change.now }
+    ensures { (scene : Scene)
         → Sees scene rows.now occasion.moment (view_of change.now) occasion.busy occasion.taken
         → DecidesIfAny occasion.tag occasion.moment result (change_decision scene change.now) }
-    ensures room { IfRow result (λ row. occasion.taken < row_limit) }
 {
     match change {
         Change::Mkview { view } => made(mkview(alloc, rows, view, occasion)),

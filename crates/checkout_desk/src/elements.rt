@@ -1,8 +1,7 @@
 //! Making elements.
 
-ghost use Rattle.std.specs.Prelude.{◌≡◌, ℕ, ◌<◌, OnOk, true, IfOk};
+ghost use Rattle.std.specs.Prelude.{ℕ};
 ghost use Rattle.cc_names.specs.Formed.{IsBelowRoot};
-ghost use Rattle.legal_history.specs.Base.Fits.{row_limit};
 ghost use Rattle.legal_history.specs.Commands.Decisions.{Scene};
 ghost use Rattle.legal_history.specs.Commands.DirectoryLines.{mkelem, mkelem_in};
 ghost use Rattle.checkout_desk.specs.Deciding.{Sees, Decides};
@@ -30,12 +29,11 @@ fn mkelem_in(
     directory: u64,
     occasion: Occasion,
 ) -> Result<Row, Or<Refusal>>
-    requires below { IsBelowRoot path.now }
-    ensures decided { (scene : Scene) (now : ℕ)
+    requires { IsBelowRoot path.now }
+    ensures { (scene : Scene) (now : ℕ)
         → Sees scene rows.now now view.now occasion.busy occasion.taken
         → Decides occasion.tag occasion.moment result
         (mkelem_in scene view.now nco kind path.now directory) }
-    ensures room { OnOk result (occasion.taken < row_limit) }
 {
     let name = last_name(alloc, path)?;
     needs_free_path(alloc, rows, view, path, directory, &name)?;
@@ -61,11 +59,10 @@ pub fn mkelem(
     path: &Path,
     occasion: Occasion,
 ) -> Result<Row, Or<Refusal>>
-    requires below { IsBelowRoot path.now }
-    ensures decided { (scene : Scene) (now : ℕ)
+    requires { IsBelowRoot path.now }
+    ensures { (scene : Scene) (now : ℕ)
         → Sees scene rows.now now view.now occasion.busy occasion.taken
         → Decides occasion.tag occasion.moment result (mkelem scene view.now nco kind path.now) }
-    ensures room { OnOk result (occasion.taken < row_limit) }
 {
     let directory = find_directory_out(alloc, rows, view, path, occasion.busy)?;
     mkelem_in(alloc, rows, view, nco, kind, path, directory, occasion)

@@ -12,7 +12,6 @@ ghost use Rattle.legal_history.specs.Commands.FileLines.{last_name, parent};
 ghost use Rattle.legal_history.specs.Commands.Found.{for_directory, for_element, for_object, for_selected};
 ghost use Rattle.legal_history.specs.Commands.Tests.{needs_idle, needs_view};
 ghost use Rattle.checkout_desk.specs.Deciding.{Finds, Sees, apart};
-ghost use Rattle.cc_names.specs.declared.rows.Tag.{Tag};
 
 use crate::needs::{needs_idle, needs_parent_out, needs_view};
 use cc_names::memory::{NoMemory, Or};

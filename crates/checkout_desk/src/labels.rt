@@ -1,9 +1,8 @@
 //! Putting labels on versions, and taking them off.
 
-ghost use Rattle.std.specs.Prelude.{◌≡◌, ℕ, Option, List, ◌<◌, OnOk, ◌∷◌, [], true, IfOk};
+ghost use Rattle.std.specs.Prelude.{◌≡◌, ℕ, Option, List, ◌∷◌, []};
 ghost use Rattle.cc_names.specs.Formed.{IsTypeName};
 ghost use Rattle.cc_names.specs.declared.rows.Tag.{Tag};
-ghost use Rattle.legal_history.specs.Base.Fits.{row_limit};
 ghost use Rattle.legal_history.specs.Base.Seen.{at};
 ghost use Rattle.legal_history.specs.Commands.Decisions.{Scene, past};
 ghost use Rattle.legal_history.specs.Commands.Found.{for_element};
@@ -60,12 +59,11 @@ fn mklabel_of(
     selected: Selected,
     occasion: Occasion,
 ) -> Result<Row, Or<Refusal>>
-    requires name { IsTypeName label.now }
-    ensures decided { (scene : Scene) (now : ℕ)
+    requires { IsTypeName label.now }
+    ensures { (scene : Scene) (now : ℕ)
         → Sees scene rows.now now view.now occasion.busy occasion.taken
         → Decides occasion.tag occasion.moment result
         (mklabel_of scene view.now replace label.now selected.element selected.picked) }
-    ensures room { OnOk result (occasion.taken < row_limit) }
 {
     needs_label_type(alloc, rows, label)?;
     let taken = checked_out(rows, view, selected.element);
@@ -94,12 +92,11 @@ pub fn mklabel(
     path: &Path,
     occasion: Occasion,
 ) -> Result<Row, Or<Refusal>>
-    requires name { IsTypeName label.now }
-    ensures decided { (scene : Scene) (now : ℕ)
+    requires { IsTypeName label.now }
+    ensures { (scene : Scene) (now : ℕ)
         → Sees scene rows.now now view.now occasion.busy occasion.taken
         → Decides occasion.tag occasion.moment result
         (mklabel scene view.now replace label.now path.now) }
-    ensures room { OnOk result (occasion.taken < row_limit) }
 {
     let selected = find_selected_in(alloc, rows, view, path)?;
     mklabel_of(alloc, rows, view, replace, label, selected, occasion)
@@ -130,12 +127,11 @@ fn rmlabel_of(
     element: u64,
     occasion: Occasion,
 ) -> Result<Row, Or<Refusal>>
-    requires name { IsTypeName label.now }
-    ensures decided { (scene : Scene) (now : ℕ) (view : List ℕ) (busy : Option Tag)
+    requires { IsTypeName label.now }
+    ensures { (scene : Scene) (now : ℕ) (view : List ℕ) (busy : Option Tag)
         → Sees scene rows.now now view busy occasion.taken
         → Decides occasion.tag occasion.moment result
         (rmlabel_of scene label.now path.now element) }
-    ensures room { OnOk result (occasion.taken < row_limit) }
 {
     needs_label_type(alloc, rows, label)?;
     needs_label(alloc, rows, label, path, element)?;
@@ -174,12 +170,11 @@ pub fn rmlabel(
     path: &Path,
     occasion: Occasion,
 ) -> Result<Row, Or<Refusal>>
-    requires name { IsTypeName label.now }
-    ensures decided { (scene : Scene) (now : ℕ)
+    requires { IsTypeName label.now }
+    ensures { (scene : Scene) (now : ℕ)
         → Sees scene rows.now now view.now occasion.busy occasion.taken
         → Decides occasion.tag occasion.moment result
         (rmlabel scene view.now label.now path.now) }
-    ensures room { OnOk result (occasion.taken < row_limit) }
 {
     let element = find_standing_in(alloc, rows, view, path)?;
     rmlabel_of(alloc, rows, label, path, element, occasion)

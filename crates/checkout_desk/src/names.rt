@@ -1,13 +1,12 @@
 //! The names of elements in their directories.
 
-ghost use Rattle.std.specs.Prelude.{◌≡◌, ℕ, Option, ◌∷◌, [], ◌++◌, ◌<◌, OnOk, IfOk, option_and_then, option_map, true};
+ghost use Rattle.std.specs.Prelude.{◌≡◌, ℕ, Option, ◌∷◌, [], ◌++◌, IfOk, option_and_then, option_map};
 ghost use Rattle.cc_names.specs.Formed.{IsBelowRoot};
 ghost use Rattle.cc_names.specs.Names.{IsName};
 ghost use Rattle.legal_history.specs.Base.Catalogs.{named, own_of};
 ghost use Rattle.legal_history.specs.Base.Views.{out};
 ghost use Rattle.legal_history.specs.Commands.FileLines.{last_name};
 ghost use Rattle.view_lookup.specs.Effects.{plain_checkout};
-ghost use Rattle.legal_history.specs.Base.Fits.{row_limit};
 ghost use Rattle.legal_history.specs.Commands.Decisions.{Scene, first_refusal, needs_room};
 ghost use Rattle.legal_history.specs.Commands.DirectoryLines.{mv, mv_in, mv_tests, renamed, rmname, rmname_in};
 ghost use Rattle.cc_names.specs.declared.rows.Tag.{Tag};
@@ -45,12 +44,11 @@ fn rmname_in(
     directory: u64,
     occasion: Occasion,
 ) -> Result<Row, Or<Refusal>>
-    requires below { IsBelowRoot path.now }
-    ensures decided { (scene : Scene) (now : ℕ)
+    requires { IsBelowRoot path.now }
+    ensures { (scene : Scene) (now : ℕ)
         → Sees scene rows.now now view.now occasion.busy occasion.taken
         → Decides occasion.tag occasion.moment result
         (rmname_in scene view.now path.now directory) }
-    ensures room { OnOk result (occasion.taken < row_limit) }
 {
     let name = last_name(alloc, path)?;
     needs_name(alloc, rows, view, path, directory, &name)?;
@@ -72,11 +70,10 @@ pub fn rmname(
     path: &Path,
     occasion: Occasion,
 ) -> Result<Row, Or<Refusal>>
-    requires below { IsBelowRoot path.now }
-    ensures decided { (scene : Scene) (now : ℕ)
+    requires { IsBelowRoot path.now }
+    ensures { (scene : Scene) (now : ℕ)
         → Sees scene rows.now now view.now occasion.busy occasion.taken
         → Decides occasion.tag occasion.moment result (rmname scene view.now path.now) }
-    ensures room { OnOk result (occasion.taken < row_limit) }
 {
     let directory = find_directory_out(alloc, rows, view, path, occasion.busy)?;
     rmname_in(alloc, rows, view, path, directory, occasion)
@@ -104,14 +101,13 @@ fn mv_tests(
     directory: u64,
     taken: u64,
 ) -> Result<Name, Or<Refusal>>
-    requires below { IsBelowRoot path.now }
+    requires { IsBelowRoot path.now }
     ensures tests { (scene : Scene) (now : ℕ) (busy : Option Tag)
         → Sees scene rows.now now view.now busy taken
         → Tests result (first_refusal
         (mv_tests scene view.now path.now name.now directory ++ needs_room scene 1 ∷ [])) }
     ensures from { IfOk result (λ from. from ≡ last_name path.now) }
     ensures formed { IfOk result IsName }
-    ensures room { OnOk result (taken < row_limit) }
 {
     let from = last_name(alloc, path)?;
     needs_name(alloc, rows, view, path, directory, &from)?;
@@ -131,12 +127,11 @@ fn mv_in(
     directory: u64,
     occasion: Occasion,
 ) -> Result<Row, Or<Refusal>>
-    requires below { IsBelowRoot path.now }
-    ensures decided { (scene : Scene) (now : ℕ)
+    requires { IsBelowRoot path.now }
+    ensures { (scene : Scene) (now : ℕ)
         → Sees scene rows.now now view.now occasion.busy occasion.taken
         → Decides occasion.tag occasion.moment result
         (mv_in scene view.now path.now name.now directory) }
-    ensures room { OnOk result (occasion.taken < row_limit) }
 {
     let from_name = mv_tests(alloc, rows, view, path, name, directory, occasion.taken)?;
     let deed = Deed::Mv {
@@ -158,11 +153,10 @@ pub fn mv(
     name: &Name,
     occasion: Occasion,
 ) -> Result<Row, Or<Refusal>>
-    requires below { IsBelowRoot path.now }
-    ensures decided { (scene : Scene) (now : ℕ)
+    requires { IsBelowRoot path.now }
+    ensures { (scene : Scene) (now : ℕ)
         → Sees scene rows.now now view.now occasion.busy occasion.taken
         → Decides occasion.tag occasion.moment result (mv scene view.now path.now name.now) }
-    ensures room { OnOk result (occasion.taken < row_limit) }
 {
     let directory = find_directory_out(alloc, rows, view, path, occasion.busy)?;
     mv_in(alloc, rows, view, path, name, directory, occasion)

@@ -5,7 +5,6 @@ ghost use Rattle.legal_history.specs.Builds.Active.{building};
 ghost use Rattle.legal_history.specs.Commands.Decisions.{Scene};
 ghost use Rattle.legal_history.specs.Commands.Tests.{needs_branch_type, needs_directory, needs_free_path, needs_idle, needs_label_type, needs_name, needs_no_branch, needs_parent_out, needs_selected, needs_view};
 ghost use Rattle.checkout_desk.specs.Deciding.{Tests};
-ghost use Rattle.cc_names.specs.declared.rows.Tag.{Tag};
 
 use cc_names::memory::Or;
 use cc_names::names::Name;

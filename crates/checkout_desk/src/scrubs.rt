@@ -1,15 +1,14 @@
 //! Scrubbing the objects that are due: those that no view holds any more, and that were published long enough ago.
 
-ghost use Rattle.std.specs.Prelude.{◌≡◌, ℕ, ◌<◌, ◌+◌, ◌&&◌, nat_le, true, Some, IfOk, List};
+ghost use Rattle.std.specs.Prelude.{◌≡◌, ℕ, ◌+◌, ◌&&◌, nat_le, Some, IfOk, List};
 ghost use Rattle.std.specs.List.Sorted.{IsStrictlySortedBy};
 ghost use Rattle.std.specs.Ordering.{nat_cmp};
 ghost use Rattle.cc_names.specs.Formed.{IsListOf, IsLong};
 ghost use Rattle.legal_history.specs.Base.Closures.{is_publish_deed};
-ghost use Rattle.legal_history.specs.Base.Fits.{row_limit};
 ghost use Rattle.legal_history.specs.Base.Rows.{row_at};
 ghost use Rattle.legal_history.specs.Commands.Decisions.{Scene};
 ghost use Rattle.legal_history.specs.Commands.ObjectLines.{due, is_due, scrub};
-ghost use Rattle.checkout_desk.specs.Deciding.{DecidesIfAny, IfRow, Sees};
+ghost use Rattle.checkout_desk.specs.Deciding.{DecidesIfAny, Sees};
 
 use crate::room::needs_room;
 use cc_names::desks::Occasion;
@@ -81,10 +80,9 @@ pub fn scrub(
     age: u64,
     occasion: Occasion,
 ) -> Result<Option<Row>, Or<Refusal>>
-    ensures decided { (scene : Scene) (view : List ℕ)
+    ensures { (scene : Scene) (view : List ℕ)
         → Sees scene rows.now occasion.moment view occasion.busy occasion.taken
         → DecidesIfAny occasion.tag occasion.moment result (scrub scene age) }
-    ensures room { IfRow result (λ row. occasion.taken < row_limit) }
 {
     let objects = due(alloc, rows, occasion.moment, age)?;
     if objects.is_empty() {

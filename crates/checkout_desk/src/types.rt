@@ -1,9 +1,8 @@
 //! The types of labels and of branches.
 
-ghost use Rattle.std.specs.Prelude.{◌≡◌, ℕ, Option, List, ◌<◌, true, IfOk, OnOk};
+ghost use Rattle.std.specs.Prelude.{ℕ, Option, List};
 ghost use Rattle.cc_names.specs.Formed.{IsTypeName};
 ghost use Rattle.cc_names.specs.declared.rows.Tag.{Tag};
-ghost use Rattle.legal_history.specs.Base.Fits.{row_limit};
 ghost use Rattle.legal_history.specs.Commands.Decisions.{Scene};
 ghost use Rattle.legal_history.specs.Commands.LabelLines.{mktype};
 ghost use Rattle.legal_history.specs.Commands.Tests.{needs_free_type};
@@ -37,11 +36,10 @@ pub fn mktype(
     name: &Name,
     occasion: Occasion,
 ) -> Result<Row, Or<Refusal>>
-    requires name { IsTypeName name.now }
-    ensures decided { (scene : Scene) (now : ℕ) (view : List ℕ) (busy : Option Tag)
+    requires { IsTypeName name.now }
+    ensures { (scene : Scene) (now : ℕ) (view : List ℕ) (busy : Option Tag)
         → Sees scene rows.now now view busy occasion.taken
         → Decides occasion.tag occasion.moment result (mktype scene kind name.now) }
-    ensures room { OnOk result (occasion.taken < row_limit) }
 {
     needs_free_type(alloc, rows, name)?;
     needs_room(occasion.taken)?;

@@ -1,10 +1,8 @@
 //! The commands on views.
 
-ghost use Rattle.std.specs.Prelude.{◌≡◌, ℕ, List, Option, ◌<◌, ◌≤◌, IfOk, OnOk, true};
-ghost use Rattle.legal_history.specs.Stories.Lawful.{last_moment};
+ghost use Rattle.std.specs.Prelude.{ℕ, List, Option};
 ghost use Rattle.legal_history.specs.Commands.Decisions.{Scene};
 ghost use Rattle.legal_history.specs.Commands.FileLines.{mkview, rmview};
-ghost use Rattle.legal_history.specs.Base.Fits.{row_limit};
 ghost use Rattle.legal_history.specs.Commands.Tests.{needs_new_view, needs_no_checkouts};
 ghost use Rattle.checkout_desk.specs.Deciding.{Sees, Decides, Tests};
 ghost use Rattle.cc_names.specs.declared.rows.Tag.{Tag};
@@ -36,11 +34,9 @@ pub fn mkview(
     view: &Name,
     occasion: Occasion,
 ) -> Result<Row, Or<Refusal>>
-    requires { occasion.moment ≤ last_moment }
-    ensures decided { (scene : Scene) (now : ℕ) (other : List ℕ) (busy : Option Tag)
+    ensures { (scene : Scene) (now : ℕ) (other : List ℕ) (busy : Option Tag)
         → Sees scene rows.now now other busy occasion.taken
         → Decides occasion.tag occasion.moment result (mkview scene view.now) }
-    ensures room { OnOk result (occasion.taken < row_limit) }
 {
     needs_new_view(rows, view)?;
     needs_room(occasion.taken)?;
@@ -71,11 +67,9 @@ pub fn rmview(
     force: bool,
     occasion: Occasion,
 ) -> Result<Row, Or<Refusal>>
-    requires { occasion.moment ≤ last_moment }
-    ensures decided { (scene : Scene) (now : ℕ)
+    ensures { (scene : Scene) (now : ℕ)
         → Sees scene rows.now now view.now occasion.busy occasion.taken
         → Decides occasion.tag occasion.moment result (rmview scene view.now force) }
-    ensures room { OnOk result (occasion.taken < row_limit) }
 {
     needs_view(rows, view)?;
     needs_idle(occasion.busy)?;

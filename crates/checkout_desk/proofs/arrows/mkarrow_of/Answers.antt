@@ -4,10 +4,10 @@ use Rattle.std.proofs.lemmas.Grind.{common_steps}
 use Rattle.legal_history.specs.Commands.LabelLines.{mkarrow_from}
 use Rattle.checkout_desk.proofs.arrows.mkarrow_of.Goals as goal
 
-pub returns-in_err-tail-clause-decided : goal.returns-in_err-tail-clause-decided
-returns-in_err-tail-clause-decided c = λ scene now sees.
+pub returns-in_err-tail : goal.returns-in_err-tail
+returns-in_err-tail c = λ scene now sees.
     grind (arith, common_steps, sees.base, c.in_err-tail.ensures (mkarrow_from scene c.args.view.now c.args.selected.element c.args.selected.picked))
 
-pub returns-clause-decided : goal.returns-clause-decided
-returns-clause-decided c = λ scene now sees.
-    grind (arith, common_steps, sees.base, c.in_ok-tail.ensures (mkarrow_from scene c.args.view.now c.args.selected.element c.args.selected.picked), c.mkarrow_from.ensures.decided scene now sees)
+pub returns : goal.returns
+returns c = λ scene now sees.
+    grind (arith, common_steps, sees.base, c.in_ok-tail.ensures (mkarrow_from scene c.args.view.now c.args.selected.element c.args.selected.picked), c.mkarrow_from.ensures scene now sees)

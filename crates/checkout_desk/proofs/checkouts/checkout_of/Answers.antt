@@ -15,8 +15,8 @@ checkout_deed-requires c =
     subst (λ branch. IfSome branch IsTypeName) (sym (c.branch_by-branch.ensures ∙ ap branch_by c.deciding_rule-rule.ensures))
     (deciding_named c.args.rows.now c.args.view.now c.args.selected.picked)
 
-pub returns-in_err-checkout_by-clause-decided : goal.returns-in_err-checkout_by-clause-decided
-returns-in_err-checkout_by-clause-decided c = λ scene now sees.
+pub returns-in_err-checkout_by : goal.returns-in_err-checkout_by
+returns-in_err-checkout_by c = λ scene now sees.
     grind (
       arith,
       common_steps,
@@ -28,8 +28,8 @@ returns-in_err-checkout_by-clause-decided c = λ scene now sees.
           (c.branch_by-branch.ensures ∙ ap branch_by c.deciding_rule-rule.ensures) c.in_err-checkout_by.ensures),
     )
 
-pub returns-clause-decided : goal.returns-clause-decided
-returns-clause-decided c = λ scene now sees.
+pub returns : goal.returns
+returns c = λ scene now sees.
     grind (
       arith,
       common_steps,

@@ -4,10 +4,10 @@ use Rattle.std.proofs.lemmas.Grind.{common_steps}
 use Rattle.legal_history.specs.Commands.DirectoryLines.{rmname_in}
 use Rattle.checkout_desk.proofs.names.rmname.Goals as goal
 
-pub returns-in_err-directory-clause-decided : goal.returns-in_err-directory-clause-decided
-returns-in_err-directory-clause-decided c = λ scene now sees.
+pub returns-in_err-directory : goal.returns-in_err-directory
+returns-in_err-directory c = λ scene now sees.
     grind (arith, common_steps, c.in_err-directory.ensures scene now c.args.occasion.taken sees (rmname_in scene c.args.view.now c.args.path.now))
 
-pub returns-clause-decided : goal.returns-clause-decided
-returns-clause-decided c = λ scene now sees.
-    grind (arith, common_steps, c.in_ok-directory.ensures scene now c.args.occasion.taken sees (rmname_in scene c.args.view.now c.args.path.now), c.rmname_in.ensures.decided scene now sees)
+pub returns : goal.returns
+returns c = λ scene now sees.
+    grind (arith, common_steps, c.in_ok-directory.ensures scene now c.args.occasion.taken sees (rmname_in scene c.args.view.now c.args.path.now), c.rmname_in.ensures scene now sees)

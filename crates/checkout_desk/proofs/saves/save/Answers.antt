@@ -3,10 +3,10 @@ use Rattle.std.proofs.Common.{arith}
 use Rattle.std.proofs.lemmas.Grind.{common_steps}
 use Rattle.checkout_desk.proofs.saves.save.Goals as goal
 
-pub returns-in_err-save_tests-clause-decided : goal.returns-in_err-save_tests-clause-decided
-returns-in_err-save_tests-clause-decided c = λ scene now sees.
-    grind (arith, common_steps, c.in_err-save_tests.ensures.tests scene now sees)
+pub returns-in_err-save_tests : goal.returns-in_err-save_tests
+returns-in_err-save_tests c = λ scene now sees.
+    grind (arith, common_steps, c.in_err-save_tests.ensures scene now sees)
 
-pub returns-clause-decided : goal.returns-clause-decided
-returns-clause-decided c = λ scene now sees.
-    grind (arith, common_steps, sees.base, c.in_ok-save_tests.ensures.tests scene now sees)
+pub returns : goal.returns
+returns c = λ scene now sees.
+    grind (arith, common_steps, sees.base, c.in_ok-save_tests.ensures scene now sees)
