@@ -1,9 +1,8 @@
 -- How refusals and faults are printed: their code and name, and then their arguments.
 use Rattle.std.specs.Prelude.{ℕ, Option, Some, None, List, [], ◌∷◌, codes}
 use Rattle.std.specs.Fmt.{decimal}
-use Rattle.cc_names.specs.Commands.{lane_at}
-use Rattle.cc_names.specs.declared.commands.Lane.{Lane}
-use Rattle.cc_names.specs.declared.commands.Phase.{Phase}
+use Rattle.cc_names.specs.declared.commands.LaneWords.{LaneWords}
+use Rattle.cc_names.specs.declared.commands.PhaseWords.{PhaseWords}
 use Rattle.cc_names.specs.declared.refusals.Refusal.{Refusal}
 use Rattle.cc_names.specs.declared.refusals.Refusal.TheVariants as refusals
 use Rattle.cc_names.specs.declared.refusals.UnitFault.{UnitFault}
@@ -14,6 +13,7 @@ use Rattle.cc_names.specs.declared.refusals.SpecCause.{SpecCause}
 use Rattle.cc_names.specs.declared.refusals.SpecCause.TheVariants as spec_causes
 use Rattle.cc_names.specs.declared.refusals.MakeCause.{MakeCause}
 use Rattle.cc_names.specs.declared.refusals.MakeCause.TheVariants as make_causes
+use Rattle.reply_text.specs.Words.{lane_at}
 
 -- the cause of a bad config spec
 abbrev pub spec_cause : SpecCause → List ℕ
@@ -75,12 +75,12 @@ refusal_name (refusals.Cycle path) = codes "G2 Cycle"
 refusal_name (refusals.TargetIsSource path) = codes "G3 TargetIsSource"
 
 -- the name of a lane, where there is one
-abbrev pub name_of_lane : Option Lane → List ℕ
+abbrev pub name_of_lane : Option LaneWords → List ℕ
 name_of_lane (Some lane) = lane.name
 name_of_lane None = []
 
 -- The arguments of a refusal, in order. A running build is named by its lane and the number of its command.
-abbrev pub refusal_arguments : Phase → Refusal → List (List ℕ)
+abbrev pub refusal_arguments : PhaseWords → Refusal → List (List ℕ)
 refusal_arguments phase refusals.NoView = []
 refusal_arguments phase refusals.ViewExists = []
 refusal_arguments phase (refusals.NoPath path) = path ∷ []
@@ -117,7 +117,7 @@ refusal_arguments phase (refusals.Cycle path) = path ∷ []
 refusal_arguments phase (refusals.TargetIsSource path) = path ∷ []
 
 -- a refusal as words
-abbrev pub refusal_words : Phase → Refusal → List (List ℕ)
+abbrev pub refusal_words : PhaseWords → Refusal → List (List ℕ)
 refusal_words phase refusal = refusal_name refusal ∷ refusal_arguments phase refusal
 
 -- the fault of a script as words

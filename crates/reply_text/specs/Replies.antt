@@ -2,18 +2,18 @@
 use Rattle.std.specs.Prelude.{ℕ, ◌+◌, Bool, true, false, Option, Some, None, List, [], ◌∷◌, ◌++◌, codes, if◌then◌else◌}
 use Rattle.std.specs.List.{flat_map, list_all}
 use Rattle.std.specs.Fmt.{decimal}
-use Rattle.cc_names.specs.Commands.{lane_at}
+use Rattle.cc_names.specs.CommandWords.{words_of}
 use Rattle.hex.specs.Hex.{encode_lower}
-use Rattle.cc_names.specs.declared.commands.Command.{Command}
-use Rattle.cc_names.specs.declared.commands.Lane.{Lane}
+use Rattle.cc_names.specs.declared.commands.LaneWords.{LaneWords}
 use Rattle.cc_names.specs.declared.commands.Phase.{Phase}
+use Rattle.cc_names.specs.declared.commands.PhaseWords.{PhaseWords}
 use Rattle.cc_names.specs.declared.replies.Digest.{Digest}
 use Rattle.cc_names.specs.declared.replies.UnitWord.{UnitWord}
 use Rattle.cc_names.specs.declared.replies.UnitWord.TheVariants as words
 use Rattle.cc_names.specs.declared.replies.UnitLine.{UnitLine}
 use Rattle.cc_names.specs.declared.replies.Reply.{Reply}
 use Rattle.cc_names.specs.declared.replies.Reply.TheVariants as replies
-use Rattle.reply_text.specs.Words.{spaced, shown, word_of}
+use Rattle.reply_text.specs.Words.{spaced, shown, lane_at}
 use Rattle.reply_text.specs.Refusals.{refusal_words, fault_words}
 
 -- the length and the digest of an output as words
@@ -48,7 +48,7 @@ abbrev pub build_word : List UnitLine → List ℕ
 build_word units = if list_all is_made_line units then codes "ok" else codes "failed"
 
 -- a reply as words
-abbrev pub reply_words : Phase → Reply → List (List ℕ)
+abbrev pub reply_words : PhaseWords → Reply → List (List ℕ)
 reply_words phase replies.Good = codes "ok" ∷ []
 reply_words phase (replies.Version name) = codes "ok" ∷ name ∷ []
 reply_words phase (replies.Count number) = codes "ok" ∷ decimal number ∷ []
@@ -63,23 +63,27 @@ lines_behind (replies.Answer text) = shown text
 lines_behind (replies.Built units) = flat_map unit_line units
 lines_behind _ = []
 
--- the lines of a command of this number
-abbrev pub command_lines : Phase → ℕ → Command → Reply → List ℕ
-command_lines phase number command reply =
-    decimal number ++ spaced (word_of command ∷ reply_words phase reply) ++ 10 ∷ lines_behind reply
+-- the lines of the command of this number, which has this word
+abbrev pub command_lines : PhaseWords → ℕ → List ℕ → Reply → List ℕ
+command_lines phase number word reply =
+    decimal number ++ spaced (word ∷ reply_words phase reply) ++ 10 ∷ lines_behind reply
 
--- the lines of commands that are numbered from this number on, each with its reply
-abbrev pub lines_from : Phase → ℕ → List Command → List Reply → List ℕ
-lines_from phase number (command ∷ commands) (reply ∷ answers) =
-    command_lines phase number command reply ++ lines_from phase (number + 1) commands answers
+-- the lines of the commands of these words, which are numbered from this number on, each with its reply
+abbrev pub lines_from : PhaseWords → ℕ → List (List ℕ) → List Reply → List ℕ
+lines_from phase number (word ∷ words) (reply ∷ answers) =
+    command_lines phase number word reply ++ lines_from phase (number + 1) words answers
 lines_from phase number _ _ = []
 
 -- the lines of a lane, where there is one
-abbrev pub lane_lines : Phase → Option Lane → List Reply → List ℕ
+abbrev pub lane_lines : PhaseWords → Option LaneWords → List Reply → List ℕ
 lane_lines phase None answers = []
 lane_lines phase (Some lane) answers =
-    codes "lane " ++ lane.name ++ 10 ∷ lines_from phase 1 lane.commands answers
+    codes "lane " ++ lane.name ++ 10 ∷ lines_from phase 1 lane.words answers
 
--- The lines of a lane of a phase, by its number from 1, with the replies to its commands.
+-- The lines of a lane, by its number from 1, with the replies to its commands.
+abbrev pub render_words : PhaseWords → ℕ → List Reply → List ℕ
+render_words phase number answers = lane_lines phase (lane_at phase number) answers
+
+-- The lines of a lane of a phase, where each command is told by its word.
 abbrev pub render : Phase → ℕ → List Reply → List ℕ
-render phase number answers = lane_lines phase (lane_at phase number) answers
+render phase number answers = render_words (words_of phase) number answers

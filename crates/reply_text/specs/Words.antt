@@ -1,13 +1,9 @@
--- How lines are put together from words.
-use Rattle.std.specs.Prelude.{ℕ, List, [], ◌∷◌, ◌++◌, codes}
+-- How lines are put together from words, and the lanes that they tell of.
+use Rattle.std.specs.Prelude.{ℕ, zero, suc, Option, None, List, [], ◌∷◌, ◌++◌, slice_get}
 use Rattle.std.specs.List.{flat_map}
 use Rattle.cc_names.specs.Cuts.{lines_of}
-use Rattle.cc_names.specs.declared.commands.Change.{Change}
-use Rattle.cc_names.specs.declared.commands.Change.TheVariants as changes
-use Rattle.cc_names.specs.declared.commands.Command.{Command}
-use Rattle.cc_names.specs.declared.commands.Command.TheVariants as commands
-use Rattle.cc_names.specs.declared.commands.Query.{Query}
-use Rattle.cc_names.specs.declared.commands.Query.TheVariants as queries
+use Rattle.cc_names.specs.declared.commands.LaneWords.{LaneWords}
+use Rattle.cc_names.specs.declared.commands.PhaseWords.{PhaseWords}
 
 -- a word behind another one, with one space between
 abbrev pub spaced_word : List ℕ → List ℕ
@@ -25,46 +21,7 @@ shown_line line = 124 ∷ line ++ 10 ∷ []
 abbrev pub shown : List ℕ → List ℕ
 shown text = flat_map shown_line (lines_of text)
 
--- the word of a change
-abbrev pub change_word : Change → List ℕ
-change_word (changes.Mkview view) = codes "mkview"
-change_word (changes.Rmview view force) = codes "rmview"
-change_word (changes.Setcs view text) = codes "setcs"
-change_word (changes.Mkelem view nco path) = codes "mkelem"
-change_word (changes.Mkdir view nco path) = codes "mkdir"
-change_word (changes.Checkout view unreserved path) = codes "checkout"
-change_word (changes.Mkbranch view nco branch path) = codes "mkbranch"
-change_word (changes.Save view path text) = codes "save"
-change_word (changes.Rm view path) = codes "rm"
-change_word (changes.Checkin view identical path) = codes "checkin"
-change_word (changes.Uncheckout view path) = codes "uncheckout"
-change_word (changes.Rmname view path) = codes "rmname"
-change_word (changes.Mv view path name) = codes "mv"
-change_word (changes.Mklbtype name) = codes "mklbtype"
-change_word (changes.Mkbrtype name) = codes "mkbrtype"
-change_word (changes.Mklabel view replace label path) = codes "mklabel"
-change_word (changes.MklabelConfig view replace path label) = codes "mklabel"
-change_word (changes.Rmlabel view label path) = codes "rmlabel"
-change_word (changes.Mkarrow view path version) = codes "mkarrow"
-change_word (changes.Rmdo view path) = codes "rmdo"
-change_word (changes.Scrub age) = codes "scrub"
-
--- the word of a query
-abbrev pub query_word : Query → List ℕ
-query_word (queries.Catcs view) = codes "catcs"
-query_word (queries.Lsdo view) = codes "lsdo"
-query_word (queries.Ls view path) = codes "ls"
-query_word (queries.Cat view path version) = codes "cat"
-query_word (queries.Describe view path) = codes "describe"
-query_word (queries.Lsvtree view path) = codes "lsvtree"
-query_word (queries.Lshistory view path) = codes "lshistory"
-query_word (queries.Catcr view path) = codes "catcr"
-query_word (queries.Diffcr view path other second) = codes "diffcr"
-query_word (queries.Covers seer view path) = codes "covers"
-query_word (queries.Findmerge view path branch) = codes "findmerge"
-
--- the word of a command
-abbrev pub word_of : Command → List ℕ
-word_of (commands.Change change) = change_word change
-word_of (commands.Query query) = query_word query
-word_of (commands.Build asked) = codes "clearmake"
+-- the lane of this number, counted from 1
+abbrev pub lane_at : PhaseWords → ℕ → Option LaneWords
+lane_at phase zero = None
+lane_at phase (suc n) = slice_get phase.lanes n

@@ -1,70 +1,9 @@
-//! The words that are printed for commands, refusals and causes.
+//! The words that are printed for refusals and causes.
 
 ghost use Rattle.std.specs.Prelude.{◌≡◌};
-ghost use Rattle.reply_text.specs.Words.{change_word, query_word, word_of};
 ghost use Rattle.reply_text.specs.Refusals.{refusal_name, spec_cause, make_cause};
 
-use cc_names::commands::{Change, Command, Query};
 use cc_names::refusals::{MakeCause, Refusal, SpecCause};
-
-/// The word of a change.
-fn change_word(change: &Change) -> &'static [u8]
-    ensures { result.now ≡ change_word change.now }
-{
-    match change {
-        Change::Mkview { .. } => b"mkview",
-        Change::Rmview { .. } => b"rmview",
-        Change::Setcs { .. } => b"setcs",
-        Change::Mkelem { .. } => b"mkelem",
-        Change::Mkdir { .. } => b"mkdir",
-        Change::Checkout { .. } => b"checkout",
-        Change::Mkbranch { .. } => b"mkbranch",
-        Change::Save { .. } => b"save",
-        Change::Rm { .. } => b"rm",
-        Change::Checkin { .. } => b"checkin",
-        Change::Uncheckout { .. } => b"uncheckout",
-        Change::Rmname { .. } => b"rmname",
-        Change::Mv { .. } => b"mv",
-        Change::Mklbtype { .. } => b"mklbtype",
-        Change::Mkbrtype { .. } => b"mkbrtype",
-        Change::Mklabel { .. } => b"mklabel",
-        Change::MklabelConfig { .. } => b"mklabel",
-        Change::Rmlabel { .. } => b"rmlabel",
-        Change::Mkarrow { .. } => b"mkarrow",
-        Change::Rmdo { .. } => b"rmdo",
-        Change::Scrub { .. } => b"scrub",
-    }
-}
-
-/// The word of a query.
-fn query_word(query: &Query) -> &'static [u8]
-    ensures { result.now ≡ query_word query.now }
-{
-    match query {
-        Query::Catcs { .. } => b"catcs",
-        Query::Lsdo { .. } => b"lsdo",
-        Query::Ls { .. } => b"ls",
-        Query::Cat { .. } => b"cat",
-        Query::Describe { .. } => b"describe",
-        Query::Lsvtree { .. } => b"lsvtree",
-        Query::Lshistory { .. } => b"lshistory",
-        Query::Catcr { .. } => b"catcr",
-        Query::Diffcr { .. } => b"diffcr",
-        Query::Covers { .. } => b"covers",
-        Query::Findmerge { .. } => b"findmerge",
-    }
-}
-
-/// The word of a command.
-pub(crate) fn word_of(command: &Command) -> &'static [u8]
-    ensures { result.now ≡ word_of command.now }
-{
-    match command {
-        Command::Change(change) => change_word(change),
-        Command::Query(query) => query_word(query),
-        Command::Build(_) => b"clearmake",
-    }
-}
 
 /// The code and the name of a refusal.
 pub(crate) fn refusal_name(refusal: &Refusal) -> &'static [u8]

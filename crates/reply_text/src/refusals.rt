@@ -2,19 +2,18 @@
 
 ghost use Rattle.std.specs.Prelude.{◌≡◌, ◌++◌, ◌∷◌, [], OnOk, MatchOption, Some, None};
 ghost use Rattle.std.specs.Fmt.{decimal};
-ghost use Rattle.cc_names.specs.Commands.{lane_at};
-ghost use Rattle.reply_text.specs.Words.{spaced};
+ghost use Rattle.reply_text.specs.Words.{spaced, lane_at};
 ghost use Rattle.reply_text.specs.Refusals.{refusal_arguments, refusal_words, script_words, fault_words, name_of_lane};
 
 use crate::names::{make_cause, refusal_name, spec_cause};
 use crate::pieces::{push_number_word, push_word};
-use cc_names::commands::{Lane, Phase};
+use cc_names::commands::{LaneWords, PhaseWords};
 use cc_names::memory::NoMemory;
 use cc_names::refusals::{Refusal, ScriptFault, UnitFault};
 use std::alloc::Global;
 
 /// The lane of a phase with this number, from 1.
-pub(crate) fn lane_at(phase: &Phase, number: u32) -> Option<&Lane>
+pub(crate) fn lane_at(phase: &PhaseWords, number: u32) -> Option<&LaneWords>
     ensures { MatchOption result (lane_at phase.now number ≡ None)
         (λ lane. lane_at phase.now number ≡ Some lane.now) }
 {
@@ -22,7 +21,7 @@ pub(crate) fn lane_at(phase: &Phase, number: u32) -> Option<&Lane>
     phase.lanes.as_slice().get(index as usize)
 }
 
-fn lane_name(phase: &Phase, number: u32) -> &[u8]
+fn lane_name(phase: &PhaseWords, number: u32) -> &[u8]
     ensures { result.now ≡ name_of_lane (lane_at phase.now number) }
 {
     match lane_at(phase, number) {
@@ -34,7 +33,7 @@ fn lane_name(phase: &Phase, number: u32) -> &[u8]
 fn push_arguments(
     alloc: Global,
     text: &mut Vec<u8>,
-    phase: &Phase,
+    phase: &PhaseWords,
     refusal: &Refusal,
 ) -> Result<(), NoMemory>
     ensures { OnOk result
@@ -92,7 +91,7 @@ fn push_arguments(
 pub(crate) fn push_refusal(
     alloc: Global,
     text: &mut Vec<u8>,
-    phase: &Phase,
+    phase: &PhaseWords,
     refusal: &Refusal,
 ) -> Result<(), NoMemory>
     ensures { OnOk result

@@ -2,13 +2,12 @@
 
 ghost use Rattle.std.specs.Prelude.{◌≡◌, ◌++◌, ◌∷◌, [], OnOk, IfOk, Some};
 ghost use Rattle.std.specs.List.{flat_map, list_all};
-ghost use Rattle.reply_text.specs.Words.{spaced, word_of};
-ghost use Rattle.reply_text.specs.Replies.{digest_words, unit_words, unit_line, is_made, is_made_line, build_word, reply_words, lines_behind, command_lines, lines_from, lane_lines, render};
+ghost use Rattle.reply_text.specs.Words.{spaced};
+ghost use Rattle.reply_text.specs.Replies.{digest_words, unit_words, unit_line, is_made, is_made_line, build_word, reply_words, lines_behind, command_lines, lines_from, lane_lines, render_words};
 
-use crate::names::word_of;
 use crate::pieces::{push_bytes, push_newline, push_number_word, push_shown, push_word};
 use crate::refusals::{lane_at, push_fault, push_refusal};
-use cc_names::commands::{Command, Lane, Phase};
+use cc_names::commands::{LaneWords, PhaseWords};
 use cc_names::memory::NoMemory;
 use cc_names::numbers::push_number;
 use cc_names::replies::{Digest, Reply, UnitLine, UnitWord};
@@ -93,7 +92,7 @@ fn build_word(units: &[UnitLine]) -> &'static [u8]
 fn push_reply(
     alloc: Global,
     text: &mut Vec<u8>,
-    phase: &Phase,
+    phase: &PhaseWords,
     reply: &Reply,
 ) -> Result<(), NoMemory>
     ensures { OnOk result
@@ -131,16 +130,16 @@ fn push_lines_behind(alloc: Global, text: &mut Vec<u8>, reply: &Reply) -> Result
 fn push_command(
     alloc: Global,
     text: &mut Vec<u8>,
-    phase: &Phase,
+    phase: &PhaseWords,
     number: u64,
-    command: &Command,
+    word: &Text,
     reply: &Reply,
 ) -> Result<(), NoMemory>
     ensures { OnOk result
-        (text.new.items ≡ text.old.items ++ command_lines phase.now number command.now reply.now) }
+        (text.new.items ≡ text.old.items ++ command_lines phase.now number word.now reply.now) }
 {
     push_number(alloc, text, number)?;
-    push_word(text, word_of(command))?;
+    push_word(text, word.as_bytes())?;
     push_reply(alloc, text, phase, reply)?;
     push_newline(text)?;
     push_lines_behind(alloc, text, reply)
@@ -149,20 +148,20 @@ fn push_command(
 fn push_commands(
     alloc: Global,
     text: &mut Vec<u8>,
-    phase: &Phase,
-    commands: &[Command],
+    phase: &PhaseWords,
+    words: &[Text],
     replies: &[Reply],
 ) -> Result<(), NoMemory>
     ensures { OnOk result
-        (text.new.items ≡ text.old.items ++ lines_from phase.now 1 commands.now replies.now) }
+        (text.new.items ≡ text.old.items ++ lines_from phase.now 1 words.now replies.now) }
 {
-    let (mut left, mut answers) = (commands, replies);
+    let (mut left, mut answers) = (words, replies);
     let mut number = 1u64;
-    while let (Some((command, behind)), Some((reply, more))) = (
+    while let (Some((word, behind)), Some((reply, more))) = (
         left.split_first(),
         answers.split_first(),
     ) {
-        push_command(alloc, text, phase, number, command, reply)?;
+        push_command(alloc, text, phase, number, word, reply)?;
         left = behind;
         answers = more;
         number += 1;
@@ -173,8 +172,8 @@ fn push_commands(
 fn push_lane(
     alloc: Global,
     text: &mut Vec<u8>,
-    phase: &Phase,
-    lane: &Lane,
+    phase: &PhaseWords,
+    lane: &LaneWords,
     replies: &[Reply],
 ) -> Result<(), NoMemory>
     ensures { OnOk result
@@ -183,13 +182,18 @@ fn push_lane(
     push_bytes(text, b"lane ")?;
     push_bytes(text, lane.name.as_bytes())?;
     push_newline(text)?;
-    push_commands(alloc, text, phase, lane.commands.as_slice(), replies)
+    push_commands(alloc, text, phase, lane.words.as_slice(), replies)
 }
 
 /// The lines of the lane of a phase with this number, from 1: the line of the lane, and for each command of the lane
 /// that has a reply its line and what follows it. Takes time linear in the lines.
-pub fn render(alloc: Global, phase: &Phase, lane: u32, replies: &[Reply]) -> Result<Text, NoMemory>
-    ensures { IfOk result (λ text. text ≡ render phase.now lane replies.now) }
+pub fn render(
+    alloc: Global,
+    phase: &PhaseWords,
+    lane: u32,
+    replies: &[Reply],
+) -> Result<Text, NoMemory>
+    ensures { IfOk result (λ text. text ≡ render_words phase.now lane replies.now) }
 {
     let mut text = Vec::new(alloc);
     let Some(lane) = lane_at(phase, lane) else {

@@ -1,6 +1,6 @@
 //! The printed lines of the replies that no session is answered.
 
-use cc_names::commands::{Change, Command, Lane, Phase};
+use cc_names::commands::{LaneWords, PhaseWords};
 use cc_names::lists::List;
 use cc_names::names::Name;
 use cc_names::paths::Path;
@@ -12,18 +12,16 @@ use std::alloc::Global;
 use std::process::Abort;
 use std::test::Fail;
 
-// The phase with the lane `a`, which has the one command `mkview v`.
-fn phase(alloc: Global) -> Result<Phase, Fail> {
-    let mut commands = Vec::new(alloc);
-    commands.push(Command::Change(Change::Mkview {
-        view: Name::read(alloc, b"v")?,
-    }))?;
+// The phase with the lane `a`, which has one command, a `mkview`.
+fn phase(alloc: Global) -> Result<PhaseWords, Fail> {
+    let mut words = Vec::new(alloc);
+    words.push(Text::from_bytes(alloc, b"mkview")?)?;
     let mut lanes = Vec::new(alloc);
-    lanes.push(Lane {
+    lanes.push(LaneWords {
         name: Name::read(alloc, b"a")?,
-        commands: List::of(commands),
+        words: List::of(words),
     })?;
-    Ok(Phase {
+    Ok(PhaseWords {
         lanes: List::of(lanes),
     })
 }

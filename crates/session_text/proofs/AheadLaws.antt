@@ -1,6 +1,6 @@
 -- What the next of some commands asks for is told by the word of its line.
 use Rattle.std.proofs.Common.{◌≡◌, ℕ, Bool, true, false, cond, Some, List, [], ◌∷◌, refl, sym, subst}
-use Rattle.std.specs.Prelude.{Ok, Err, IfOk, codes}
+use Rattle.std.specs.Prelude.{Ok, Err, IfOk}
 use Rattle.std.specs.List.{AllByRecursion}
 use Rattle.std.specs.Str.{bytes_eq}
 use Rattle.std.proofs.lemmas.Slice.Eq.{bytes_eq-Decides}
@@ -11,7 +11,7 @@ use Rattle.cc_names.specs.declared.commands.Query.{Query}
 use Rattle.session_text.specs.declared.lanes.Ahead.{Ahead}
 use Rattle.session_text.specs.declared.lanes.Ahead.TheVariants.{Act, Build}
 use Rattle.session_text.specs.Ahead.{ahead_of, ahead_by}
-use Rattle.session_text.specs.Commands.{Line, table, said_in, command_of}
+use Rattle.session_text.specs.Commands.{Line, query_lines, types_on, table, said_in, command_of}
 use Rattle.session_text.specs.Words.{Said, says}
 
 -- the command of these words, where they say one, asks for this
@@ -32,42 +32,17 @@ changes said = made Act commands.Change said (λ change. refl)
 asks : (said : Said Query) → Asks Act (says commands.Query said)
 asks said = made Act commands.Query said (λ query. refl)
 
+queries_ask : AllByRecursion TellsAhead query_lines
+unfolding TellsAhead
+queries_ask = ((λ ws t. asks _), ((λ ws t. asks _), ((λ ws t. asks _), ((λ ws t. asks _), ((λ ws t. asks _), ((λ ws t. asks _), ((λ ws t. asks _), ((λ ws t. asks _), ((λ ws t. asks _), ((λ ws t. asks _), ((λ ws t. asks _), tt)))))))))))
+
+types_ask : AllByRecursion TellsAhead types_on
+unfolding TellsAhead
+types_ask = ((λ ws t. changes _), ((λ ws t. changes _), ((λ ws t. changes _), ((λ ws t. changes _), ((λ ws t. changes _), ((λ ws t. changes _), ((λ ws t. changes _), ((λ ws t. made Build commands.Build _ (λ asked. refl)), queries_ask))))))))
+
 table_asks : AllByRecursion TellsAhead table
 unfolding TellsAhead
-table_asks =
-  ((λ ws t. changes _),
-  ((λ ws t. changes _),
-  ((λ ws t. changes _),
-  ((λ ws t. changes _),
-  ((λ ws t. changes _),
-  ((λ ws t. changes _),
-  ((λ ws t. changes _),
-  ((λ ws t. changes _),
-  ((λ ws t. changes _),
-  ((λ ws t. changes _),
-  ((λ ws t. changes _),
-  ((λ ws t. changes _),
-  ((λ ws t. changes _),
-  ((λ ws t. changes _),
-  ((λ ws t. changes _),
-  ((λ ws t. changes _),
-  ((λ ws t. changes _),
-  ((λ ws t. changes _),
-  ((λ ws t. changes _),
-  ((λ ws t. changes _),
-  ((λ ws t. made Build commands.Build _ (λ asked. refl)),
-  ((λ ws t. asks _),
-  ((λ ws t. asks _),
-  ((λ ws t. asks _),
-  ((λ ws t. asks _),
-  ((λ ws t. asks _),
-  ((λ ws t. asks _),
-  ((λ ws t. asks _),
-  ((λ ws t. asks _),
-  ((λ ws t. asks _),
-  ((λ ws t. asks _),
-  ((λ ws t. asks _),
-  tt))))))))))))))))))))))))))))))))
+table_asks = ((λ ws t. changes _), ((λ ws t. changes _), ((λ ws t. changes _), ((λ ws t. changes _), ((λ ws t. changes _), ((λ ws t. changes _), ((λ ws t. changes _), ((λ ws t. changes _), ((λ ws t. changes _), ((λ ws t. changes _), ((λ ws t. changes _), ((λ ws t. changes _), ((λ ws t. changes _), types_ask)))))))))))))
 
 in_table : (lines : List Line) (word : List ℕ) (words : List (List ℕ)) (text : List ℕ) → AllByRecursion TellsAhead lines → Asks (ahead_by word) (said_in lines word words text)
 unfolding TellsAhead

@@ -151,40 +151,103 @@ of_build limit said h = says_is (IsClearmake limit) (IsCommand limit) commands.B
 -- each line of the table says commands of their form
 table_is : (limit : ℕ) → AllByRecursion (IsFormedLine limit) table
 unfolding IsFormedLine
-table_is limit =
-  ((λ ws t n w l. of_change limit _ (of_view (IsChange limit) changes.Mkview ws (λ v h. h))),
-  ((λ ws t n w l. of_change limit _ (rmview_is limit ws)),
-  ((λ ws t n w l. of_change limit _ (of_view (IsChange limit) (λ v. changes.Setcs v t) ws (λ v h. (h, l)))),
-  ((λ ws t n w l. of_change limit _ (of_flag_below (IsChange limit) (λ at. changes.Mkelem at.0 at.1 at.2) (codes "-nco") ws (λ at h. h))),
-  ((λ ws t n w l. of_change limit _ (of_flag_below (IsChange limit) (λ at. changes.Mkdir at.0 at.1 at.2) (codes "-nco") ws (λ at h. h))),
-  ((λ ws t n w l. of_change limit _ (of_flag_path (IsChange limit) (λ at. changes.Checkout at.0 at.1 at.2) (codes "-unreserved") ws (λ at h. h))),
-  ((λ ws t n w l. of_change limit _ (mkbranch_is limit ws)),
-  ((λ ws t n w l. of_change limit _ (save_is limit ws t l)),
-  ((λ ws t n w l. of_change limit _ (of_below (IsChange limit) (λ at. changes.Rm at.0 at.1) ws (λ at h. h))),
-  ((λ ws t n w l. of_change limit _ (of_flag_path (IsChange limit) (λ at. changes.Checkin at.0 at.1 at.2) (codes "-identical") ws (λ at h. h))),
-  ((λ ws t n w l. of_change limit _ (of_path (IsChange limit) (λ at. changes.Uncheckout at.0 at.1) ws (λ at h. h))),
-  ((λ ws t n w l. of_change limit _ (of_below (IsChange limit) (λ at. changes.Rmname at.0 at.1) ws (λ at h. h))),
-  ((λ ws t n w l. of_change limit _ (mv_is limit ws)),
-  ((λ ws t n w l. of_change limit _ (of_type (IsChange limit) changes.Mklbtype ws (λ v h. h))),
-  ((λ ws t n w l. of_change limit _ (of_type (IsChange limit) changes.Mkbrtype ws (λ v h. h))),
-  ((λ ws t n w l. of_change limit _ (mklabel_is limit ws)),
-  ((λ ws t n w l. of_change limit _ (rmlabel_is limit ws)),
-  ((λ ws t n w l. of_change limit _ (mkarrow_is limit ws)),
-  ((λ ws t n w l. of_change limit _ (of_below (IsChange limit) (λ at. changes.Rmdo at.0 at.1) ws (λ at h. h))),
-  ((λ ws t n w l. of_change limit _ (scrub_is limit ws)),
-  ((λ ws t n w l. of_build limit _ (clearmake_is limit ws n w)),
-  ((λ ws t n w l. of_query limit _ (of_view IsQuery queries.Catcs ws (λ v h. h))),
-  ((λ ws t n w l. of_query limit _ (of_view IsQuery queries.Lsdo ws (λ v h. h))),
-  ((λ ws t n w l. of_query limit _ (ls_is ws)),
-  ((λ ws t n w l. of_query limit _ (cat_is ws)),
-  ((λ ws t n w l. of_query limit _ (of_path IsQuery (λ at. queries.Describe at.0 at.1) ws (λ at h. h))),
-  ((λ ws t n w l. of_query limit _ (of_path IsQuery (λ at. queries.Lsvtree at.0 at.1) ws (λ at h. h))),
-  ((λ ws t n w l. of_query limit _ (of_path IsQuery (λ at. queries.Lshistory at.0 at.1) ws (λ at h. h))),
-  ((λ ws t n w l. of_query limit _ (of_below IsQuery (λ at. queries.Catcr at.0 at.1) ws (λ at h. h))),
-  ((λ ws t n w l. of_query limit _ (diffcr_is ws)),
-  ((λ ws t n w l. of_query limit _ (covers_is ws)),
-  ((λ ws t n w l. of_query limit _ (findmerge_is ws)),
-  tt))))))))))))))))))))))))))))))))
+table_is limit = (
+  (λ ws t n w l. of_change limit _ (of_view (IsChange limit) changes.Mkview ws (λ v h. h))),
+  (
+    (λ ws t n w l. of_change limit _ (rmview_is limit ws)),
+    (
+      (λ ws t n w l. of_change limit _ (of_view (IsChange limit) (λ v. changes.Setcs v t) ws (λ v h. (h, l)))),
+      (
+        (λ ws t n w l. of_change limit _ (of_flag_below (IsChange limit) (λ at. changes.Mkelem at.0 at.1 at.2) (codes "-nco") ws (λ at h. h))),
+        (
+          (λ ws t n w l. of_change limit _ (of_flag_below (IsChange limit) (λ at. changes.Mkdir at.0 at.1 at.2) (codes "-nco") ws (λ at h. h))),
+          (
+            (λ ws t n w l. of_change limit _ (of_flag_path (IsChange limit) (λ at. changes.Checkout at.0 at.1 at.2) (codes "-unreserved") ws (λ at h. h))),
+            (
+              (λ ws t n w l. of_change limit _ (mkbranch_is limit ws)),
+              (
+                (λ ws t n w l. of_change limit _ (save_is limit ws t l)),
+                (
+                  (λ ws t n w l. of_change limit _ (of_below (IsChange limit) (λ at. changes.Rm at.0 at.1) ws (λ at h. h))),
+                  (
+                    (λ ws t n w l. of_change limit _ (of_flag_path (IsChange limit) (λ at. changes.Checkin at.0 at.1 at.2) (codes "-identical") ws (λ at h. h))),
+                    (
+                      (λ ws t n w l. of_change limit _ (of_path (IsChange limit) (λ at. changes.Uncheckout at.0 at.1) ws (λ at h. h))),
+                      (
+                        (λ ws t n w l. of_change limit _ (of_below (IsChange limit) (λ at. changes.Rmname at.0 at.1) ws (λ at h. h))),
+                        (
+                          (λ ws t n w l. of_change limit _ (mv_is limit ws)),
+                          (
+                            (λ ws t n w l. of_change limit _ (of_type (IsChange limit) changes.Mklbtype ws (λ v h. h))),
+                            (
+                              (λ ws t n w l. of_change limit _ (of_type (IsChange limit) changes.Mkbrtype ws (λ v h. h))),
+                              (
+                                (λ ws t n w l. of_change limit _ (mklabel_is limit ws)),
+                                (
+                                  (λ ws t n w l. of_change limit _ (rmlabel_is limit ws)),
+                                  (
+                                    (λ ws t n w l. of_change limit _ (mkarrow_is limit ws)),
+                                    (
+                                      (λ ws t n w l. of_change limit _ (of_below (IsChange limit) (λ at. changes.Rmdo at.0 at.1) ws (λ at h. h))),
+                                      (
+                                        (λ ws t n w l. of_change limit _ (scrub_is limit ws)),
+                                        (
+                                          (λ ws t n w l. of_build limit _ (clearmake_is limit ws n w)),
+                                          (
+                                            (λ ws t n w l. of_query limit _ (of_view IsQuery queries.Catcs ws (λ v h. h))),
+                                            (
+                                              (λ ws t n w l. of_query limit _ (of_view IsQuery queries.Lsdo ws (λ v h. h))),
+                                              (
+                                                (λ ws t n w l. of_query limit _ (ls_is ws)),
+                                                (
+                                                  (λ ws t n w l. of_query limit _ (cat_is ws)),
+                                                  (
+                                                    (λ ws t n w l. of_query limit _ (of_path IsQuery (λ at. queries.Describe at.0 at.1) ws (λ at h. h))),
+                                                    (
+                                                      (λ ws t n w l. of_query limit _ (of_path IsQuery (λ at. queries.Lsvtree at.0 at.1) ws (λ at h. h))),
+                                                      (
+                                                        (λ ws t n w l. of_query limit _ (of_path IsQuery (λ at. queries.Lshistory at.0 at.1) ws (λ at h. h))),
+                                                        (
+                                                          (λ ws t n w l. of_query limit _ (of_below IsQuery (λ at. queries.Catcr at.0 at.1) ws (λ at h. h))),
+                                                          (
+                                                            (λ ws t n w l. of_query limit _ (diffcr_is ws)),
+                                                            (
+                                                              (λ ws t n w l. of_query limit _ (covers_is ws)),
+                                                              (
+                                                                (λ ws t n w l. of_query limit _ (findmerge_is ws)),
+                                                                tt,
+                                                              ),
+                                                            ),
+                                                          ),
+                                                        ),
+                                                      ),
+                                                    ),
+                                                  ),
+                                                ),
+                                              ),
+                                            ),
+                                          ),
+                                        ),
+                                      ),
+                                    ),
+                                  ),
+                                ),
+                              ),
+                            ),
+                          ),
+                        ),
+                      ),
+                    ),
+                  ),
+                ),
+              ),
+            ),
+          ),
+        ),
+      ),
+    ),
+  ),
+)
 
 in_table : (limit : ℕ) (lines : List Line) (word : List ℕ) (words : List (List ℕ)) (text : List ℕ) → AllByRecursion (IsFormedLine limit) lines → length words ≤ limit → AllByRecursion (λ w. length w ≤ limit) words → length text ≤ limit → IfOk (said_in lines word words text) (IsCommand limit)
 unfolding IsFormedLine

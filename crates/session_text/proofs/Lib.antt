@@ -1,5 +1,7 @@
 pub mod AheadLaws
+pub mod BodyLaws
 pub mod BuildWords
+pub mod CommandWords
 pub mod Ends
 pub mod FormedBuilds
 pub mod FormedCommands

@@ -67,19 +67,6 @@ lane-step place other first last old new left words name now lane seen same is n
     ∙ ap (λ v. v ∷ lanes_of (kinds_of new.bytes)) (sym made)
     ∙ ap (λ v. lane ∷ lanes_of v) (sym at_last)
 
--- a command before those that are left
-pub command-step : (place last : Place) (old new : Rest) (left : ℕ) (word : List ℕ) (words : List (List ℕ)) (command : Command) (now : List Command)
-    → IsSeen place old (kinds.Command word words) new left → commands_of (kinds_of old.bytes) ≡ commands_of (kinds.Command word words ∷ kinds_of new.bytes)
-    → now ≡ commands_of (lines_at place) → command_of word words (body_of (kinds_of new.bytes)) ≡ Ok command → last ≡ behind place left
-    → now ≡ command ∷ commands_of (lines_at last)
-command-step place last old new left word words command now seen same is said l =
-    let bytes : old.bytes ≡ drop place.from place.text = ap (λ (v : Rest). v.bytes) seen.rest in
-    let lines : kinds_of (drop (length place.text - left) place.text) ≡ kinds_of new.bytes = ap kinds_of (bytes_behind place old new (kinds.Command word words) left seen) in
-    let at_last : lines_at last ≡ kinds_of new.bytes = ap lines_at l ∙ lines in
-    is ∙ ap (λ v. commands_of (kinds_of v)) (sym bytes) ∙ same
-    ∙ ap (λ v. before_commands v (commands_of (kinds_of new.bytes))) said
-    ∙ ap (λ v. command ∷ commands_of v) (sym at_last)
-
 -- the first of the commands that are left is the one that the line says
 pub record IsFirst (word : List ℕ) (words : List (List ℕ)) (new : Rest) (now : List Command) : Type 0 where
   pub command : Command

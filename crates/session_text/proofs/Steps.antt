@@ -1,5 +1,5 @@
 -- Steps of a check, line by line.
-use Rattle.std.proofs.Common.{◌≡◌, ◌∙◌, ℕ, ◌+◌, Bool, true, false, not, Option, None, List, ◌∷◌, refl, sym, ap}
+use Rattle.std.proofs.Common.{◌≡◌, ◌∙◌, ℕ, ◌+◌, Bool, true, false, not, Option, None, List, [], ◌∷◌, refl, sym, ap}
 use Rattle.std.specs.Prelude.{Ok, Err}
 use Rattle.cc_names.specs.Answers.{FaultIs}
 use Rattle.cc_names.specs.declared.commands.Command.{Command}
@@ -15,6 +15,7 @@ use Rattle.session_text.specs.Kinds.{Rest, kinds_of}
 use Rattle.session_text.specs.Reading.{IsNext, IsAtEnd, IsWrong, Stands, fault_at}
 use Rattle.session_text.specs.Sessions.{Above, is_empty, cause_or, cause_in, cause_of, above_next, body_follows, error_or, first_error, body_of}
 use Rattle.session_text.specs.Words.{Said}
+use Rattle.session_text.proofs.BodyLaws.{commands_alike}
 
 -- the first error of lines, by the kind of the first of them
 first_error-next : (n m : ℕ) (above : Above) (kind : Kind) (lines rest : List Kind) → lines ≡ kind ∷ rest → m ≡ n + 1
@@ -23,24 +24,37 @@ first_error-next n m above kind lines rest e h =
     ap (λ v. first_error n above v) e
     ∙ ap (λ v. error_or v (cause_of above kind (body_of rest)) (first_error v (above_next above kind (body_of rest)) rest)) (sym h)
 
--- a line that stands right
+-- a line stands alike with each text of body lines behind it
+lines_alike : (above : Above) (kind : Kind) (text other : List ℕ) → (cause_of above kind text ≡ cause_of above kind other) × (above_next above kind text ≡ above_next above kind other)
+lines_alike above kinds.Skipped text other = (refl, refl)
+lines_alike above (kinds.Body bytes) text other = (refl, refl)
+lines_alike above (kinds.Phase words) text other = (refl, refl)
+lines_alike above (kinds.Lane words) text other = (refl, refl)
+lines_alike above (kinds.Command word words) text other =
+    let alike = commands_alike word words text other in (
+      ap (λ v. cause_or (not above.in_phase) causes.NoPhase (cause_or (is_empty above.lanes) causes.NoLane v)) alike.0,
+      ap (λ v. record above { takes_body = v }) alike.1,
+    )
+
+-- a line that stands right without body lines
 pub stands-right : (found : Option SessionError) (old new : Rest) (kind : Kind) (above after : Above)
     → found ≡ first_error old.number above (kinds_of old.bytes) → IsNext old kind new
-    → cause_of above kind (body_of (kinds_of new.bytes)) ≡ None → after ≡ above_next above kind (body_of (kinds_of new.bytes))
+    → cause_of above kind [] ≡ None → after ≡ above_next above kind []
     → found ≡ first_error new.number after (kinds_of new.bytes)
 stands-right found old new kind above after e next right follows =
+    let alike = lines_alike above kind (body_of (kinds_of new.bytes)) [] in
     e ∙ first_error-next old.number new.number above kind (kinds_of old.bytes) (kinds_of new.bytes) next.kinds next.number
-    ∙ ap (λ v. error_or new.number v (first_error new.number (above_next above kind (body_of (kinds_of new.bytes))) (kinds_of new.bytes))) right
-    ∙ ap (λ v. first_error new.number v (kinds_of new.bytes)) (sym follows)
+    ∙ ap (λ v. error_or new.number v (first_error new.number (above_next above kind (body_of (kinds_of new.bytes))) (kinds_of new.bytes))) (alike.0 ∙ right)
+    ∙ ap (λ v. first_error new.number v (kinds_of new.bytes)) (alike.1 ∙ sym follows)
 
--- a line that stands wrong
+-- a line that stands wrong without body lines
 pub stands-wrong : (A : Type 0) (found : Option SessionError) (old new : Rest) (kind : Kind) (above after : Above) (fault : Or SessionCause)
-    → found ≡ first_error old.number above (kinds_of old.bytes) → IsNext old kind new → Stands {A = A} (Err fault) above kind (body_of (kinds_of new.bytes)) after
+    → found ≡ first_error old.number above (kinds_of old.bytes) → IsNext old kind new → Stands {A = A} (Err fault) above kind [] after
     → IsWrong (fault_at new.number fault) found
 stands-wrong A found old new kind above after NoMemory e next stands = tt
 stands-wrong A found old new kind above after (Is cause) e next stands =
     e ∙ first_error-next old.number new.number above kind (kinds_of old.bytes) (kinds_of new.bytes) next.kinds next.number
-    ∙ ap (λ v. error_or new.number v (first_error new.number (above_next above kind (body_of (kinds_of new.bytes))) (kinds_of new.bytes))) stands
+    ∙ ap (λ v. error_or new.number v (first_error new.number (above_next above kind (body_of (kinds_of new.bytes))) (kinds_of new.bytes))) ((lines_alike above kind (body_of (kinds_of new.bytes)) []).0 ∙ stands)
 
 -- where no line is left, none stands wrong
 pub all-stand : (found : Option SessionError) (old new : Rest) (above : Above) → found ≡ first_error old.number above (kinds_of old.bytes) → IsAtEnd old new → found ≡ None

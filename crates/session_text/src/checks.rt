@@ -4,6 +4,7 @@ ghost use Rattle.std.specs.Prelude.{◌≡◌, ◌<◌, ◌^◌, [], None, Ok, O
 ghost use Rattle.std.specs.List.{list_any};
 ghost use Rattle.std.specs.Str.{bytes_eq};
 ghost use Rattle.cc_names.specs.Answers.{Gives};
+ghost use Rattle.session_text.specs.Commands.{command_of};
 ghost use Rattle.session_text.specs.Kinds.{kinds_of};
 ghost use Rattle.session_text.specs.Reading.{IsWrong, fault_at};
 ghost use Rattle.session_text.specs.Sessions.{error_in, is_empty, is_taken, lane_of};
@@ -11,6 +12,7 @@ ghost use Rattle.session_text.specs.Sessions.{error_in, is_empty, is_taken, lane
 use crate::commands::{command_of, let_go, takes_body};
 use crate::kinds::{Bytes, Kind, Rest};
 use crate::shapes::view;
+use cc_names::commands::Command;
 use cc_names::cuts::Words;
 use cc_names::memory::Or;
 use cc_names::names::Name;
@@ -83,6 +85,18 @@ fn lane_of(alloc: Global, lanes: &[Name], words: Words<'_>) -> Result<Name, Or<S
     view(alloc, words)
 }
 
+/// The command that a line says where no body lines stand behind it.
+fn said_without_body(
+    alloc: Global,
+    hashing: RandomState,
+    word: &[u8],
+    words: Words<'_>,
+) -> Result<Command, Or<SessionCause>>
+    ensures { Gives result (command_of word.now words.entry []) }
+{
+    command_of(alloc, hashing, word, words, &Rest::of(&[]))
+}
+
 /// What stands above a line: whether a phase has begun, the names of its lanes so far, and whether the last line that is not
 /// skipped, body lines aside, takes a body.
 #[derive(Drop)]
@@ -104,9 +118,8 @@ impl Model for Above {
 impl Above {
     ghost use Rattle.std.specs.Prelude.{◌≡◌};
     ghost use Rattle.session_text.specs.declared.kinds.Kind.TheVariants as kinds;
-    ghost use Rattle.session_text.specs.Kinds.{kinds_of};
     ghost use Rattle.session_text.specs.Reading.{Stands};
-    ghost use Rattle.session_text.specs.Sessions.{body_of, nothing};
+    ghost use Rattle.session_text.specs.Sessions.{nothing};
 
     fn nothing(alloc: Global) -> Above
         ensures { result ≡ nothing }
@@ -157,16 +170,15 @@ impl Above {
         Ok(())
     }
 
+    /// Takes in the line of a command. Its body is not read, since whether the line says a command does not depend on it.
     fn take_command(
         &mut self,
         alloc: Global,
         hashing: RandomState,
         word: &Bytes<'_>,
         words: Words<'_>,
-        behind: &Rest<'_>,
     ) -> Result<(), Or<SessionCause>>
-        ensures { Stands result self.old (kinds.Command word.now words.entry)
-            (body_of (kinds_of behind.now.bytes)) self.new }
+        ensures { Stands result self.old (kinds.Command word.now words.entry) [] self.new }
     {
         if !self.in_phase {
             return Err(Or::Is(SessionCause::NoPhase));
@@ -174,7 +186,7 @@ impl Above {
         if is_empty(self.lanes.as_slice()) {
             return Err(Or::Is(SessionCause::NoLane));
         }
-        match command_of(alloc, hashing, word.as_slice(), words, behind) {
+        match said_without_body(alloc, hashing, word.as_slice(), words) {
             Ok(command) => {
                 self.takes_body = takes_body(&command);
                 let_go(command);
@@ -184,28 +196,27 @@ impl Above {
         }
     }
 
-    /// Takes in a line that stands right, with the lines behind it.
+    /// Takes in a line that stands right, as it does with any body lines behind it.
     fn take(
         &mut self,
         alloc: Global,
         hashing: RandomState,
         kind: Kind<'_>,
-        behind: &Rest<'_>,
     ) -> Result<(), Or<SessionCause>>
-        ensures { Stands result self.old kind.entry (body_of (kinds_of behind.now.bytes)) self.new }
+        ensures { Stands result self.old kind.entry [] self.new }
     {
         match kind {
             Kind::Skipped => Ok(()),
             Kind::Body(_bytes) => self.take_body(),
             Kind::Phase(words) => self.take_phase(words),
             Kind::Lane(words) => self.take_lane(alloc, words),
-            Kind::Command(word, words) => self.take_command(alloc, hashing, &word, words, behind),
+            Kind::Command(word, words) => self.take_command(alloc, hashing, &word, words),
         }
     }
 }
 
 /// Finds the first line of a text that stands wrong. Takes time linear in the text, and for each lane in those of its phase above
-/// it; and memory for one command.
+/// it; and memory for one command line.
 pub(crate) fn check(
     alloc: Global,
     hashing: RandomState,
@@ -218,7 +229,7 @@ pub(crate) fn check(
     let mut above = Above::nothing(alloc);
     let mut rest = Rest::of(text);
     'lines: while let Some(kind) = rest.next() {
-        match above.take(alloc, hashing, kind, &rest) {
+        match above.take(alloc, hashing, kind) {
             Ok(()) => {}
             Err(fault) => return Err(fault_at(rest.number(), fault)),
         }

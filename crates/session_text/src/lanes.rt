@@ -1,21 +1,22 @@
 //! A lane, kept as its text, and its commands.
 
-ghost use Rattle.std.specs.Prelude.{◌≡◌, Ok, IfOk, length};
-ghost use Rattle.session_text.specs.Ahead.{ahead_by};
+ghost use Rattle.std.specs.Prelude.{◌≡◌, Ok, IfOk, slice_get};
+ghost use Rattle.session_text.specs.Ahead.{ahead_by, ahead_of};
 ghost use Rattle.session_text.specs.Commands.{command_of};
 ghost use Rattle.session_text.specs.Kinds.{kinds_of};
-ghost use Rattle.session_text.specs.Reading.{Says};
-ghost use Rattle.session_text.specs.Sessions.{body_of};
+ghost use Rattle.session_text.specs.Reading.{Says, lines_at};
+ghost use Rattle.session_text.specs.Sessions.{body_of, commands_of};
 
 use crate::commands::command_of;
 use crate::finding::{find_command, pass_command};
 use crate::kinds::{Bytes, Rest};
 use crate::places::Place;
-use cc_names::commands::{Command, Lane};
+use cc_names::commands::{Command, LaneWords};
 use cc_names::cuts::Words;
 use cc_names::lists::List;
 use cc_names::memory::{NoMemory, Or};
 use cc_names::names::Name;
+use cc_names::texts::Text;
 use std::alloc::Global;
 use std::hash::RandomState;
 use std::marker::Model;
@@ -37,16 +38,18 @@ impl Model for LaneText {
 
 impl LaneText {
     ghost use Rattle.std.specs.Prelude.{◌≡◌, IfOk};
+    ghost use Rattle.cc_names.specs.CommandWords.{lane_words};
     ghost use Rattle.session_text.specs.Reading.{lines_at};
     ghost use Rattle.session_text.specs.Sessions.{commands_of};
 
-    /// The lane of this name whose line ends before this place.
+    /// The lane of this name whose line ends before this place. Takes time linear in its first command's line and those before
+    /// it.
     pub(crate) fn of(name: Name, place: Place) -> LaneText
         ensures { result ≡ record { name = name; commands = commands_of (lines_at place) } }
     {
         LaneText {
             name,
-            commands: CommandsLeft { place },
+            commands: CommandsLeft::at(place),
         }
     }
 
@@ -58,31 +61,36 @@ impl LaneText {
         (name, commands)
     }
 
-    /// The lane itself. Takes time linear in its text, and memory for each of its commands.
-    pub fn read(self, alloc: Global) -> Result<Lane, NoMemory>
-        ensures { IfOk result (λ lane. lane ≡ self) }
+    /// Its name and the words of its commands. Takes time linear in its text, and memory for each word.
+    pub fn words(self, alloc: Global) -> Result<LaneWords, NoMemory>
+        ensures { IfOk result (λ words. words ≡ lane_words self) }
     {
-        let (name, mut left) = self.into_parts();
-        let commands = left.read(alloc)?;
-        Ok(Lane { name, commands })
+        let (name, commands) = self.into_parts();
+        let words = commands.words(alloc)?;
+        Ok(LaneWords { name, words })
     }
 }
 
-/// The commands of a lane that are left, kept as their text. Contracts see them as a list.
+/// The commands of a lane that are left, kept as their text, with what the next of them asks for, since that is asked again and
+/// again while it builds. Contracts see them as a list.
 #[derive(Drop)]
 pub struct CommandsLeft {
     place: Place,
+    ahead: Ahead,
 }
 
 impl Model for CommandsLeft {
-    ghost use Rattle.std.specs.Prelude.{List};
+    ghost use Rattle.std.specs.Prelude.{◌≡◌, List, slice_get};
     ghost use Rattle.cc_names.specs.declared.commands.Command.{Command};
+    ghost use Rattle.session_text.specs.Ahead.{ahead_of};
     ghost use Rattle.session_text.specs.Reading.{lines_at};
     ghost use Rattle.session_text.specs.Sessions.{commands_of};
 
     ghost Value = { List Command };
 
     ghost view = { λ s. commands_of (lines_at s.place) };
+
+    ghost invariant = { λ s. s.ahead ≡ ahead_of (slice_get (commands_of (lines_at s.place)) 0) };
 }
 
 /// The command of a line that stands right.
@@ -126,22 +134,40 @@ fn ahead_by(word: &[u8]) -> Ahead
     Ahead::Act
 }
 
-impl CommandsLeft {
-    ghost use Rattle.std.specs.Prelude.{◌≡◌, [], ◌∷◌, OnErr, IfOk, MatchOption, drop, length, slice_get};
-    ghost use Rattle.session_text.specs.Ahead.{ahead_of};
+/// What the first command from a place on asks for. Takes time linear in its line and those before it.
+fn ahead_at(place: &Place) -> Ahead
+    ensures { result ≡ ahead_of (slice_get (commands_of (lines_at place.now)) 0) }
+{
+    let mut rest = place.rest();
+    match find_command(&mut rest) {
+        None => Ahead::Nothing,
+        Some((word, _words)) => ahead_by(word.as_slice()),
+    }
+}
 
-    /// What the next command asks for. Takes time linear in its line, and no memory.
+impl CommandsLeft {
+    ghost use Rattle.std.specs.Prelude.{◌≡◌, IfOk, drop, length, map, slice_get};
+    ghost use Rattle.cc_names.specs.CommandWords.{word_of};
+    ghost use Rattle.session_text.specs.Ahead.{ahead_of};
+    ghost use Rattle.session_text.specs.Reading.{lines_at};
+    ghost use Rattle.session_text.specs.Sessions.{commands_of};
+
+    /// The commands of a lane from a place on.
+    fn at(place: Place) -> CommandsLeft
+        ensures { result ≡ commands_of (lines_at place) }
+    {
+        let ahead = ahead_at(&place);
+        CommandsLeft { place, ahead }
+    }
+
+    /// What the next command asks for. Takes constant time, and no memory.
     pub fn ahead(&self) -> Ahead
         ensures { result ≡ ahead_of (slice_get self.now 0) }
     {
-        let mut rest = self.place.rest();
-        match find_command(&mut rest) {
-            None => Ahead::Nothing,
-            Some((word, _words)) => ahead_by(word.as_slice()),
-        }
+        self.ahead
     }
 
-    /// The next command, which is left. Takes time linear in its lines, and memory for it.
+    /// The next command, which is left. Takes time linear in its lines, those before the first one included, and memory for it.
     pub fn peek(&self, alloc: Global) -> Result<Option<Command>, NoMemory>
         ensures { IfOk result (λ next. next ≡ slice_get self.now 0) }
     {
@@ -153,7 +179,8 @@ impl CommandsLeft {
         Ok(Some(command))
     }
 
-    /// Leaves the next command out, where there is one. Takes time linear in its lines, and no memory.
+    /// Leaves the next command out, where there is one. Takes time linear in its lines, the line of the one behind it and those
+    /// between, and no memory.
     pub fn skip(&mut self)
         ensures { self.new ≡ drop 1 self.old }
     {
@@ -164,24 +191,7 @@ impl CommandsLeft {
         let left = rest.left();
         drop(rest);
         self.place.go_to(left);
-    }
-
-    /// The next command. Takes time linear in its lines and those before it, and memory for it. An `Err` changes nothing.
-    pub fn next(&mut self, alloc: Global) -> Result<Option<Command>, NoMemory>
-        ensures ok { IfOk result
-            (λ next. MatchOption next ((self.old ≡ []) × (self.new ≡ []))
-            (λ command. self.old ≡ command ∷ self.new)) }
-        ensures err { OnErr result (self.new ≡ self.old) }
-    {
-        let mut rest = self.place.rest();
-        let Some((word, words)) = find_command(&mut rest) else {
-            return Ok(None);
-        };
-        let command = command_said(alloc, self.place.hashing(), word, words, &rest)?;
-        let left = rest.left();
-        drop(rest);
-        self.place.go_to(left);
-        Ok(Some(command))
+        self.ahead = ahead_at(&self.place);
     }
 
     /// How many commands are left. Takes time linear in their text.
@@ -196,14 +206,16 @@ impl CommandsLeft {
         count
     }
 
-    /// The commands that are left. Takes time linear in their text, and memory for each.
-    fn read(&mut self, alloc: Global) -> Result<List<Command>, NoMemory>
-        ensures { IfOk result (λ commands. commands ≡ self.old) }
+    /// The words of the commands that are left. Takes time linear in their text, and memory for each word.
+    fn words(&self, alloc: Global) -> Result<List<Text>, NoMemory>
+        ensures { IfOk result (λ words. words ≡ map word_of self.now) }
     {
-        let mut commands = Vec::new(alloc);
-        'commands: while let Some(command) = self.next(alloc)? {
-            commands.push(command)?;
+        let mut rest = self.place.rest();
+        let mut words = Vec::new(alloc);
+        'commands: while let Some((word, _words)) = find_command(&mut rest) {
+            let word = Text::from_bytes(alloc, word.as_slice())?;
+            words.push(word)?;
         }
-        Ok(List::of(commands))
+        Ok(List::of(words))
     }
 }

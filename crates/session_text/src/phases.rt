@@ -8,7 +8,7 @@ use crate::finding::find_lane;
 use crate::lanes::LaneText;
 use crate::places::Place;
 use crate::shapes::view;
-use cc_names::commands::Phase;
+use cc_names::commands::PhaseWords;
 use cc_names::cuts::Words;
 use cc_names::lists::List;
 use cc_names::memory::{NoMemory, Or};
@@ -34,6 +34,7 @@ impl Model for PhaseText {
 
 impl PhaseText {
     ghost use Rattle.std.specs.Prelude.{◌≡◌, IfOk};
+    ghost use Rattle.cc_names.specs.CommandWords.{words_of};
     ghost use Rattle.session_text.specs.Reading.{lines_at};
     ghost use Rattle.session_text.specs.Sessions.{lanes_of};
 
@@ -52,16 +53,16 @@ impl PhaseText {
         Ok(LanesLeft { place })
     }
 
-    /// The phase itself. Takes time linear in its text, and memory for each of its commands.
-    pub fn read(&self, alloc: Global) -> Result<Phase, NoMemory>
-        ensures { IfOk result (λ phase. phase ≡ self.now) }
+    /// The names of its lanes and the words of their commands. Takes time linear in its text, and memory for each name and word.
+    pub fn words(&self, alloc: Global) -> Result<PhaseWords, NoMemory>
+        ensures { IfOk result (λ words. words ≡ words_of self.now) }
     {
         let mut left = self.lanes()?;
         let mut lanes = Vec::new(alloc);
         'lanes: while let Some(lane) = left.next(alloc)? {
-            lanes.push(lane.read(alloc)?)?;
+            lanes.push(lane.words(alloc)?)?;
         }
-        Ok(Phase {
+        Ok(PhaseWords {
             lanes: List::of(lanes),
         })
     }

@@ -96,8 +96,8 @@ impl PhasesLeft {
     }
 }
 
-/// Reads a text as a session, or answers its first line that stands wrong. The macros of a command line are found by hashing their names so. Takes time linear in the text, and beside the text
-/// memory for one command at a time.
+/// Reads a text as a session, or answers its first line that stands wrong. The macros of a command line are found by hashing
+/// their names so. Takes time linear in the text, and beside the text memory for one command line at a time: no body is copied.
 pub fn read(
     alloc: Global,
     hashing: RandomState,
