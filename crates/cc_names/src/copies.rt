@@ -31,13 +31,6 @@ pub fn push_copies<X: Copied>(alloc: Global, onto: &mut Vec<X>, items: &[X]) -> 
     Ok(())
 }
 
-/// Puts copies of paths behind others, in time linear in their bytes.
-pub fn push_paths(alloc: Global, onto: &mut Vec<Path>, paths: &[Path]) -> Result<(), NoMemory>
-    ensures { OnOk result (onto.new.items ≡ onto.old.items ++ paths.now) }
-{
-    push_copies(alloc, onto, paths)
-}
-
 impl Copied for u64 {
     fn copy(&self, _alloc: Global) -> Result<u64, NoMemory> {
         Ok(*self)

@@ -15,11 +15,11 @@ use std::marker::Model;
 /// Why bytes are no name or no path, in the order in which the faults are tested.
 #[derive(Clone, Copy, Debug, PartialEq, Eq)]
 pub enum NameFault {
-    /// N1: there are no bytes.
+    /// There are no bytes.
     Empty,
-    /// N2: the place, counted from 0, of a byte that no name has there.
+    /// The place, counted from 0, of a byte that no name has there.
     BadByte(u64),
-    /// N3: the length, above 255 for a name and above 1,024 for a path.
+    /// The length, above 255 for a name and above 1,024 for a path.
     TooLong(u64),
 }
 

@@ -123,15 +123,6 @@ impl Graph {
         self.units.as_slice()
     }
 
-    /// The units themselves, in order, in constant time.
-    pub fn into_units(self) -> Vec<Unit>
-        ensures units { result.items ≡ self }
-        ensures few { length result.items < 2 ^ 31 }
-    {
-        let Graph { units, .. } = self;
-        units
-    }
-
     /// The number of the unit that makes a path, if one does, in constant time.
     pub fn unit_of(&self, path: &Path) -> Option<u32>
         ensures { result ≡ number_from made_by_unit 0 path.now self.now }
