@@ -1,6 +1,7 @@
 -- Worked rows: what closed bases, stories and sessions come to, by computation.
 mod BranchRows
 mod CheckoutRows
+mod EmptiedRows
 mod FaultRows
 mod FirstBuild
 mod LabelRows

@@ -1,4 +1,5 @@
 -- A base: its rows, what they say of views, versions and texts, and which rows may come next.
+pub mod Blanked
 pub mod Catalogs
 pub mod Changes
 pub mod Checkouts

@@ -12,6 +12,7 @@ pub mod Given
 pub mod LaterLaws
 pub mod Listed
 pub mod Objects
+pub mod OutputLaws
 pub mod RecordLaws
 pub mod ReuseLaws
 pub mod Selected

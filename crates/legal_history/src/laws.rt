@@ -4,6 +4,7 @@ pub mod bases;
 pub mod builds;
 pub mod decisions;
 pub mod later;
+pub mod outputs;
 pub mod records;
 pub mod reuse;
 pub mod stops;

@@ -10,7 +10,8 @@
 //! story is a base, and a sound one where the base was sound as it was opened. In a sound base an object that a unit may reuse
 //! is worth the run of the unit's script, and a unit that keeps it or winks it in leaves its build as from nothing. So a build
 //! that ends is as the build from nothing, unit by unit, whatever it reused, where the base was sound as it was opened. Where a
-//! view covers a record, running the record again gives what it has stored.
+//! view covers a record, running the record again gives what it has stored. Which rows fit, which objects live and what
+//! their records give when run again hang on no output, and soundness on none of a scrubbed object.
 //!
 //! What it stands on: `cc_names` for plain data, names and the changes of the indexes, `spec_text` for config specs,
 //! `date_text` for dates, `make_grammar` for the units of a build, `script_grammar` for the runs of scripts, and `sha2` for

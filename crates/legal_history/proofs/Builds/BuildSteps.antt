@@ -82,8 +82,6 @@ begun_fine s tag us base h build is =
     })
 
 told_fine : (s : State) (step : Step) → is_base s.base ≡ true → Each (λ lane. IsFine s.base) s.active → LawfulStep s step → Each (λ lane. IsFine (after_step s step).base) (after_step s step).active
-told_fine s (steps.Refused tag refusal) base h e = h
-told_fine s (steps.Answer tag text) base h e = h
 told_fine s (steps.Begin tag rows count) base h e = each_begun (λ lane. IsFine s.base) s.active tag.lane (begun s tag) h (begun_fine s tag e.units base e.chosen)
 told_fine s (steps.Start tag n) base h e = started_fine s tag n h e
 told_fine s (steps.Concluded tag n end) base h e = settled_fine s tag n end base h e
@@ -91,7 +89,7 @@ told_fine s (steps.End tag) base h e = each_without (λ lane. IsFine s.base) (λ
 told_fine s (steps.Fault tag left before faults tick) base h e = each_faulted (λ lane. IsFine s.base) s.active tag.lane (build_by s tag) h (λ build is.
     let fine = h.holds tag.lane build (of_lane s tag build is) in
     record { consistent = consistent_faulted s.base build fine.consistent; there = fine.there })
-told_fine s step base h e = absurd e
+told_fine s step base h e = h
 
 committed_fine : (s : State) (tag : Tag) (moment : ℕ) (deed : Deed) → is_base s.base ≡ true → Each (λ lane. IsFine s.base) s.active → MakesRow s (record { tag = tag; moment = moment; deed = deed }) deed →
     Each (λ lane. IsFine (record { tag = tag; moment = moment; deed = deed } ∷ s.base)) (active_after s.base s.active tag.lane deed)

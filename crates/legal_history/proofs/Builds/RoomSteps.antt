@@ -116,14 +116,12 @@ settled_room s tag n (ends.Failed (unit_faults.Script fault)) h e =
 settled_room s tag n end h e = waited_room s tag n e.build e.unit (λ b. Some n) (Concluded end) h e.waits refl
 
 told_room : (s : State) (step : Step) → HasRoom s.base s.active → LawfulStep s step → HasRoom (after_step s step).base (after_step s step).active
-told_room s (steps.Refused tag refusal) h e = h
-told_room s (steps.Answer tag text) h e = h
 told_room s (steps.Begin tag rows count) h e = begun_room s tag e.units h e.chosen
 told_room s (steps.Start tag n) h e = waited_room s tag n e.build e.unit (λ b. Some n) (came_by_starting (build_of s.active tag.lane) n) h e.open_unit.waits refl
 told_room s (steps.Concluded tag n end) h e = settled_room s tag n end h e
 told_room s (steps.End tag) h e = ended_room s.base s.active tag.lane h
 told_room s (steps.Fault tag left before faults tick) h e = faulted_room s tag h
-told_room s step h e = absurd e
+told_room s step h e = h
 
 committed_room : (s : State) (tag : Tag) (moment : ℕ) (deed : Deed) → HasRoom s.base s.active → MakesRow s (record { tag = tag; moment = moment; deed = deed }) deed →
     HasRoom (record { tag = tag; moment = moment; deed = deed } ∷ s.base) (active_after s.base s.active tag.lane deed)

@@ -85,15 +85,13 @@ begun_agrees s tag us base h build is =
     subst (AgreesSoFar s.base) (some_same made) (begins_so s.base (build_asked tag (size s.base) us says.asked) (begun_begins s tag us base h))
 
 told_agrees : (s : State) (step : Step) → values.IsSound s.base → is_base s.base ≡ true → AllHeld s → BuildsAgree s → LawfulStep s step → Each (λ lane. AgreesSoFar (after_step s step).base) (after_step s step).active
-told_agrees s (steps.Refused tag refusal) whole base held h e = h
-told_agrees s (steps.Answer tag text) whole base held h e = h
 told_agrees s (steps.Begin tag rows count) whole base held h e = each_begun (λ lane. AgreesSoFar s.base) s.active tag.lane (begun s tag) h (begun_agrees s tag e.units base e.chosen)
 told_agrees s (steps.Start tag n) whole base held h e = started_agrees s tag n h e
 told_agrees s (steps.Concluded tag n end) whole base held h e = settled_agrees s tag n end whole base held h e
 told_agrees s (steps.End tag) whole base held h e = each_without (λ lane. AgreesSoFar s.base) (λ lane. AgreesSoFar s.base) s.active tag.lane h (λ lane build apart agrees. agrees)
 told_agrees s (steps.Fault tag left before faults tick) whole base held h e =
     each_faulted (λ lane. AgreesSoFar s.base) s.active tag.lane (build_by s tag) h (λ build is. faulted_agrees s.base build (h.holds tag.lane build (of_lane s tag build is)))
-told_agrees s step whole base held h e = absurd e
+told_agrees s step whole base held h e = h
 
 -- a row of whatever deed
 agrees_on : (s : State) (row : Plain) → BuildsAgree s → Each (λ lane. AgreesSoFar (row ∷ s.base)) s.active

@@ -73,8 +73,6 @@ begun_given s tag us h build is =
     subst (HoldsGiven s.base) made (record { given = λ n id own. absurd (cc) })
 
 told_given : (s : State) (step : Step) → is_base s.base ≡ true → AllHeld s → LawfulStep s step → Each (λ lane. HoldsGiven (after_step s step).base) (after_step s step).active
-told_given s (steps.Refused tag refusal) base h e = h.given
-told_given s (steps.Answer tag text) base h e = h.given
 told_given s (steps.Begin tag rows count) base h e = each_begun (λ lane. HoldsGiven s.base) s.active tag.lane (begun s tag) h.given (begun_given s tag e.units e.chosen)
 told_given s (steps.Start tag n) base h e = without_object s tag.lane (λ b. Some n) (came_by_starting (build_of s.active tag.lane) n) (starting_without (build_of s.active tag.lane) n) h
 told_given s (steps.Concluded tag n end) base h e = settled_given s tag n end base h e
@@ -85,17 +83,15 @@ told_given s (steps.Fault tag left before faults tick) base h e = each_faulted (
           let held = (h.given.holds tag.lane build (of_lane s tag build is)).given n id own in
           record { unit = held.unit; is_unit = held.is_unit; lives = held.lives; target = held.target; is_target = held.is_target; holds = held.holds };
     })
-told_given s step base h e = absurd e
+told_given s step base h e = h.given
 
 told_apart : (s : State) (step : Step) → AllHeld s → LawfulStep s step → ViewsApart (after_step s step).active
-told_apart s (steps.Refused tag refusal) h e = h.apart
-told_apart s (steps.Answer tag text) h e = h.apart
 told_apart s (steps.Begin tag rows count) h e = apart_begun s.active tag.lane (begun s tag) (begun_idle s tag e.units e.chosen) h.apart
 told_apart s (steps.Start tag n) h e = apart_noted s.active tag.lane (λ b. Some n) (came_by_starting (build_of s.active tag.lane) n) h.apart
 told_apart s (steps.Concluded tag n end) h e = apart_noted s.active tag.lane (λ b. Some n) (Concluded end) h.apart
 told_apart s (steps.End tag) h e = apart_without s.active tag.lane h.apart
 told_apart s (steps.Fault tag left before faults tick) h e = apart_faulted s.active tag.lane (build_by s tag) (λ build is. of_lane s tag build is) h.apart
-told_apart s step h e = absurd e
+told_apart s step h e = h.apart
 
 pub held_step : (s : State) (x : StoryStep) → IsSound s → AllHeld s → Lawful s x → AllHeld (after s x)
 held_step s (story_steps.Opened rows counts tells) sound h e = absurd (let first = e.first in let opened = sound.opened in cc)

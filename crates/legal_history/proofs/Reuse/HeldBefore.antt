@@ -140,15 +140,13 @@ begun_before s tag us h build is n e =
     absurd (cc)
 
 told_before : (s : State) (step : Step) → LawfulStep s step → Each (AreStartedBy s) (after_step s step).active
-told_before s (steps.Refused tag refusal) e = started_before s
-told_before s (steps.Answer tag text) e = started_before s
 told_before s (steps.Begin tag rows count) e = each_begun (AreStartedBy s) s.active tag.lane (begun s tag) (started_before s) (begun_before s tag e.units e.chosen)
 told_before s (steps.Start tag n) e = started_now s tag n (came_by_starting (build_of s.active tag.lane) n) e
 told_before s (steps.Concluded tag n end) e = noted_before s tag.lane (λ b. Some n) (Concluded end) refl
 told_before s (steps.End tag) e = each_without (AreStartedBy s) (AreStartedBy s) s.active tag.lane (started_before s) (λ lane build apart before. before)
 told_before s (steps.Fault tag left before faults tick) e =
     each_faulted (AreStartedBy s) s.active tag.lane (build_by s tag) (started_before s) (λ build is n started. Before build (of_lane s tag build is) started)
-told_before s step e = absurd e
+told_before s step e = started_before s
 
 committed_before : (s : State) (lane : ℕ) (deed : Deed) → Each (AreStartedBy s) (active_after s.base s.active lane deed)
 committed_before s lane (deeds.Publish view targets script entries outputs) = noted_before s lane (λ build. unit_with_first build targets) (Given (size s.base)) refl
@@ -156,10 +154,9 @@ committed_before s lane (deeds.Wink view id) = noted_before s lane (λ build. un
 committed_before s lane deed = started_before s
 
 step_before : (s : State) (x : StoryStep) → Lawful s x → Each (AreStartedBy s) (after s x).active
-step_before s (story_steps.Opened rows counts tells) e = started_before s
-step_before s (story_steps.PhaseBegun phase moment) e = started_before s
 step_before s (story_steps.Commit row tick) e = committed_before s row.tag.lane row.deed
 step_before s (story_steps.Other step) e = told_before s step e
+step_before s x e = started_before s
 
 -- a unit of an old build is ready, and the object that the view holds at its targets does not match it
 record WasPassed (s : State) (old : Build) (n : ℕ) (unit : Unit) : Type 0 where

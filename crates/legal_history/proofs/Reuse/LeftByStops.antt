@@ -56,16 +56,9 @@ fault_leaves given s tag (Some own) row h (inr earlier) is = h.left row (earlier
 
 left_step : (given : Type 0) (s : State) (x : StoryStep) (row : Plain) → IsKept given s → Lawful s x → hanging (after s x).ends ≡ Some row → IsGood given (row ∷ (after s x).base)
 left_step given s (story_steps.Opened rows counts tells) row h e is = absurd (let first = e.first in let opened = h.sound.opened in cc)
-left_step given s (story_steps.PhaseBegun phase moment) row h e is = h.left row is
 left_step given s (story_steps.Commit made tick) row h e is = absurd (cc)
-left_step given s (story_steps.Other (steps.Refused tag refusal)) row h e is = h.left row is
-left_step given s (story_steps.Other (steps.Answer tag text)) row h e is = h.left row is
-left_step given s (story_steps.Other (steps.Begin tag rows count)) row h e is = h.left row is
-left_step given s (story_steps.Other (steps.Start tag n)) row h e is = h.left row is
-left_step given s (story_steps.Other (steps.Concluded tag n end)) row h e is = h.left row is
-left_step given s (story_steps.Other (steps.End tag)) row h e is = h.left row is
 left_step given s (story_steps.Other (steps.Fault tag left before faults tick)) row h e is = fault_leaves given s tag left row h e.leaves is
-left_step given s (story_steps.Other step) row h e is = absurd e
+left_step given s x row h e is = h.left row is
 
 kept_step : (given : Type 0) (s : State) (x : StoryStep) → IsKept given s → Lawful s x → IsKept given (after s x)
 kept_step given s x h e = record {

@@ -99,17 +99,10 @@ committed_leaves s tag moment deed lane old new n unit path sound h e u = comman
 pub place_step : (s : State) (x : StoryStep) (lane : ℕ) (old new : Build) (n : ℕ) (unit : Unit) (path : List ℕ) → IsSound s → AllHeld s → Lawful s x → Unfinished s (after s x).active lane old new n unit path →
     held_at (held (after s x).base) old.view path ≡ held_at (held s.base) old.view path
 place_step s (story_steps.Opened rows counts tells) lane old new n unit path sound h e u = absurd (let first = e.first in let opened = sound.opened in cc)
-place_step s (story_steps.PhaseBegun phase moment) lane old new n unit path sound h e u = refl
 place_step s (story_steps.Commit row tick) lane old new n unit path sound h e u =
     path_stays s.base old.view path row.deed (committed_leaves s row.tag row.moment row.deed lane old new n unit path sound h e.may.made u)
 place_step s (story_steps.Other (steps.Refused tag refusal)) lane old new n unit path sound h e u = refl
-place_step s (story_steps.Other (steps.Answer tag text)) lane old new n unit path sound h e u = refl
-place_step s (story_steps.Other (steps.Begin tag rows count)) lane old new n unit path sound h e u = refl
-place_step s (story_steps.Other (steps.Start tag m)) lane old new n unit path sound h e u = refl
-place_step s (story_steps.Other (steps.Concluded tag m end)) lane old new n unit path sound h e u = refl
-place_step s (story_steps.Other (steps.End tag)) lane old new n unit path sound h e u = refl
-place_step s (story_steps.Other (steps.Fault tag left before faults tick)) lane old new n unit path sound h e u = refl
-place_step s (story_steps.Other step) lane old new n unit path sound h e u = refl
+place_step s x lane old new n unit path sound h e u = refl
 
 pub place_stays : (story : List StoryStep) (x : StoryStep) (lane : ℕ) (old new : Build) (n : ℕ) (unit : Unit) (path : List ℕ) → Legal story → Lawful (state_of story) x → build_of (state_of story).active lane ≡ Some old →
     build_of (after (state_of story) x).active lane ≡ Some new → unit_at old n ≡ Some unit → is_outcome (came_to new n) ≡ false → makes path unit ≡ true →

@@ -40,29 +40,14 @@ new_is_true s tag moment deed sound h true_base e publish = absurd (cc)
 
 pub base_step : (s : State) (x : StoryStep) → IsSound s → AllHeld s → values.IsSound s.base → Lawful s x → values.IsSound (after s x).base
 base_step s (story_steps.Opened rows counts tells) sound h true_base e = absurd (let first = e.first in let opened = sound.opened in cc)
-base_step s (story_steps.PhaseBegun phase moment) sound h true_base e = true_base
 base_step s (story_steps.Commit row tick) sound h true_base e = sound_row row s.base true_base (new_is_true s row.tag row.moment row.deed sound h true_base e.may.made)
 base_step s (story_steps.Other (steps.Refused tag refusal)) sound h true_base e = true_base
-base_step s (story_steps.Other (steps.Answer tag text)) sound h true_base e = true_base
-base_step s (story_steps.Other (steps.Begin tag rows count)) sound h true_base e = true_base
-base_step s (story_steps.Other (steps.Start tag n)) sound h true_base e = true_base
-base_step s (story_steps.Other (steps.Concluded tag n end)) sound h true_base e = true_base
-base_step s (story_steps.Other (steps.End tag)) sound h true_base e = true_base
-base_step s (story_steps.Other (steps.Fault tag left before faults tick)) sound h true_base e = true_base
-base_step s (story_steps.Other step) sound h true_base e = true_base
+base_step s x sound h true_base e = true_base
 
 opened_step : (s : State) (x : StoryStep) → IsSound s → Lawful s x → (after s x).opened ≡ s.opened
 opened_step s (story_steps.Opened rows counts tells) sound e = absurd (let first = e.first in let opened = sound.opened in cc)
-opened_step s (story_steps.PhaseBegun phase moment) sound e = refl
-opened_step s (story_steps.Commit row tick) sound e = refl
 opened_step s (story_steps.Other (steps.Refused tag refusal)) sound e = refl
-opened_step s (story_steps.Other (steps.Answer tag text)) sound e = refl
-opened_step s (story_steps.Other (steps.Begin tag rows count)) sound e = refl
-opened_step s (story_steps.Other (steps.Start tag n)) sound e = refl
-opened_step s (story_steps.Other (steps.Concluded tag n end)) sound e = refl
-opened_step s (story_steps.Other (steps.End tag)) sound e = refl
-opened_step s (story_steps.Other (steps.Fault tag left before faults tick)) sound e = refl
-opened_step s (story_steps.Other step) sound e = refl
+opened_step s x sound e = refl
 
 held_from : (s : State) (story : List StoryStep) → IsSound s → AllHeld s → LegalFrom s story → AllHeld (state_from s story)
 held_from s [] sound h e = h
@@ -87,16 +72,8 @@ held_first x e =
 
 pub opened_is_base : (x : StoryStep) (o : Opening) → Lawful start x → (after start x).opened ≡ Some o → o.base ≡ (after start x).base
 opened_is_base (story_steps.Opened rows counts tells) o e is = let same : record { base = reverse rows; counts = counts; tells = tells } ≡ o = cc in ap (λ (o : Opening). o.base) (sym same)
-opened_is_base (story_steps.PhaseBegun phase moment) o e is = absurd (cc)
-opened_is_base (story_steps.Commit row tick) o e is = absurd (cc)
 opened_is_base (story_steps.Other (steps.Refused tag refusal)) o e is = absurd (cc)
-opened_is_base (story_steps.Other (steps.Answer tag text)) o e is = absurd (cc)
-opened_is_base (story_steps.Other (steps.Begin tag rows count)) o e is = absurd (cc)
-opened_is_base (story_steps.Other (steps.Start tag n)) o e is = absurd (cc)
-opened_is_base (story_steps.Other (steps.Concluded tag n end)) o e is = absurd (cc)
-opened_is_base (story_steps.Other (steps.End tag)) o e is = absurd (cc)
-opened_is_base (story_steps.Other (steps.Fault tag left before faults tick)) o e is = absurd (cc)
-opened_is_base (story_steps.Other step) o e is = absurd (cc)
+opened_is_base x o e is = absurd (cc)
 
 -- The laws of whole stories.
 pub story_all_held : (x : StoryStep) (story : List StoryStep) → Legal (x ∷ story) → AllHeld (state_of (x ∷ story))

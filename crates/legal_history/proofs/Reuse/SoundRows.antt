@@ -23,12 +23,12 @@ set_or_lived : (t : Bool) (n : ℕ) (before : Option ℕ) → is_some (left (onl
 set_or_lived true n before h e = absurd (cc)
 set_or_lived false n before h e = h
 
-lived_before : (n id : ℕ) (deed : Deed) (before : Option ℕ) → (n == id) ≡ false → is_some (left (live_effect id n deed) before) ≡ true → is_some before ≡ true
+pub lived_before : (n id : ℕ) (deed : Deed) (before : Option ℕ) → (n == id) ≡ false → is_some (left (live_effect id n deed) before) ≡ true → is_some before ≡ true
 lived_before n id (deeds.Publish v targets script entries outputs) before apart h = set_or_lived (n == id) n before h apart
 lived_before n id (deeds.Scrub objects) before apart h = ended_by (list_any (λ object. object == id) objects) before h
 lived_before n id deed before apart h = h
 
-is_new : (n id : ℕ) (deed : Deed) (before : Option ℕ) → (is_some before ≡ true → ⊥) → is_some (left (live_effect id n deed) before) ≡ true → is_publish_deed (Some deed) ≡ true
+pub is_new : (n id : ℕ) (deed : Deed) (before : Option ℕ) → (is_some before ≡ true → ⊥) → is_some (left (live_effect id n deed) before) ≡ true → is_publish_deed (Some deed) ≡ true
 is_new n id (deeds.Publish v targets script entries outputs) before none h = refl
 is_new n id (deeds.Scrub objects) before none h = absurd (none (ended_by (list_any (λ object. object == id) objects) before h))
 is_new n id deed before none h = absurd (none h)

@@ -129,12 +129,9 @@ told_refused : (s : State) (step : Step) (tag : Tag) (asked : Clearmake) → nex
 told_refused s (steps.Refused other refusal) tag asked next e h = refused_so s tag other refusal (commands.Build asked) next e (finished_lane s.done tag.lane other.lane h)
 told_refused s (steps.Answer other text) tag asked next e h =
     absurd (answers_none (scene s) asked text (same_decision s tag other (commands.Build asked) (Ok (Answers text)) next e (finished_lane s.done tag.lane other.lane h)))
-told_refused s (steps.Begin other rows count) tag asked next e h = absurd (not_more (done_of s.done tag.lane) h)
-told_refused s (steps.Start other n) tag asked next e h = absurd (not_more (done_of s.done tag.lane) h)
-told_refused s (steps.Concluded other n end) tag asked next e h = absurd (not_more (done_of s.done tag.lane) h)
 told_refused s (steps.End other) tag asked next e h = absurd (ended_none s tag other (commands.Build asked) e.build next e.active h)
 told_refused s (steps.Fault other left before faults tick) tag asked next e h = absurd (faulted_none s tag other asked left before faults tick (build_by s other) next e h)
-told_refused s step tag asked next e h = absurd e
+told_refused s step tag asked next e h = absurd (not_more (done_of s.done tag.lane) h)
 
 pub is_refused : (s : State) (x : StoryStep) (tag : Tag) (asked : Clearmake) → next_command s tag ≡ Some (commands.Build asked) → Lawful s x → done_of (after s x).done tag.lane ≡ done_of s.done tag.lane + 1 → IsRefused s x tag
 is_refused s (story_steps.Opened rows counts tells) tag asked next e h = absurd (not_more (done_of s.done tag.lane) h)
@@ -170,12 +167,9 @@ faulted_ends s lane build other left before faults tick None by_tag is e h =
 told_ended : (s : State) (step : Step) (lane : ℕ) (build : Build) → build_of s.active lane ≡ Some build → LawfulStep s step → done_of (after_step s step).done lane ≡ done_of s.done lane + 1 → IsLeft s (story_steps.Other step) lane build
 told_ended s (steps.Refused other refusal) lane build is e h = absurd (not_decided s lane build other (Err refusal) is e (finished_lane s.done lane other.lane h))
 told_ended s (steps.Answer other text) lane build is e h = absurd (not_decided s lane build other (Ok (Answers text)) is e (finished_lane s.done lane other.lane h))
-told_ended s (steps.Begin other rows count) lane build is e h = absurd (not_more (done_of s.done lane) h)
-told_ended s (steps.Start other n) lane build is e h = absurd (not_more (done_of s.done lane) h)
-told_ended s (steps.Concluded other n end) lane build is e h = absurd (not_more (done_of s.done lane) h)
 told_ended s (steps.End other) lane build is e h = ends_so s other lane build is e (finished_lane s.done lane other.lane h)
 told_ended s (steps.Fault other left before faults tick) lane build is e h = absurd (faulted_ends s lane build other left before faults tick (build_by s other) refl is e h)
-told_ended s step lane build is e h = absurd e
+told_ended s step lane build is e h = absurd (not_more (done_of s.done lane) h)
 
 pub is_ended : (s : State) (x : StoryStep) (lane : ℕ) (build : Build) → build_of s.active lane ≡ Some build → Lawful s x → done_of (after s x).done lane ≡ done_of s.done lane + 1 → IsLeft s x lane build
 is_ended s (story_steps.Opened rows counts tells) lane build is e h = absurd (not_more (done_of s.done lane) h)

@@ -179,20 +179,17 @@ committed_goes s row deed lane build is h = On build is (continues_itself build)
 
 told_goes : (s : State) (step : Step) (lane : ℕ) (build : Build) → build_of s.active lane ≡ Some build → LawfulStep s step →
     StaysTheBuild build (build_of (after_step s step).active lane)
-told_goes s (steps.Refused tag refusal) lane build is h = On build is (continues_itself build)
-told_goes s (steps.Answer tag text) lane build is h = On build is (continues_itself build)
 told_goes s (steps.Begin tag rows units) lane build is h = begun_goes s.active lane tag.lane build (begun s tag) is (decided_is_idle s tag h.chosen)
 told_goes s (steps.Start tag n) lane build is h =
     waited_goes s tag n h.build h.unit lane build (λ b. Some n) _ is h.open_unit.waits refl
 told_goes s (steps.Concluded tag n outcome) lane build is h = settled_goes s tag n outcome lane build _ is h
 told_goes s (steps.End tag) lane build is h = ended_goes s.active lane tag.lane build is
 told_goes s (steps.Fault tag left before faults tick) lane build is h = faulted_goes s.active lane tag.lane build (build_by s tag) is (λ x e. of_lane s tag x e)
-told_goes s step lane build is h = absurd h
+told_goes s step lane build is h = On build is (continues_itself build)
 
 -- each lawful step leaves an active build going on, or ends it
 pub step_goes : (s : State) (x : StoryStep) (lane : ℕ) (build : Build) → build_of s.active lane ≡ Some build → Lawful s x →
     StaysTheBuild build (build_of (after s x).active lane)
-step_goes s (story_steps.Opened rows counts tells) lane build is h = On build is (continues_itself build)
-step_goes s (story_steps.PhaseBegun phase moment) lane build is h = On build is (continues_itself build)
 step_goes s (story_steps.Commit row tick) lane build is h = committed_goes s row row.deed lane build is h.may.made
 step_goes s (story_steps.Other step) lane build is h = told_goes s step lane build is h
+step_goes s x lane build is h = On build is (continues_itself build)

@@ -22,12 +22,6 @@ extends_on h g = record { more = g.more ++ h.more; is = g.is ∙ ap (λ b. g.mor
 -- a step that is told as it stands leaves the base
 base_stays : (s : State) (step : Step) → (after_step s step).base ≡ s.base
 base_stays s (steps.Refused tag refusal) = refl
-base_stays s (steps.Answer tag text) = refl
-base_stays s (steps.Begin tag rows units) = refl
-base_stays s (steps.Start tag n) = refl
-base_stays s (steps.Concluded tag n outcome) = refl
-base_stays s (steps.End tag) = refl
-base_stays s (steps.Fault tag left before faults tick) = refl
 base_stays s step = refl
 
 pub step_extends : (s : State) (x : StoryStep) → is_some s.opened ≡ true → Lawful s x → Extends s.base (after s x).base
@@ -38,19 +32,12 @@ step_extends s (story_steps.Other step) o h = record { more = []; is = base_stay
 
 opened_stays_told : (s : State) (step : Step) → (after_step s step).opened ≡ s.opened
 opened_stays_told s (steps.Refused tag refusal) = refl
-opened_stays_told s (steps.Answer tag text) = refl
-opened_stays_told s (steps.Begin tag rows units) = refl
-opened_stays_told s (steps.Start tag n) = refl
-opened_stays_told s (steps.Concluded tag n outcome) = refl
-opened_stays_told s (steps.End tag) = refl
-opened_stays_told s (steps.Fault tag left before faults tick) = refl
 opened_stays_told s step = refl
 
 pub stays_opened : (s : State) (x : StoryStep) → is_some s.opened ≡ true → is_some (after s x).opened ≡ true
 stays_opened s (story_steps.Opened rows counts tells) o = refl
-stays_opened s (story_steps.PhaseBegun phase moment) o = o
-stays_opened s (story_steps.Commit row tick) o = o
 stays_opened s (story_steps.Other step) o = rw (opened_stays_told s step) o
+stays_opened s x o = o
 
 pub story_extends : (s : State) (story : List StoryStep) → is_some s.opened ≡ true → LegalFrom s story → Extends s.base (state_from s story).base
 story_extends s [] o h = extends_itself s.base

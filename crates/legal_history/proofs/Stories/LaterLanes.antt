@@ -84,14 +84,11 @@ faulted_within s other (Some build) next h = h
 told_within : (s : State) (step : Step) → AllCommanded s → LawfulStep s step → AllWithin s → AllWithin (after_step s step)
 told_within s (steps.Refused tag refusal) all e h = with_one_more s tag.lane (decided_has_next s tag _ e) h
 told_within s (steps.Answer tag text) all e h = with_one_more s tag.lane (decided_has_next s tag _ e) h
-told_within s (steps.Begin tag rows units) all e h = h
-told_within s (steps.Start tag n) all e h = h
-told_within s (steps.Concluded tag n outcome) all e h = h
 told_within s (steps.End tag) all e h = with_one_more s tag.lane (built_has_next s tag e.build all e.active) h
 told_within s (steps.Fault tag left before faults tick) all e h =
     let next = row_has_next s e.wanted.row e.wanted.row.deed all e.wanted.may.made in
     faulted_within s tag.lane (build_by s tag) (subst (λ (t : Tag). HasNext s t.lane) e.wanted.of_tag next) h
-told_within s step all e h = absurd e
+told_within s step all e h = h
 
 step_within : (s : State) (x : StoryStep) → AllCommanded s → Lawful s x → AllWithin s → AllWithin (after s x)
 step_within s (story_steps.Opened rows counts tells) all e h = h

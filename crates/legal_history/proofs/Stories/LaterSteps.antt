@@ -71,9 +71,6 @@ told_stays s (steps.Refused tag refusal) = record { number = refl; phase = refl;
 told_stays s (steps.Answer tag text) = record { number = refl; phase = refl; moment = refl; done = no_fewer s.done tag.lane }
 told_stays s (steps.End tag) = record { number = refl; phase = refl; moment = refl; done = no_fewer s.done tag.lane }
 told_stays s (steps.Fault tag left before faults tick) = record { number = refl; phase = refl; moment = refl; done = faulted_no_fewer s.done tag.lane (build_by s tag) }
-told_stays s (steps.Begin tag rows units) = record { number = refl; phase = refl; moment = refl; done = λ lane. omega arith }
-told_stays s (steps.Start tag n) = record { number = refl; phase = refl; moment = refl; done = λ lane. omega arith }
-told_stays s (steps.Concluded tag n outcome) = record { number = refl; phase = refl; moment = refl; done = λ lane. omega arith }
 told_stays s step = record { number = refl; phase = refl; moment = refl; done = λ lane. omega arith }
 
 within_phase : (s : State) (x : StoryStep) → Lawful s x → StaysInPhase s (after s x) → GoesLater s (after s x)

@@ -62,17 +62,14 @@ by_its_end s tag lane build is e none = by (lane == tag.lane) refl (sym (find_wi
     by true e2 h = ends_so s tag lane build is e (same_number lane tag.lane e2)
 
 told_left : (s : State) (step : Step) (lane : ℕ) (build : Build) → build_of s.active lane ≡ Some build → LawfulStep s step → build_of (after_step s step).active lane ≡ None → IsLeft s (story_steps.Other step) lane build
-told_left s (steps.Refused tag refusal) lane build is e none = absurd (cc)
-told_left s (steps.Answer tag text) lane build is e none = absurd (cc)
 told_left s (steps.Begin tag rows count) lane build is e none = absurd (begun_there s.active lane tag.lane build (begun s tag) is none)
 told_left s (steps.Start tag n) lane build is e none = absurd (noted_there s.active lane tag.lane build (build_of s.active tag.lane) _ _ is none)
 told_left s (steps.Concluded tag n end) lane build is e none = absurd (noted_there s.active lane tag.lane build (build_of s.active tag.lane) _ _ is none)
 told_left s (steps.End tag) lane build is e none = by_its_end s tag lane build is e none
 told_left s (steps.Fault tag left before faults tick) lane build is e none = absurd (faulted_there s.active lane tag.lane build (build_by s tag) is none)
-told_left s step lane build is e none = absurd e
+told_left s step lane build is e none = absurd (cc)
 
 pub is_left : (s : State) (x : StoryStep) (lane : ℕ) (build : Build) → build_of s.active lane ≡ Some build → Lawful s x → build_of (after s x).active lane ≡ None → IsLeft s x lane build
-is_left s (story_steps.Opened rows counts tells) lane build is e none = absurd (cc)
-is_left s (story_steps.PhaseBegun phase moment) lane build is e none = absurd (cc)
 is_left s (story_steps.Commit row tick) lane build is e none = absurd (committed_there s.base s.active lane row.tag.lane build row.deed is none)
 is_left s (story_steps.Other step) lane build is e none = told_left s step lane build is e none
+is_left s x lane build is e none = absurd (cc)

@@ -69,16 +69,9 @@ committed_fits s tag moment deed h e room = let d = decided_of s tag (Makes deed
 
 step_base : (s : State) (x : StoryStep) → IsSound s → Lawful s x → HasRoom (after s x).base (after s x).active → is_base (after s x).base ≡ true
 step_base s (story_steps.Opened rows counts tells) h e room = e.fits
-step_base s (story_steps.PhaseBegun phase moment) h e room = h.base
 step_base s (story_steps.Commit row tick) h e room = ap (λ t. t && is_base s.base) (committed_fits s row.tag row.moment row.deed h e.may.made room) ∙ h.base
 step_base s (story_steps.Other (steps.Refused tag refusal)) h e room = h.base
-step_base s (story_steps.Other (steps.Answer tag text)) h e room = h.base
-step_base s (story_steps.Other (steps.Begin tag rows count)) h e room = h.base
-step_base s (story_steps.Other (steps.Start tag n)) h e room = h.base
-step_base s (story_steps.Other (steps.Concluded tag n end)) h e room = h.base
-step_base s (story_steps.Other (steps.End tag)) h e room = h.base
-step_base s (story_steps.Other (steps.Fault tag left before faults tick)) h e room = h.base
-step_base s (story_steps.Other step) h e room = h.base
+step_base s x h e room = h.base
 
 pub sound_step : (s : State) (x : StoryStep) → IsSound s → Lawful s x → IsSound (after s x)
 sound_step s x h e =
@@ -101,16 +94,8 @@ IsOpening x = ⊥
 
 pub opens_first : (x : StoryStep) → Lawful start x → IsOpening x
 opens_first (story_steps.Opened rows counts tells) e = tt
-opens_first (story_steps.PhaseBegun phase moment) e = let opened = first_opens (story_steps.PhaseBegun phase moment) e in cc
-opens_first (story_steps.Commit row tick) e = let opened = first_opens (story_steps.Commit row tick) e in cc
 opens_first (story_steps.Other (steps.Refused tag refusal)) e = let opened = first_opens (story_steps.Other (steps.Refused tag refusal)) e in cc
-opens_first (story_steps.Other (steps.Answer tag text)) e = let opened = first_opens (story_steps.Other (steps.Answer tag text)) e in cc
-opens_first (story_steps.Other (steps.Begin tag rows count)) e = let opened = first_opens (story_steps.Other (steps.Begin tag rows count)) e in cc
-opens_first (story_steps.Other (steps.Start tag n)) e = let opened = first_opens (story_steps.Other (steps.Start tag n)) e in cc
-opens_first (story_steps.Other (steps.Concluded tag n end)) e = let opened = first_opens (story_steps.Other (steps.Concluded tag n end)) e in cc
-opens_first (story_steps.Other (steps.End tag)) e = let opened = first_opens (story_steps.Other (steps.End tag)) e in cc
-opens_first (story_steps.Other (steps.Fault tag left before faults tick)) e = let opened = first_opens (story_steps.Other (steps.Fault tag left before faults tick)) e in cc
-opens_first (story_steps.Other step) e = e
+opens_first x e = let opened = first_opens x e in cc
 
 -- after it nothing builds
 pub none_active : (x : StoryStep) → Lawful start x → (after start x).active ≡ []
