@@ -3,11 +3,11 @@
 ghost use Rattle.std.specs.Prelude.{◌≡◌, ◌≤◌, ◌<◌, ◌++◌, IfOk, OnOk, length};
 ghost use Rattle.legal_history.specs.Stories.Steps.{state_of};
 ghost use Rattle.base_core.specs.Story.Replying.{replies_of};
-ghost use Rattle.reply_text.specs.Replies.{render};
+ghost use Rattle.reply_text.specs.Replies.{render_words};
 ghost use Rattle.session_run.specs.Story.Rendered.{phase_line, lanes_text, transcript};
 
 use base_core::Core;
-use cc_names::commands::Phase;
+use cc_names::commands::PhaseWords;
 use cc_names::memory::NoMemory;
 use cc_names::texts::Text;
 use disk_model::Disk;
@@ -26,14 +26,14 @@ fn push_lane<D: Disk>(
     alloc: Global,
     text: &mut Vec<u8>,
     core: &Core<D>,
-    phase: &Phase,
+    phase: &PhaseWords,
     lane: u32,
 ) -> Result<(), NoMemory>
     requires from { 1 ≤ lane }
     requires upto { lane ≤ length (state_of core.now.story).phase.lanes }
     ensures { OnOk result
         (text.new.items
-        ≡ text.old.items ++ render phase.now lane (replies_of core.now.story lane)) }
+        ≡ text.old.items ++ render_words phase.now lane (replies_of core.now.story lane)) }
 {
     let lines = render(alloc, phase, lane, core.replies(lane))?;
     text.extend_from_slice(lines.as_bytes())?;
@@ -49,7 +49,7 @@ fn push_lanes<D: Disk>(alloc: Global, text: &mut Vec<u8>, core: &Core<D>) -> Res
         ++ lanes_text (state_of core.now.story).phase 1 (state_of core.now.story).phase.lanes
         (replies_of core.now.story)) }
 {
-    let phase = core.phase().read(alloc)?;
+    let phase = core.phase().words(alloc)?;
     let mut lane = 1u32;
     let mut rest = phase.lanes.as_slice();
     while let Some((_, behind)) = rest.split_first() {
@@ -61,7 +61,7 @@ fn push_lanes<D: Disk>(alloc: Global, text: &mut Vec<u8>, core: &Core<D>) -> Res
 }
 
 /// The transcript of the last phase, which has this number: its line, and the lines of its lanes. Takes time linear in the
-/// phase's text and in the replies, and memory for each of its commands while the lines are made.
+/// phase's text and in the replies, and memory for the word of each of its commands while the lines are made.
 pub(crate) fn transcript<D: Disk>(
     alloc: Global,
     core: &Core<D>,
