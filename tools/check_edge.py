@@ -255,7 +255,7 @@ def input_that_cannot_be_read(edge):
 
 def no_session(edge):
     text = b"phase\nlane a\nfrob v\n"
-    errors = b"ccbase: standard input: no session: standard output names the first wrong line, and why\n"
+    errors = b"ccbase: standard input: line 3: no such command\n"
     wanted = (3, b"bad session 3 UnknownCommand\n", errors)
     edge.has(["b", "run"], text, wanted)
     edge.has_none_but([])
