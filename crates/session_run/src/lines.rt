@@ -94,13 +94,7 @@ fn line_of(unstarted: Unstarted) -> ArrayString<80>
 }
 
 /// Writes the line that says why no session was started, and answers the status. Want of memory has no line. Takes no memory.
-#[tactic(
-    auto,
-    using(
-        crate::proofs::Calls::UnstartedStatuses::only_memory,
-        crate::proofs::Calls::UnstartedStatuses::has_line
-    )
-)]
+#[tactic(auto, using(crate::proofs::Calls::UnstartedStatuses::only_memory, crate::proofs::Calls::UnstartedStatuses::has_line))]
 pub(crate) fn write_unstarted<K: Sink>(unstarted: Unstarted, sink: &mut K) -> Status
     ensures { WritesUnstarted unstarted result (K.sight sink.old).held (K.sight sink.new).held
         (sink_faults (K.sight sink.old) (K.sight sink.new)) }
