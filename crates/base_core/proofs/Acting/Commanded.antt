@@ -1,5 +1,5 @@
 -- The command that a lane has next is one of the phase: it has the form of one.
-use Rattle.std.proofs.Common.{◌≡◌, ℕ, zero, suc, ⊥, Option, Some, None, refl, ap, sym, ◌∙◌}
+use Rattle.std.proofs.Common.{◌≡◌, ℕ, zero, suc, Option, Some, None, refl, ap, sym, ◌∙◌}
 use Rattle.std.specs.Prelude.{option_and_then, slice_get}
 use Rattle.std.specs.List.{AllByRecursion}
 use Rattle.cc_names.specs.Commands.{lane_at}

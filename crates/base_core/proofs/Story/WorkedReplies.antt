@@ -4,6 +4,8 @@ use Rattle.std.specs.Fmt.{digits}
 use Rattle.std.specs.Prelude.{codes, reverse}
 use Rattle.cc_names.specs.declared.commands.Command.{Command}
 use Rattle.cc_names.specs.declared.commands.Command.TheVariants as commands
+use Rattle.cc_names.specs.declared.commands.Query.TheVariants as queries
+use Rattle.cc_names.specs.declared.commands.Change.TheVariants as changes
 use Rattle.cc_names.specs.declared.commands.Phase.{Phase}
 use Rattle.cc_names.specs.declared.refusals.Refusal.TheVariants as refusals
 use Rattle.cc_names.specs.declared.replies.Digest.{Digest}
@@ -67,7 +69,7 @@ two_views_are_replied = refl
 a_scrub_counts : replies_behind (deeds.Drop w (codes "out") ∷ deeds.Drop v (codes "out") ∷ deeds.Scrub (10 ∷ []) ∷ []) ≡ ok ∷ ok ∷ ok_count 1 ∷ []
 a_scrub_counts = refl
 
-nothing_is_counted : reply_to_answer (Some (commands.Scrub 0)) [] ≡ replies.Count 0
+nothing_is_counted : reply_to_answer (Some (commands.Change (changes.Scrub 0))) [] ≡ replies.Count 0
 nothing_is_counted = refl
 
 -- two views take one element out, and one of them brings it in
@@ -130,16 +132,16 @@ unfolding digits
 a_record_counts = refl
 
 -- a record that lists no version is answered
-no_label_is_counted : reply_to_answer (Some (commands.MklabelConfig v false (codes "out") (codes "REL"))) [] ≡ replies.Count 0
+no_label_is_counted : reply_to_answer (Some (commands.Change (changes.MklabelConfig v false (codes "out") (codes "REL")))) [] ≡ replies.Count 0
 no_label_is_counted = refl
 
-a_question_is_answered : reply_to_answer (Some (commands.Covers v w (codes "out"))) (line (codes "covered")) ≡ replies.Answer (line (codes "covered"))
+a_question_is_answered : reply_to_answer (Some (commands.Query (queries.Covers v w (codes "out")))) (line (codes "covered")) ≡ replies.Answer (line (codes "covered"))
 a_question_is_answered = refl
 
 -- One lane's story: elements are made, one view builds, and the other takes the object in. As long as builds reuse no object, no
 -- story with this wink is legal, and it is told here as it will be.
 abbrev all_commands : List Command → List Command
-all_commands more = first_commands ++ (clearmake v ∷ commands.Mkview w ∷ clearmake w ∷ more)
+all_commands more = first_commands ++ (clearmake v ∷ commands.Change (changes.Mkview w) ∷ clearmake w ∷ more)
 
 abbrev one_lane : List Command → Phase
 one_lane more = record { lanes = record { name = codes "a"; commands = all_commands more } ∷ [] }
@@ -198,7 +200,7 @@ no_other_lane_is_replied = refl
 
 -- both views drop the object, one scrub finds nothing and one takes it, a view builds again, and a question
 abbrev scrubbing : List Command
-scrubbing = commands.Rmdo w (codes "out") ∷ commands.Scrub 0 ∷ commands.Rmdo v (codes "out") ∷ commands.Scrub 0 ∷ clearmake w ∷ commands.Lsdo v ∷ []
+scrubbing = commands.Change (changes.Rmdo w (codes "out")) ∷ commands.Change (changes.Scrub 0) ∷ commands.Change (changes.Rmdo v (codes "out")) ∷ commands.Change (changes.Scrub 0) ∷ clearmake w ∷ commands.Query (queries.Lsdo v) ∷ []
 
 abbrev scrub_story : List StoryStep
 scrub_story =
@@ -233,16 +235,16 @@ scrubs_are_replied = refl
 -- two views take one element out, and three checkins are refused
 abbrev checking_out : List Command
 checking_out =
-    commands.Checkout v true a_file
-    ∷ commands.Checkout w false a_file
-    ∷ commands.Save v a_file foo
-    ∷ commands.Checkin v false a_file
-    ∷ commands.Save w a_file bar
-    ∷ commands.Checkin w false a_file
-    ∷ commands.Checkin v false a_file
-    ∷ commands.Uncheckout v a_file
-    ∷ commands.Checkout v false a_file
-    ∷ commands.Checkin v false a_file
+    commands.Change (changes.Checkout v true a_file)
+    ∷ commands.Change (changes.Checkout w false a_file)
+    ∷ commands.Change (changes.Save v a_file foo)
+    ∷ commands.Change (changes.Checkin v false a_file)
+    ∷ commands.Change (changes.Save w a_file bar)
+    ∷ commands.Change (changes.Checkin w false a_file)
+    ∷ commands.Change (changes.Checkin v false a_file)
+    ∷ commands.Change (changes.Uncheckout v a_file)
+    ∷ commands.Change (changes.Checkout v false a_file)
+    ∷ commands.Change (changes.Checkin v false a_file)
     ∷ []
 
 abbrev checkout_story : List StoryStep

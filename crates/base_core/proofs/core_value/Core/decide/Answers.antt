@@ -10,8 +10,8 @@ use Rattle.base_core.proofs.Acting.NextCommands.{decided_so}
 use Rattle.base_core.proofs.Building.UnitCalls.{acts_waits}
 use Rattle.base_core.proofs.core_value.Core.decide.Goals as goal
 
-pub occasion-requires : goal.occasion-requires
-occasion-requires g c = acts_waits (state_of c.args.self.now.story) c.args.lane c.requires.act
+pub occasion-occasion-requires : goal.occasion-occasion-requires
+occasion-occasion-requires g c = acts_waits (state_of c.args.self.now.story) c.args.lane c.requires.act
 
 pub returns : goal.returns
 returns g c =
