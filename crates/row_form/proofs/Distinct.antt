@@ -1,4 +1,4 @@
--- Targets are told apart by those that were seen before.
+-- Targets are distinguished by those that were seen before.
 use Rattle.std.proofs.Common.{◌≡◌, ℕ, Bool, true, false, not, ◌&&◌, ◌||◌, List, [], ◌∷◌, refl, sym, ◌∙◌, ap, Bor}
 use Rattle.std.specs.List.{list_any}
 use Rattle.std.specs.List.Sorted.{IsPermutation}
@@ -14,7 +14,7 @@ abbrev pub all_new : List (Bor (List ℕ)) → List (List ℕ) → Bool
 all_new keys [] = true
 all_new keys (target ∷ others) = not (is_seen keys target) && all_new keys others
 
--- whether none of the targets was seen, nor stands twice
+-- whether none of the targets was seen, nor occurs twice
 abbrev pub are_fresh : List (Bor (List ℕ)) → List (List ℕ) → Bool
 are_fresh keys targets = all_new keys targets && are_distinct targets
 

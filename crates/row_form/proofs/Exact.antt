@@ -1,4 +1,4 @@
--- A reader is exact for a spelling: it gives back what is spelled and keeps its form, and what it gives was spelled so and keeps it.
+-- A reader is exact for a spelling: it reads what is spelled and well formed, and what it reads is spelled so and well formed.
 use Rattle.std.proofs.Common.{◌≡◌, ◌<◌, ℕ, zero, suc, Bool, true, false, Option, Some, None, Ok, Err, List, [], ◌∷◌, ◌++◌, get_or, refl, sym, ◌∙◌, ap, subst, if◌then◌else◌, lit<}
 use Rattle.std.proofs.lemmas.List.{append_assoc}
 use Rattle.std.specs.List.{AllByRecursion}
@@ -34,7 +34,7 @@ pub same_read : {A : Type 0} (x y : A × List ℕ) → (let r : Reading A = Ok x
 same_read {A} x y e =
     let value : Reading A → A × List ℕ = λ r. elim r [ Ok z ↦ z | Err at ↦ x ] in ap value e
 
--- what stands behind a part that was read
+-- what follows a part that was read
 pub part : {A B : Type 0} (q : Reading A) (next : A → Reader B) (x : B × List ℕ) → then_read q next ≡ Ok x
     → (a : A) × (mid : List ℕ) × (q ≡ Ok (a, mid)) × (next a mid ≡ Ok x)
 part (Ok read) next x e = (read.0, read.1, refl, e)
@@ -119,7 +119,7 @@ made_told {A} {B} {read} {s} {G} make exact bytes b rest hb e =
     let same = same_read (make x.0, x.1) (b, rest) x.3 in
     (x.0, f.0, ap (λ z. z.0) same, f.1 ∙ ap (λ z. s x.0 ++ z.1) same)
 
--- a part, and what its value asks for behind it
+-- a part, and what its value asks for after it
 pub exact_then : {A B : Type 0} {one : Reader A} {s : A → List ℕ} {G : A → Type 0} (two : A → Reader B) (t : B → List ℕ) (H : B → Type 0) (front : B → A)
     → IsExact one s G → ((a : A) → G a → IsExact (two a) t (λ b. H b × (front b ≡ a))) → ((b : B) → H b → G (front b))
     → IsExact (λ bytes. then_read (one bytes) two) (λ b. s (front b) ++ t b) H

@@ -18,7 +18,7 @@ use Rattle.row_form.proofs.Exact.{AreBytes, IsExact, exact_both, exact_chosen, e
 use Rattle.row_form.proofs.ExactFields.{exact_long, exact_text, exact_name, exact_path, exact_type_name, exact_flag, exact_kind, exact_type_kind, exact_out}
 use Rattle.row_form.proofs.ExactLists.{AreOutputsOf, exact_list, exact_targets, exact_entries, exact_objects, exact_places, exact_outputs}
 
--- pieces of the file of objects
+-- extents
 both_hold : (a b : Bool) → (a && b) ≡ true → (a ≡ true) × (b ≡ true)
 both_hold true b e = (refl, e)
 both_hold false b e = absurd (cc)

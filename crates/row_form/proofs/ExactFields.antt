@@ -37,7 +37,7 @@ read_if : {A : Type 0} (t : Bool) (x y : A × List ℕ) (at : List ℕ) → (let
 read_if true x y at e = (refl, same_read x y e)
 read_if false x y at e = absurd (cc)
 
--- so many bytes, made into a number and back
+-- this many bytes, made into a number and back
 number_told : (size : ℕ) (of : List ℕ → ℕ) (spell : ℕ → List ℕ) (Good : ℕ → Type 0) (bytes : List ℕ) (a : ℕ) (rest : List ℕ)
     → ((bs : List ℕ) → length bs ≡ size → AreBytes bs → spell (of bs) ≡ bs) → ((bs : List ℕ) → length bs ≡ size → AreBytes bs → Good (of bs))
     → AreBytes bytes → (let r : Reading ℕ = if nat_le size (length bytes) then Ok (of (take size bytes), drop size bytes) else Err bytes in r ≡ Ok (a, rest))
@@ -147,7 +147,7 @@ exact_entry = exact_made entry_of (λ r. (r.path, r.row)) IsEntry (exact_both ex
 pub exact_placed : IsExact read_placed place_of IsPlaced
 exact_placed = exact_made placed_of (λ p. (p.element, p.version)) IsPlaced (exact_both exact_long exact_long) (λ b. refl) (λ a. refl) (λ b h. h) (λ a g. g)
 
--- values that bytes stand for
+-- values that bytes encode
 abbrev pub always : {A : Type 0} → A → Type 0
 always a = Unit {0}
 

@@ -17,3 +17,16 @@ pub then_five : {T E : Type 0} (r : Result T E) (old a b c d e m k l n : List �
     → OnOk r (n ≡ old ++ (a ++ (b ++ (c ++ (d ++ e)))))
 then_five r old a b c d e m k l n first second third fourth =
     on_ok_weaker r (λ h. one_more old (a ++ b) (c ++ (d ++ e)) m n first (one_more m c (d ++ e) k n second (one_more k d e l n third h)) ∙ ap (λ s. old ++ s) (append_assoc a b (c ++ (d ++ e)))) fourth
+
+after_three : (old a b c d m n : List ℕ) → m ≡ old ++ (a ++ (b ++ c)) → n ≡ m ++ d → n ≡ old ++ (a ++ (b ++ (c ++ d)))
+after_three old a b c d m n first second =
+    one_more old (a ++ (b ++ c)) d m n first second ∙ ap (λ s. old ++ s) (append_assoc a (b ++ c) d ∙ ap (λ s. a ++ s) (append_assoc b c d))
+
+pub three_then_one : {T E : Type 0} (r : Result T E) (old a b c d m n : List ℕ) → m ≡ old ++ (a ++ (b ++ c)) → OnOk r (n ≡ m ++ d)
+    → OnOk r (n ≡ old ++ (a ++ (b ++ (c ++ d))))
+three_then_one r old a b c d m n first second = on_ok_weaker r (after_three old a b c d m n first) second
+
+pub three_then_two : {T E : Type 0} (r : Result T E) (old a b c d e m k n : List ℕ) → m ≡ old ++ (a ++ (b ++ c)) → k ≡ m ++ d → OnOk r (n ≡ k ++ e)
+    → OnOk r (n ≡ old ++ (a ++ (b ++ (c ++ (d ++ e)))))
+three_then_two r old a b c d e m k n first second third =
+    on_ok_weaker r (λ h. after_three old a b c (d ++ e) m n first (one_more m d e k n second h)) third

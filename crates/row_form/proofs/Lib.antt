@@ -7,5 +7,6 @@ pub mod ExactRow
 pub mod Joins
 pub mod Members
 pub mod Steps
+mod WorkedExtents
 mod WorkedPlaces
 mod WorkedRows

@@ -11,7 +11,7 @@ abbrev pub left_of : {A : Type 0} → Reading A → Option ℕ
 left_of (Ok read) = None
 left_of (Err at) = Some (length at)
 
--- the answer is what reading gives, unless memory was wanting: the value, with these bytes left, or where it fails
+-- the answer is what reading gives, unless memory ran out: the value, with these bytes left, or where it fails
 abbrev pub Answers : {A : Type 0} → Result A (Or Unread) → Reading A → List ℕ → Type 0
 Answers (Ok value) reading left = reading ≡ Ok (value, left)
 Answers (Err NoMemory) reading left = Unit {0}

@@ -1,4 +1,4 @@
--- How a deed is read: its code, and then the fields that this code tells. A deed has its reader, and a line in the table.
+-- How a deed is read: its code, and then the fields that this code has. A deed has its reader, and a line in the table.
 use Rattle.std.specs.Prelude.{ℕ, ◌&&◌, ◌==◌, Err, List, [], ◌∷◌, length, if◌then◌else◌}
 use Rattle.std.specs.List.{list_any}
 use Rattle.cc_names.specs.Formed.{is_there}
@@ -92,7 +92,7 @@ read_published form bytes = then_read (read_record form bytes) (λ r. made (λ o
 abbrev pub read_publish : ℕ → Reader Deed
 read_publish form = made (λ p. deeds.Publish p.0.0 p.0.1.0 p.0.1.1.0 p.0.1.1.1 p.1) (read_published form)
 
--- as many outputs as there are targets, one or more of them in the file of objects
+-- as many outputs as there are targets, one or more of them with an extent
 abbrev pub read_stored_outputs : ℕ → Reader (List Stored)
 read_stored_outputs count = chosen (tested (λ outputs. (length outputs == count) && list_any is_there outputs)) (read_list read_stored)
 
@@ -107,7 +107,7 @@ read_publish_at form = made (λ p. deeds.PublishAt p.0.0 p.0.1.0 p.0.1.1.0 p.0.1
 abbrev pub Line : Type 0
 Line = ℕ × Reader Deed
 
--- the deeds that stand under the first byte 1 alone
+-- the deeds that have the first byte 1 alone
 abbrev pub plain_deeds : List Line
 plain_deeds =
     (1, read_mkview) ∷ (2, read_rmview) ∷ (3, read_setcs) ∷ (4, read_mkelem) ∷ (5, read_checkout) ∷ (6, read_branch) ∷ (7, read_save)
@@ -115,11 +115,11 @@ plain_deeds =
     ∷ (15, read_label) ∷ (16, read_unlabel) ∷ (18, read_wink) ∷ (19, read_drop) ∷ (20, read_scrub) ∷ (21, read_labels)
     ∷ (22, read_arrow) ∷ []
 
--- the deeds that stand under this first byte
+-- the deeds that may have this first byte
 abbrev pub deeds_under : ℕ → List Line
 deeds_under form = (17, read_publish form) ∷ (23, read_publish_at form) ∷ (if form == 1 then plain_deeds else [])
 
--- the fields of the deed of this code, which begins at other bytes; no deed has a code that is not in the table
+-- the fields of the deed of this code; a code that no deed has fails where it begins
 abbrev pub read_fields : List Line → ℕ → List ℕ → Reader Deed
 read_fields [] code bytes rest = Err bytes
 read_fields (line ∷ lines) code bytes rest = if code == line.0 then line.1 rest else read_fields lines code bytes rest

@@ -81,31 +81,31 @@ placed_of pair = record { element = pair.0; version = pair.1 }
 abbrev pub read_placed : Reader Placed
 read_placed = made placed_of (both read_long read_long)
 
--- whether a piece of the file of objects may begin at this place: one byte from there on ends below 2^63
+-- whether an extent may begin at this offset: one byte there ends below 2^63
 abbrev pub may_begin : ℕ → Bool
 may_begin place = nat_lt (place + 1) (2 ^ 63)
 
--- whether a piece that begins at this place may have this length
+-- whether an extent at this offset may have this length
 abbrev pub may_have : ℕ → ℕ → Bool
 may_have place size = nat_lt 0 size && nat_le size 1048576 && nat_lt (place + size) (2 ^ 63)
 
--- the piece of this place and length
+-- the extent of this offset and length
 abbrev pub extent_of : ℕ → ℕ → Option Extent
 extent_of place size = if may_have place size then Some (record { place = place; length = size }) else None
 
--- where a piece begins
+-- the offset of an extent
 abbrev pub read_place : Reader ℕ
 read_place = chosen (tested may_begin) read_long
 
--- A piece of the file of objects: a place that no piece may begin at fails there, any other wrong piece at its length.
+-- An extent of the file of objects: an offset that no extent may have fails there, any other wrong extent at its length.
 abbrev pub read_extent : Reader Extent
 read_extent bytes = then_read (read_place bytes) (λ place. chosen (extent_of place) read_long)
 
--- an output of this kind, which began at other bytes
+-- an output of this kind; an unknown kind fails where the output began
 abbrev pub read_stored_of : List ℕ → ℕ → Reader Stored
 read_stored_of bytes kind rest = if kind == 0 then made Here read_text rest else if kind == 1 then made There read_extent rest else Err bytes
 
--- an output: 0 and its bytes, or 1 and where they stand
+-- an output: 0 and its bytes, or 1 and its extent
 abbrev pub read_stored : Reader Stored
 read_stored bytes = then_read (read_byte bytes) (read_stored_of bytes)
 
@@ -132,7 +132,7 @@ entry_cmp a b = slice_cmp nat_cmp a.path b.path
 abbrev pub placed_cmp : Placed → Placed → Ordering
 placed_cmp a b = nat_cmp a.element b.element
 
--- whether no target stands twice
+-- whether no target occurs twice
 abbrev pub are_distinct : List (List ℕ) → Bool
 are_distinct [] = true
 are_distinct (target ∷ others) = not (list_any (λ other. bytes_eq other target) others) && are_distinct others

@@ -62,7 +62,7 @@ entry read = text read.path ++ long read.row
 abbrev pub place_of : Placed → List ℕ
 place_of placed = long placed.element ++ long placed.version
 
--- an output: 0 and its bytes, or 1 and where they stand
+-- an output: 0 and its bytes, or 1 and its extent
 abbrev pub stored : Stored → List ℕ
 stored (Here bytes) = 0 ∷ text bytes
 stored (There extent) = 1 ∷ (long extent.place ++ long extent.length)

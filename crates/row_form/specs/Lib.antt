@@ -1,5 +1,6 @@
 pub mod Answers
 pub mod DeedReaders
+pub mod Extents
 pub mod FieldReaders
 pub mod Fields
 pub mod Readers

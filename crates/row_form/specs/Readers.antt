@@ -1,9 +1,9 @@
--- How bytes are read, part by part. Where bytes cannot be read, these definitions tell from which place on; that what they read is
+-- How bytes are read, part by part. Where bytes cannot be read, these definitions say from which byte on; that what they read is
 -- what is spelled so, and nothing else, is proved of them.
 use Rattle.std.specs.Prelude.{ℕ, zero, suc, Bool, nat_le, Option, Some, None, Result, Ok, Err, List, [], ◌∷◌, length, take, drop, if◌then◌else◌}
 use Rattle.std.specs.Int.{w32, w64, from_le_bytes}
 
--- what reading gives: a value and the bytes behind it; or, where a field cannot be read, the bytes from that field on
+-- what reading gives: a value and the bytes after it; or, where a field cannot be read, the bytes from that field on
 abbrev pub Reading : Type 0 → Type 0
 Reading A = Result (A × List ℕ) (List ℕ)
 
@@ -11,7 +11,7 @@ Reading A = Result (A × List ℕ) (List ℕ)
 abbrev pub Reader : Type 0 → Type 0
 Reader A = List ℕ → Reading A
 
--- what is read behind a value
+-- what is read after a value
 abbrev pub then_read : {A B : Type 0} → Reading A → (A → Reader B) → Reading B
 then_read (Ok read) next = next read.0 read.1
 then_read (Err at) next = Err at
@@ -50,7 +50,7 @@ read_word bytes = if nat_le 4 (length bytes) then Ok (from_le_bytes w32 (take 4 
 abbrev pub read_long : Reader ℕ
 read_long bytes = if nat_le 8 (length bytes) then Ok (from_le_bytes w64 (take 8 bytes), drop 8 bytes) else Err bytes
 
--- so many bytes, of a text that began at other bytes
+-- this many bytes; where there are fewer, reading fails where the text began
 abbrev pub read_bytes : List ℕ → ℕ → Reader (List ℕ)
 read_bytes bytes size rest = if nat_le size (length rest) then Ok (take size rest, drop size rest) else Err bytes
 
@@ -58,7 +58,7 @@ read_bytes bytes size rest = if nat_le size (length rest) then Ok (take size res
 abbrev pub read_text : Reader (List ℕ)
 read_text bytes = then_read (read_word bytes) (read_bytes bytes)
 
--- so many members, one behind the other
+-- this many members, one after the other
 abbrev pub read_members : {A : Type 0} → Reader A → ℕ → Reader (List A)
 read_members read zero bytes = Ok ([], bytes)
 read_members read (suc count) bytes = then_read (read bytes) (λ a rest. then_read (read_members read count rest) (λ others end. Ok (a ∷ others, end)))

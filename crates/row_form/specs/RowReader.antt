@@ -24,24 +24,24 @@ read_moment = chosen (tested (λ moment. nat_le moment 253402300799)) read_long
 abbrev pub Parts : Type 0
 Parts = (Tag × ℕ) × Deed
 
--- the first byte, and the parts that stand behind it
+-- the first byte, and the parts after it
 abbrev pub read_parts : Reader Parts
 read_parts bytes = then_read (read_form bytes) (λ form. both (both read_tag read_moment) (read_deed form))
 
--- the value where no byte is left over
+-- the value where there is no excess byte
 abbrev pub ended : {A : Type 0} → A → Reader A
 ended a [] = Ok (a, [])
 ended a (b ∷ bytes) = Err (b ∷ bytes)
 
--- a row, with nothing behind it
+-- a row, with nothing after it
 abbrev pub read_row : Reader Parts
 read_row bytes = then_read (read_parts bytes) ended
 
--- how far from the front of so many bytes reading fails
+-- the offset at which reading this many bytes fails
 abbrev pub place_of_fault : {A : Type 0} → ℕ → Reading A → Option ℕ
 place_of_fault size (Ok read) = None
 place_of_fault size (Err at) = Some (size - length at)
 
--- The place, counted from 0, of the first field of a row that cannot be read, or of the first byte left over.
+-- The offset, counted from 0, of the first field of a row that cannot be read, or of the first excess byte.
 abbrev pub fault_of : List ℕ → Option ℕ
 fault_of bytes = place_of_fault (length bytes) (read_row bytes)

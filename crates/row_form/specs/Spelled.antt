@@ -1,5 +1,5 @@
 -- The one spelling of a row.
-use Rattle.std.specs.Prelude.{ℕ, List, ◌∷◌, ◌++◌}
+use Rattle.std.specs.Prelude.{ℕ, List, [], ◌∷◌, ◌++◌}
 use Rattle.cc_names.specs.Formed.{Plain}
 use Rattle.cc_names.specs.declared.rows.Deed.{Deed}
 use Rattle.cc_names.specs.declared.rows.Deed.TheVariants as deeds
@@ -31,33 +31,52 @@ code_of (deeds.Labels label placed) = 21
 code_of (deeds.Arrow element tail head) = 22
 code_of (deeds.PublishAt view targets script entries outputs) = 23
 
--- the fields of a deed, in order
+-- The fields of a deed, in order. A table a subject; the last has all others.
+
+-- the fields of a deed about objects; no other deed has any of these
+abbrev pub object_fields : Deed → List ℕ
+object_fields (deeds.Publish view targets script entries outputs) =
+    text view ++ (listed text targets ++ (text script ++ (listed entry entries ++ listed text outputs)))
+object_fields (deeds.PublishAt view targets script entries outputs) =
+    text view ++ (listed text targets ++ (text script ++ (listed entry entries ++ listed stored outputs)))
+object_fields (deeds.Wink view object) = text view ++ long object
+object_fields (deeds.Drop view path) = text view ++ text path
+object_fields (deeds.Scrub objects) = listed long objects
+object_fields _ = []
+
+-- the fields of a deed about types, labels and arrows, or objects
+abbrev pub type_fields : Deed → List ℕ
+type_fields (deeds.Mktype sort name) = type_kind sort ++ text name
+type_fields (deeds.Label label element version) = text label ++ (long element ++ long version)
+type_fields (deeds.Unlabel label element) = text label ++ long element
+type_fields (deeds.Labels label placed) = text label ++ listed place_of placed
+type_fields (deeds.Arrow element tail head) = long element ++ (long tail ++ long head)
+type_fields deed = object_fields deed
+
+-- the fields of a deed about checkouts and branches, or one of those above
+abbrev pub checkout_fields : Deed → List ℕ
+checkout_fields (deeds.Checkout view element origin reserved) = text view ++ (long element ++ (long origin ++ flag reserved))
+checkout_fields (deeds.Branch view element origin name out) = text view ++ (long element ++ (long origin ++ (text name ++ out_byte out)))
+checkout_fields (deeds.Save view element bytes) = text view ++ (long element ++ text bytes)
+checkout_fields (deeds.Checkin view element) = text view ++ long element
+checkout_fields (deeds.Uncheckout view element) = text view ++ long element
+checkout_fields deed = type_fields deed
+
+-- the fields of a deed about directories, or one of those above
+abbrev pub directory_fields : Deed → List ℕ
+directory_fields (deeds.Mkelem view directory name sort out) = text view ++ (long directory ++ (text name ++ (kind sort ++ flag out)))
+directory_fields (deeds.Rmname view directory name) = text view ++ (long directory ++ text name)
+directory_fields (deeds.Mv view directory from_name to_name) = text view ++ (long directory ++ (text from_name ++ text to_name))
+directory_fields deed = checkout_fields deed
+
+-- the fields of a deed: those about views and their private files, and all others
 abbrev pub fields_of : Deed → List ℕ
 fields_of (deeds.Mkview view) = text view
 fields_of (deeds.Rmview view) = text view
 fields_of (deeds.Setcs view spec) = text view ++ text spec
-fields_of (deeds.Mkelem view directory name sort out) = text view ++ (long directory ++ (text name ++ (kind sort ++ flag out)))
-fields_of (deeds.Checkout view element origin reserved) = text view ++ (long element ++ (long origin ++ flag reserved))
-fields_of (deeds.Branch view element origin name out) = text view ++ (long element ++ (long origin ++ (text name ++ out_byte out)))
-fields_of (deeds.Save view element bytes) = text view ++ (long element ++ text bytes)
-fields_of (deeds.Checkin view element) = text view ++ long element
-fields_of (deeds.Uncheckout view element) = text view ++ long element
-fields_of (deeds.Rmname view directory name) = text view ++ (long directory ++ text name)
-fields_of (deeds.Mv view directory from_name to_name) = text view ++ (long directory ++ (text from_name ++ text to_name))
 fields_of (deeds.Put view path bytes) = text view ++ (text path ++ text bytes)
 fields_of (deeds.Rm view path) = text view ++ text path
-fields_of (deeds.Mktype sort name) = type_kind sort ++ text name
-fields_of (deeds.Label label element version) = text label ++ (long element ++ long version)
-fields_of (deeds.Unlabel label element) = text label ++ long element
-fields_of (deeds.Publish view targets script entries outputs) =
-    text view ++ (listed text targets ++ (text script ++ (listed entry entries ++ listed text outputs)))
-fields_of (deeds.Wink view object) = text view ++ long object
-fields_of (deeds.Drop view path) = text view ++ text path
-fields_of (deeds.Scrub objects) = listed long objects
-fields_of (deeds.Labels label placed) = text label ++ listed place_of placed
-fields_of (deeds.Arrow element tail head) = long element ++ (long tail ++ long head)
-fields_of (deeds.PublishAt view targets script entries outputs) =
-    text view ++ (listed text targets ++ (text script ++ (listed entry entries ++ listed stored outputs)))
+fields_of deed = directory_fields deed
 
 -- the first byte of a publish: 2 where it has two targets or more
 abbrev pub form_of : List (List ℕ) → ℕ

@@ -7,8 +7,8 @@ ghost use Rattle.row_form.specs.Readers.{read_byte, read_word, read_long, read_t
 use cc_names::memory::Or;
 use std::fmt;
 
-/// F1: the bytes spell no row. The number is the place, counted from 0, where the first field that cannot be read begins,
-/// or of the first byte left over. A list whose members can all be read and that breaks its rule fails where its count
+/// The bytes spell no row. The number is the offset, counted from 0, of the first field that cannot be read, or of the first
+/// excess byte. A list whose members can all be read and that breaks its rule fails where its count
 /// begins, and a code that the first byte does not have at the code.
 #[derive(Clone, Copy, Debug, PartialEq, Eq)]
 pub struct NotARow(pub u64);
@@ -21,7 +21,7 @@ impl fmt::Display for NotARow {
 
 impl std::error::Error for NotARow {}
 
-/// That a field cannot be read, where so many bytes are left from its beginning on.
+/// That a field cannot be read, and how many bytes are left from its beginning on.
 #[derive(Clone, Copy)]
 pub(crate) struct Unread {
     pub(crate) left: usize,
@@ -88,8 +88,8 @@ impl<'a> Cursor<'a> {
         if self.rest.len() < size {
             return Err(Or::Is(here));
         }
-        let (front, rest) = self.rest.split_at(size);
+        let (bytes, rest) = self.rest.split_at(size);
         self.rest = rest;
-        Ok(front)
+        Ok(bytes)
     }
 }

@@ -292,7 +292,7 @@ fn is_there(output: &Stored) -> bool
     }
 }
 
-/// Whether one output or more stands in the file of objects.
+/// Whether one output or more has an extent.
 fn has_extent(outputs: &[Stored]) -> bool
     ensures { result ≡ list_any is_there outputs.now }
 {
@@ -334,7 +334,7 @@ fn read_publish_at(
     })
 }
 
-/// The deed of this code, which stands under the first byte 1 alone, where no other has it; `here` is where the code stands.
+/// The deed of this code, one of those that have the first byte 1 alone; `here` says where the code is.
 fn read_plain(
     alloc: Global,
     cursor: &mut Cursor<'_>,

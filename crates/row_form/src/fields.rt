@@ -233,7 +233,7 @@ impl Field for Placed {
     }
 }
 
-/// The place of a piece of the file of objects.
+/// The offset of an extent.
 fn read_place(cursor: &mut Cursor<'_>) -> Result<u64, Or<Unread>>
     ensures { Answers result (read_place cursor.old.rest.now) cursor.new.rest.now }
 {
@@ -245,7 +245,7 @@ fn read_place(cursor: &mut Cursor<'_>) -> Result<u64, Or<Unread>>
     Err(Or::Is(here))
 }
 
-/// The piece of the file of objects that begins at this place and has this length, if there may be one.
+/// The extent of this offset and length, if there may be one.
 fn extent_of(place: u64, length: u64) -> Option<Extent>
     requires { place < 2 ^ 63 }
     ensures { result ≡ extent_of place length }

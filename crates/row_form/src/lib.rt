@@ -2,15 +2,16 @@
 //!
 //! What it is for: `spell` writes a row of any deed, `read` gives it back.
 //!
-//! What it promises: each row has one spelling, and `read` gives a row exactly where the bytes are the spelling of a row that
-//! keeps its form. Where they spell none, the fault names the place of the first field that cannot be read, or of the first
-//! byte left over (`fault_of`, `specs/RowReader.antt`). Reading takes time linear in the bytes, and a list takes memory as its
+//! What it promises: each row has one spelling, and `read` gives a row exactly where the bytes are the spelling of a well-formed
+//! row. Where they are not, the fault names the offset of the first field that cannot be read, or of the first excess byte
+//! (`fault_of`, `specs/RowReader.antt`). Reading takes time linear in the bytes, and a list takes memory as its
 //! members are read, never by a count that the bytes left cannot hold.
 //!
-//! What it stands on: cc_names, which has the row itself; it is brought out again here.
+//! What it stands on: cc_names, which has the row itself; it is re-exported here.
 #![tactic(auto)]
 
 mod cursor;
+mod deed_fields;
 mod deeds;
 mod fields;
 mod lists;

@@ -81,7 +81,7 @@ fn ascend<M: Ordered>(members: &[M]) -> bool
     true
 }
 
-/// Whether no target stands twice, in time linear in them.
+/// Whether no target occurs twice, in time linear in them.
 fn are_distinct(alloc: Global, hashing: RandomState, targets: &[Path]) -> Result<bool, NoMemory>
     ensures { IfOk result (λ are. are ≡ are_distinct targets.now) }
 {

@@ -16,7 +16,7 @@ use std::hash::RandomState;
 /// A row's tag and moment, and its deed.
 type Parts = ((Tag, u64), Deed);
 
-/// Reads bytes as a row, or answers the place of the first field that cannot be read, or of the first byte left over.
+/// Reads bytes as a row, or answers the offset of the first field that cannot be read, or of the first excess byte.
 /// Takes time linear in them, and memory as the fields are read, whatever the counts of lists say.
 pub fn read(alloc: Global, hashing: RandomState, bytes: &[u8]) -> Result<Row, Or<NotARow>>
     ensures row { IsReadAs result bytes.now }

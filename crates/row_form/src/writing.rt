@@ -3,10 +3,11 @@
 
 ghost use Rattle.std.specs.Prelude.{◌≡◌, ◌<◌, ◌^◌, ◌∷◌, [], ◌++◌, List, ℕ, length, IfOk, OnOk};
 ghost use Rattle.std.specs.List.{flat_map, AllByRecursion};
-ghost use Rattle.cc_names.specs.Formed.{IsDeedFormed, IsText, IsStored};
+ghost use Rattle.cc_names.specs.Formed.{IsText, IsStored};
 ghost use Rattle.row_form.specs.Fields.{word, long, text, listed, flag, kind, type_kind, out_byte, entry, place_of, stored};
-ghost use Rattle.row_form.specs.Spelled.{spelled, fields_of, code_of, first_byte, form_of};
+ghost use Rattle.row_form.specs.Spelled.{spelled, code_of, first_byte, form_of};
 
+use crate::deed_fields::put_fields;
 use cc_names::memory::NoMemory;
 use cc_names::names::Name;
 use cc_names::paths::Path;
@@ -100,7 +101,7 @@ fn put_word(out: &mut Vec<u8>, number: u32) -> Result<(), NoMemory>
     Ok(())
 }
 
-fn put_long(out: &mut Vec<u8>, number: u64) -> Result<(), NoMemory>
+pub(crate) fn put_long(out: &mut Vec<u8>, number: u64) -> Result<(), NoMemory>
     ensures { OnOk result (out.new.items ≡ out.old.items ++ long number) }
 {
     out.extend_from_slice(&number.to_le_bytes())?;
@@ -123,26 +124,26 @@ fn put_text(out: &mut Vec<u8>, bytes: &[u8]) -> Result<(), NoMemory>
     Ok(())
 }
 
-fn put_body(out: &mut Vec<u8>, body: &Text) -> Result<(), NoMemory>
+pub(crate) fn put_body(out: &mut Vec<u8>, body: &Text) -> Result<(), NoMemory>
     requires { IsText body.now }
     ensures { OnOk result (out.new.items ≡ out.old.items ++ text body.now) }
 {
     put_text(out, body.as_bytes())
 }
 
-fn put_name(out: &mut Vec<u8>, name: &Name) -> Result<(), NoMemory>
+pub(crate) fn put_name(out: &mut Vec<u8>, name: &Name) -> Result<(), NoMemory>
     ensures { OnOk result (out.new.items ≡ out.old.items ++ text name.now) }
 {
     put_text(out, name.as_bytes())
 }
 
-fn put_path(out: &mut Vec<u8>, path: &Path) -> Result<(), NoMemory>
+pub(crate) fn put_path(out: &mut Vec<u8>, path: &Path) -> Result<(), NoMemory>
     ensures { OnOk result (out.new.items ≡ out.old.items ++ text path.now) }
 {
     put_text(out, path.as_bytes())
 }
 
-fn put_flag(out: &mut Vec<u8>, is: bool) -> Result<(), NoMemory>
+pub(crate) fn put_flag(out: &mut Vec<u8>, is: bool) -> Result<(), NoMemory>
     ensures { OnOk result (out.new.items ≡ out.old.items ++ flag is) }
 {
     if is {
@@ -152,7 +153,7 @@ fn put_flag(out: &mut Vec<u8>, is: bool) -> Result<(), NoMemory>
     }
 }
 
-fn put_kind(out: &mut Vec<u8>, sort: Kind) -> Result<(), NoMemory>
+pub(crate) fn put_kind(out: &mut Vec<u8>, sort: Kind) -> Result<(), NoMemory>
     ensures { OnOk result (out.new.items ≡ out.old.items ++ kind sort) }
 {
     match sort {
@@ -161,7 +162,7 @@ fn put_kind(out: &mut Vec<u8>, sort: Kind) -> Result<(), NoMemory>
     }
 }
 
-fn put_type_kind(out: &mut Vec<u8>, sort: TypeKind) -> Result<(), NoMemory>
+pub(crate) fn put_type_kind(out: &mut Vec<u8>, sort: TypeKind) -> Result<(), NoMemory>
     ensures { OnOk result (out.new.items ≡ out.old.items ++ type_kind sort) }
 {
     match sort {
@@ -170,7 +171,7 @@ fn put_type_kind(out: &mut Vec<u8>, sort: TypeKind) -> Result<(), NoMemory>
     }
 }
 
-fn put_out(out: &mut Vec<u8>, how: Out) -> Result<(), NoMemory>
+pub(crate) fn put_out(out: &mut Vec<u8>, how: Out) -> Result<(), NoMemory>
     ensures { OnOk result (out.new.items ≡ out.old.items ++ out_byte how) }
 {
     match how {
@@ -181,7 +182,7 @@ fn put_out(out: &mut Vec<u8>, how: Out) -> Result<(), NoMemory>
 }
 
 /// A member of a list, as it is spelled.
-trait Put {
+pub(crate) trait Put {
     ghost spelled: { Self → List ℕ };
 
     ghost fits: { Self → Type 0 };
@@ -242,7 +243,7 @@ impl Put for Placed {
     }
 }
 
-fn put_pair(out: &mut Vec<u8>, first: u64, second: u64) -> Result<(), NoMemory>
+pub(crate) fn put_pair(out: &mut Vec<u8>, first: u64, second: u64) -> Result<(), NoMemory>
     ensures { OnOk result (out.new.items ≡ out.old.items ++ (long first ++ long second)) }
 {
     put_long(out, first)?;
@@ -275,7 +276,7 @@ impl Put for Stored {
     }
 }
 
-fn put_list<M: Put>(out: &mut Vec<u8>, members: &[M]) -> Result<(), NoMemory>
+pub(crate) fn put_list<M: Put>(out: &mut Vec<u8>, members: &[M]) -> Result<(), NoMemory>
     requires short { length members.now < 2 ^ 32 }
     requires fit { AllByRecursion M.fits members.now }
     ensures { OnOk result (out.new.items ≡ out.old.items ++ listed M.spelled members.now) }
@@ -287,14 +288,27 @@ fn put_list<M: Put>(out: &mut Vec<u8>, members: &[M]) -> Result<(), NoMemory>
     Ok(())
 }
 
-fn put_two(out: &mut Vec<u8>, name: &Name, number: u64) -> Result<(), NoMemory>
+pub(crate) fn put_two(out: &mut Vec<u8>, name: &Name, number: u64) -> Result<(), NoMemory>
     ensures { OnOk result (out.new.items ≡ out.old.items ++ (text name.now ++ long number)) }
 {
     put_name(out, name)?;
     put_long(out, number)
 }
 
-fn put_object(
+pub(crate) fn put_three(
+    out: &mut Vec<u8>,
+    name: &Name,
+    first: u64,
+    second: u64,
+) -> Result<(), NoMemory>
+    ensures { OnOk result
+        (out.new.items ≡ out.old.items ++ (text name.now ++ (long first ++ long second))) }
+{
+    put_name(out, name)?;
+    put_pair(out, first, second)
+}
+
+pub(crate) fn put_object(
     out: &mut Vec<u8>,
     view: &Name,
     targets: &[Path],
@@ -314,141 +328,4 @@ fn put_object(
     put_list(out, targets)?;
     put_text(out, script.as_bytes())?;
     put_list(out, entries)
-}
-
-/// The fields of a deed, in order.
-fn put_fields(out: &mut Vec<u8>, deed: &Deed) -> Result<(), NoMemory>
-    requires { IsDeedFormed deed.now }
-    ensures { OnOk result (out.new.items ≡ out.old.items ++ fields_of deed.now) }
-{
-    match deed {
-        Deed::Mkview { view } => put_name(out, view),
-        Deed::Rmview { view } => put_name(out, view),
-        Deed::Setcs { view, text } => {
-            put_name(out, view)?;
-            put_body(out, text)
-        }
-        Deed::Mkelem {
-            view,
-            directory,
-            name,
-            kind,
-            out: is_out,
-        } => {
-            put_two(out, view, *directory)?;
-            put_name(out, name)?;
-            put_kind(out, *kind)?;
-            put_flag(out, *is_out)
-        }
-        Deed::Checkout {
-            view,
-            element,
-            origin,
-            reserved,
-        } => {
-            put_two(out, view, *element)?;
-            put_long(out, *origin)?;
-            put_flag(out, *reserved)
-        }
-        Deed::Branch {
-            view,
-            element,
-            origin,
-            name,
-            out: how,
-        } => {
-            put_two(out, view, *element)?;
-            put_long(out, *origin)?;
-            put_name(out, name)?;
-            put_out(out, *how)
-        }
-        Deed::Save {
-            view,
-            element,
-            text,
-        } => {
-            put_two(out, view, *element)?;
-            put_body(out, text)
-        }
-        Deed::Checkin { view, element } => put_two(out, view, *element),
-        Deed::Uncheckout { view, element } => put_two(out, view, *element),
-        Deed::Rmname {
-            view,
-            directory,
-            name,
-        } => {
-            put_two(out, view, *directory)?;
-            put_name(out, name)
-        }
-        Deed::Mv {
-            view,
-            directory,
-            from_name,
-            to_name,
-        } => {
-            put_two(out, view, *directory)?;
-            put_name(out, from_name)?;
-            put_name(out, to_name)
-        }
-        Deed::Put { view, path, text } => {
-            put_name(out, view)?;
-            put_path(out, path)?;
-            put_body(out, text)
-        }
-        Deed::Rm { view, path } => {
-            put_name(out, view)?;
-            put_path(out, path)
-        }
-        Deed::Mktype { kind, name } => {
-            put_type_kind(out, *kind)?;
-            put_name(out, name)
-        }
-        Deed::Label {
-            label,
-            element,
-            version,
-        } => {
-            put_two(out, label, *element)?;
-            put_long(out, *version)
-        }
-        Deed::Unlabel { label, element } => put_two(out, label, *element),
-        Deed::Publish {
-            view,
-            targets,
-            script,
-            entries,
-            outputs,
-        } => {
-            put_object(out, view, targets.as_slice(), script, entries.as_slice())?;
-            put_list(out, outputs.as_slice())
-        }
-        Deed::Wink { view, object } => put_two(out, view, *object),
-        Deed::Drop { view, path } => {
-            put_name(out, view)?;
-            put_path(out, path)
-        }
-        Deed::Scrub { objects } => put_list(out, objects.as_slice()),
-        Deed::Labels { label, placed } => {
-            put_name(out, label)?;
-            put_list(out, placed.as_slice())
-        }
-        Deed::Arrow {
-            element,
-            tail,
-            head,
-        } => {
-            put_pair(out, *element, *tail)?;
-            put_long(out, *head)
-        }
-        Deed::PublishAt {
-            view,
-            targets,
-            script,
-            entries,
-            outputs,
-        } => {
-            put_object(out, view, targets.as_slice(), script, entries.as_slice())?;
-            put_list(out, outputs.as_slice())
-        }
-    }
 }

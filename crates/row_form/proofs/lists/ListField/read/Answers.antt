@@ -1,4 +1,4 @@
--- The members that were read stand before those that are still to be read.
+-- The members that were read come before those that are still to be read.
 use Rattle.std.proofs.Common.{◌-◌, ◌+◌, Ok, Err, sym, ◌∙◌, ap, rules}
 use Rattle.row_form.specs.Answers.{Answers}
 use Rattle.row_form.specs.Readers.{then_read, read_list, read_members}
