@@ -1,11 +1,11 @@
 -- Extents in order, parted at an index: what lies in front of it and behind it, and which extents fit there.
-use Rattle.std.proofs.Common.{◌≡◌, ℕ, suc, ◌+◌, ◌-◌, ◌<◌, ◌≤◌, max, Bool, true, false, ltb, List, [], ◌∷◌, ◌++◌, length, get_or, take, drop, sym, ap, ◌∙◌, subst, inl, inr, arith, drop-cons, get_or-take, get_or-drop, length-take, length-drop}
+use Rattle.std.proofs.Common.{◌≡◌, ℕ, suc, ◌+◌, ◌-◌, ◌<◌, ◌≤◌, max, Bool, true, false, eqb, ltb, List, [], ◌∷◌, ◌++◌, length, get_or, take, drop, sym, ap, ◌∙◌, subst, inl, inr, arith, drop-cons, get_or-take, get_or-drop, length-take, length-drop}
 use Rattle.std.specs.Prelude.{All, Contains, ◌&&◌}
 use Rattle.std.specs.List.Sorted.{IsNonDecreasingBy, IsPartitionPoint}
-use Rattle.std.proofs.lemmas.Bool.{cases_lt, ltb-true, ltb-false, and_parts, and_from, false_from_ne_true}
+use Rattle.std.proofs.lemmas.Bool.{cases_lt, ltb-true, ltb-false, eqb-true, eq-eqb, and_parts, and_from, false_from_ne_true}
 use Rattle.std.proofs.lemmas.List.{take-append-drop, drop_all, take_more, get_or_default}
 use Rattle.cc_names.specs.declared.rows.Extent.{Extent}
-use Rattle.container_store.specs.Extents.{behind, is_free, end_of}
+use Rattle.container_store.specs.Extents.{behind, is_free, end_of, extent_at}
 use Rattle.container_store.specs.Places.{IsInPlace, last_behind, hole_before, FitsAt}
 use Rattle.container_store.proofs.InOrder.{last_behind-append, front_in_place, back_in_place, end_of-append, last_at_most, end_holds, places_rise, is_free-append, free_behind, free_before, behind_if_free, before_if_free}
 
@@ -146,3 +146,23 @@ pub found_in : (slice xs : List Extent) (at : ℕ) (e : Extent) → slice ≡ xs
 found_in slice xs at e is h parted taken =
     found_at xs at e h
     (subst (λ (ys : List Extent). IsPartitionPoint (λ (x : Extent). ltb x.place e.place ≡ true) (λ (x : Extent). ltb x.place e.place ≡ false) ys at) is parted) taken
+
+-- the extent found there is this one exactly where this one is taken
+pub taken_as_found : (slice xs : List Extent) (at : ℕ) (e found : Extent) (b : Bool) → slice ≡ xs → IsInPlace 0 xs
+    → IsPartitionPoint (λ (x : Extent). ltb x.place e.place ≡ true) (λ (x : Extent). ltb x.place e.place ≡ false) slice at
+    → at < length xs → found ≡ get_or xs at found → b ≡ (eqb found.place e.place && eqb found.length e.length)
+    → (b ≡ true → Contains xs e) × (Contains xs e → b ≡ true)
+taken_as_found slice xs at e found b is h parted within here is_equal = (
+  λ (equal : b ≡ true).
+      let parts = and_parts (eqb found.place e.place) (eqb found.length e.length) (sym is_equal ∙ equal) in
+      let same : found ≡ e =
+      ap (λ (p : ℕ). extent_at p found.length) (eqb-true found.place e.place parts.0)
+      ∙ ap (λ (n : ℕ). extent_at e.place n) (eqb-true found.length e.length parts.1) in
+      (at, within, sym (get_or_default xs at found e within) ∙ sym here ∙ same),
+  λ (taken : Contains xs e).
+      let there = found_in slice xs at e is h parted taken in
+      let same : found ≡ e = here ∙ get_or_default xs at found e within ∙ sym there.1 in
+      is_equal
+      ∙ and_from (eqb found.place e.place) (eqb found.length e.length)
+      (eq-eqb found.place e.place (ap (λ (x : Extent). x.place) same)) (eq-eqb found.length e.length (ap (λ (x : Extent). x.length) same)),
+)

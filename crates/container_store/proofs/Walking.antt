@@ -1,11 +1,11 @@
 -- A walk over holes, and what fits first where it ends.
-use Rattle.std.proofs.Common.{◌≡◌, ℕ, ◌+◌, ◌-◌, ◌<◌, ◌≤◌, max, false, List, [], ◌∷◌, ◌++◌, length, get_or, take, drop, refl, sym, ap, ◌∙◌, subst, arith}
+use Rattle.std.proofs.Common.{◌≡◌, ℕ, ◌+◌, ◌-◌, ◌<◌, ◌≤◌, max, List, [], ◌∷◌, length, get_or, take, drop, refl, sym, ap, ◌∙◌, subst, arith}
 use Rattle.std.proofs.lemmas.Bool.{and_left}
 use Rattle.std.proofs.lemmas.List.{take_all}
 use Rattle.cc_names.specs.declared.rows.Extent.{Extent}
-use Rattle.container_store.specs.Extents.{behind, is_free, end_of, extent_at, IsFirstFit}
-use Rattle.container_store.specs.Places.{IsInPlace, last_behind, HasNoLonger, FitsAt}
-use Rattle.container_store.specs.Walks.{HasShorter, IsFirstAt}
+use Rattle.container_store.specs.Extents.{is_free, end_of, extent_at, IsFirstFit}
+use Rattle.container_store.specs.Places.{IsInPlace, last_behind, HasNoLonger}
+use Rattle.container_store.specs.Walks.{IsFirstAt}
 use Rattle.container_store.proofs.InOrder.{joined_holes, longer_holes, last_at_most, end_at_most, none_below}
 use Rattle.container_store.proofs.Fitting.{front_of, free_is, front_more, rest_of, fits_free, fits_last, fits_before}
 

@@ -1,4 +1,5 @@
 pub mod Extents
+pub mod Getting
 pub mod Places
 pub mod Spaces
 pub mod StoreFields

@@ -1,5 +1,5 @@
 -- Extents in order of their places, and the holes in front of them.
-use Rattle.std.specs.Prelude.{◌≡◌, ℕ, ◌+◌, ◌-◌, ◌^◌, ◌<◌, ◌≤◌, List, [], ◌∷◌, length, take, drop}
+use Rattle.std.specs.Prelude.{ℕ, ◌+◌, ◌-◌, ◌^◌, ◌<◌, ◌≤◌, List, [], ◌∷◌, length, take, drop}
 use Rattle.cc_names.specs.declared.rows.Extent.{Extent}
 use Rattle.container_store.specs.Extents.{behind, end_of}
 

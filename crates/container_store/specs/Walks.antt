@@ -1,5 +1,5 @@
 -- Where a walk over the holes ends.
-use Rattle.std.specs.Prelude.{ℕ, ◌+◌, ◌<◌, ◌≤◌, List, length, take, drop}
+use Rattle.std.specs.Prelude.{ℕ, ◌<◌, List, length, take}
 use Rattle.cc_names.specs.declared.rows.Extent.{Extent}
 use Rattle.container_store.specs.Extents.{extent_at}
 use Rattle.container_store.specs.Places.{HasNoLonger, FitsAt, last_behind}

@@ -1,6 +1,6 @@
 //! The store.
 
-ghost use Rattle.std.specs.Prelude.{◌≡◌, ◌≤◌, ◌<◌, ◌+◌, ◌^◌, ◌&&◌, [], true, false, nat_le, Bool, IfOk, OnOk, IfSome, All, Contains, MatchBool, is_some};
+ghost use Rattle.std.specs.Prelude.{◌≡◌, ◌≤◌, ◌<◌, ◌+◌, ◌^◌, ◌&&◌, [], true, false, nat_le, Bool, IfOk, OnOk, IfSome, IsTrue, ◌↔◌, All, Contains, MatchBool, is_some};
 ghost use Rattle.std.specs.List.Sorted.{IsPermutation};
 ghost use Rattle.container_store.specs.Extents.{behind, is_free, end_of, may_take, IsFirstFit};
 ghost use Rattle.container_store.specs.Places.{FitsAt};
@@ -116,6 +116,17 @@ impl Store {
         let at = count_below(self.taken.as_slice(), extent.place);
         self.taken.remove(at);
         self.longest = self.longest.max(hole_before(self.taken.as_slice(), at));
+    }
+
+    /// Whether this extent is taken. Takes time logarithmic in the extents.
+    pub fn is_taken(&self, extent: Extent) -> bool
+        ensures { IsTrue result ↔ Contains self.now.taken extent }
+    {
+        let at = count_below(self.taken.as_slice(), extent.place);
+        match self.taken.as_slice().get(at) {
+            Some(found) => *found == extent,
+            None => false,
+        }
     }
 
     /// The place directly behind the last extent, 0 where none is taken. Takes constant time.

@@ -1,5 +1,5 @@
 -- The walk from one extent to the next.
-use Rattle.std.proofs.Common.{◌≡◌, ℕ, ◌+◌, ◌<◌, length, get_or, take, sym, subst, arith}
+use Rattle.std.proofs.Common.{ℕ, ◌+◌, ◌<◌, length, get_or, take, sym, subst, arith}
 use Rattle.container_store.specs.Extents.{extent_at}
 use Rattle.container_store.specs.Places.{HasNoLonger}
 use Rattle.container_store.proofs.Fitting.{end_within, itself, last_more, rest_of}
