@@ -16,9 +16,11 @@ mod files;
 mod images;
 mod memory;
 mod named;
+mod objects;
 
 pub use calls::{Call, TracedCall};
 pub use cc_names::steps::Counts;
 pub use disk::{Disk, DiskFault};
 pub use files::{FileDisk, Place, Trouble};
 pub use memory::MemoryDisk;
+pub use objects::Objects;

@@ -1,0 +1,6 @@
+pub mod Fitting
+pub mod InOrder
+pub mod Keeping
+pub mod Taking
+pub mod Walking
+mod WorkedExtents

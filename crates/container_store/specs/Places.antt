@@ -1,0 +1,36 @@
+-- Extents in order of their places, and the holes in front of them.
+use Rattle.std.specs.Prelude.{ℕ, ◌+◌, ◌-◌, ◌^◌, ◌<◌, ◌≤◌, List, [], ◌∷◌, length, take, drop}
+use Rattle.cc_names.specs.declared.rows.Extent.{Extent}
+use Rattle.container_store.specs.Extents.{behind, end_of}
+
+-- each extent has a byte, and begins behind the one before it
+abbrev pub IsInPlace : ℕ → List Extent → Type 0
+IsInPlace from [] = Unit {0}
+IsInPlace from (e ∷ more) = (from ≤ e.place) × (0 < e.length) × IsInPlace (behind e) more
+
+-- the place behind the last of them, where they begin behind this one
+abbrev pub last_behind : ℕ → List Extent → ℕ
+last_behind from [] = from
+last_behind from (e ∷ more) = last_behind (behind e) more
+
+-- no hole in front of an extent is longer
+abbrev pub HasNoLonger : ℕ → ℕ → List Extent → Type 0
+HasNoLonger longest from [] = Unit {0}
+HasNoLonger longest from (e ∷ more) = (e.place ≤ from + longest) × HasNoLonger longest (behind e) more
+
+-- the length of the hole in front of the first of them, 0 where there is none
+abbrev pub hole_before : ℕ → List Extent → ℕ
+hole_before from [] = 0
+hole_before from (e ∷ more) = e.place - from
+
+-- an extent fits behind the first so many, and in front of the others
+pub record FitsAt (taken : List Extent) (at : ℕ) (e : Extent) : Type 0 where
+  pub within : at ≤ length taken
+  pub front : last_behind 0 (take at taken) ≤ e.place
+  pub back : IsInPlace (behind e) (drop at taken)
+
+-- extents in order, whose ends fit, and a length that none of their holes passes
+pub record IsKept (taken : List Extent) (longest : ℕ) : Type 0 where
+  pub in_place : IsInPlace 0 taken
+  pub fits : end_of taken < 2 ^ 64
+  pub holes : HasNoLonger longest 0 taken

@@ -1,0 +1,67 @@
+//! The bytes of extents.
+
+ghost use Rattle.std.specs.Prelude.{◌≡◌, ◌≤◌, length, take, drop, Contains, IfOk, MatchResult};
+ghost use Rattle.disk_model.specs.Devices.{bytes_of, Writes, Tears};
+ghost use Rattle.disk_model.specs.Told.{IfTold, Both, Counted};
+ghost use Rattle.container_store.specs.Extents.{behind};
+ghost use Rattle.container_store.specs.Getting.{Gets};
+
+use crate::store::Store;
+use cc_names::memory::Or;
+use cc_names::rows::Extent;
+use cc_names::texts::Text;
+use disk_model::{DiskFault, Objects};
+use std::alloc::Global;
+
+impl Store {
+    /// Writes the bytes of an extent that is taken, in one device call. After a fault the extent may hold any bytes, and all
+    /// others are as they were.
+    pub fn put<O: Objects>(
+        &self,
+        objects: &mut O,
+        extent: &Extent,
+        bytes: &[u8],
+    ) -> Result<(), DiskFault>
+        requires taken { Contains self.now.taken extent.now }
+        requires long { length bytes.now ≡ extent.now.length }
+        requires within { IfTold (O.sight objects.old).told
+            (λ d. extent.now.place ≤ length (bytes_of 1 d)) }
+        ensures told { MatchResult result
+            (λ _.
+            Both (Writes 1 extent.now.place bytes.now) (O.sight objects.old).told
+            (O.sight objects.new).told)
+            (λ _.
+            Both (Tears 1 extent.now.place (length bytes.now)) (O.sight objects.old).told
+            (O.sight objects.new).told) }
+        ensures counts { Counted result (O.sight objects.old) (O.sight objects.new) }
+        ensures keeps { O.keeps objects.old objects.new }
+    {
+        objects.write_at(extent.place, bytes)
+    }
+
+    /// Reads the bytes of an extent that lies in the file, in one device call. Takes time linear in them.
+    pub fn get<O: Objects>(
+        &self,
+        alloc: Global,
+        objects: &mut O,
+        extent: &Extent,
+    ) -> Result<Text, Or<DiskFault>>
+        requires { IfTold (O.sight objects.old).told
+            (λ d. behind extent.now ≤ length (bytes_of 1 d)) }
+        ensures bytes { IfOk result
+            (λ text.
+            IfTold (O.sight objects.old).told
+            (λ d. text ≡ take extent.now.length (drop extent.now.place (bytes_of 1 d)))) }
+        ensures told { Gets extent.now result (O.sight objects.old) (O.sight objects.new) }
+        ensures keeps { O.keeps objects.old objects.new }
+    {
+        let mut bytes = Vec::new(alloc);
+        let Ok(()) = bytes.resize(extent.length as usize, 0) else {
+            return Err(Or::NoMemory);
+        };
+        match objects.read_at(extent.place, bytes.as_mut_slice()) {
+            Ok(()) => Ok(Text::of(bytes)),
+            Err(fault) => Err(Or::Is(fault)),
+        }
+    }
+}
