@@ -1,3 +1,4 @@
+pub mod BranchLaws
 pub mod EstimateLaws
 pub mod ImportLaws
 pub mod LogLaws

@@ -23,7 +23,7 @@ turned x y o is = nat_list_cmp_total.antisymm y x ∙ ap ordering_reverse is
 pub behind-differs : (x y : List ℕ) → order x y ≡ Greater → bytes_eq x y ≡ false
 behind-differs x y is = sym (is_eq-slice_cmp x y) ∙ ap is_eq is
 
-equal-same : (x y : List ℕ) → order x y ≡ Equal → x ≡ y
+pub equal-same : (x y : List ℕ) → order x y ≡ Equal → x ≡ y
 equal-same x y is = (bytes_eq-Decides x y).0 (sym (is_eq-slice_cmp x y) ∙ ap is_eq is)
 
 -- what stands before a site stands before what that stands before

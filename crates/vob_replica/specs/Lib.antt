@@ -1,3 +1,4 @@
+pub mod Branches
 pub mod Estimates
 pub mod Laws
 pub mod Logs

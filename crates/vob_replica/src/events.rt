@@ -1,7 +1,11 @@
 //! What happens at sites, as plain data.
 
+ghost use Rattle.std.specs.Prelude.{◌≡◌, IfOk};
+
+use cc_names::memory::NoMemory;
 use cc_names::names::Name;
 use cc_names::texts::Text;
+use std::alloc::Global;
 
 /// What an operation is known by everywhere: the site that made it, and its number among that site's operations, from 1 on. An
 /// element and its branch `main` are named by the operation that made the element, any other branch by its own.
@@ -9,6 +13,17 @@ use cc_names::texts::Text;
 pub struct Identity {
     pub site: Name,
     pub number: u64,
+}
+
+impl Identity {
+    /// A copy.
+    pub fn copy(&self, alloc: Global) -> Result<Identity, NoMemory>
+        ensures { IfOk result (λ copy. copy ≡ self.now) }
+    {
+        let site = self.site.copy(alloc)?;
+        let number = self.number;
+        Ok(Identity { site, number })
+    }
 }
 
 /// One line of a text of sites.

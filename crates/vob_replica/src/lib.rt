@@ -10,11 +10,14 @@
 //! What it stands on: `cc_names`.
 #![tactic(auto)]
 
+pub mod branch;
+pub mod branches;
 pub mod estimates;
 pub mod events;
 pub mod laws;
 pub mod logs;
 pub mod operations;
 pub mod reading;
+pub mod shared;
 pub mod tables;
 mod words;

@@ -1,63 +1,64 @@
 //! The operations that a site knows.
 
-ghost use Rattle.std.specs.Prelude.{◌≡◌, ◌++◌, ◌∷◌, [], ◌-◌, ◌≤◌, drop, true, not, None, if◌then◌else◌, List, Ok, IfOk, IfErr, OnOk, OnErr, length};
+ghost use Rattle.std.specs.Prelude.{◌≡◌, ◌++◌, ◌∷◌, [], ◌+◌, ◌-◌, ◌≤◌, drop, true, not, None, if◌then◌else◌, List, Ok, IfOk, IfErr, OnOk, OnErr, length};
 ghost use Rattle.cc_names.specs.Answers.{FaultIs};
-ghost use Rattle.vob_replica.specs.Logs.{values_of, IsGap, TakesNews};
-ghost use Rattle.vob_replica.specs.Tables.{first_gap, holds, raised, table_of};
+ghost use Rattle.vob_replica.specs.Logs.{IsGap, IsNext, TakesNews, IsTableOf};
+ghost use Rattle.vob_replica.specs.Tables.{first_gap, holds, number_in, raised, table_of};
 ghost use Rattle.vob_replica.specs.Replicas.{above, taken_in};
 ghost use Rattle.vob_replica.specs.declared.operations.Operation.{Operation};
 
 use crate::events::Identity;
-use crate::operations::Operation;
+use crate::shared::Shared;
 use crate::tables::Table;
 use cc_names::memory::{NoMemory, Or};
+use cc_names::names::Name;
 use std::alloc::Global;
 use std::marker::Model;
-use std::rc::Rc;
 
 /// The operations that a site knows, in the order in which it came to know them, shared with the sites that know them too, and
 /// their epoch table. Contracts see the operations.
 #[derive(Drop)]
 pub struct Log {
-    operations: Vec<Rc<Operation>>,
+    operations: Vec<Shared>,
     table: Table,
 }
 
 impl Model for Log {
-    ghost use Rattle.std.specs.Prelude.{List, ◌≡◌};
+    ghost use Rattle.std.specs.Prelude.{List};
     ghost use Rattle.vob_replica.specs.declared.operations.Operation.{Operation};
-    ghost use Rattle.vob_replica.specs.Logs.{values_of};
-    ghost use Rattle.vob_replica.specs.Tables.{table_of};
+    ghost use Rattle.vob_replica.specs.Logs.{IsTableOf};
 
     ghost Value = { List Operation };
 
-    ghost view = { λ log. values_of log.operations.items };
+    ghost view = { λ log. log.operations.items };
 
-    ghost invariant = { λ log. log.table ≡ table_of (values_of log.operations.items) };
+    ghost invariant = { λ log. IsTableOf log.table log.operations.items };
 }
 
 /// Puts one operation more behind others, and into their table.
 fn push_shared(
     alloc: Global,
-    operations: &mut Vec<Rc<Operation>>,
+    operations: &mut Vec<Shared>,
     table: &mut Table,
-    operation: Rc<Operation>,
+    operation: Shared,
 ) -> Result<(), NoMemory>
+    ensures next { OnOk result (IsNext operation) }
     ensures pushed { OnOk result
         (operations.new.items ≡ operations.old.items ++ operation ∷ []) }
-    ensures raised { OnOk result (table.new ≡ raised table.old operation.value.identity) }
+    ensures raised { OnOk result (table.new ≡ raised table.old operation.identity) }
     ensures kept { OnErr result (operations.new.items ≡ operations.old.items) }
     ensures same { OnErr result (table.new ≡ table.old) }
 {
     operations.reserve(1)?;
-    table.raise(alloc, &operation.identity)?;
+    table.raise(alloc, &operation.operation().identity)?;
     operations.push_reserved(operation);
     Ok(())
 }
 
 /// Whether an operation is new to a site that knows what a table holds. It is taken into the table then, unless it needs an operation
 /// that is missing.
-fn take_one(alloc: Global, table: &mut Table, operation: &Operation) -> Result<bool, Or<Identity>>
+fn take_one(alloc: Global, table: &mut Table, operation: &Shared) -> Result<bool, Or<Identity>>
+    ensures next { IsNext operation.now }
     ensures known { IfOk result (λ new. holds table.old operation.now.identity ≡ not new) }
     ensures whole { IfOk result
         (λ new. new ≡ true → first_gap operation.now.needs table.old ≡ None) }
@@ -66,6 +67,7 @@ fn take_one(alloc: Global, table: &mut Table, operation: &Operation) -> Result<b
         ≡ (if new then raised table.old operation.now.identity else table.old)) }
     ensures gap { IfErr result (λ fault. IsGap fault operation.now table.old) }
 {
+    let operation = operation.operation();
     if table.holds(&operation.identity) {
         return Ok(false);
     }
@@ -81,10 +83,10 @@ fn take_one(alloc: Global, table: &mut Table, operation: &Operation) -> Result<b
 fn news_of(
     alloc: Global,
     table: &mut Table,
-    operations: &[Rc<Operation>],
-) -> Result<Vec<Rc<Operation>>, Or<Identity>>
+    operations: &[Shared],
+) -> Result<Vec<Shared>, Or<Identity>>
     ensures { (known : List Operation)
-        → table.old ≡ table_of known
+        → IsTableOf table.old known
         → TakesNews result known operations.now table.new }
 {
     let mut news = Vec::new(alloc);
@@ -92,26 +94,22 @@ fn news_of(
         if !take_one(alloc, table, operation)? {
             continue;
         }
-        news.push(operation.clone()?)?;
+        news.push(operation.copy()?)?;
     }
     Ok(news)
 }
 
 /// Those of some operations that a table does not hold.
-fn not_held(
-    alloc: Global,
-    operations: &[Rc<Operation>],
-    table: &Table,
-) -> Result<Vec<Rc<Operation>>, NoMemory>
+fn not_held(alloc: Global, operations: &[Shared], table: &Table) -> Result<Vec<Shared>, NoMemory>
     ensures { IfOk result
-        (λ shared. values_of shared.items ≡ above table.now (values_of operations.now)) }
+        (λ shared. shared.items ≡ above table.now operations.now) }
 {
     let mut shared = Vec::new(alloc);
     for operation in operations {
-        if table.holds(&operation.identity) {
+        if table.holds(&operation.operation().identity) {
             continue;
         }
-        shared.push(operation.clone()?)?;
+        shared.push(operation.copy()?)?;
     }
     Ok(shared)
 }
@@ -135,30 +133,33 @@ impl Log {
     }
 
     /// The operations.
-    pub fn operations(&self) -> &[Rc<Operation>]
-        ensures { values_of result.now ≡ self.now }
+    pub fn operations(&self) -> &[Shared]
+        ensures { result.now ≡ self.now }
     {
         self.operations.as_slice()
     }
 
     /// Those behind the first `from` operations that a table does not hold, in order. Takes time linear in what stands there, and in the
     /// sites for each.
-    pub fn above(
-        &self,
-        alloc: Global,
-        from: usize,
-        table: &Table,
-    ) -> Result<Vec<Rc<Operation>>, NoMemory>
+    pub fn above(&self, alloc: Global, from: usize, table: &Table) -> Result<Vec<Shared>, NoMemory>
         requires { from ≤ length self.now }
         ensures { IfOk result
-            (λ shared. values_of shared.items ≡ above table.now (drop from self.now)) }
+            (λ shared. shared.items ≡ above table.now (drop from self.now)) }
     {
         not_held(alloc, &self.operations[from..], table)
     }
 
-    /// Puts one operation more behind the others. Takes time linear in the sites.
-    pub fn push(&mut self, alloc: Global, operation: Rc<Operation>) -> Result<(), NoMemory>
-        ensures ok { OnOk result (self.new ≡ self.old ++ operation.value ∷ []) }
+    /// The number of a site's next operation. Takes time linear in the sites.
+    pub fn next_number(&self, site: &Name) -> u64
+        ensures { result ≡ number_in (table_of self.now) site.now + 1 }
+    {
+        self.table.number(site) + 1
+    }
+
+    /// Puts one operation more, of which all needs are known, behind the others. Takes time linear in the sites.
+    pub fn push(&mut self, alloc: Global, operation: Shared) -> Result<(), NoMemory>
+        requires { first_gap operation.needs (table_of self.old) ≡ None }
+        ensures ok { OnOk result (self.new ≡ self.old ++ operation ∷ []) }
         ensures err { OnErr result (self.new ≡ self.old) }
     {
         push_shared(alloc, &mut self.operations, &mut self.table, operation)
@@ -167,16 +168,12 @@ impl Log {
     /// Takes in the operations of a packet that are not known yet, and answers how many; or answers the first operation that is
     /// missing. An `Err` changes nothing. Takes time linear in the sites for each operation of the packet, and for each new one the
     /// time of `first_gap`.
-    pub fn take_in(
-        &mut self,
-        alloc: Global,
-        operations: &[Rc<Operation>],
-    ) -> Result<u64, Or<Identity>>
-        ensures ok { OnOk result (taken_in self.old (values_of operations.now) ≡ Ok self.new) }
+    pub fn take_in(&mut self, alloc: Global, operations: &[Shared]) -> Result<u64, Or<Identity>>
+        ensures ok { OnOk result (taken_in self.old operations.now ≡ Ok self.new) }
         ensures count { IfOk result (λ count. count ≡ length self.new - length self.old) }
         ensures err { OnErr result (self.new ≡ self.old) }
         ensures gap { IfErr result
-            (λ fault. FaultIs fault (taken_in self.old (values_of operations.now))) }
+            (λ fault. FaultIs fault (taken_in self.old operations.now)) }
     {
         let mut table = self.table.copy(alloc)?;
         let mut news = news_of(alloc, &mut table, operations)?;

@@ -96,7 +96,7 @@ fn put_entry(
     ensures ok { OnOk result (entries.new.items ≡ insert entries.old.items place entry.now) }
     ensures err { OnErr result (entries.new.items ≡ entries.old.items) }
 {
-    let entry = copy_of(alloc, entry)?;
+    let entry = entry.copy(alloc)?;
     entries.insert(place, entry)?;
     Ok(())
 }
@@ -114,23 +114,21 @@ fn put(alloc: Global, entries: &mut Vec<Identity>, identity: &Identity) -> Resul
     put_entry(alloc, entries, place, identity)
 }
 
-fn copy_of(alloc: Global, identity: &Identity) -> Result<Identity, NoMemory>
-    ensures { IfOk result (λ copy. copy ≡ identity.now) }
-{
-    Ok(Identity {
-        site: identity.site.copy(alloc)?,
-        number: identity.number,
-    })
-}
-
 fn copies_of(alloc: Global, entries: &[Identity]) -> Result<Vec<Identity>, NoMemory>
     ensures { IfOk result (λ copies. copies.items ≡ entries.now) }
 {
     let mut copies = Vec::new(alloc);
     for entry in entries {
-        copies.push(copy_of(alloc, entry)?)?;
+        copies.push(entry.copy(alloc)?)?;
     }
     Ok(copies)
+}
+
+/// Whether an operation is among those of a table, by its entries.
+pub(crate) fn is_held(entries: &[Identity], identity: &Identity) -> bool
+    ensures { result ≡ holds entries.now identity.now }
+{
+    identity.number > 0 && identity.number <= number_of(entries, &identity.site)
 }
 
 impl Table {
@@ -161,7 +159,7 @@ impl Table {
     pub fn holds(&self, identity: &Identity) -> bool
         ensures { result ≡ holds self.now identity.now }
     {
-        identity.number > 0 && identity.number <= self.number(&identity.site)
+        is_held(&self.entries, identity)
     }
 
     /// Takes an operation in. Takes time linear in the sites, and memory for a new one.

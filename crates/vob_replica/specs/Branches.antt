@@ -1,0 +1,66 @@
+-- Branches as a site keeps them: by identity, each once. A branch and a version are read off the operations that made them.
+use Rattle.std.specs.Prelude.{◌≡◌, ℕ, suc, Bool, false, nat_lt, List, [], ◌∷◌, ◌++◌, codes, slice_get, if◌then◌else◌}
+use Rattle.std.specs.Option.{option_map_or}
+use Rattle.std.specs.Ordering.{is_lt}
+use Rattle.std.specs.declared.cmp.Ordering.TheVariants.{Less}
+use Rattle.vob_replica.specs.declared.events.Identity.{Identity}
+use Rattle.vob_replica.specs.declared.operations.Operation.{Operation}
+use Rattle.vob_replica.specs.declared.operations.SiteDeed.{SiteDeed}
+use Rattle.vob_replica.specs.declared.operations.SiteDeed.TheVariants as deeds
+use Rattle.vob_replica.specs.Trees.{Tree, VersionMade, is_same, identity_cmp, with_version}
+
+-- the name of the branch that a deed made
+abbrev pub name_in : SiteDeed → List ℕ
+name_in deeds.Element = codes "main"
+name_in (deeds.Branch branch number name) = name
+name_in _ = []
+
+-- the word of the version that a deed made
+abbrev pub word_in : SiteDeed → List ℕ
+word_in (deeds.Version branch number word) = word
+word_in _ = []
+
+-- a version that an operation made
+abbrev pub version_by : ℕ → Operation → VersionMade
+version_by number made = record { number = number; identity = made.identity; word = word_in made.deed }
+
+-- a branch that an operation made
+abbrev pub branch_by : Operation → Identity → List Operation → List VersionMade → Tree
+branch_by made element masters versions =
+    record { identity = made.identity; element = element; name = name_in made.deed; masters = masters; versions = versions }
+
+-- a branch with one version more
+abbrev pub with_version_by : Tree → ℕ → Operation → Tree
+with_version_by tree number made = record tree { versions = with_version (version_by number made) tree.versions }
+
+-- a branch with one operation more that gave its mastership away
+abbrev pub with_master : Tree → Operation → Tree
+with_master tree operation = record tree { masters = tree.masters ++ operation ∷ [] }
+
+-- how many versions stand before a new one of this number, from the first on
+abbrev pub version_place : ℕ → List VersionMade → ℕ
+version_place number [] = 0
+version_place number (version ∷ versions) = if nat_lt number version.number then 0 else suc (version_place number versions)
+
+-- whether a branch stands before an identity
+abbrev pub is_before : Identity → Tree → Bool
+is_before identity tree = is_lt (identity_cmp tree.identity identity)
+
+-- how many branches stand before an identity, from the first on
+abbrev pub place_in : Identity → List Tree → ℕ
+place_in identity [] = 0
+place_in identity (tree ∷ trees) = if is_before identity tree then suc (place_in identity trees) else 0
+
+-- whether the branch at a place has an identity
+abbrev pub is_at : List Tree → ℕ → Identity → Bool
+is_at trees place identity = option_map_or (λ tree. is_same tree.identity identity) (slice_get trees place) false
+
+-- an identity stands before those of all branches
+abbrev pub IsBefore : Identity → List Tree → Type 0
+IsBefore identity [] = Unit {0}
+IsBefore identity (tree ∷ trees) = (identity_cmp identity tree.identity ≡ Less) × IsBefore identity trees
+
+-- branches stand in the order of their identities, each once
+abbrev pub IsInOrder : List Tree → Type 0
+IsInOrder [] = Unit {0}
+IsInOrder (tree ∷ trees) = IsBefore tree.identity trees × IsInOrder trees

@@ -1,0 +1,266 @@
+//! One branch as a site knows it.
+
+ghost use Rattle.std.specs.List.{list_any};
+ghost use Rattle.std.specs.Prelude.{◌≡◌, ◌==◌, ◌≤◌, ◌||◌, [], find, length, option_copied, OnOk, OnErr};
+ghost use Rattle.vob_replica.specs.Branches.{branch_by, name_in, word_in, version_by, version_place, with_master, with_version_by};
+ghost use Rattle.vob_replica.specs.Tables.{holds};
+ghost use Rattle.vob_replica.specs.Trees.{is_same, needs_all_others, given_to, master_of, next_number, has_version};
+
+use crate::events::Identity;
+use crate::operations::{Operation, SiteDeed};
+use crate::shared::Shared;
+use crate::tables::is_held;
+use cc_names::memory::NoMemory;
+use cc_names::names::Name;
+use std::alloc::Global;
+use std::marker::Model;
+
+/// Whether two identities are the same.
+pub(crate) fn is_same(one: &Identity, other: &Identity) -> bool
+    ensures { result ≡ is_same one.now other.now }
+{
+    one.site == other.site && one.number == other.number
+}
+
+/// The name of the branch that a deed made.
+fn name_in(deed: &SiteDeed) -> &[u8]
+    ensures { result.now ≡ name_in deed.now }
+{
+    match deed {
+        SiteDeed::Element => b"main".as_slice(),
+        SiteDeed::Branch(_, _, name) => name.as_bytes(),
+        _ => b"".as_slice(),
+    }
+}
+
+/// The word of the version that a deed made.
+fn word_in(deed: &SiteDeed) -> &[u8]
+    ensures { result.now ≡ word_in deed.now }
+{
+    match deed {
+        SiteDeed::Version(_, _, word) => word.as_bytes(),
+        _ => b"".as_slice(),
+    }
+}
+
+/// A version behind version 0.
+#[derive(Drop)]
+pub struct Version {
+    number: u64,
+    made: Shared,
+}
+
+impl Model for Version {
+    ghost use Rattle.vob_replica.specs.Trees.{VersionMade};
+    ghost use Rattle.vob_replica.specs.Branches.{version_by};
+
+    ghost Value = { VersionMade };
+
+    ghost view = { λ version. version_by version.number version.made };
+}
+
+impl Version {
+    /// The version of this number that an operation made.
+    fn new(number: u64, made: Shared) -> Version
+        ensures { result ≡ version_by number made }
+    {
+        Version { number, made }
+    }
+
+    /// Its number.
+    pub fn number(&self) -> u64
+        ensures { result ≡ self.now.number }
+    {
+        self.number
+    }
+
+    /// The operation that made it.
+    pub fn identity(&self) -> &Identity
+        ensures { result.now ≡ self.now.identity }
+    {
+        &self.made.operation().identity
+    }
+
+    /// Its text, of one word.
+    pub fn word(&self) -> &[u8]
+        ensures { result.now ≡ self.now.word }
+    {
+        word_in(&self.made.operation().deed)
+    }
+}
+
+/// How many versions stand before a new one of this number.
+fn version_place(versions: &[Version], number: u64) -> usize
+    ensures place { result ≡ version_place number versions.now }
+    ensures within { result ≤ length versions.now }
+{
+    let mut place = 0;
+    for version in versions {
+        if number < version.number() {
+            break;
+        }
+        place += 1;
+    }
+    place
+}
+
+/// Whether one of some versions has a number.
+fn has_number(versions: &[Version], number: u64) -> bool
+    ensures { result ≡ list_any (λ version. version.number == number) versions.now }
+{
+    for version in versions {
+        if version.number() == number {
+            return true;
+        }
+    }
+    false
+}
+
+/// Whether an operation is another or needs it.
+fn is_or_needs(operation: &Operation, other: &Operation) -> bool
+    ensures { result
+        ≡ (is_same other.now.identity operation.now.identity
+        || holds operation.now.needs other.now.identity) }
+{
+    is_same(&other.identity, &operation.identity)
+        || is_held(operation.needs.as_slice(), &other.identity)
+}
+
+/// Whether an operation needs all others of some.
+fn needs_all_others(operations: &[Shared], operation: &Operation) -> bool
+    ensures { result ≡ needs_all_others operations.now operation.now }
+{
+    for other in operations {
+        if !is_or_needs(operation, other.operation()) {
+            return false;
+        }
+    }
+    true
+}
+
+/// The operation that needs all others of some.
+fn last_of(operations: &[Shared]) -> Option<&Operation>
+    ensures { option_copied result ≡ find (needs_all_others operations.now) operations.now }
+{
+    for operation in operations {
+        if needs_all_others(operations, operation.operation()) {
+            return Some(operation.operation());
+        }
+    }
+    None
+}
+
+/// The site that a deed gives the mastership to, where it gives it away.
+fn given_to<'a>(deed: &'a SiteDeed, maker: &'a Name) -> &'a Name
+    ensures { result.now ≡ given_to deed.now maker.now }
+{
+    match deed {
+        SiteDeed::Master(_, site) => site,
+        _ => maker,
+    }
+}
+
+/// A branch of an element. Contracts see its identity, the element, its name, the operations that gave its mastership away, and its
+/// versions behind version 0.
+#[derive(Drop)]
+pub struct Branch {
+    made: Shared,
+    element: Identity,
+    masters: Vec<Shared>,
+    versions: Vec<Version>,
+}
+
+impl Model for Branch {
+    ghost use Rattle.vob_replica.specs.Trees.{Tree};
+    ghost use Rattle.vob_replica.specs.Branches.{branch_by};
+
+    ghost Value = { Tree };
+
+    ghost view = { λ branch. branch_by branch.made branch.element branch.masters.items branch.versions.items };
+}
+
+impl Branch {
+    /// The branch of an element that an operation made, with version 0 alone. Takes no memory.
+    pub(crate) fn new(alloc: Global, made: Shared, element: Identity) -> Branch
+        ensures { result ≡ branch_by made element [] [] }
+    {
+        Branch {
+            made,
+            element,
+            masters: Vec::new(alloc),
+            versions: Vec::new(alloc),
+        }
+    }
+
+    /// The operation that made it; of the branch `main` the one that made the element.
+    pub fn identity(&self) -> &Identity
+        ensures { result.now ≡ self.now.identity }
+    {
+        &self.made.operation().identity
+    }
+
+    /// The element.
+    pub fn element(&self) -> &Identity
+        ensures { result.now ≡ self.now.element }
+    {
+        &self.element
+    }
+
+    /// The name.
+    pub fn name(&self) -> &[u8]
+        ensures { result.now ≡ self.now.name }
+    {
+        name_in(&self.made.operation().deed)
+    }
+
+    /// The versions behind version 0, by number.
+    pub fn versions(&self) -> &[Version]
+        ensures { result.now ≡ self.now.versions }
+    {
+        self.versions.as_slice()
+    }
+
+    /// The site that has the mastership.
+    pub fn master(&self) -> &Name
+        ensures { result.now ≡ master_of self.now }
+    {
+        let maker = &self.identity().site;
+        match last_of(&self.masters) {
+            Some(last) => given_to(&last.deed, maker),
+            None => maker,
+        }
+    }
+
+    /// The number of the next version. Takes constant time.
+    pub fn next_number(&self) -> u64
+        ensures { result ≡ next_number self.now }
+    {
+        self.versions.len() as u64 + 1
+    }
+
+    /// Whether it has a version of this number.
+    pub fn has_version(&self, number: u64) -> bool
+        ensures { result ≡ has_version self.now number }
+    {
+        number == 0 || has_number(&self.versions, number)
+    }
+
+    /// Puts one operation more behind those that gave the mastership away.
+    pub(crate) fn push_master(&mut self, operation: Shared) -> Result<(), NoMemory>
+        ensures ok { OnOk result (self.new ≡ with_master self.old operation) }
+        ensures err { OnErr result (self.new ≡ self.old) }
+    {
+        self.masters.push(operation)?;
+        Ok(())
+    }
+
+    /// Puts the version of a number that an operation made among its versions.
+    pub(crate) fn put_version(&mut self, number: u64, made: Shared) -> Result<(), NoMemory>
+        ensures ok { OnOk result (self.new ≡ with_version_by self.old number made) }
+        ensures err { OnErr result (self.new ≡ self.old) }
+    {
+        let place = version_place(&self.versions, number);
+        self.versions.insert(place, Version::new(number, made))?;
+        Ok(())
+    }
+}

@@ -1,0 +1,255 @@
+//! The branches that a site knows.
+
+ghost use Rattle.std.specs.Prelude.{◌≡◌, ◌<◌, ◌≤◌, [], ◌&&◌, bytes_eq, length, vec_len, option_copied, slice_index_or, slice_set, IsTrue, IfOk, OnOk, OnErr};
+ghost use Rattle.vob_replica.specs.Branches.{is_before, place_in, is_at, with_master, with_version_by, IsInOrder};
+ghost use Rattle.vob_replica.specs.Trees.{Tree, identity_cmp, is_same, tree_at, named_tree, element_of, with_tree, with_change, after_operation};
+
+use crate::branch::{Branch, is_same};
+use crate::events::Identity;
+use crate::operations::SiteDeed;
+use crate::shared::Shared;
+use cc_names::memory::NoMemory;
+use cc_names::names::Name;
+use std::alloc::Global;
+use std::cmp::Ordering;
+use std::marker::Model;
+
+/// The branches that a site knows. Contracts see them by identity, each once.
+#[derive(Drop)]
+pub struct Branches {
+    trees: Vec<Branch>,
+}
+
+impl Model for Branches {
+    ghost use Rattle.std.specs.Prelude.{List};
+    ghost use Rattle.vob_replica.specs.Branches.{IsInOrder};
+    ghost use Rattle.vob_replica.specs.Trees.{Tree};
+
+    ghost Value = { List Tree };
+
+    ghost view = { λ branches. branches.trees.items };
+
+    ghost invariant = { λ branches. IsInOrder branches.trees.items };
+}
+
+/// How identities stand to each other: by site in byte order, then by number.
+fn identity_cmp(one: &Identity, other: &Identity) -> Ordering
+    ensures { result ≡ identity_cmp one.now other.now }
+{
+    one.site
+        .cmp(&other.site)
+        .then(one.number.cmp(&other.number))
+}
+
+fn is_before(tree: &Branch, identity: &Identity) -> bool
+    ensures { result ≡ is_before identity.now tree.now }
+{
+    identity_cmp(tree.identity(), identity).is_lt()
+}
+
+/// How many branches have an identity below another: these are the first ones. Takes time logarithmic in them.
+fn place_of(trees: &[Branch], identity: &Identity) -> usize
+    requires { IsInOrder trees.now }
+    ensures place { result ≡ place_in identity.now trees.now }
+    ensures within { result ≤ length trees.now }
+{
+    trees.partition_point(|tree| is_before(tree, identity))
+}
+
+/// Whether the branch at a place has an identity.
+fn is_at(trees: &[Branch], place: usize, identity: &Identity) -> bool
+    ensures at { result ≡ is_at trees.now place identity.now }
+    ensures within { IsTrue result → place < length trees.now }
+{
+    match trees.get(place) {
+        Some(tree) => is_same(tree.identity(), identity),
+        None => false,
+    }
+}
+
+/// The branch of an identity.
+fn find_in<'a>(trees: &'a [Branch], identity: &Identity) -> Option<&'a Branch>
+    requires { IsInOrder trees.now }
+    ensures { option_copied result ≡ tree_at trees.now identity.now }
+{
+    let place = place_of(trees, identity);
+    if is_at(trees, place, identity) {
+        return Some(&trees[place]);
+    }
+    None
+}
+
+/// Puts a branch among others, by identity.
+fn put(trees: &mut Vec<Branch>, tree: Branch) -> Result<(), NoMemory>
+    requires { IsInOrder trees.old.items }
+    ensures ok { OnOk result (trees.new.items ≡ with_tree tree trees.old.items) }
+    ensures err { OnErr result (trees.new.items ≡ trees.old.items) }
+{
+    let place = place_of(trees, tree.identity());
+    if is_at(trees, place, tree.identity()) {
+        trees[place] = tree;
+        return Ok(());
+    }
+    trees.insert(place, tree)?;
+    Ok(())
+}
+
+/// Puts a version on the branch at a place.
+fn put_version_at(
+    trees: &mut Vec<Branch>,
+    place: usize,
+    number: u64,
+    made: Shared,
+) -> Result<(), NoMemory>
+    requires { place < vec_len trees.old }
+    ensures ok { OnOk result
+        ((d : Tree) → trees.new.items
+        ≡ slice_set trees.old.items place
+        (with_version_by (slice_index_or trees.old.items place d) number made)) }
+    ensures err { OnErr result (trees.new.items ≡ trees.old.items) }
+{
+    trees[place].put_version(number, made)
+}
+
+/// Puts one operation more behind those that gave the mastership of the branch at a place away.
+fn push_master_at(trees: &mut Vec<Branch>, place: usize, operation: Shared) -> Result<(), NoMemory>
+    requires { place < vec_len trees.old }
+    ensures ok { OnOk result
+        ((d : Tree) → trees.new.items
+        ≡ slice_set trees.old.items place
+        (with_master (slice_index_or trees.old.items place d) operation)) }
+    ensures err { OnErr result (trees.new.items ≡ trees.old.items) }
+{
+    trees[place].push_master(operation)
+}
+
+/// Puts a version on a branch, where that is there.
+fn put_version(
+    trees: &mut Vec<Branch>,
+    branch: &Identity,
+    number: u64,
+    made: Shared,
+) -> Result<(), NoMemory>
+    requires { IsInOrder trees.old.items }
+    ensures ok { OnOk result
+        (trees.new.items
+        ≡ with_change branch.now (λ tree. with_version_by tree number made) trees.old.items) }
+    ensures err { OnErr result (trees.new.items ≡ trees.old.items) }
+{
+    let place = place_of(trees, branch);
+    if is_at(trees, place, branch) {
+        return put_version_at(trees, place, number, made);
+    }
+    Ok(())
+}
+
+/// Puts one operation more behind those that gave the mastership of a branch away, where that is there.
+fn push_master(
+    trees: &mut Vec<Branch>,
+    branch: &Identity,
+    operation: Shared,
+) -> Result<(), NoMemory>
+    requires { IsInOrder trees.old.items }
+    ensures ok { OnOk result
+        (trees.new.items
+        ≡ with_change branch.now (λ tree. with_master tree operation) trees.old.items) }
+    ensures err { OnErr result (trees.new.items ≡ trees.old.items) }
+{
+    let place = place_of(trees, branch);
+    if is_at(trees, place, branch) {
+        return push_master_at(trees, place, operation);
+    }
+    Ok(())
+}
+
+/// The element of a branch.
+fn element_of(alloc: Global, trees: &[Branch], branch: &Identity) -> Result<Identity, NoMemory>
+    requires { IsInOrder trees.now }
+    ensures { IfOk result (λ element. element ≡ element_of trees.now branch.now) }
+{
+    match find_in(trees, branch) {
+        Some(tree) => tree.element().copy(alloc),
+        None => branch.copy(alloc),
+    }
+}
+
+/// Takes one operation more in.
+fn take(alloc: Global, trees: &mut Vec<Branch>, operation: &Shared) -> Result<(), NoMemory>
+    requires { IsInOrder trees.old.items }
+    ensures ok { OnOk result (trees.new.items ≡ after_operation trees.old.items operation.now) }
+    ensures err { OnErr result (trees.new.items ≡ trees.old.items) }
+{
+    let made = operation.copy()?;
+    match &operation.operation().deed {
+        SiteDeed::Element => {
+            let element = operation.operation().identity.copy(alloc)?;
+            put(trees, Branch::new(alloc, made, element))
+        }
+        SiteDeed::Branch(branch, _, _) => {
+            let element = element_of(alloc, trees, branch)?;
+            put(trees, Branch::new(alloc, made, element))
+        }
+        SiteDeed::Version(branch, number, _) => put_version(trees, branch, *number, made),
+        SiteDeed::Master(branch, _) => push_master(trees, branch, made),
+    }
+}
+
+/// Whether a branch is that of an element that has a name.
+fn is_named(tree: &Branch, element: &Identity, name: &Name) -> bool
+    ensures { result
+        ≡ (is_same tree.now.element element.now && bytes_eq tree.now.name name.now) }
+{
+    is_same(tree.element(), element) && tree.name() == name.as_bytes()
+}
+
+/// The branch of an element that has a name.
+fn named_in<'a>(trees: &'a [Branch], element: &Identity, name: &Name) -> Option<&'a Branch>
+    ensures { option_copied result ≡ named_tree trees.now element.now name.now }
+{
+    for tree in trees {
+        if is_named(tree, element, name) {
+            return Some(tree);
+        }
+    }
+    None
+}
+
+impl Branches {
+    /// No branches. Takes no memory.
+    pub fn new(alloc: Global) -> Branches
+        ensures { result ≡ [] }
+    {
+        Branches {
+            trees: Vec::new(alloc),
+        }
+    }
+
+    /// The branches, by identity.
+    pub fn as_slice(&self) -> &[Branch]
+        ensures { result.now ≡ self.now }
+    {
+        self.trees.as_slice()
+    }
+
+    /// The branch of an identity. Takes time logarithmic in the branches.
+    pub fn find(&self, identity: &Identity) -> Option<&Branch>
+        ensures { option_copied result ≡ tree_at self.now identity.now }
+    {
+        find_in(&self.trees, identity)
+    }
+
+    /// The branch of an element that has a name. Takes time linear in the branches.
+    pub fn named(&self, element: &Identity, name: &Name) -> Option<&Branch>
+        ensures { option_copied result ≡ named_tree self.now element.now name.now }
+    {
+        named_in(&self.trees, element, name)
+    }
+
+    /// Takes one operation more in. An `Err` changes nothing.
+    pub(crate) fn take(&mut self, alloc: Global, operation: &Shared) -> Result<(), NoMemory>
+        ensures ok { OnOk result (self.new ≡ after_operation self.old operation.now) }
+        ensures err { OnErr result (self.new ≡ self.old) }
+    {
+        take(alloc, &mut self.trees, operation)
+    }
+}
