@@ -77,8 +77,6 @@ pub enum SessionCause {
     TooManyLanes,
     /// Its first word is no command.
     UnknownCommand,
-    /// What it asks for is not carried out yet.
-    NotBuilt,
     /// A word too few or too many, or one outside its rule.
     BadWord,
 }

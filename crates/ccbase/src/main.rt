@@ -104,7 +104,6 @@ fn fault_of(cause: SessionCause) -> &'static str {
         SessionCause::TwoLanes => "a lane of this name is in this phase already",
         SessionCause::TooManyLanes => "a phase has at most 64 lanes",
         SessionCause::UnknownCommand => "no such command",
-        SessionCause::NotBuilt => "not carried out",
         SessionCause::BadWord => "a word is missing, wrong, or one too many",
     }
 }

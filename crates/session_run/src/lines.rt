@@ -26,7 +26,6 @@ fn cause_word(cause: SessionCause) -> &'static str
         SessionCause::TwoLanes => "TwoLanes",
         SessionCause::TooManyLanes => "TooManyLanes",
         SessionCause::UnknownCommand => "UnknownCommand",
-        SessionCause::NotBuilt => "NotBuilt",
         SessionCause::BadWord => "BadWord",
     }
 }

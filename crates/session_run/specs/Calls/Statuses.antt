@@ -34,7 +34,6 @@ cause_word causes.NoBody = codes "NoBody"
 cause_word causes.TwoLanes = codes "TwoLanes"
 cause_word causes.TooManyLanes = codes "TooManyLanes"
 cause_word causes.UnknownCommand = codes "UnknownCommand"
-cause_word causes.NotBuilt = codes "NotBuilt"
 cause_word causes.BadWord = codes "BadWord"
 
 -- the number and the cause of a session's wrong line
