@@ -26,15 +26,22 @@ abbrev pub version_line : VersionMade → List ℕ
 version_line version =
     codes "version " ++ decimal version.number ++ codes " " ++ identity_text version.identity ++ codes " " ++ version.word ++ codes "\n"
 
+-- the first line of a branch
+abbrev pub branch_line : Tree → List ℕ
+branch_line tree =
+    codes "branch " ++ identity_text tree.identity ++ codes " " ++ tree.name ++ codes " master " ++ master_of tree ++ codes "\n"
+
 -- the lines of a branch
 abbrev pub tree_lines : Tree → List ℕ
-tree_lines tree =
-    codes "branch " ++ identity_text tree.identity ++ codes " " ++ tree.name ++ codes " master " ++ master_of tree ++ codes "\n"
-    ++ codes "version 0\n" ++ flat_map version_line tree.versions
+tree_lines tree = branch_line tree ++ codes "version 0\n" ++ flat_map version_line tree.versions
+
+-- the lines of an epoch table and of branches
+abbrev pub known_lines : List Identity → List Tree → List ℕ
+known_lines table trees = flat_map epoch_line table ++ flat_map tree_lines trees
 
 -- what `show` tells of a site
 abbrev pub show_text : Site → List ℕ
-show_text site = flat_map epoch_line (table_of site.known) ++ flat_map tree_lines (trees_of site.known)
+show_text site = known_lines (table_of site.known) (trees_of site.known)
 
 -- a fault, with its number and what it carries
 abbrev pub fault_text : SiteFault → List ℕ
@@ -66,9 +73,13 @@ abbrev pub behind_ok : List ℕ → List ℕ
 behind_ok [] = codes "\n"
 behind_ok (b ∷ bs) = codes " " ++ b ∷ bs ++ codes "\n"
 
+-- a line behind a `|`
+abbrev pub barred : List ℕ → List ℕ
+barred line = codes "|" ++ line ++ codes "\n"
+
 -- each line of a text behind a `|`
 abbrev pub with_bars : List ℕ → List ℕ
-with_bars text = flat_map (λ line. codes "|" ++ line ++ codes "\n") (lines_of text)
+with_bars text = flat_map barred (lines_of text)
 
 -- what stands behind `ok` of an event: the text of `show` in lines of its own
 abbrev pub done_text : Event → List ℕ → List ℕ

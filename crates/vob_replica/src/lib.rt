@@ -19,5 +19,6 @@ pub mod logs;
 pub mod operations;
 pub mod reading;
 pub mod shared;
+pub mod showing;
 pub mod tables;
 mod words;
