@@ -2,7 +2,8 @@
 use Rattle.std.proofs.Common.{◌≡◌, ℕ, false, true, List, [], ◌∷◌, ◌++◌, refl}
 use Rattle.std.specs.Fmt.{digits}
 use Rattle.std.specs.Prelude.{codes}
-use Rattle.cc_names.specs.declared.commands.Command.TheVariants.{Mkview, Save}
+use Rattle.cc_names.specs.declared.commands.Change.TheVariants.{Mkview, Save}
+use Rattle.cc_names.specs.declared.commands.Command.TheVariants as commands
 use Rattle.cc_names.specs.declared.commands.Phase.{Phase}
 use Rattle.cc_names.specs.declared.refusals.Refusal.TheVariants.{ViewExists}
 use Rattle.cc_names.specs.declared.rows.Deed.TheVariants as deeds
@@ -18,10 +19,10 @@ use Rattle.session_run.specs.Story.Rendered.{earlier_text, has_failure, rendered
 
 -- a view and a private file, and then the view once more
 saves : Phase
-saves = record { lanes = record { name = codes "a"; commands = Mkview (codes "v") ∷ Save (codes "v") (codes "in") (codes "hi\n") ∷ [] } ∷ [] }
+saves = record { lanes = record { name = codes "a"; commands = commands.Change (Mkview (codes "v")) ∷ commands.Change (Save (codes "v") (codes "in") (codes "hi\n")) ∷ [] } ∷ [] }
 
 again : Phase
-again = record { lanes = record { name = codes "a"; commands = Mkview (codes "v") ∷ [] } ∷ [] }
+again = record { lanes = record { name = codes "a"; commands = commands.Change (Mkview (codes "v")) ∷ [] } ∷ [] }
 
 tag : ℕ → ℕ → Tag
 tag phase command = record { phase = phase; lane = 1; command = command }
