@@ -7,5 +7,6 @@ pub mod Passing
 pub mod Phasing
 pub mod Settling
 pub mod Staying
+pub mod Stored
 pub mod Telling
 mod WorkedForeign

@@ -9,5 +9,7 @@ pub mod Moves
 pub mod Phases
 pub mod Reads
 pub mod Shown
+pub mod Storing
+pub mod StoringLaws
 pub mod Tails
 pub mod Windows

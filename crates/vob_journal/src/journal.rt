@@ -5,6 +5,8 @@ ghost use Rattle.disk_model.specs.Devices.{file_of, bytes_of, LeavesNow};
 ghost use Rattle.disk_model.specs.Files.{stable};
 ghost use Rattle.disk_model.specs.Told.{IfTold, Both};
 
+mod objects;
+
 use crate::frame::Frame;
 use crate::left::Left;
 use crate::reading::{Found, read_frame};
