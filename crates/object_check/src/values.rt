@@ -1,0 +1,62 @@
+//! The values of objects that were run again, and the texts of entries by them.
+
+ghost use Rattle.std.specs.Prelude.{◌≡◌, nat_eq};
+ghost use Rattle.std.specs.HashMap.{get};
+ghost use Rattle.std.specs.Option.{option_copied};
+ghost use Rattle.legal_history.specs.Base.Texts.{output_at};
+ghost use Rattle.legal_history.specs.Base.Values.{output_of_run};
+ghost use Rattle.object_check.specs.Kept.{text_kept};
+
+use cc_names::lists::List;
+use cc_names::paths::Path;
+use cc_names::texts::Text;
+use std::collections::HashMap;
+use view_lookup::{FirstRows, targets_of, text_of};
+
+/// The outputs of a run, where it succeeded.
+pub(crate) type Outputs = Option<List<Text>>;
+
+/// By objects the outputs of their runs, where these are not the stored ones. Of most bases it is empty.
+pub(crate) type Values = HashMap<u64, Outputs>;
+
+/// The output at the place of the target with this path.
+fn output_at<'a>(path: &Path, targets: &[Path], outputs: &'a [Text]) -> Option<&'a [u8]>
+    ensures { option_copied result ≡ output_at path.now targets.now outputs.now }
+{
+    for (index, target) in targets.iter().enumerate() {
+        if target.as_bytes() == path.as_bytes() {
+            return Some(outputs.get(index)?.as_bytes());
+        }
+    }
+    None
+}
+
+/// The output at a path of a run with these targets, where it succeeded.
+fn output_of_run<'a>(path: &Path, targets: &[Path], outputs: &'a Outputs) -> Option<&'a [u8]>
+    ensures { option_copied result ≡ output_of_run path.now targets.now outputs.now }
+{
+    match outputs {
+        None => None,
+        Some(outputs) => output_at(path, targets, outputs.as_slice()),
+    }
+}
+
+/// The text that an entry of a record stands for, by the values of the objects before it. Takes the time of `text_of`, or for an
+/// object with a value of its own here time linear in its targets.
+pub(crate) fn text_of_entry<'a>(
+    rows: &FirstRows<'a>,
+    values: &'a Values,
+    path: &Path,
+    row: u64,
+) -> Option<&'a [u8]>
+    ensures { option_copied result
+        ≡ text_kept rows.now (get nat_eq values.now) path.now row }
+{
+    if row == 0 {
+        return None;
+    }
+    match values.get(&row) {
+        None => text_of(rows, row, path),
+        Some(outputs) => output_of_run(path, targets_of(rows, row), outputs),
+    }
+}
