@@ -170,7 +170,7 @@ impl Lanes {
         self.lanes.get(index as usize)
     }
 
-    /// What the next command of a lane asks for. Takes time linear in its line and those before it that are left.
+    /// What the next command of a lane asks for. Takes constant time.
     pub(crate) fn ahead(&self, lane: u32) -> Ahead
         ensures { result ≡ ahead_of (next_in self.now lane) }
     {

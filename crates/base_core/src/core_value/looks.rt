@@ -97,8 +97,7 @@ impl<D: Disk> Core<D> {
         }
     }
 
-    /// What a lane has to do next. Takes time linear in the line of its next command and those before it that are left, whatever
-    /// was done before.
+    /// What a lane has to do next. Takes constant time.
     pub fn next(&self, lane: u32) -> Next
         ensures { result ≡ next_of (state_of self.now.story) lane }
     {
