@@ -21,7 +21,7 @@ pub struct Macro {
     pub value: Text,
 }
 
-/// A command that makes a row, or is refused.
+/// A command that makes a row, finds nothing to change, or is refused.
 #[derive(Drop)]
 pub enum Change {
     /// Makes a view; its config spec is the default one.

@@ -1,4 +1,4 @@
-//! The decision on each change: the commands that make rows.
+//! The decision on each change: the commands that make a row, or find nothing to change.
 //!
 //! What it is for: `decide` answers a change's row, or its first refusal in the order of the tests of its line.
 //!

@@ -1,7 +1,7 @@
 //! The answers to queries, and the names of versions.
 //!
-//! What it is for: `answer` answers a query's text, or its first refusal in the
-//! order of the tests of its line. `version_name` and `name_told` give the names by which texts and replies speak of versions.
+//! What it is for: `answer` answers a query's text, or its first refusal in the order of the tests of its line. `version_name`
+//! and `name_told` give the names by which texts and replies speak of versions.
 //!
 //! What it promises: the answer is the model's decision on the query, and a name is the model's. A query makes no row.
 //!

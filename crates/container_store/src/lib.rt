@@ -7,7 +7,7 @@
 //! What it promises: no extent overlaps one that is taken. Each is placed at the lowest place where it fits. Taking and
 //! placing take no memory, where room was reserved before, and giving back takes none.
 //!
-//! What it stands on: `cc_names`, and `disk_model` for the file. It knows of no objects and of no journal.
+//! What it stands on: `cc_names`, and `disk_model` for the file. It knows of no derived objects, no rows and no journal.
 #![tactic(auto)]
 
 mod bytes;

@@ -458,7 +458,8 @@ fn said_of_queries(
     }
 }
 
-/// The command of a line where it is a change of types, labels, arrows or objects, a build, or a query. None of them takes a body.
+/// The command of a line where it is a change of types, labels, arrows or objects, a build, or a query. None of them takes a
+/// body.
 fn said_of_types_on(
     alloc: Global,
     hashing: RandomState,

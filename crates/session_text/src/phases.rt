@@ -100,7 +100,8 @@ fn name_said(alloc: Global, words: Words<'_>) -> Result<Name, NoMemory>
 impl LanesLeft {
     ghost use Rattle.std.specs.Prelude.{◌≡◌, [], ◌∷◌, OnErr, IfOk, MatchOption};
 
-    /// The next lane. Takes time linear in the lines before it, and memory for its name. An `Err` changes nothing.
+    /// The next lane. Takes time linear in the lines before it and those up to its first command, and memory for its name. An `Err`
+    /// changes nothing.
     pub fn next(&mut self, alloc: Global) -> Result<Option<LaneText>, NoMemory>
         ensures ok { IfOk result
             (λ next. MatchOption next ((self.old ≡ []) × (self.new ≡ []))

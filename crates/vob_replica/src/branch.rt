@@ -160,8 +160,8 @@ fn given_to<'a>(deed: &'a SiteDeed, maker: &'a Name) -> &'a Name
     }
 }
 
-/// A branch of an element. Contracts see its identity, the element, its name, the operations that gave its mastership away, and its
-/// versions behind version 0.
+/// A branch of an element. Contracts see its identity, the element, its name, the operations that gave its mastership away, and
+/// its versions behind version 0.
 #[derive(Drop)]
 pub struct Branch {
     made: Shared,

@@ -109,7 +109,8 @@ pub record AreFromNothing (story : List StoryStep) : Type 0 where
       → build_by (state_of front) tag ≡ Some build → build.faulted ≡ false
       → reply_of (state_of front).base build ≡ reply_from_nothing (state_of front).base build
 
--- a front of the line of a status was written, whose cause had come, and which has a line
+-- A front of the line of a status was written, whose cause had come. It is one that has a line: want of memory has none, and
+-- without a base no call ends well.
 pub record PrintsFront (intake : Intake) (faults : Change ℕ) (disk : Change Sight) (old new : Option (List ℕ)) : Type 0 where
   pub status : Status
   pub cause : HasCause status intake faults disk []
