@@ -16,3 +16,4 @@ pub mod OnceLemmas
 pub mod NumberLemmas
 pub mod JoinLemmas
 pub mod GatherLemmas
+pub mod ResultLemmas

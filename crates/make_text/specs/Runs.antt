@@ -2,7 +2,7 @@
 -- macro, and the bytes that were written.
 use Rattle.std.specs.Prelude.{◌≡◌, ℕ, ◌+◌, ◌*◌, ◌≤◌, ◌<◌, Bool, true, false, Option, Some, None, List, [], length, take, drop, sum_by, slice_index_or}
 use Rattle.cc_names.specs.declared.commands.Macro.{Macro}
-use Rattle.make_grammar.specs.Macros.{Piece, Expansion, plain, followed, value_in, is_among}
+use Rattle.make_grammar.specs.Macros.{Piece, Expansion, plain, followed, value_in, is_among, no_automatic}
 use Rattle.make_text.specs.Expanding.{Memo, Opened, names_of, goes_on, left_of, still, AreKnown, AllGive}
 use Rattle.make_text.specs.States.{state_at}
 use Rattle.make_text.specs.declared.states.State.{State}
@@ -76,3 +76,7 @@ module _ (macros : List Macro) (automatic : ℕ → List ℕ) where
     pub apart : (x bytes : List ℕ) → memo x ≡ Some bytes → is_among (names_of opened) x ≡ false
     pub defined : (x : List ℕ) → value_in macros x ≡ None → is_among (names_of opened) x ≡ false
     pub counted : sum_by untouched states + (size + length opened) ≡ length macros
+
+-- what was written outside scripts has the results of the macros that were expanded, which stand there by these states
+abbrev pub AreResults : List Macro → List ℕ → List State → Type 0
+AreResults macros written states = Runs macros no_automatic (plain written) [] [] written [] states

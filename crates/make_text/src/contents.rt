@@ -71,10 +71,10 @@ impl Model for Makefile {
 
 impl Makefile {
     /// Reads the makefile at a path, with the macros of the command line and the files that it includes, or answers the first
-    /// line that fails and why (M1). Takes time linear in the texts that are read, in the values of the macros that each line
-    /// reaches, in what lines and macros expand to, and for each line that is expanded in the number of macros; and where
-    /// there are suffix rules, in these times the square of the suffixes. Takes memory linear in what is read and in what
-    /// lines and macros expand to: rules share what their lines say.
+    /// line that fails and why. Takes time linear in the texts that are read, in the values of the macros that each line
+    /// is the first to reach since one was last defined, and in what lines and macros expand to; and where there are suffix
+    /// rules, in these times the square of the suffixes. Takes memory linear in what is read and in what lines and macros
+    /// expand to: rules share what their lines say.
     pub fn read<X: Texts>(
         alloc: Global,
         hashing: RandomState,

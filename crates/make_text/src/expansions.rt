@@ -1,6 +1,6 @@
 //! What a text expands to, by the macros of a makefile.
 
-ghost use Rattle.std.specs.Prelude.{◌≡◌, ◌<◌, IfOk, [], length, replicate};
+ghost use Rattle.std.specs.Prelude.{◌≡◌, ◌<◌, ◌-◌, IfOk, [], length, replicate};
 ghost use Rattle.make_grammar.specs.Macros.{Expansion, plain, expansion_of, is_too_long};
 ghost use Rattle.make_text.specs.Runs.{HasNamesApart, len_in};
 ghost use Rattle.make_text.specs.States.{state_at};
@@ -87,12 +87,53 @@ impl<'a> Expanding<'a> {
         ensures states { result.states ≡ replicate count variants.Untouched }
         ensures written { result.written.items ≡ [] }
     {
+        Expanding::behind(
+            alloc,
+            States::untouched(alloc, count),
+            Vec::new(alloc),
+            text,
+        )
+    }
+
+    /// The expansion of a text behind what was written, where these states of the macros are known. Takes no memory.
+    pub(crate) fn behind(
+        alloc: Global,
+        states: States,
+        written: Vec<u8>,
+        text: &'a [u8],
+    ) -> Expanding<'a>
+        ensures rest { result.rest.now ≡ text.now }
+        ensures opened { result.opened.items ≡ [] }
+        ensures states { result.states ≡ states }
+        ensures written { result.written.items ≡ written.items }
+    {
         Expanding {
             rest: text,
             opened: Vec::new(alloc),
-            states: States::untouched(alloc, count),
-            written: Vec::new(alloc),
+            states,
+            written,
         }
+    }
+
+    /// The states of the macros, and what was written.
+    pub(crate) fn into_parts(self) -> (States, Vec<u8>)
+        ensures states { result.0 ≡ self.entry.states }
+        ensures written { result.1 ≡ self.entry.written }
+    {
+        let Expanding {
+            rest: _,
+            opened: _opened,
+            states,
+            written,
+        } = self;
+        (states, written)
+    }
+
+    /// How many bytes were written behind so many.
+    pub(crate) fn written_behind(&self, start: usize) -> usize
+        ensures { result ≡ length self.now.written.items - start }
+    {
+        self.written.len().saturating_sub(start)
     }
 
     /// Ends the innermost macro, whose result is known then.
@@ -211,7 +252,7 @@ impl<'a> Expanding<'a> {
 }
 
 /// The bytes of an expansion, unless they are too many; a loop may have ended it.
-fn bounded(written: Vec<u8>, loops: bool) -> ExpandedText
+pub(crate) fn bounded(written: Vec<u8>, loops: bool) -> ExpandedText
     ensures { IsExpandedText (record { bytes = written.items; loops = loops }) result }
 {
     if written.len() > EXPANSION_LIMIT {
@@ -225,7 +266,7 @@ fn bounded(written: Vec<u8>, loops: bool) -> ExpandedText
 }
 
 /// The bytes of a text that has no reference, unless they are too many.
-fn plain_outcome(alloc: Global, text: &[u8]) -> Result<ExpandedText, NoMemory>
+pub(crate) fn plain_outcome(alloc: Global, text: &[u8]) -> Result<ExpandedText, NoMemory>
     ensures { IfOk result (λ outcome. IsExpandedText (plain text.now) outcome) }
 {
     if text.len() > EXPANSION_LIMIT {

@@ -190,7 +190,7 @@ fn read_behind<X: Texts>(
 }
 
 /// Reads the lines of a makefile behind the macros of the command line. Takes time linear in the texts, in the values of the
-/// macros that each line reaches, and in what the lines expand to.
+/// macros that each line is the first to reach since one was last defined, and in what the lines expand to.
 pub(crate) fn read_all<X: Texts>(
     alloc: Global,
     hashing: RandomState,

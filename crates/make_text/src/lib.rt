@@ -12,6 +12,7 @@
 
 pub mod contents;
 mod endings;
+mod expanded_macros;
 mod expansions;
 mod gathering;
 mod including;

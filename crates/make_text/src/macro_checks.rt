@@ -16,7 +16,7 @@ use cc_names::refusals::{MakeCause, MakeError};
 use std::alloc::Global;
 
 /// The most bytes of results behind which they are forgotten, so that memory stays bounded; no result is longer than a line.
-const RESULTS_LIMIT: usize = 16_777_216;
+pub(crate) const RESULTS_LIMIT: usize = 16_777_216;
 
 /// The fault of an expansion of so many bytes, which a loop may have ended.
 fn fault_of(len: usize, loops: bool) -> Option<MakeCause>
@@ -36,13 +36,6 @@ fn fault_of(len: usize, loops: bool) -> Option<MakeCause>
 }
 
 impl<'a> Expanding<'a> {
-    /// How many bytes were written behind so many.
-    fn written_behind(&self, start: usize) -> usize
-        ensures { result ≡ length self.now.written.items - start }
-    {
-        self.written.len().saturating_sub(start)
-    }
-
     /// Goes on to the end of a macro, which was begun behind so many bytes, and tells its fault.
     fn run(
         &mut self,

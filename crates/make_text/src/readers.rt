@@ -10,7 +10,6 @@ ghost use Rattle.make_grammar.specs.Statements.{assignment, override, has_twice,
 use crate::kept_lines::RuleLine;
 use crate::pieces::has_bad_dollar;
 use crate::readings::{Reading, fault_at};
-use crate::rule_lines::{read_include_line, read_rule_line};
 use crate::special_targets::{has_some, put_paths};
 use crate::words::is_blank_line;
 use cc_names::commands::Macro;
@@ -174,7 +173,7 @@ impl Reader {
             (rule_line file.now.value line before.now behind.now self.old.reading) }
         ensures kept { OnOk result (Keeps self.new.scripted.keys self.new.reading.rules) }
     {
-        match read_rule_line(alloc, self.reading.macros(), before, behind) {
+        match self.reading.rule_words(alloc, before, behind) {
             Ok(words) => Ok(self.add_rule(alloc, file, line, words)?),
             Err(Or::Is(cause)) => Err(fault_at(alloc, file, line, cause)),
             Err(Or::NoMemory) => Err(Or::NoMemory),
@@ -294,7 +293,7 @@ impl Reader {
             self.new.reading }
         ensures kept { OnOk result (Keeps self.new.scripted.keys self.new.reading.rules) }
     {
-        match read_include_line(alloc, self.reading.macros(), behind) {
+        match self.reading.include_words(alloc, behind) {
             Ok(paths) => {
                 self.reading.end_rule();
                 match self.reading.within_limits(alloc, file, line) {

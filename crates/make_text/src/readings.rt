@@ -1,20 +1,22 @@
 //! What was read so far of a makefile and the files that it includes.
 
 ghost use Rattle.std.specs.Prelude.{◌≡◌, ◌+◌, IfOk, OnOk, option_copied, reverse, slice_get};
-ghost use Rattle.cc_names.specs.Answers.{FaultIs};
+ghost use Rattle.cc_names.specs.Answers.{FaultIs, Gives};
 ghost use Rattle.make_grammar.specs.Grammar.{nothing_read};
 ghost use Rattle.make_text.specs.MacroEntries.{definition_in};
 ghost use Rattle.make_text.specs.Readers.{open_rule};
 ghost use Rattle.make_text.specs.ReadingSteps.{Leaves, counted_line, counted_file, with_defined, ended_rule, with_special, with_newest_line, line_of_words, with_next_rule};
-ghost use Rattle.make_grammar.specs.Statements.{fault_at, assignment, override, with_rule, within_limits};
+ghost use Rattle.make_grammar.specs.Statements.{fault_at, assignment, include_words, macros_of, override, rule_words, with_rule, within_limits};
 
+use crate::expanded_macros::ExpandedMacros;
 use crate::kept_lines::RuleLine;
 use crate::macros::{Defined, MacroTable};
-use crate::rule_lines::macro_fault;
+use crate::rule_lines::{macro_fault, read_include_line, read_rule_line};
 use crate::special_targets::{
     first_suffixes, has_special, is_named, plain_targets, put_paths, put_suffixes,
 };
 use cc_names::commands::Macro;
+use cc_names::lists::List;
 use cc_names::memory::{NoMemory, Or};
 use cc_names::paths::Path;
 use cc_names::refusals::{MakeCause, MakeError};
@@ -39,7 +41,7 @@ pub(crate) struct Reading {
     lines: u64,
     targets: u64,
     files: u64,
-    macros: MacroTable,
+    macros: ExpandedMacros,
     suffixes: IndexSet<Path, RandomState>,
     phony: IndexSet<Path, RandomState>,
     rules: Vec<RuleLine>,
@@ -126,7 +128,7 @@ impl Reading {
             lines: 0,
             targets: 0,
             files: 0,
-            macros: MacroTable::new(alloc, hashing),
+            macros: ExpandedMacros::new(alloc, hashing),
             suffixes,
             phony: IndexSet::with_hasher(alloc, hashing),
             rules: Vec::new(alloc),
@@ -138,7 +140,33 @@ impl Reading {
     pub(crate) fn macros(&self) -> &MacroTable
         ensures { result.now ≡ self.now.macros }
     {
-        &self.macros
+        self.macros.table()
+    }
+
+    /// The words of a rule line, by what stands before its `:` and behind it; or why it is refused.
+    pub(crate) fn rule_words(
+        &mut self,
+        alloc: Global,
+        before: &[u8],
+        behind: &[u8],
+    ) -> Result<RuleWords, Or<MakeCause>>
+        ensures same { self.new ≡ self.old }
+        ensures words { Gives result
+            (rule_words (macros_of self.old.macros) before.now behind.now) }
+    {
+        read_rule_line(alloc, &mut self.macros, before, behind)
+    }
+
+    /// The paths behind `include`, or why the line is refused.
+    pub(crate) fn include_words(
+        &mut self,
+        alloc: Global,
+        behind: &[u8],
+    ) -> Result<List<Path>, Or<MakeCause>>
+        ensures same { self.new ≡ self.old }
+        ensures paths { Gives result (include_words (macros_of self.old.macros) behind.now) }
+    {
+        read_include_line(alloc, &mut self.macros, behind)
     }
 
     /// The phony targets.
@@ -173,7 +201,7 @@ impl Reading {
             takes_script: _,
         } = self;
         Parts {
-            macros,
+            macros: macros.into_table(),
             suffixes,
             phony,
             lines,
@@ -241,7 +269,8 @@ impl Reading {
         ensures { OnOk result
             (self.new ≡ with_defined (definition_in (name.now, defined)) self.old) }
     {
-        self.macros.define(Text::from_bytes(alloc, name)?, defined)?;
+        self.macros
+            .define(alloc, Text::from_bytes(alloc, name)?, defined)?;
         Ok(())
     }
 

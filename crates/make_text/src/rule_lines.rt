@@ -7,13 +7,13 @@ ghost use Rattle.cc_names.specs.Answers.{Gives};
 ghost use Rattle.cc_names.specs.Cuts.{words_of};
 ghost use Rattle.cc_names.specs.declared.refusals.MakeCause.TheVariants as causes;
 ghost use Rattle.make_grammar.specs.Lines.{is_byte};
-ghost use Rattle.make_grammar.specs.Macros.{Expansion, followed, plain, is_among, is_macro_name, has_bad_dollar, expansion_of, no_automatic};
+ghost use Rattle.make_grammar.specs.Macros.{Expansion, followed, plain, is_among, is_macro_name, has_bad_dollar};
 ghost use Rattle.make_text.specs.Steps.{IsExpandedText};
-ghost use Rattle.make_grammar.specs.Statements.{macros_of, expanded_by, or_cause, where_so, macro_fault, expansion_fault, is_special, suffixes_name, is_suffix_byte, is_suffix, is_grouped, before_mark, mark_of, is_semicolon, rule_bytes_fault, line_words_fault, rule_words, include_words_fault, include_words};
+ghost use Rattle.make_grammar.specs.Statements.{macros_of, or_cause, macro_fault, expansion_fault, is_special, suffixes_name, is_suffix_byte, is_suffix, is_grouped, before_mark, mark_of, is_semicolon, rule_bytes_fault, line_words_fault, rule_words, include_words_fault, include_words};
 ghost use Rattle.make_text.specs.RuleLines.{below_root, rule_of_paths, rule_of_words, rule_of_sides, expanded_sides};
 
-use crate::expansions::{Automatic, EXPANSION_LIMIT, ExpandedText, expand};
-use crate::macros::MacroTable;
+use crate::expanded_macros::ExpandedMacros;
+use crate::expansions::{EXPANSION_LIMIT, ExpandedText};
 use crate::pieces::{has_bad_dollar, is_macro_name};
 use crate::word_paths::read_paths;
 use crate::words::words;
@@ -213,19 +213,6 @@ fn rule_of_sides(
     )
 }
 
-/// A text expanded outside scripts.
-fn expand_line(alloc: Global, macros: &MacroTable, text: &[u8]) -> Result<ExpandedText, NoMemory>
-    ensures { IfOk result
-        (λ outcome. IsExpandedText (expanded_by (macros_of macros.now) text.now) outcome) }
-{
-    let automatic = Automatic {
-        target: &[],
-        first: None,
-        stem: &[],
-    };
-    Ok(expand(alloc, macros, &automatic, text)?)
-}
-
 /// The bytes of an expansion that has no fault.
 fn only_bytes(outcome: ExpandedText) -> Result<Text, MakeCause>
     ensures { (total : Expansion)
@@ -305,18 +292,19 @@ fn both_sides(first: Text, mark: &[u8], outcome: ExpandedText) -> Result<(Text, 
 #[tactic(auto, using(crate::proofs::SideLemmas::first_fault, crate::proofs::SideLemmas::second_sides))]
 fn expand_sides(
     alloc: Global,
-    macros: &MacroTable,
+    macros: &mut ExpandedMacros,
     before: &[u8],
     behind: &[u8],
 ) -> Result<(Text, Text), Or<MakeCause>>
-    ensures { Gives result (expanded_sides (macros_of macros.now) before.now behind.now) }
+    ensures same { macros.new ≡ macros.old }
+    ensures sides { Gives result (expanded_sides (macros_of macros.old) before.now behind.now) }
 {
-    let outcome = expand_line(alloc, macros, before_mark(before))?;
+    let outcome = macros.expand(alloc, before_mark(before))?;
     let first = match only_bytes(outcome) {
         Ok(first) => first,
         Err(cause) => return Err(Or::Is(cause)),
     };
-    let outcome = expand_line(alloc, macros, behind)?;
+    let outcome = macros.expand(alloc, behind)?;
     match both_sides(first, mark_of(before), outcome) {
         Ok(sides) => Ok(sides),
         Err(cause) => Err(Or::Is(cause)),
@@ -324,14 +312,15 @@ fn expand_sides(
 }
 
 /// The words of a rule line, by what stands before its `:` and behind it; or why it is refused. Takes time linear in the
-/// line, in the values of the macros that it reaches, each once, and in what it expands to.
+/// line, in the values of the macros that it is the first to reach since one was last defined, and in what it expands to.
 pub(crate) fn read_rule_line(
     alloc: Global,
-    macros: &MacroTable,
+    macros: &mut ExpandedMacros,
     before: &[u8],
     behind: &[u8],
 ) -> Result<RuleWords, Or<MakeCause>>
-    ensures { Gives result (rule_words (macros_of macros.now) before.now behind.now) }
+    ensures same { macros.new ≡ macros.old }
+    ensures words { Gives result (rule_words (macros_of macros.old) before.now behind.now) }
 {
     match rule_bytes_fault(before, behind) {
         Some(cause) => Err(Or::Is(cause)),
@@ -352,15 +341,16 @@ pub(crate) fn read_rule_line(
 /// The paths behind `include`, or why the line is refused. Takes time as `read_rule_line`.
 pub(crate) fn read_include_line(
     alloc: Global,
-    macros: &MacroTable,
+    macros: &mut ExpandedMacros,
     behind: &[u8],
 ) -> Result<List<Path>, Or<MakeCause>>
-    ensures { Gives result (include_words (macros_of macros.now) behind.now) }
+    ensures same { macros.new ≡ macros.old }
+    ensures paths { Gives result (include_words (macros_of macros.old) behind.now) }
 {
     if has_bad_dollar(behind) {
         return Err(Or::Is(MakeCause::BadMacro));
     }
-    let expanded = only_bytes(expand_line(alloc, macros, behind)?).map_err(Or::Is)?;
+    let expanded = only_bytes(macros.expand(alloc, behind)?).map_err(Or::Is)?;
     include_of_text(alloc, expanded.as_bytes())
 }
 
