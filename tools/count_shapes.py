@@ -48,10 +48,10 @@ PRIVATE = {
     "taken in": ["taken|takes|take", "in"],
 }
 SEVERAL_MEANINGS = ["sound", "gate", "tail", "desk", "listing", "kept"]
-NO_PARTICIPLES = {"need", "seed", "feed", "speed", "bed", "red", "shed", "embed", "exceed", "proceed", "succeed", "deed", "indeed"}
+NO_PARTICIPLES = set("need seed feed speed bed red shed embed exceed proceed succeed deed indeed".split())
 IRREGULAR = set(
-    "begun borne bound broken built chosen done drawn driven due found given gone held hidden kept known left live lost made met paid risen"
-    " said seen sent shown sought spent taken told torn written".split()
+    "begun borne bound broken built chosen done drawn driven due found given gone held hidden kept known left live lost"
+    " made met paid risen said seen sent shown sought spent taken told torn written".split()
 )
 
 STRING = r'"(?:[^"\\\n]|\\.)*"'
@@ -74,11 +74,13 @@ class Tree:
         read = of_revision(revision) if revision else of_checkout()
         self.files = {path: text for path, text in read if path.suffix in SOURCES | {".md"} or "data" in path.parts}
         self.code = {path: without_comments(path, text) for path, text in self.files.items() if path.suffix in (".rt", ".antt")}
-        self.identifiers = {path: collections.Counter(IDENTIFIER.findall(re.sub(STRING, "", text))) for path, text in self.code.items()}
+        self.identifiers = {
+            path: collections.Counter(IDENTIFIER.findall(re.sub(STRING, "", text))) for path, text in self.code.items()
+        }
         self.lemmas = list(lemmas(self))
 
     def sources(self, suffix, *folders, code=False):
-        """The files with this suffix in these folders of crates that are no tests, with their texts, or their texts without comments."""
+        """The files with this suffix in these folders of crates that are no tests, with their texts or these without comments."""
         for path, text in (self.code if code else self.files).items():
             if path.suffix == suffix and folder_of(path) in folders:
                 yield path, text
@@ -309,7 +311,9 @@ def bodies(tree):
                 indent, name, start = found[1], found[2], number
             if name is not None and line.endswith("{") and (line == indent + "{" or number == start):
                 start = number
-            if name is not None and (line in (indent + "}", indent + "{}") or line.endswith(("{}", ";")) and line.startswith(indent + "f")):
+            if name is not None and (
+                line in (indent + "}", indent + "{}") or line.endswith(("{}", ";")) and line.startswith(indent + "f")
+            ):
                 yield path, name, indent, number - start - 1
                 name = None
 

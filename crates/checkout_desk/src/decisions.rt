@@ -38,7 +38,8 @@ fn made(row: Result<Row, Or<Refusal>>) -> Result<Option<Row>, Or<Refusal>>
 }
 
 /// A change's row, or its first refusal in the order of the tests of its line. A scrub for which nothing is due has no row, nor
-/// has the label of a record that lists nothing. Takes the time of its change.
+/// has the label of a record that lists nothing. The clause speaks of the scenes with these rows, this build in the view and so
+/// many rows taken; in each of them the model's decision has room for the row. Takes the time of its change.
 pub fn decide(
     alloc: Global,
     rows: &FirstRows<'_>,
