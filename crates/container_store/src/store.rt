@@ -3,7 +3,7 @@
 ghost use Rattle.std.specs.Prelude.{◌≡◌, ◌≤◌, ◌<◌, ◌+◌, ◌^◌, ◌&&◌, [], true, false, nat_le, Bool, IfOk, OnOk, IfSome, IsTrue, ◌↔◌, All, Contains, MatchBool, is_some};
 ghost use Rattle.std.specs.List.Sorted.{IsPermutation};
 ghost use Rattle.container_store.specs.Extents.{behind, is_free, end_of, may_take, IsFirstFit};
-ghost use Rattle.container_store.specs.Places.{FitsAt};
+ghost use Rattle.container_store.specs.Places.{FitsAt, IsInPlace};
 ghost use Rattle.container_store.specs.Spaces.{TakesExtent};
 ghost use Rattle.container_store.specs.Walks.{IsFirstAt};
 
@@ -15,8 +15,8 @@ use cc_names::rows::Extent;
 use std::alloc::Global;
 use std::marker::Model;
 
-/// The extents of the file of objects that are taken. Contracts see them, in no order that they promise, and for how many more
-/// there is memory.
+/// The extents of the file of objects that are taken. Contracts see them, in order of their places, and for how many more there
+/// is memory.
 #[derive(Drop)]
 pub struct Store {
     /// By place.
@@ -38,6 +38,15 @@ impl Model for Store {
 }
 
 impl Store {
+    /// That its extents are in order of their places and no two overlap, that each has a byte, and that their ends fit 64 bits.
+    /// Does nothing.
+    pub fn are_apart(&self)
+        ensures in_place { IsInPlace 0 self.now.taken }
+        ensures fits { end_of self.now.taken < 2 ^ 64 }
+    {
+        let _longest = self.longest;
+    }
+
     /// A store with these extents, each of at least a byte, or None where one passes the file's length or two overlap. Takes
     /// time as `take` does for each of them.
     pub fn open(alloc: Global, length: u64, taken: &[Extent]) -> Result<Option<Store>, NoMemory>

@@ -7,6 +7,5 @@ pub mod Passing
 pub mod Phasing
 pub mod Settling
 pub mod Staying
-pub mod Stored
 pub mod Telling
 mod WorkedForeign
