@@ -1,0 +1,11 @@
+//! Tests of `container_store`, in a crate of their own so that `container_store` is proved apart from them.
+//!
+//! What it is for: where extents go, what giving one back joins, and many of them at random.
+//!
+//! What it promises: nothing; it is only run.
+//!
+//! What it stands on: `container_store`, and `cc_names` for memory.
+#![tactic(auto)]
+
+#[cfg(test)]
+mod tests;
