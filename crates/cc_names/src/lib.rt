@@ -2,8 +2,8 @@
 //!
 //! What it is for: one place for the types that cross crate borders, for how a text is cut into lines and a line into
 //! words, for how a number and the name of a type are read, and for the keys by which hash maps look things up. A `Text`,
-//! a `Name` and a `Path` are seen by contracts as their bytes, a `List` as its items, what is left of a text or a line as
-//! the list of its lines or words; everything else here is plain data, whole from the first day: the rows of a base and
+//! a `Name` and a `Path` are seen by contracts as their bytes, a `List` and `Rules` as their items, what is left of a text or
+//! a line as the list of its lines or words; everything else here is plain data, whole from the first day: the rows of a base and
 //! their deeds, the commands of a session, refusals and causes, replies, the steps of a story, the units of a build, and
 //! the three kinds of change that the indexes above keep.
 //!

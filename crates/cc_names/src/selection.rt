@@ -1,9 +1,12 @@
 //! What a config spec selects, and what stands at a path.
 
+ghost use Rattle.std.specs.Prelude.{◌≡◌};
+
 use crate::lists::List;
 use crate::names::Name;
 use crate::paths::Path;
 use crate::texts::Text;
+use std::marker::Model;
 
 /// One segment of a pattern.
 #[derive(Drop)]
@@ -54,6 +57,37 @@ pub struct Rule {
     pub nocheckout: bool,
     /// `-mkbranch`: a checkout begins a branch of this type.
     pub mkbranch: Option<Name>,
+}
+
+/// The rules of a config spec, in order. Contracts see them as a list.
+#[derive(Drop)]
+pub struct Rules {
+    rules: Vec<Rule>,
+}
+
+impl Model for Rules {
+    ghost use Rattle.std.specs.Prelude.{List};
+    ghost use Rattle.cc_names.specs.declared.selection.Rule.{Rule};
+
+    ghost Value = { List Rule };
+
+    ghost view = { λ spec. spec.rules.items };
+}
+
+impl Rules {
+    /// The rules that these are, in order. Takes no memory.
+    pub fn of(rules: Vec<Rule>) -> Rules
+        ensures { result ≡ rules.items }
+    {
+        Rules { rules }
+    }
+
+    /// The rules, in order.
+    pub fn as_slice(&self) -> &[Rule]
+        ensures { result.now ≡ self.now }
+    {
+        self.rules.as_slice()
+    }
 }
 
 /// What a rule picked: the row that makes the text, the line of the rule, and whether it is the view's checkout.

@@ -15,7 +15,7 @@ use cc_names::names::Name;
 use cc_names::refusals::Refusal;
 use cc_names::rows::{Deed, Row};
 use cc_names::texts::Text;
-use spec_text::Spec;
+use spec_text::read_rules;
 use std::alloc::Global;
 use view_lookup::FirstRows;
 
@@ -24,7 +24,7 @@ fn needs_rules(alloc: Global, text: &Text) -> Result<(), Or<Refusal>>
     requires { length text.now ≤ 16777216 }
     ensures { Tests result (needs_rules (rules_of text.now)) }
 {
-    match Spec::read(alloc, text.as_bytes()) {
+    match read_rules(alloc, text.as_bytes()) {
         Ok(_) => Ok(()),
         Err(Or::Is(error)) => Err(Or::Is(Refusal::BadSpec(error.line, error.cause))),
         Err(Or::NoMemory) => Err(Or::NoMemory),

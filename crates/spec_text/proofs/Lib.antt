@@ -6,3 +6,4 @@ pub mod GoingOn
 pub mod Rest
 pub mod Plain
 pub mod Deciding
+pub mod Steps

@@ -9,3 +9,5 @@ pub mod OptionSteps
 pub mod Reading
 pub mod Laws
 pub mod Rules
+pub mod Children
+pub mod Verdicts

@@ -3,29 +3,15 @@
 ghost use Rattle.std.specs.Prelude.{◌≡◌, ◌<◌, ◌^◌, length, slice_get};
 ghost use Rattle.cc_names.specs.Answers.{Gives};
 ghost use Rattle.spec_text.specs.Reading.{at_line};
+ghost use Rattle.spec_text.specs.Specs.{rules_of};
 
 use crate::lines::{Line, LineContext, read_line};
 use cc_names::cuts::Lines;
 use cc_names::memory::Or;
 use cc_names::refusals::{SpecCause, SpecError};
-use cc_names::selection::Rule;
+use cc_names::selection::{Rule, Rules};
 use std::alloc::Global;
 use std::marker::Model;
-
-/// The rules of a config spec. Contracts see them as a list.
-#[derive(Drop)]
-pub struct Spec {
-    rules: Vec<Rule>,
-}
-
-impl Model for Spec {
-    ghost use Rattle.std.specs.Prelude.{List};
-    ghost use Rattle.cc_names.specs.declared.selection.Rule.{Rule};
-
-    ghost Value = { List Rule };
-
-    ghost view = { λ spec. spec.rules.items };
-}
 
 /// What has been read of a config spec.
 #[derive(Drop)]
@@ -117,34 +103,21 @@ fn at_line(line: u32, fault: Or<SpecCause>) -> Or<SpecError>
     }
 }
 
-impl Spec {
-    ghost use Rattle.spec_text.specs.Specs.{rules_of};
-
-    /// Reads a text as the rules of a config spec, or answers the first line that fails and why. Takes time linear in
-    /// the text's bytes. The rules are those of the ClearCase manual's page config_spec, in this profile.
-    pub fn read(alloc: Global, text: &[u8]) -> Result<Spec, Or<SpecError>>
-        requires { length text.now < 2 ^ 32 }
-        ensures { Gives result (rules_of text.now) }
-    {
-        let mut reader = Reader::new(alloc);
-        let mut number: u32 = 0;
-        let mut lines = Lines::of(text);
-        while let Some(bytes) = lines.next() {
-            number += 1;
-            reader = match reader.next(alloc, number, bytes) {
-                Ok(reader) => reader,
-                Err(fault) => return Err(at_line(number, fault)),
-            };
-        }
-        Ok(Spec {
-            rules: reader.into_rules(),
-        })
+/// Reads a text as the rules of a config spec, or answers the first line that fails and why. Takes time linear in
+/// the text's bytes. The rules are those of the ClearCase manual's page config_spec, in this profile.
+pub fn read_rules(alloc: Global, text: &[u8]) -> Result<Rules, Or<SpecError>>
+    requires { length text.now < 2 ^ 32 }
+    ensures { Gives result (rules_of text.now) }
+{
+    let mut reader = Reader::new(alloc);
+    let mut number: u32 = 0;
+    let mut lines = Lines::of(text);
+    while let Some(bytes) = lines.next() {
+        number += 1;
+        reader = match reader.next(alloc, number, bytes) {
+            Ok(reader) => reader,
+            Err(fault) => return Err(at_line(number, fault)),
+        };
     }
-
-    /// The rules, in order.
-    pub fn rules(&self) -> &[Rule]
-        ensures { result.now ≡ self.now }
-    {
-        self.rules.as_slice()
-    }
+    Ok(Rules::of(reader.into_rules()))
 }

@@ -34,8 +34,8 @@ use cc_names::memory::NoMemory;
 use cc_names::names::Name;
 use cc_names::paths::Path;
 use cc_names::rows::{Deed, Row};
+use cc_names::selection::Rules;
 use label_book::Book;
-use spec_text::Spec;
 use std::alloc::Global;
 use std::collections::HashMap;
 use std::hash::RandomState;
@@ -57,7 +57,7 @@ pub struct Rows {
     name: Option<Name>,
     specs: Vec<Parsed>,
     // A config spec, read before the row is added that gives it to its view.
-    spec: Option<Spec>,
+    spec: Option<Rules>,
     listings: HashMap<u64, Versions>,
     // What the record of an object lists, before its row is added.
     listing: Option<Versions>,
@@ -366,7 +366,7 @@ impl<'a> FirstRows<'a> {
 
     /// The rules that the row of this number gave to its view, where it is one of these rows. Takes time logarithmic in the
     /// config specs.
-    pub(crate) fn spec_given(&self, row: u64) -> Option<&'a Spec>
+    pub(crate) fn spec_given(&self, row: u64) -> Option<&'a Rules>
         ensures { option_copied result ≡ option_and_then rules_set (deed_at self.now row) }
     {
         if self.size() <= row {

@@ -23,7 +23,7 @@ use cc_names::names::Name;
 use cc_names::paths::Path;
 use cc_names::rows::{Deed, Kind, ReadOf, Row};
 use cc_names::texts::Text;
-use spec_text::Spec;
+use spec_text::read_rules;
 use std::alloc::Global;
 
 /// The most rows that a base may have, row 0 included.
@@ -106,7 +106,7 @@ fn setcs_fits(
     if view_row(rows, view).is_none() {
         return Ok(false);
     }
-    match Spec::read(alloc, text.as_bytes()) {
+    match read_rules(alloc, text.as_bytes()) {
         Ok(_) => Ok(true),
         Err(Or::Is(_)) => Ok(false),
         Err(Or::NoMemory) => Err(NoMemory),

@@ -9,7 +9,7 @@
 //! over which every look-up answers as of then.
 //!
 //! What it stands on: `cc_names` for rows, `legal_history` for the definitions, `version_tree` and `label_book` for the trees and
-//! the labels, `spec_text` for the rules of config specs, and `config_spec` for how they select.
+//! the labels, and `spec_text` for the rules of config specs and how they select.
 #![tactic(auto)]
 
 mod bases;

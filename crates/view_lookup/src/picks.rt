@@ -14,7 +14,7 @@ use crate::view_specs::rules;
 use cc_names::names::Name;
 use cc_names::paths::Path;
 use cc_names::selection::Picked;
-use config_spec::{Selectable, pick_from};
+use spec_text::{Selectable, pick_from};
 
 /// What there is to select from in the first rows of a base, and the row that makes the text of the view's checkout.
 #[derive(Drop)]

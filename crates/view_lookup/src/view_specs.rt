@@ -19,7 +19,8 @@ use cc_names::by_row::{ByRow, item_of};
 use cc_names::memory::{NoMemory, Or};
 use cc_names::names::Name;
 use cc_names::rows::Deed;
-use spec_text::Spec;
+use cc_names::selection::Rules;
+use spec_text::read_rules;
 use std::alloc::Global;
 
 /// The config spec with which a view begins.
@@ -88,7 +89,7 @@ pub fn spec_text<'a>(rows: &FirstRows<'a>, view: &Name) -> Option<&'a [u8]>
 #[derive(Drop)]
 pub(crate) struct Parsed {
     row: u64,
-    spec: Spec,
+    spec: Rules,
 }
 
 impl ByRow for Parsed {
@@ -102,13 +103,13 @@ impl ByRow for Parsed {
 }
 
 /// The rules of a text of fewer than 2^32 bytes, where it can be read. Takes time linear in it.
-fn read_short(alloc: Global, text: &[u8]) -> Result<Option<Spec>, NoMemory>
+fn read_short(alloc: Global, text: &[u8]) -> Result<Option<Rules>, NoMemory>
     ensures { IfOk result (λ spec. spec ≡ parsed_if_short text.now) }
 {
     if text.len() > u32::MAX as usize {
         return Ok(None);
     }
-    match Spec::read(alloc, text) {
+    match read_rules(alloc, text) {
         Ok(spec) => Ok(Some(spec)),
         Err(Or::NoMemory) => Err(NoMemory),
         Err(Or::Is(_)) => Ok(None),
@@ -116,7 +117,7 @@ fn read_short(alloc: Global, text: &[u8]) -> Result<Option<Spec>, NoMemory>
 }
 
 /// The rules that a row of this deed gives to its view, where it gives any. Takes time linear in the config spec.
-pub(crate) fn read_given(alloc: Global, deed: &Deed) -> Result<Option<Spec>, NoMemory>
+pub(crate) fn read_given(alloc: Global, deed: &Deed) -> Result<Option<Rules>, NoMemory>
     ensures { IfOk result (λ spec. spec ≡ rules_set_if_short deed.now) }
 {
     match spec_made(deed) {
@@ -126,7 +127,7 @@ pub(crate) fn read_given(alloc: Global, deed: &Deed) -> Result<Option<Spec>, NoM
 }
 
 /// Keeps the rules that a row gives to its view, where it gives any.
-pub(crate) fn keep_spec(specs: &mut Vec<Parsed>, row: u64, spec: Option<Spec>)
+pub(crate) fn keep_spec(specs: &mut Vec<Parsed>, row: u64, spec: Option<Rules>)
     requires room { vec_len specs.old < vec_capacity specs.old }
     ensures { newest_first specs.new.items ≡ with_spec row spec (newest_first specs.old.items) }
 {
@@ -137,7 +138,7 @@ pub(crate) fn keep_spec(specs: &mut Vec<Parsed>, row: u64, spec: Option<Spec>)
 }
 
 /// The rules that the row of this number gave, among config specs. Takes time logarithmic in them.
-pub(crate) fn spec_of(specs: &[Parsed], row: u64) -> Option<&Spec>
+pub(crate) fn spec_of(specs: &[Parsed], row: u64) -> Option<&Rules>
     requires falling { Falls (map row_of_parsed (newest_first specs.now)) }
     ensures { option_copied result ≡ rules_at row (newest_first specs.now) }
 {
@@ -147,7 +148,7 @@ pub(crate) fn spec_of(specs: &[Parsed], row: u64) -> Option<&Spec>
 
 /// The rules of the view's config spec, where the view exists. Takes the time of `spec_text`, and time logarithmic in the config
 /// specs.
-pub fn rules<'a>(rows: &FirstRows<'a>, view: &Name) -> Option<&'a Spec>
+pub fn rules<'a>(rows: &FirstRows<'a>, view: &Name) -> Option<&'a Rules>
     ensures { or_no_rules (option_copied result) ≡ rules rows.now view.now }
 {
     rows.spec_given(spec_row(rows, view)?)

@@ -1,6 +1,6 @@
 use Rattle.std.proofs.Common.{◌≡◌, drop}
 use Rattle.cc_names.specs.Branches.{branch_from}
-use Rattle.config_spec.proofs.branches.branch_behind.Given as goal
+use Rattle.spec_text.proofs.branches.branch_behind.Given as goal
 
 -- the names that are left lead on from the branch so far
 abbrev pub invariant-loop-name : goal.invariant-loop-name

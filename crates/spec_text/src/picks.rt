@@ -3,13 +3,13 @@
 ghost use Rattle.std.specs.Prelude.{◌≡◌};
 ghost use Rattle.cc_names.specs.Paths.{names_of};
 ghost use Rattle.spec_text.specs.Rules.{branch_of_type, latest_on, found_by, is_checkout, ends_scan, pick};
-ghost use Rattle.config_spec.specs.Verdicts.{verdict};
+ghost use Rattle.spec_text.specs.Verdicts.{verdict};
 
 use crate::branches::branch_behind;
+use crate::patterns::Matches;
 use crate::selectable::Selectable;
 use cc_names::names::Name;
-use cc_names::selection::{Picked, Rule, Selector};
-use spec_text::{Matches, Spec};
+use cc_names::selection::{Picked, Rule, Rules, Selector};
 
 fn branch_of_type<S: Selectable>(sources: &S, element: u64, name: &Name) -> Option<u64>
     ensures { result ≡ branch_of_type (S.selectables sources.now) element name.now }
@@ -91,14 +91,14 @@ fn verdict<S: Selectable>(
 /// tried the matching of the path and one query, for a rule that names a branch two for each of its names.
 pub fn pick_from<S: Selectable>(
     sources: &S,
-    spec: &Spec,
+    rules: &Rules,
     element: u64,
     path: &[u8],
 ) -> Option<Picked>
     ensures { result
-        ≡ pick (S.selectables sources.now) element (names_of path.now) spec.now }
+        ≡ pick (S.selectables sources.now) element (names_of path.now) rules.now }
 {
-    for rule in spec.rules() {
+    for rule in rules.as_slice() {
         if let Some(picked) = verdict(sources, element, path, rule) {
             return picked;
         }

@@ -6,8 +6,8 @@ use Rattle.cc_names.specs.declared.changes.TreeChange.{TreeChange}
 use Rattle.cc_names.specs.declared.selection.Picked.{Picked}
 use Rattle.cc_names.specs.declared.selection.Rule.{Rule}
 use Rattle.spec_text.specs.Rules.{Selectables, decides, deciding, picked_by, pick}
-use Rattle.config_spec.specs.Children.{child}
-use Rattle.config_spec.specs.Verdicts.{verdict}
+use Rattle.spec_text.specs.Children.{child}
+use Rattle.spec_text.specs.Verdicts.{verdict}
 
 at_place : {A : Type 0} (xs : List A) (i : ℕ) (d : A) → i < length xs → drop i xs ≡ get_or xs i d ∷ drop (i + 1) xs
 at_place xs i d h = rw (add-one, drop-cons xs i d) refl

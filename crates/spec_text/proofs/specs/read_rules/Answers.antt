@@ -2,7 +2,7 @@ use Rattle.std.proofs.Common.{◌+◌, arith, ◌∙◌, ap, length}
 use Rattle.cc_names.specs.Cuts.{lines_of}
 use Rattle.cc_names.proofs.LinesAndWords.{length-lines_of}
 use Rattle.spec_text.proofs.Rest.{rest_at_first, goes_on, ends_at_fault}
-use Rattle.spec_text.proofs.specs.Spec.read.Goals as goal
+use Rattle.spec_text.proofs.specs.read_rules.Goals as goal
 
 pub loop-bytes-init : goal.loop-bytes-init
 loop-bytes-init c = (

@@ -1,7 +1,7 @@
 use Rattle.std.proofs.Common.{◌≡◌, ◌+◌, ◌≤◌, length}
 use Rattle.spec_text.specs.Specs.{rules_of}
 use Rattle.spec_text.proofs.Rest.{rest_of}
-use Rattle.spec_text.proofs.specs.Spec.read.Given as goal
+use Rattle.spec_text.proofs.specs.read_rules.Given as goal
 
 -- the rules are those so far and those of the lines that are left; each line took a byte
 abbrev pub invariant-loop-bytes : goal.invariant-loop-bytes

@@ -2,7 +2,7 @@
 
 ghost use Rattle.std.specs.Prelude.{◌≡◌};
 ghost use Rattle.cc_names.specs.Branches.{branch_above, branch_behind, if_above, branch_named};
-ghost use Rattle.config_spec.specs.Children.{child};
+ghost use Rattle.spec_text.specs.Children.{child};
 
 use crate::selectable::Selectable;
 use cc_names::names::Name;

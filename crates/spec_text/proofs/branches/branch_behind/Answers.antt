@@ -1,7 +1,7 @@
 use Rattle.std.proofs.Common.{sym, ap, ◌∙◌}
-use Rattle.config_spec.specs.Children.{child}
-use Rattle.config_spec.proofs.Steps.{leads_on, leads_nowhere}
-use Rattle.config_spec.proofs.branches.branch_behind.Goals as goal
+use Rattle.spec_text.specs.Children.{child}
+use Rattle.spec_text.proofs.Steps.{leads_on, leads_nowhere}
+use Rattle.spec_text.proofs.branches.branch_behind.Goals as goal
 
 pub returns-in-None : goal.returns-in-None
 returns-in-None g c =
