@@ -3,7 +3,7 @@
 
 ghost use Rattle.std.specs.Prelude.{◌≡◌, ◌≤◌, IfOk};
 ghost use Rattle.build_core.specs.Slots.{numbered};
-ghost use Rattle.legal_history.specs.Base.Fits.{row_limit};
+ghost use Rattle.base_model.specs.Fits.{row_limit};
 ghost use Rattle.legal_history.specs.Builds.Active.{building, reserved};
 ghost use Rattle.base_core.specs.Keeping.Lanes.{builds_in};
 
@@ -117,7 +117,7 @@ impl Lanes {
     ghost use Rattle.std.specs.Prelude.{◌≡◌, ◌≤◌, ◌<◌, [], length, None, Some, IfOk, IsSome, option_copied};
     ghost use Rattle.build_core.specs.Comes.{came_of};
     ghost use Rattle.build_core.specs.Slots.{numbered};
-    ghost use Rattle.legal_history.specs.Base.Fits.{row_limit};
+    ghost use Rattle.base_model.specs.Fits.{row_limit};
     ghost use Rattle.legal_history.specs.Builds.Active.{Build, build_of, building, reserved};
     ghost use Rattle.legal_history.specs.Stories.Steps.{with_came};
     ghost use Rattle.session_text.specs.Ahead.{ahead_of};

@@ -5,10 +5,11 @@ use Rattle.std.specs.Option.{option_or}
 use Rattle.std.proofs.lemmas.Bool.Decides.{Decides-eqb}
 use Rattle.cc_names.specs.Versions.{is_number}
 use Rattle.cc_names.specs.declared.units.Unit.{Unit}
-use Rattle.legal_history.specs.Base.Changes.{live}
-use Rattle.legal_history.specs.Base.Rows.{Base, size, only_where}
+use Rattle.base_model.specs.Changes.{live}
+use Rattle.base_model.specs.Rows.{Base, size, only_where}
 use Rattle.legal_history.specs.Builds.Active.{Build}
-use Rattle.legal_history.specs.Builds.Reuse.{by_options, held_at_all, if_matches, matches, newest_match, reusable}
+use Rattle.legal_history.specs.Builds.Reuse.{by_options, if_matches, matches, newest_match, reusable}
+use Rattle.base_model.specs.Objects.{held_at_all}
 use Rattle.build_core.specs.Reusing.{IsChosen}
 use Rattle.build_core.specs.declared.reuse.Chosen.TheVariants.{Nothing, Other}
 

@@ -5,7 +5,7 @@ use Rattle.cc_names.specs.declared.refusals.UnitFault.TheVariants.{NoRule}
 use Rattle.cc_names.specs.declared.steps.UnitEnd.{UnitEnd}
 use Rattle.cc_names.specs.declared.steps.UnitEnd.TheVariants.{Failed, Blocked}
 use Rattle.cc_names.specs.declared.units.Unit.{Unit}
-use Rattle.legal_history.specs.Base.Rows.{Base}
+use Rattle.base_model.specs.Rows.{Base}
 use Rattle.legal_history.specs.Builds.Active.{Build}
 use Rattle.legal_history.specs.Builds.Fresh.{sees_file, sees_directory}
 use Rattle.legal_history.specs.Builds.Serials.{Standing, is_missing, is_bad, first_end, no_directory, no_script, standing_or_file}

@@ -5,10 +5,10 @@ use Rattle.std.proofs.lemmas.List.{length-take-le}
 use Rattle.std.specs.List.{list_any}
 use Rattle.std.specs.Option.{option_or}
 use Rattle.cc_names.specs.declared.units.Unit.{Unit}
-use Rattle.legal_history.specs.Base.Rows.{only_where}
+use Rattle.base_model.specs.Rows.{only_where}
 use Rattle.legal_history.specs.Builds.Active.{Build, came_to, object_of}
 use Rattle.legal_history.specs.Builds.Choices.{Member, unit_of_member, members_from, members_before, object_among}
-use Rattle.legal_history.specs.Base.Closures.{is_among}
+use Rattle.base_model.specs.Closures.{is_among}
 use Rattle.legal_history.specs.Builds.Serials.{needed, makes}
 use Rattle.build_core.specs.Sights.{object_before}
 

@@ -10,8 +10,8 @@ use Rattle.cc_names.specs.declared.units.UnitScript.TheVariants.{Bare}
 use Rattle.make_graph.specs.Waits.{unit_of, makes_one, prerequisites_of, prerequisites_at, needed, closure_of, is_in, is_marked}
 use Rattle.make_graph.proofs.NeedLemmas.{same_number as same_count, itself}
 use Rattle.make_graph.proofs.StandingLaws.{when_made, when_not}
-use Rattle.legal_history.specs.Base.Rows.{only_where}
-use Rattle.legal_history.specs.Base.Closures.{is_among}
+use Rattle.base_model.specs.Rows.{only_where}
+use Rattle.base_model.specs.Closures.{is_among}
 use Rattle.legal_history.specs.Builds.Active.{Build, came_to, object_of, number_from, unit_at, unit_with}
 use Rattle.legal_history.specs.Builds.Consistency.{InOrder}
 use Rattle.legal_history.specs.Builds.Serials.{makes}

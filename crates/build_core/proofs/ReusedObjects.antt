@@ -8,13 +8,14 @@ use Rattle.cc_names.specs.Formed.{Plain}
 use Rattle.cc_names.specs.declared.rows.Deed.{Deed}
 use Rattle.cc_names.specs.declared.rows.Deed.TheVariants as deeds
 use Rattle.cc_names.specs.declared.units.Unit.{Unit}
-use Rattle.legal_history.specs.Base.Changes.{live}
-use Rattle.legal_history.specs.Base.Rows.{Base, size, deed_at, deed_of, row_at}
+use Rattle.base_model.specs.Changes.{live}
+use Rattle.base_model.specs.Rows.{Base, size, deed_at, deed_of, row_at}
 use Rattle.legal_history.specs.Builds.Active.{Build}
 use Rattle.legal_history.specs.Builds.Choices.{visible}
 use Rattle.legal_history.specs.Builds.Fresh.{script_text}
-use Rattle.legal_history.specs.Builds.Reuse.{are_same_paths, entry_agrees, matches, newest_match, record_matches}
-use Rattle.legal_history.proofs.Bases.Stay.{row_stays}
+use Rattle.base_model.specs.Objects.{are_same_paths}
+use Rattle.legal_history.specs.Builds.Reuse.{entry_agrees, matches, newest_match, record_matches}
+use Rattle.base_model.proofs.Stay.{row_stays}
 use Rattle.view_lookup.specs.Pool.{newest_object, newest_passing, publishes}
 use Rattle.build_core.specs.Reusing.{agrees_with}
 

@@ -6,16 +6,17 @@ use Rattle.cc_names.specs.declared.refusals.ScriptFault.{ScriptFault}
 use Rattle.cc_names.specs.declared.rows.Deed.{Deed}
 use Rattle.cc_names.specs.declared.rows.Deed.TheVariants as deeds
 use Rattle.cc_names.specs.declared.units.Unit.{Unit}
-use Rattle.legal_history.specs.Base.Rows.{Base}
+use Rattle.base_model.specs.Rows.{Base}
 use Rattle.legal_history.specs.Builds.Active.{Build}
-use Rattle.legal_history.specs.Builds.Choices.{entries, here, publish_by, publish_of, text_of_row, visible}
+use Rattle.legal_history.specs.Builds.Choices.{entries, here, publish_by, publish_of, visible}
+use Rattle.base_model.specs.Texts.{text_of_row}
 use Rattle.legal_history.specs.Builds.Fresh.{script_text}
 use Rattle.build_core.proofs.RunsEach.{each_so}
 use Rattle.build_core.proofs.RunsEnded.{AreOutputs, outputs_short, reads_below}
 use Rattle.build_core.proofs.RunsEntries.{entries_formed}
 use Rattle.build_core.proofs.RunsGo.{AreReads}
 use Rattle.build_core.proofs.RunsSeen.{seen_is_below, nothing_at_root}
-use Rattle.legal_history.specs.Base.Fits.{is_base}
+use Rattle.base_model.specs.Fits.{is_base}
 use Rattle.legal_history.proofs.Reuse.Reusables.{first_are_base}
 use Rattle.build_core.proofs.RunsReady.{base_has_room}
 use Rattle.build_core.specs.Publishing.{HasObjects, CanPublish}

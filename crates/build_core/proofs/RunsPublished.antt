@@ -4,10 +4,10 @@ use Rattle.cc_names.specs.Formed.{Plain, IsDeedFormed}
 use Rattle.cc_names.specs.declared.rows.Deed.{Deed}
 use Rattle.cc_names.specs.declared.rows.Deed.TheVariants as deeds
 use Rattle.cc_names.specs.declared.units.Unit.{Unit}
-use Rattle.legal_history.specs.Base.Rows.{Base}
+use Rattle.base_model.specs.Rows.{Base}
 use Rattle.legal_history.specs.Builds.Active.{Build}
 use Rattle.legal_history.specs.Builds.Choices.{as_entry, in_order, entries, here, publish_by, publish_of, visible}
-use Rattle.legal_history.specs.Base.Fits.{is_base}
+use Rattle.base_model.specs.Fits.{is_base}
 use Rattle.legal_history.specs.Builds.Fresh.{script_text}
 use Rattle.build_core.proofs.RunsFormed.{published_is_formed}
 use Rattle.build_core.specs.Publishing.{CanPublish, RunGave, IsPublishOf}

@@ -6,12 +6,12 @@ use Rattle.cc_names.specs.Names.{IsName}
 use Rattle.cc_names.specs.declared.units.Unit.{Unit}
 use Rattle.cc_names.specs.declared.units.UnitScript.{UnitScript}
 use Rattle.cc_names.specs.declared.units.UnitScript.TheVariants.{Bare, TooLong, Lines}
-use Rattle.legal_history.specs.Base.Rows.{Base, size}
+use Rattle.base_model.specs.Rows.{Base, size}
 use Rattle.legal_history.specs.Builds.Active.{Build, unit_at}
-use Rattle.legal_history.specs.Base.Fits.{row_limit, deed_fits, is_base}
+use Rattle.base_model.specs.Fits.{row_limit, deed_fits, is_base}
 use Rattle.legal_history.specs.Builds.Fresh.{script_text}
 use Rattle.legal_history.specs.Builds.Consistency.{IsConsistent}
-use Rattle.legal_history.proofs.Bases.Owned.{and_first}
+use Rattle.base_model.proofs.Owned.{and_first}
 use Rattle.build_core.proofs.RunsEach.{each_at}
 use Rattle.build_core.proofs.RunsSeen.{makes_no_root}
 use Rattle.build_core.specs.BuildForms.{IsUnitFormed}

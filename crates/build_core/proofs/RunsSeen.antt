@@ -9,17 +9,17 @@ use Rattle.cc_names.specs.Versions.{kind_of}
 use Rattle.cc_names.specs.declared.rows.Kind.TheVariants.{Directory}
 use Rattle.cc_names.specs.declared.selection.Picked.{Picked}
 use Rattle.cc_names.specs.declared.units.Unit.{Unit}
-use Rattle.legal_history.specs.Base.Rows.{Base, size, first_rows, only_where}
+use Rattle.base_model.specs.Rows.{Base, size, first_rows, only_where}
 use Rattle.legal_history.specs.Builds.Active.{Build, object_of, unit_at}
-use Rattle.legal_history.specs.Base.Changes.{tree}
+use Rattle.base_model.specs.Changes.{tree}
 use Rattle.legal_history.specs.Builds.Choices.{Member, unit_of_member, members_before, object_among, visible}
-use Rattle.legal_history.specs.Base.Closures.{is_among}
-use Rattle.legal_history.specs.Base.Fits.{is_base}
-use Rattle.legal_history.specs.Base.Seen.{as_seen, file_at, file_seen, row_of_file, selected}
+use Rattle.base_model.specs.Closures.{is_among}
+use Rattle.base_model.specs.Fits.{is_base}
+use Rattle.base_model.specs.Seen.{as_seen, file_at, file_seen, row_of_file, selected}
 use Rattle.legal_history.specs.Builds.Serials.{makes, needed}
-use Rattle.legal_history.proofs.Bases.FilesBelow.{beyond, file_is_below}
+use Rattle.base_model.proofs.FilesBelow.{beyond, file_is_below}
 use Rattle.legal_history.proofs.Builds.Pairs.{member_of, pairs_before, with_pair, members_paired}
-use Rattle.legal_history.proofs.Bases.VersionsStay.{kind_stays}
+use Rattle.base_model.proofs.VersionsStay.{kind_stays}
 use Rattle.build_core.specs.Publishing.{HasObjects}
 
 -- the root is a directory, so a view sees no file there

@@ -1,7 +1,7 @@
 -- The number of the unit that makes a path.
 use Rattle.std.proofs.Common.{◌≡◌, ℕ, suc, ◌+◌, ◌<◌, Bool, true, false, Option, Some, None, List, [], ◌∷◌, length, refl, IfSome, arith}
 use Rattle.cc_names.specs.declared.units.Unit.{Unit}
-use Rattle.legal_history.specs.Base.Closures.{is_among}
+use Rattle.base_model.specs.Closures.{is_among}
 use Rattle.legal_history.specs.Builds.Active.{number_from}
 
 below : (k : ℕ) (path : List ℕ) (units : List Unit) (n : ℕ) → number_from k path units ≡ Some n → n < k + length units

@@ -5,7 +5,7 @@ use Rattle.cc_names.specs.Names.{IsName}
 use Rattle.cc_names.specs.Paths.{root}
 use Rattle.cc_names.specs.declared.units.Unit.{Unit}
 use Rattle.make_grammar.specs.Macros.{expansion_limit}
-use Rattle.legal_history.specs.Base.Rows.{Base, size}
+use Rattle.base_model.specs.Rows.{Base, size}
 use Rattle.legal_history.specs.Builds.Active.{Build, came_to, object_of, unit_at}
 use Rattle.legal_history.specs.Builds.Choices.{here, publish_of}
 use Rattle.legal_history.specs.Builds.Fresh.{script_text}

@@ -3,11 +3,12 @@ use Rattle.std.specs.Prelude.{◌≡◌, ℕ, ◌&&◌, false, Option, Some, Non
 use Rattle.std.specs.List.{list_all}
 use Rattle.cc_names.specs.Versions.{is_number}
 use Rattle.cc_names.specs.declared.units.Unit.{Unit}
-use Rattle.legal_history.specs.Base.Rows.{Base}
+use Rattle.base_model.specs.Rows.{Base}
 use Rattle.legal_history.specs.Builds.Active.{Build}
 use Rattle.legal_history.specs.Builds.Choices.{visible}
 use Rattle.legal_history.specs.Builds.Fresh.{script_text}
-use Rattle.legal_history.specs.Builds.Reuse.{entry_agrees, held_at_all, reusable}
+use Rattle.legal_history.specs.Builds.Reuse.{entry_agrees, reusable}
+use Rattle.base_model.specs.Objects.{held_at_all}
 use Rattle.view_lookup.specs.Pool.{Test}
 use Rattle.build_core.specs.declared.reuse.Chosen.{Chosen}
 use Rattle.build_core.specs.declared.reuse.Chosen.TheVariants.{Nothing, Held, Other}

@@ -1,7 +1,7 @@
 -- The objects that the script of a unit sees.
 use Rattle.std.specs.Prelude.{◌≡◌, ℕ, Bool, Option, option_and_then, List}
 use Rattle.make_graph.specs.Waits.{closure_of, is_in, is_marked}
-use Rattle.legal_history.specs.Base.Rows.{only_where}
+use Rattle.base_model.specs.Rows.{only_where}
 use Rattle.legal_history.specs.Builds.Active.{Build, came_to, object_of, unit_with}
 use Rattle.legal_history.specs.Builds.Choices.{members_before, object_among, unit_of_member}
 use Rattle.legal_history.specs.Builds.Consistency.{InOrder}

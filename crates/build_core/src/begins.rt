@@ -1,14 +1,14 @@
 //! The decision on a clearmake: the build that begins, or its first refusal.
 
 ghost use Rattle.std.specs.Prelude.{◌≡◌, ℕ, ◌+◌, ◌∷◌, [], ◌<◌, ◌≤◌, ◌^◌, length, option_copied, IfOk, IfNone};
-ghost use Rattle.legal_history.specs.Base.Fits.{row_limit};
+ghost use Rattle.base_model.specs.Fits.{row_limit};
 ghost use Rattle.cc_names.specs.Answers.{Gives};
 ghost use Rattle.session_text.specs.Formed.{IsClearmake};
-ghost use Rattle.legal_history.specs.Base.Rows.{size};
+ghost use Rattle.base_model.specs.Rows.{size};
 ghost use Rattle.legal_history.specs.Builds.Active.{building, reserved};
 ghost use Rattle.legal_history.specs.Commands.Decisions.{Scene, first_refusal, needs_room};
 ghost use Rattle.legal_history.specs.Builds.Consistency.{InOrder};
-ghost use Rattle.legal_history.specs.Builds.Fresh.{texts};
+ghost use Rattle.base_model.specs.Texts.{texts};
 ghost use Rattle.legal_history.specs.Commands.ObjectLines.{clearmake, clearmake_tests};
 ghost use Rattle.make_grammar.specs.Graphs.{units};
 ghost use Rattle.build_core.specs.BuildForms.{IsBuildFormed};
@@ -38,7 +38,7 @@ struct ViewTexts<'a> {
 
 impl Texts for ViewTexts<'_> {
     ghost use Rattle.legal_history.specs.Builds.Consistency.{InOrder};
-    ghost use Rattle.legal_history.specs.Builds.Fresh.{texts};
+    ghost use Rattle.base_model.specs.Texts.{texts};
 
     ghost texts = { λ files path. texts files.rows.now files.owner.now path };
 

@@ -3,7 +3,7 @@
 ghost use Rattle.std.specs.Prelude.{◌≡◌, ◌++◌, ◌<◌, ◌^◌, [], true, Some, length, option_copied, IfOk, OnOk};
 ghost use Rattle.legal_history.specs.Builds.Replied.{digest_at, is_of_tag, is_own, word_of_object, word_of_end, word_of_came, told_targets, line_before, lines_of, lines_from, reply_of};
 ghost use Rattle.legal_history.specs.Builds.Active.{came_to, Given};
-ghost use Rattle.legal_history.specs.Base.Texts.{text};
+ghost use Rattle.base_model.specs.Texts.{text};
 
 use crate::active::{ActiveBuild, Came};
 use cc_names::copies::Copied;

@@ -5,7 +5,8 @@ ghost use Rattle.std.specs.List.{list_all};
 ghost use Rattle.cc_names.specs.declared.units.Unit as units;
 ghost use Rattle.legal_history.specs.Builds.Active.{unit_at};
 ghost use Rattle.legal_history.specs.Builds.Choices.{visible};
-ghost use Rattle.legal_history.specs.Builds.Reuse.{agrees, entry_agrees, held_at_all, if_matches, matches, newest_match, reusable};
+ghost use Rattle.base_model.specs.Objects.{agrees, held_at_all};
+ghost use Rattle.legal_history.specs.Builds.Reuse.{entry_agrees, if_matches, matches, newest_match, reusable};
 ghost use Rattle.build_core.specs.Reusing.{object_chosen, IsChosen};
 ghost use Rattle.build_core.specs.Sights.{AreNeeds};
 

@@ -2,8 +2,8 @@
 
 ghost use Rattle.std.specs.Prelude.{◌≡◌, ◌<◌, Some, length, option_and_then, option_copied};
 ghost use Rattle.cc_names.specs.declared.units.Unit as units;
-ghost use Rattle.legal_history.specs.Base.Rows.{first_rows};
-ghost use Rattle.legal_history.specs.Base.Seen.{file_at};
+ghost use Rattle.base_model.specs.Rows.{first_rows};
+ghost use Rattle.base_model.specs.Seen.{file_at};
 ghost use Rattle.legal_history.specs.Builds.Active.{unit_at};
 ghost use Rattle.legal_history.specs.Builds.Choices.{visible};
 ghost use Rattle.clearmake.specs.Sights.{IsFetched, standing_at, standing_of, stands};

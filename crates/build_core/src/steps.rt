@@ -3,7 +3,7 @@
 ghost use Rattle.std.specs.Prelude.{◌≡◌, ◌<◌, ◌^◌, ℕ, true, false, Some, length, IfOk, IfSome};
 ghost use Rattle.cc_names.specs.Answers.{Gives};
 ghost use Rattle.script_grammar.specs.Lines.{script_of};
-ghost use Rattle.legal_history.specs.Base.Rows.{Base, first_rows};
+ghost use Rattle.base_model.specs.Rows.{Base, first_rows};
 ghost use Rattle.legal_history.specs.Builds.Active.{Build, came_to, is_outcome, unit_at};
 ghost use Rattle.legal_history.specs.Builds.Fresh.{script_text};
 ghost use Rattle.legal_history.specs.Builds.Turns.{early_in};

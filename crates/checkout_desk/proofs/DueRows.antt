@@ -14,13 +14,13 @@ use Rattle.cc_names.specs.References.{is_held}
 use Rattle.cc_names.specs.Versions.{put_if}
 use Rattle.cc_names.specs.declared.rows.Deed.{Deed}
 use Rattle.cc_names.specs.declared.rows.Deed.TheVariants as deeds
-use Rattle.legal_history.specs.Base.Changes.{held, live, live_effect}
-use Rattle.legal_history.specs.Base.Closures.{is_publish_deed}
-use Rattle.legal_history.specs.Base.Conditions.{may_be_scrubbed}
-use Rattle.legal_history.specs.Base.Rows.{Base, size, row_at}
+use Rattle.base_model.specs.Changes.{held, live, live_effect}
+use Rattle.base_model.specs.Closures.{is_publish_deed}
+use Rattle.base_model.specs.Conditions.{may_be_scrubbed}
+use Rattle.base_model.specs.Rows.{Base, size, row_at}
 use Rattle.legal_history.specs.Commands.ObjectLines.{due, due_among, is_due}
 use Rattle.legal_history.proofs.Reuse.SoundRows.{live_below}
-use Rattle.legal_history.proofs.Stories.Goes.{same_number}
+use Rattle.base_model.proofs.Tables.{same_number}
 use Rattle.view_lookup.specs.Order.{oldest_first}
 use Rattle.view_lookup.proofs.RowTexts.{row_numbered}
 use Rattle.checkout_desk.specs.Dues.{due_from}

@@ -7,7 +7,7 @@ use Rattle.cc_names.specs.declared.desks.Occasion.{Occasion}
 use Rattle.cc_names.specs.declared.memory.Or.{Or}
 use Rattle.cc_names.specs.declared.refusals.Refusal.{Refusal}
 use Rattle.cc_names.specs.declared.rows.Tag.{Tag}
-use Rattle.legal_history.specs.Base.Rows.{Base}
+use Rattle.base_model.specs.Rows.{Base}
 use Rattle.legal_history.specs.Commands.Decisions.{Decision, Scene}
 use Rattle.legal_history.specs.Commands.Lines.{change_decision}
 use Rattle.checkout_desk.specs.Deciding.{Decides, DecidesIfAny, Sees, made}

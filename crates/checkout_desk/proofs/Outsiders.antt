@@ -1,8 +1,8 @@
 -- The first outsider is the first path where a row is there that made no version.
 use Rattle.std.proofs.Common.{◌≡◌, refl, ap, ℕ, Some, [], ◌∷◌}
 use Rattle.std.specs.Option.{option_or}
-use Rattle.legal_history.specs.Base.Closures.{Inputs, closure}
-use Rattle.legal_history.specs.Base.Rows.{Base, only_where}
+use Rattle.base_model.specs.Closures.{Inputs, closure}
+use Rattle.base_model.specs.Rows.{Base, only_where}
 use Rattle.legal_history.specs.Commands.LabelLines.{outsider, outsider_among}
 use Rattle.view_lookup.specs.FirstInputs.{first_among, first_input}
 use Rattle.checkout_desk.specs.Outsiders.{is_outside}

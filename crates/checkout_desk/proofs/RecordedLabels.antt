@@ -5,7 +5,7 @@ use Rattle.cc_names.specs.declared.memory.Or.TheVariants.{NoMemory, Is}
 use Rattle.cc_names.specs.declared.refusals.Refusal.{Refusal}
 use Rattle.cc_names.specs.declared.rows.Deed.TheVariants as deeds
 use Rattle.cc_names.specs.declared.rows.Placed.{Placed}
-use Rattle.legal_history.specs.Base.Rows.{Base}
+use Rattle.base_model.specs.Rows.{Base}
 use Rattle.legal_history.specs.Commands.Decisions.{Answers, Decision, Makes, Scene, first_refusal, needs_room, unless_refused}
 use Rattle.legal_history.specs.Commands.LabelLines.{labels_free, labels_or_nothing, needs_label_free}
 use Rattle.checkout_desk.specs.Deciding.{IsOfTest, RefusalIs}

@@ -13,13 +13,13 @@ use Rattle.cc_names.specs.declared.refusals.SpecCause.TheVariants.{BadType}
 use Rattle.cc_names.specs.declared.refusals.SpecError.{SpecError}
 use Rattle.cc_names.specs.declared.selection.Picked.{Picked}
 use Rattle.cc_names.specs.declared.selection.Rule.{Rule}
-use Rattle.spec_text.specs.Lines.{◌>>=◌, Options, line_of_words, element_line, object_line, time_line, end_line, with_options, rule_of, options_from, no_options, before_of, moment_of_word, is_comment}
-use Rattle.spec_text.specs.Patterns.{pattern_of}
-use Rattle.spec_text.specs.Selectors.{branch_type_of, selector_of}
-use Rattle.spec_text.specs.Specs.{rules_from, rules_of, with_line, before_rules}
-use Rattle.legal_history.specs.Base.Rows.{Base}
-use Rattle.legal_history.specs.Base.Seen.{rules, rules_of_spec, rules_read}
-use Rattle.legal_history.specs.Base.Views.{spec_text}
+use Rattle.base_model.specs.ConfigSpecs.Lines.{◌>>=◌, Options, line_of_words, element_line, object_line, time_line, end_line, with_options, rule_of, options_from, no_options, before_of, moment_of_word, is_comment}
+use Rattle.base_model.specs.ConfigSpecs.Patterns.{pattern_of}
+use Rattle.base_model.specs.ConfigSpecs.Selectors.{branch_type_of, selector_of}
+use Rattle.base_model.specs.ConfigSpecs.Specs.{rules_from, rules_of, with_line, before_rules}
+use Rattle.base_model.specs.Rows.{Base}
+use Rattle.base_model.specs.Seen.{rules, rules_of_spec, rules_read}
+use Rattle.base_model.specs.Views.{spec_text}
 use Rattle.legal_history.specs.Commands.CheckoutLines.{branch_by, deciding_rule}
 
 -- a branch has the name of a type, where there is one

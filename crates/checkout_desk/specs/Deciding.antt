@@ -6,7 +6,7 @@ use Rattle.cc_names.specs.declared.memory.Or.TheVariants.{NoMemory, Is}
 use Rattle.cc_names.specs.declared.refusals.Refusal.{Refusal}
 use Rattle.cc_names.specs.declared.rows.Tag.{Tag}
 use Rattle.cc_names.specs.declared.selection.Picked.{Picked}
-use Rattle.legal_history.specs.Base.Rows.{Base, size}
+use Rattle.base_model.specs.Rows.{Base, size}
 use Rattle.legal_history.specs.Builds.Active.{building, reserved}
 use Rattle.legal_history.specs.Commands.Decisions.{Answers, Decision, Makes, Scene}
 use Rattle.checkout_desk.specs.declared.found.Selected.{Selected}

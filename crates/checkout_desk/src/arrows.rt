@@ -2,7 +2,7 @@
 
 ghost use Rattle.std.specs.Prelude.{◌==◌, ℕ, option_map};
 ghost use Rattle.cc_names.specs.declared.refusals.Refusal.TheVariants as refusals;
-ghost use Rattle.legal_history.specs.Base.Conditions.{arrow_row};
+ghost use Rattle.base_model.specs.Conditions.{arrow_row};
 ghost use Rattle.legal_history.specs.Commands.Decisions.{Scene};
 ghost use Rattle.legal_history.specs.Commands.Found.{for_version};
 ghost use Rattle.legal_history.specs.Commands.LabelLines.{mkarrow, mkarrow_from, mkarrow_of, version_named};

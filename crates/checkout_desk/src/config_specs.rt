@@ -1,7 +1,7 @@
 //! Setting the config spec of a view.
 
 ghost use Rattle.std.specs.Prelude.{ℕ, ◌≤◌, length};
-ghost use Rattle.spec_text.specs.Specs.{rules_of};
+ghost use Rattle.base_model.specs.ConfigSpecs.Specs.{rules_of};
 ghost use Rattle.legal_history.specs.Commands.Decisions.{Scene};
 ghost use Rattle.legal_history.specs.Commands.FileLines.{setcs};
 ghost use Rattle.legal_history.specs.Commands.Tests.{needs_rules};

@@ -3,7 +3,7 @@
 ghost use Rattle.std.specs.Prelude.{◌≡◌, ℕ, Option, List, ◌∷◌, []};
 ghost use Rattle.cc_names.specs.Formed.{IsTypeName};
 ghost use Rattle.cc_names.specs.declared.rows.Tag.{Tag};
-ghost use Rattle.legal_history.specs.Base.Seen.{at};
+ghost use Rattle.base_model.specs.Seen.{at};
 ghost use Rattle.legal_history.specs.Commands.Decisions.{Scene, past};
 ghost use Rattle.legal_history.specs.Commands.Found.{for_element};
 ghost use Rattle.legal_history.specs.Commands.LabelLines.{mklabel, mklabel_of, needs_label, needs_label_free, rmlabel, rmlabel_of};

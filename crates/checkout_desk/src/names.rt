@@ -3,8 +3,8 @@
 ghost use Rattle.std.specs.Prelude.{◌≡◌, ℕ, Option, ◌∷◌, [], ◌++◌, IfOk, option_and_then, option_map};
 ghost use Rattle.cc_names.specs.Formed.{IsBelowRoot};
 ghost use Rattle.cc_names.specs.Names.{IsName};
-ghost use Rattle.legal_history.specs.Base.Catalogs.{named, own_of};
-ghost use Rattle.legal_history.specs.Base.Views.{out};
+ghost use Rattle.base_model.specs.Catalogs.{named, own_of};
+ghost use Rattle.base_model.specs.Views.{out};
 ghost use Rattle.legal_history.specs.Commands.FileLines.{last_name};
 ghost use Rattle.view_lookup.specs.Effects.{plain_checkout};
 ghost use Rattle.legal_history.specs.Commands.Decisions.{Scene, first_refusal, needs_room};

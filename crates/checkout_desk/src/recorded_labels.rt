@@ -8,10 +8,11 @@ ghost use Rattle.cc_names.specs.Formed.{IsListOf, IsPlaced, IsTypeName, element_
 ghost use Rattle.cc_names.specs.References.{held_at};
 ghost use Rattle.cc_names.specs.declared.refusals.Refusal.TheVariants.{NotVersion};
 ghost use Rattle.cc_names.specs.declared.rows.Tag.{Tag};
-ghost use Rattle.legal_history.specs.Base.Changes.{held};
+ghost use Rattle.base_model.specs.Changes.{held};
 ghost use Rattle.legal_history.specs.Commands.Decisions.{Scene, first_refusal, past};
 ghost use Rattle.legal_history.specs.Commands.Found.{for_object};
-ghost use Rattle.legal_history.specs.Commands.LabelLines.{labels_free, mklabel_config, mklabel_config_of, mklabel_config_tests, outsider, placed_by};
+ghost use Rattle.legal_history.specs.Commands.LabelLines.{labels_free, mklabel_config, mklabel_config_of, mklabel_config_tests, outsider};
+ghost use Rattle.base_model.specs.Closures.{placed_by};
 ghost use Rattle.legal_history.specs.Commands.Tests.{needs_view};
 ghost use Rattle.checkout_desk.specs.Deciding.{DecidesIfAny, Finds, Sees, Tests};
 

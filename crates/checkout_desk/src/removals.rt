@@ -2,7 +2,7 @@
 
 ghost use Rattle.std.specs.Prelude.{ℕ};
 ghost use Rattle.cc_names.specs.Formed.{IsBelowRoot};
-ghost use Rattle.legal_history.specs.Base.Seen.{at};
+ghost use Rattle.base_model.specs.Seen.{at};
 ghost use Rattle.legal_history.specs.Commands.Decisions.{Scene};
 ghost use Rattle.legal_history.specs.Commands.FileLines.{rm};
 ghost use Rattle.legal_history.specs.Commands.Tests.{needs_private};

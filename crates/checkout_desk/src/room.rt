@@ -2,7 +2,7 @@
 
 ghost use Rattle.std.specs.Prelude.{◌≡◌, ◌+◌};
 ghost use Rattle.legal_history.specs.Commands.Decisions.{Scene, needs_room};
-ghost use Rattle.legal_history.specs.Base.Rows.{size};
+ghost use Rattle.base_model.specs.Rows.{size};
 ghost use Rattle.legal_history.specs.Builds.Active.{reserved};
 ghost use Rattle.checkout_desk.specs.Deciding.{Tests};
 

@@ -2,11 +2,11 @@
 
 ghost use Rattle.std.specs.Prelude.{◌≡◌, ℕ, ◌≤◌, length, IfOk, ◌++◌, ◌∷◌, []};
 ghost use Rattle.cc_names.specs.Formed.{IsBelowRoot, IsDeedFormed};
-ghost use Rattle.legal_history.specs.Base.Seen.{at};
-ghost use Rattle.legal_history.specs.Base.Views.{out};
+ghost use Rattle.base_model.specs.Seen.{at};
+ghost use Rattle.base_model.specs.Views.{out};
 ghost use Rattle.legal_history.specs.Commands.Decisions.{Scene, first_refusal, needs_room};
 ghost use Rattle.legal_history.specs.Commands.FileLines.{save, save_deed, save_tests, saves_at, saves_element};
-ghost use Rattle.legal_history.specs.Base.Conditions.{is_directory};
+ghost use Rattle.base_model.specs.Conditions.{is_directory};
 ghost use Rattle.checkout_desk.specs.Deciding.{Sees, Decides, Tests};
 
 use crate::checkout_needs::needs_out;

@@ -4,8 +4,8 @@ ghost use Rattle.std.specs.Prelude.{◌≡◌, ℕ, ◌+◌, ◌&&◌, nat_le, S
 ghost use Rattle.std.specs.List.Sorted.{IsStrictlySortedBy};
 ghost use Rattle.std.specs.Ordering.{nat_cmp};
 ghost use Rattle.cc_names.specs.Formed.{IsListOf, IsLong};
-ghost use Rattle.legal_history.specs.Base.Closures.{is_publish_deed};
-ghost use Rattle.legal_history.specs.Base.Rows.{row_at};
+ghost use Rattle.base_model.specs.Closures.{is_publish_deed};
+ghost use Rattle.base_model.specs.Rows.{row_at};
 ghost use Rattle.legal_history.specs.Commands.Decisions.{Scene};
 ghost use Rattle.legal_history.specs.Commands.ObjectLines.{due, is_due, scrub};
 ghost use Rattle.checkout_desk.specs.Deciding.{DecidesIfAny, Sees};

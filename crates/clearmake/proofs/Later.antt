@@ -10,9 +10,10 @@ use Rattle.cc_names.specs.declared.steps.StoryStep.{StoryStep}
 use Rattle.cc_names.specs.declared.units.Unit.{Unit}
 use Rattle.script_grammar.specs.Run.{Ran}
 use Rattle.script_grammar.specs.Standings.{Standing}
-use Rattle.legal_history.specs.Base.Rows.{Base}
+use Rattle.base_model.specs.Rows.{Base}
 use Rattle.legal_history.specs.Builds.Active.{Build, build_of, came_to, is_outcome, unit_at}
-use Rattle.legal_history.specs.Builds.Choices.{text_of_row, visible}
+use Rattle.base_model.specs.Texts.{text_of_row}
+use Rattle.legal_history.specs.Builds.Choices.{visible}
 use Rattle.legal_history.specs.Laws.LaterLaws.{IsStillActive}
 use Rattle.legal_history.specs.Stories.Growth.{GoesLater, StillBuilds}
 use Rattle.legal_history.specs.Stories.Lawful.{Legal}

@@ -14,9 +14,9 @@ use Rattle.script_grammar.specs.declared.files.GivenUp.{GivenUp}
 use Rattle.script_grammar.specs.declared.files.GivenUp.TheVariants.{Broken}
 use Rattle.script_grammar.specs.declared.lines.Line.{Line}
 use Rattle.build_script.specs.declared.outcomes.Ended.{Ended}
-use Rattle.legal_history.specs.Base.Rows.{Base}
-use Rattle.legal_history.specs.Base.Texts.{text}
-use Rattle.legal_history.specs.Builds.Choices.{text_of_row, visible}
+use Rattle.base_model.specs.Rows.{Base}
+use Rattle.base_model.specs.Texts.{text, text_of_row}
+use Rattle.legal_history.specs.Builds.Choices.{visible}
 use Rattle.legal_history.specs.Stories.States.{State}
 use Rattle.legal_history.specs.Stories.Steps.{state_of}
 use Rattle.clearmake.specs.Calls.{IsRunOfUnit, IsStarted, WasStarted}

@@ -4,8 +4,8 @@ use Rattle.cc_names.specs.declared.units.Unit as units
 use Rattle.script_grammar.specs.Standings.{Standing}
 use Rattle.build_script.specs.declared.files.Got.{Got}
 use Rattle.build_script.specs.declared.files.Got.TheVariants as gots
-use Rattle.legal_history.specs.Base.Rows.{Base}
-use Rattle.legal_history.specs.Base.Texts.{text}
+use Rattle.base_model.specs.Rows.{Base}
+use Rattle.base_model.specs.Texts.{text}
 use Rattle.legal_history.specs.Builds.Active.{Build, build_of, unit_at}
 use Rattle.legal_history.specs.Builds.Choices.{visible}
 use Rattle.legal_history.specs.Stories.States.{State}

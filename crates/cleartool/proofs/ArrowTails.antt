@@ -6,7 +6,7 @@ use Rattle.std.proofs.lemmas.Bool.Decides.{nat_tests}
 use Rattle.cc_names.specs.Versions.{is_number}
 use Rattle.cc_names.specs.declared.rows.Deed.{Deed}
 use Rattle.cc_names.specs.declared.rows.Deed.TheVariants as deeds
-use Rattle.legal_history.specs.Base.Rows.{Base, size}
+use Rattle.base_model.specs.Rows.{Base, size}
 use Rattle.legal_history.specs.Queries.Merges.{is_arrow_between, leads}
 use Rattle.view_lookup.specs.Effects.{merged_effect}
 use Rattle.view_lookup.specs.LookUps.{told}

@@ -8,10 +8,10 @@ use Rattle.cc_names.specs.Versions.{row_of_change}
 use Rattle.cc_names.specs.declared.changes.TreeChange.{TreeChange}
 use Rattle.cc_names.specs.declared.changes.TreeChange.TheVariants.{ElementMade, BranchMade, VersionMade}
 use Rattle.cleartool.specs.Naming.{names_above}
-use Rattle.legal_history.specs.Base.Changes.{tree}
-use Rattle.legal_history.specs.Base.Rows.{Base, size, first_rows}
-use Rattle.legal_history.proofs.Bases.Stay.{first_rows_stay, all_rows}
-use Rattle.legal_history.proofs.Bases.TreesStay.{Adds, Nothing, One, adds_row}
+use Rattle.base_model.specs.Changes.{tree}
+use Rattle.base_model.specs.Rows.{Base, size, first_rows}
+use Rattle.base_model.proofs.Stay.{first_rows_stay, all_rows}
+use Rattle.base_model.proofs.TreesStay.{Adds, Nothing, One, adds_row}
 
 -- a branch with a name leaves the branch of its origin, among the rows below it
 pub record Leaves (b : Base) (n : ℕ) (name : List ℕ) : Type 0 where

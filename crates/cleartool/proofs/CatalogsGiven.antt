@@ -7,14 +7,14 @@ use Rattle.cc_names.specs.declared.rows.Kind.{Kind}
 use Rattle.cc_names.specs.declared.rows.Kind.TheVariants.{File, Directory}
 use Rattle.cc_names.specs.declared.selection.Picked.{Picked}
 use Rattle.cc_names.specs.declared.selection.Seen.TheVariants.{Element}
-use Rattle.legal_history.specs.Base.Catalogs.{catalog_of, named, own_of}
-use Rattle.legal_history.specs.Base.Changes.{tree}
-use Rattle.legal_history.specs.Base.Fits.{is_base}
-use Rattle.legal_history.specs.Base.Rows.{Base}
-use Rattle.legal_history.specs.Base.Seen.{at, catalog_by, entries_by, entries_of}
+use Rattle.base_model.specs.Catalogs.{catalog_of, named, own_of}
+use Rattle.base_model.specs.Changes.{tree}
+use Rattle.base_model.specs.Fits.{is_base}
+use Rattle.base_model.specs.Rows.{Base}
+use Rattle.base_model.specs.Seen.{at, catalog_by, entries_by, entries_of}
 use Rattle.legal_history.specs.Queries.ListingTexts.{catalog_or_none}
-use Rattle.legal_history.proofs.Bases.Makings.{seen_element}
-use Rattle.legal_history.proofs.Bases.Picks.{picked_is}
+use Rattle.base_model.proofs.Makings.{seen_element}
+use Rattle.base_model.proofs.Picks.{picked_is}
 use Rattle.cleartool.specs.Owned.{was_named}
 use Rattle.cleartool.proofs.ElementsBelow.{catalog_at}
 use Rattle.cleartool.proofs.NamesGiven.{checkout_given, version_given}

@@ -12,11 +12,11 @@ use Rattle.std.specs.Option.{option_map_or}
 use Rattle.std.specs.Ordering.{nat_cmp}
 use Rattle.std.specs.Prelude.{T, codes, is_some, option_map, find as find_in}
 use Rattle.cc_names.specs.declared.rows.ReadOf.{ReadOf}
-use Rattle.legal_history.specs.Base.Changes.{targets_of}
-use Rattle.legal_history.specs.Base.Closures.{is_among}
-use Rattle.legal_history.specs.Builds.Reuse.{are_same_paths}
-use Rattle.legal_history.specs.Base.Rows.{Base}
-use Rattle.legal_history.specs.Queries.RecordTexts.{Paths, diffcr_text, record_of, recorded_script, path_lines, with_paths, row_in, unless_same}
+use Rattle.base_model.specs.Changes.{targets_of}
+use Rattle.base_model.specs.Closures.{is_among}
+use Rattle.base_model.specs.Objects.{are_same_paths, record_of, row_in}
+use Rattle.base_model.specs.Rows.{Base}
+use Rattle.legal_history.specs.Queries.RecordTexts.{Paths, diffcr_text, recorded_script, path_lines, with_paths, unless_same}
 use Rattle.cleartool.specs.Differences.{is_read, row_lines}
 use Rattle.cleartool.proofs.ByKeys.{by_keys, told_of}
 

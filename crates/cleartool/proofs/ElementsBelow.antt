@@ -19,16 +19,16 @@ use Rattle.cc_names.specs.Paths.{IsPath, join_of, joined, names_of}
 use Rattle.cc_names.specs.declared.names.NameFault.TheVariants.{TooLong}
 use Rattle.cc_names.specs.declared.selection.Seen.{Seen}
 use Rattle.cc_names.specs.declared.selection.Seen.TheVariants.{Element, Nothing}
-use Rattle.legal_history.specs.Base.Catalogs.{Catalog, named}
-use Rattle.legal_history.specs.Base.Closures.{is_among}
-use Rattle.legal_history.specs.Base.Rows.{Base, size}
-use Rattle.legal_history.specs.Base.Seen as seeing
-use Rattle.legal_history.specs.Base.Seen.{at, at_names, below, element_at, entries_of, private_or}
-use Rattle.legal_history.specs.Base.Views.{private}
+use Rattle.base_model.specs.Catalogs.{Catalog, named}
+use Rattle.base_model.specs.Closures.{is_among}
+use Rattle.base_model.specs.Rows.{Base, size}
+use Rattle.base_model.specs.Seen as seeing
+use Rattle.base_model.specs.Seen.{at, at_names, below, element_at, entries_of, private_or}
+use Rattle.base_model.specs.Views.{private}
 use Rattle.legal_history.specs.Queries.ListingTexts.{catalog_or_none, path_in}
 use Rattle.legal_history.specs.Queries.Merges.{Elements, elements_below, in_catalog, with_element}
-use Rattle.legal_history.proofs.Bases.Owned.{and_first, and_second}
-use Rattle.legal_history.proofs.Builds.FreshSeen.{or_first, or_second}
+use Rattle.base_model.proofs.Owned.{and_first, and_second}
+use Rattle.base_model.proofs.Either.{or_first, or_second}
 use Rattle.cleartool.specs.ElementsBelow.{is_element, lies_below, lies_below_joined, seen_where}
 use Rattle.cleartool.proofs.ListedNames.{names_in_path}
 use Rattle.cleartool.proofs.Predecessors.{both_ways}

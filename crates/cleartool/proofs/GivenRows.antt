@@ -6,8 +6,8 @@ use Rattle.std.proofs.lemmas.Bool.Decides.{nat_tests}
 use Rattle.cc_names.specs.Formed.{Plain}
 use Rattle.cc_names.specs.Last.{Sets, only_if}
 use Rattle.cc_names.specs.Versions.{put_if}
-use Rattle.legal_history.specs.Base.Closures.{is_among}
-use Rattle.legal_history.specs.Base.Rows.{Base, size, deed_at, deed_of, row_at}
+use Rattle.base_model.specs.Closures.{is_among}
+use Rattle.base_model.specs.Rows.{Base, size, deed_at, deed_of, row_at}
 use Rattle.view_lookup.specs.Giving.{gives_in, gives_view, naming_effect, own_effect}
 use Rattle.view_lookup.specs.LookUps.{told}
 use Rattle.cleartool.specs.Owned.{is_given_by, is_name, name_at, name_given, paths_by, was_given, was_named}

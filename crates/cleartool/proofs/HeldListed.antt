@@ -18,12 +18,12 @@ use Rattle.cc_names.specs.References.{Held, held_at, view_path_cmp}
 use Rattle.cc_names.specs.Versions.{put_if}
 use Rattle.cc_names.specs.declared.rows.Deed.{Deed}
 use Rattle.cc_names.specs.declared.rows.Deed.TheVariants as deeds
-use Rattle.legal_history.specs.Base.Changes.{held, targets_of, targets_of_deed}
-use Rattle.legal_history.specs.Base.Closures.{is_among}
+use Rattle.base_model.specs.Changes.{held, targets_of, targets_of_deed}
+use Rattle.base_model.specs.Closures.{is_among}
 use Rattle.cc_names.specs.declared.rows.ReadOf.{ReadOf}
-use Rattle.legal_history.specs.Base.Rows.{Base, size, deed_of}
+use Rattle.base_model.specs.Rows.{Base, size, deed_of}
 use Rattle.legal_history.specs.Queries.ListingTexts.{held_line, held_lines, lsdo_text}
-use Rattle.legal_history.proofs.Bases.HeldObjects.{held_in_order}
+use Rattle.base_model.proofs.HeldObjects.{held_in_order}
 use Rattle.view_lookup.specs.Made.{is_target}
 use Rattle.view_lookup.specs.LookUps.{last_of}
 use Rattle.view_lookup.specs.Giving.{gives_view}

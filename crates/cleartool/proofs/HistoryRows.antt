@@ -10,7 +10,7 @@ use Rattle.cc_names.specs.Versions.{put_if}
 use Rattle.cc_names.specs.declared.rows.Deed.{Deed}
 use Rattle.cc_names.specs.declared.rows.Deed.TheVariants as deeds
 use Rattle.cc_names.specs.declared.rows.Placed.{Placed}
-use Rattle.legal_history.specs.Base.Rows.{Base, size, row_at}
+use Rattle.base_model.specs.Rows.{Base, size, row_at}
 use Rattle.legal_history.specs.Queries.HistoryTexts.{dated, line_where, placed_lines, history_line, history_lines, lshistory_text}
 use Rattle.legal_history.specs.Queries.VersionNames.{branch_name, version_name}
 use Rattle.cleartool.specs.Histories.{row_lines}

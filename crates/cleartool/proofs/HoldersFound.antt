@@ -21,12 +21,12 @@ use Rattle.cc_names.specs.Versions.{is_number}
 use Rattle.cc_names.specs.declared.rows.Deed.{Deed}
 use Rattle.cc_names.specs.declared.rows.Deed.TheVariants as deeds
 use Rattle.cc_names.specs.declared.rows.ReadOf.{ReadOf}
-use Rattle.legal_history.specs.Base.Changes.{held, targets_of}
-use Rattle.legal_history.specs.Base.Closures.{is_among}
-use Rattle.legal_history.specs.Base.Rows.{Base, size, deed_at, only_where}
-use Rattle.legal_history.specs.Laws.Counts.{AreOnce, holding_views}
-use Rattle.legal_history.proofs.Bases.CountedViews.{among_holding, counted_by_views, views_once}
-use Rattle.legal_history.proofs.Bases.HeldObjects.{held_in_order}
+use Rattle.base_model.specs.Changes.{held, targets_of}
+use Rattle.base_model.specs.Closures.{is_among}
+use Rattle.base_model.specs.Rows.{Base, size, deed_at, only_where}
+use Rattle.base_model.specs.Counts.{AreOnce, holding_views}
+use Rattle.base_model.proofs.CountedViews.{among_holding, counted_by_views, views_once}
+use Rattle.base_model.proofs.HeldObjects.{held_in_order}
 use Rattle.view_lookup.specs.Effects.{holds_one, winked_effect}
 use Rattle.view_lookup.specs.Lifetimes.{ended_or}
 use Rattle.view_lookup.specs.LookUps.{last_of, told}

@@ -23,12 +23,12 @@ use Rattle.cc_names.specs.declared.rows.Deed.TheVariants as deeds
 use Rattle.cc_names.specs.declared.rows.Placed.{Placed}
 use Rattle.cc_names.specs.declared.rows.TypeKind.{TypeKind}
 use Rattle.cc_names.specs.declared.rows.TypeKind.TheVariants as type_kinds
-use Rattle.legal_history.specs.Base.Rows.{Base, size, row_at, deed_of}
-use Rattle.legal_history.specs.Base.Changes.{labels, labels_after, all_placed, kind_of_type, type_effect}
-use Rattle.legal_history.specs.Base.Conditions.{is_label_type, is_label_kind}
-use Rattle.legal_history.specs.Base.Fits.{is_base, deed_fits}
+use Rattle.base_model.specs.Rows.{Base, size, row_at, deed_of}
+use Rattle.base_model.specs.Changes.{labels, labels_after, all_placed, kind_of_type, type_effect}
+use Rattle.base_model.specs.Conditions.{is_label_type, is_label_kind}
+use Rattle.base_model.specs.Fits.{is_base, deed_fits}
 use Rattle.legal_history.specs.Queries.ElementTexts.{NameSet, first_of, label_types, labels_on, with_label_type}
-use Rattle.legal_history.proofs.Bases.Owned.{row_fits, rows_below, and_first, and_second}
+use Rattle.base_model.proofs.Owned.{row_fits, rows_below, and_first, and_second}
 use Rattle.view_lookup.specs.Histories.{history_of, is_placed_on, tells_of}
 use Rattle.cleartool.specs.LabelSets.{label_put, label_at, stands_on, with_name_if, with_label, labels_among}
 use Rattle.view_lookup.specs.LookUps.{told}

@@ -8,17 +8,17 @@ use Rattle.cc_names.specs.declared.changes.TreeChange.TheVariants.{ElementMade, 
 use Rattle.cc_names.specs.declared.rows.Deed.{Deed}
 use Rattle.cc_names.specs.declared.rows.Deed.TheVariants as deeds
 use Rattle.cc_names.specs.declared.rows.Kind.TheVariants.{Directory}
-use Rattle.legal_history.specs.Base.Changes.{tree, tree_after, with_checkin, with_version}
-use Rattle.legal_history.specs.Base.Closures.{is_version_of}
-use Rattle.legal_history.specs.Base.Conditions.{arrow_row, exists, has_branch, has_out, is_branch_type}
-use Rattle.legal_history.specs.Base.Fits.{deed_fits, is_base}
-use Rattle.legal_history.specs.Base.Rows.{Base, size}
-use Rattle.legal_history.specs.Base.Views.{Checkout, out}
+use Rattle.base_model.specs.Changes.{tree, tree_after, with_checkin, with_version}
+use Rattle.base_model.specs.Closures.{is_version_of}
+use Rattle.base_model.specs.Conditions.{arrow_row, exists, has_branch, has_out, is_branch_type}
+use Rattle.base_model.specs.Fits.{deed_fits, is_base}
+use Rattle.base_model.specs.Rows.{Base, size}
+use Rattle.base_model.specs.Views.{Checkout, out}
 use Rattle.legal_history.specs.Queries.Merges.{follows, is_arrow_between, is_branch_from, is_successor, leads}
-use Rattle.legal_history.proofs.Bases.Below.{within}
-use Rattle.legal_history.proofs.Bases.Owned.{and_first, row_fits, rows_below, third_of}
-use Rattle.legal_history.proofs.Bases.VersionsStay.{of_element, parts_of}
-use Rattle.legal_history.proofs.Stories.Goes.{same_number}
+use Rattle.base_model.proofs.Below.{within}
+use Rattle.base_model.proofs.Owned.{and_first, row_fits, rows_below, third_of}
+use Rattle.base_model.proofs.VersionsStay.{of_element, parts_of}
+use Rattle.base_model.proofs.Tables.{same_number}
 use Rattle.cleartool.proofs.Predecessors.{branch_by, number_is}
 
 version_below : (b : Base) (e r : ℕ) → is_version_of b e r ≡ true → r < size b

@@ -26,18 +26,18 @@ use Rattle.cc_names.specs.declared.selection.Seen.{Seen}
 use Rattle.cc_names.specs.declared.selection.Seen.TheVariants.{Nothing}
 use Rattle.cc_names.proofs.NamesOfPaths.{path-short}
 use Rattle.cc_names.proofs.PathParts.{joined-names_of, last_or-append, names_of-joined, names_of-names, without_last-append}
-use Rattle.legal_history.specs.Base.Catalogs.{Catalog, catalog_of, named, own_of}
-use Rattle.legal_history.specs.Base.Changes.{held}
-use Rattle.legal_history.specs.Base.Closures.{is_among}
-use Rattle.legal_history.specs.Base.Fits.{is_base}
-use Rattle.legal_history.specs.Base.Rows.{Base, size}
-use Rattle.legal_history.specs.Base.Seen as seeing
-use Rattle.legal_history.specs.Base.Seen.{as_seen, at, at_names, below, catalog_by, element_at, entries_by, entries_of, private_or, selected}
-use Rattle.legal_history.specs.Base.Views.{private, private_effect}
+use Rattle.base_model.specs.Catalogs.{Catalog, catalog_of, named, own_of}
+use Rattle.base_model.specs.Changes.{held}
+use Rattle.base_model.specs.Closures.{is_among}
+use Rattle.base_model.specs.Fits.{is_base}
+use Rattle.base_model.specs.Rows.{Base, size}
+use Rattle.base_model.specs.Seen as seeing
+use Rattle.base_model.specs.Seen.{as_seen, at, at_names, below, catalog_by, element_at, entries_by, entries_of, private_or, selected}
+use Rattle.base_model.specs.Views.{private, private_effect}
 use Rattle.legal_history.specs.Commands.FileLines.{last_name, parent}
 use Rattle.legal_history.specs.Queries.ListingTexts.{Names, catalog_names, catalog_or_none, is_something, ls_text, names_in, object_names, path_in, private_names, with_name_if, with_private}
-use Rattle.legal_history.proofs.Bases.Makings.{seen_element}
-use Rattle.legal_history.proofs.Bases.Picks.{picked_is}
+use Rattle.base_model.proofs.Makings.{seen_element}
+use Rattle.base_model.proofs.Picks.{picked_is}
 use Rattle.view_lookup.specs.Giving.{gives_view}
 use Rattle.cleartool.specs.Owned.{is_name, paths_given, was_given}
 use Rattle.view_lookup.proofs.Holdings.{same_view_path}

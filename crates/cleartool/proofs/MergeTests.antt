@@ -6,8 +6,8 @@ use Rattle.cc_names.specs.declared.refusals.Refusal.{Refusal}
 use Rattle.cc_names.specs.declared.selection.Picked.{Picked}
 use Rattle.cc_names.specs.declared.selection.Seen.{Seen}
 use Rattle.cc_names.specs.declared.selection.Seen.TheVariants.{Private, Element, Unselected, Nothing}
-use Rattle.legal_history.specs.Base.Rows.{Base}
-use Rattle.legal_history.specs.Base.Seen.{at}
+use Rattle.base_model.specs.Rows.{Base}
+use Rattle.base_model.specs.Seen.{at}
 use Rattle.legal_history.specs.Commands.Decisions.{Answers, answers, past}
 use Rattle.legal_history.specs.Commands.Found.{for_selected}
 use Rattle.legal_history.specs.Commands.Tests.{needs_element, needs_selected, needs_view}

@@ -5,16 +5,16 @@ use Rattle.cc_names.specs.Formed.{Plain}
 use Rattle.cc_names.specs.declared.rows.Deed.{Deed}
 use Rattle.cc_names.specs.declared.rows.Deed.TheVariants as deeds
 use Rattle.cc_names.specs.declared.rows.Tag.{Tag}
-use Rattle.legal_history.specs.Base.Catalogs.{Catalog, Edit, Same, BeginsEmpty, BeginsAs, Adds, Removes, Renames, catalog_of, catalog_source, edit_of, edit_where, edited, first_edit, is_out, made_or_older, named, own_of, with_new_name, without_name}
-use Rattle.legal_history.specs.Base.Closures.{is_version_of}
-use Rattle.legal_history.specs.Base.Conditions.{exists, has_branch, has_out, is_branch_type}
-use Rattle.legal_history.specs.Base.Fits.{deed_fits, is_base}
-use Rattle.legal_history.specs.Base.Rows.{Base, size}
-use Rattle.legal_history.proofs.Bases.NamedEdits.{Keeps, one_element, row_keeps}
-use Rattle.legal_history.proofs.Bases.NewVersions.{branch_makes, checkin_makes}
-use Rattle.legal_history.proofs.Bases.Owned.{row_fits, rows_below, third_of}
-use Rattle.legal_history.proofs.Bases.VersionsStay.{version_stays}
-use Rattle.legal_history.proofs.Stories.Goes.{same_number}
+use Rattle.base_model.specs.Catalogs.{Catalog, Edit, Same, BeginsEmpty, BeginsAs, Adds, Removes, Renames, catalog_of, catalog_source, edit_of, edit_where, edited, first_edit, is_out, made_or_older, named, own_of, with_new_name, without_name}
+use Rattle.base_model.specs.Closures.{is_version_of}
+use Rattle.base_model.specs.Conditions.{exists, has_branch, has_out, is_branch_type}
+use Rattle.base_model.specs.Fits.{deed_fits, is_base}
+use Rattle.base_model.specs.Rows.{Base, size}
+use Rattle.base_model.proofs.NamedEdits.{Keeps, one_element, row_keeps}
+use Rattle.base_model.proofs.NewVersions.{branch_makes, checkin_makes}
+use Rattle.base_model.proofs.Owned.{row_fits, rows_below, third_of}
+use Rattle.base_model.proofs.VersionsStay.{version_stays}
+use Rattle.base_model.proofs.Tables.{same_number}
 use Rattle.view_lookup.specs.Giving.{gives_in}
 use Rattle.cleartool.specs.Owned.{is_name, name_given, was_named}
 use Rattle.view_lookup.proofs.EntryEdits.{found_with, found_without}

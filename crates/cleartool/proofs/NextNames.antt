@@ -11,12 +11,12 @@ use Rattle.cc_names.specs.declared.changes.TreeChange.{TreeChange}
 use Rattle.cc_names.specs.declared.changes.TreeChange.TheVariants.{ElementMade, BranchMade, VersionMade}
 use Rattle.cc_names.specs.declared.rows.Kind.TheVariants.{Directory}
 use Rattle.cleartool.specs.Naming.{names_above, name_on, name_of_new}
-use Rattle.legal_history.specs.Base.Changes.{tree}
-use Rattle.legal_history.specs.Base.Rows.{Base, size}
+use Rattle.base_model.specs.Changes.{tree}
+use Rattle.base_model.specs.Rows.{Base, size}
 use Rattle.legal_history.specs.Queries.VersionNames.{behind_slashes, version_name, name_of_version_id}
-use Rattle.legal_history.proofs.Bases.Below.{Within, within, older_change}
-use Rattle.legal_history.proofs.Bases.TreesStay.{Adds, Nothing, One, adds_row}
-use Rattle.legal_history.proofs.Bases.VersionsStay.{apart_below, find_older}
+use Rattle.base_model.proofs.Below.{Within, within, older_change}
+use Rattle.base_model.proofs.TreesStay.{Adds, Nothing, One, adds_row}
+use Rattle.base_model.proofs.VersionsStay.{apart_below, find_older}
 
 -- ---- the newest version of a branch
 

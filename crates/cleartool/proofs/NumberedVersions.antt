@@ -6,8 +6,8 @@ use Rattle.std.proofs.lemmas.List.{length-reverse, reverse-append}
 use Rattle.std.proofs.lemmas.Option.{slice_get-map}
 use Rattle.cc_names.specs.Versions.{Version, branch_of_change, numbered, put_if, row_of_version, version_made, versions_on}
 use Rattle.cc_names.specs.declared.changes.TreeChange.{TreeChange}
-use Rattle.legal_history.specs.Base.Changes.{tree}
-use Rattle.legal_history.specs.Base.Rows.{Base}
+use Rattle.base_model.specs.Changes.{tree}
+use Rattle.base_model.specs.Rows.{Base}
 use Rattle.cleartool.specs.VersionTrees.{rows_on}
 
 -- the last of a list stands where its length was

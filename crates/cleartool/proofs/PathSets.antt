@@ -7,7 +7,7 @@ use Rattle.std.specs.List.{AllByRecursion, list_any}
 use Rattle.std.specs.Ordering.{nat_cmp}
 use Rattle.std.proofs.lemmas.Map.Text.{is_eq-slice_cmp}
 use Rattle.std.proofs.lemmas.Slice.Eq.{bytes_eq-Decides}
-use Rattle.legal_history.specs.Base.Closures.{is_among}
+use Rattle.base_model.specs.Closures.{is_among}
 use Rattle.view_lookup.proofs.EntryEdits.{flipped}
 
 among_at : (q : List ℕ) (keys : List (List ℕ)) → list_any (is_at (slice_cmp nat_cmp q)) keys ≡ is_among q keys

@@ -10,17 +10,17 @@ use Rattle.cc_names.specs.declared.changes.VersionId.{VersionId}
 use Rattle.cc_names.specs.declared.rows.Deed.{Deed}
 use Rattle.cc_names.specs.declared.rows.Deed.TheVariants as deeds
 use Rattle.cc_names.specs.declared.rows.Kind.TheVariants.{Directory}
-use Rattle.legal_history.specs.Base.Changes.{tree, tree_after, with_checkin, with_version}
-use Rattle.legal_history.specs.Base.Rows.{Base, size}
-use Rattle.legal_history.specs.Base.Views.{Checkout, out}
+use Rattle.base_model.specs.Changes.{tree, tree_after, with_checkin, with_version}
+use Rattle.base_model.specs.Rows.{Base, size}
+use Rattle.base_model.specs.Views.{Checkout, out}
 use Rattle.legal_history.specs.Queries.Merges.{is_branch_from, is_successor}
-use Rattle.legal_history.proofs.Bases.Below.{Within, older_change, within}
-use Rattle.legal_history.proofs.Bases.OnBranches.{all_stand}
-use Rattle.legal_history.proofs.Bases.Origins.{newest_change}
-use Rattle.legal_history.proofs.Bases.Owned.{same_is_same}
-use Rattle.legal_history.proofs.Bases.TreesStay.{Adds, Nothing, One, adds_row}
-use Rattle.legal_history.proofs.Bases.VersionsStay.{apart_below, parts_of}
-use Rattle.legal_history.proofs.Stories.Goes.{same_number}
+use Rattle.base_model.proofs.Below.{Within, older_change, within}
+use Rattle.base_model.proofs.OnBranches.{all_stand}
+use Rattle.base_model.proofs.Origins.{newest_change}
+use Rattle.base_model.proofs.Owned.{same_is_same}
+use Rattle.base_model.proofs.TreesStay.{Adds, Nothing, One, adds_row}
+use Rattle.base_model.proofs.VersionsStay.{apart_below, parts_of}
+use Rattle.base_model.proofs.Tables.{same_number}
 use Rattle.cleartool.specs.Reached.{numbered_before, predecessor}
 
 pub both_ways : (s t : Bool) → (s ≡ true → t ≡ true) → (t ≡ true → s ≡ true) → s ≡ t

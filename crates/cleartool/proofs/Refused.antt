@@ -4,7 +4,7 @@ use Rattle.cc_names.specs.declared.memory.Or.{Or}
 use Rattle.cc_names.specs.declared.memory.Or.TheVariants.{NoMemory, Is}
 use Rattle.cc_names.specs.declared.refusals.Refusal.{Refusal}
 use Rattle.cc_names.specs.declared.selection.Picked.{Picked}
-use Rattle.legal_history.specs.Base.Rows.{Base}
+use Rattle.base_model.specs.Rows.{Base}
 use Rattle.legal_history.specs.Commands.Decisions.{Decision, answers}
 use Rattle.legal_history.specs.Queries.QueryLines.{ls_tests}
 use Rattle.cleartool.specs.Answering.{AnswersAs, FindsSelected}

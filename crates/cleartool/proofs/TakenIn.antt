@@ -10,7 +10,7 @@ use Rattle.std.specs.List.Sorted.{IsStrictlySortedBy}
 use Rattle.std.specs.Ordering.{nat_cmp}
 use Rattle.cc_names.specs.Versions.{is_number}
 use Rattle.legal_history.specs.Queries.Merges.{is_in}
-use Rattle.legal_history.proofs.Stories.Goes.{same_number}
+use Rattle.base_model.proofs.Tables.{same_number}
 use Rattle.cleartool.specs.Reached.{TakesIn}
 use Rattle.cleartool.specs.declared.reached.Walk.{Walk}
 

@@ -5,8 +5,8 @@ use Rattle.std.proofs.lemmas.List.Sums.{sum_by-append}
 use Rattle.std.proofs.lemmas.List.{map-append, reverse-append}
 use Rattle.std.proofs.lemmas.List.Folds.{concat-append}
 use Rattle.cc_names.specs.Versions.{row_of_version, versions_on}
-use Rattle.legal_history.specs.Base.Changes.{tree}
-use Rattle.legal_history.specs.Base.Rows.{Base}
+use Rattle.base_model.specs.Changes.{tree}
+use Rattle.base_model.specs.Rows.{Base}
 use Rattle.legal_history.specs.Queries.ElementTexts.{branch_lines, branches_leaving, in_brackets, labels_on, version_lines, with_commas}
 use Rattle.legal_history.specs.Queries.VersionNames.{at_version, branch_name, line, version_name}
 use Rattle.cleartool.specs.VersionTrees.{behind_comma, left_lines, part_lines, row_lines, rows_on, steps_along, steps_left, steps_of, steps_on}

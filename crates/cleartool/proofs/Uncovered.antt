@@ -1,9 +1,9 @@
 -- The first uncovered path is the first at which the view sees another row.
 use Rattle.std.proofs.Common.{◌≡◌, refl, ap, ℕ, Some, List, [], ◌∷◌}
 use Rattle.std.specs.Option.{option_or}
-use Rattle.legal_history.specs.Base.Closures.{Inputs, closure}
-use Rattle.legal_history.specs.Base.Rows.{Base, only_where}
-use Rattle.legal_history.specs.Queries.RecordTexts.{uncovered, uncovered_among}
+use Rattle.base_model.specs.Closures.{Inputs, closure}
+use Rattle.base_model.specs.Rows.{Base, only_where}
+use Rattle.base_model.specs.Objects.{uncovered, uncovered_among}
 use Rattle.view_lookup.specs.FirstInputs.{first_among, first_input}
 use Rattle.cleartool.specs.Covering.{differs}
 

@@ -8,13 +8,13 @@ use Rattle.std.specs.List.{All}
 use Rattle.std.specs.List.Sorted.{IsStrictlySortedBy}
 use Rattle.std.specs.Ordering.{nat_cmp}
 use Rattle.cc_names.specs.Versions.{is_number}
-use Rattle.legal_history.specs.Base.Fits.{is_base}
-use Rattle.legal_history.specs.Base.Rows.{Base, size}
+use Rattle.base_model.specs.Fits.{is_base}
+use Rattle.base_model.specs.Rows.{Base, size}
 use Rattle.legal_history.specs.Laws.BaseLaws.{ReachingIsByAWalkFound, ReachingIsByAWalkWalk}
 use Rattle.legal_history.specs.Queries.Merges.{Itself, Onward, Reaches, follows, is_in, reaches}
-use Rattle.legal_history.proofs.Bases.Owned.{and_first, same_is_same}
-use Rattle.legal_history.proofs.Builds.FreshSeen.{or_first, or_second}
-use Rattle.legal_history.proofs.Stories.Goes.{same_number}
+use Rattle.base_model.proofs.Owned.{and_first, same_is_same}
+use Rattle.base_model.proofs.Either.{or_first, or_second}
+use Rattle.base_model.proofs.Tables.{same_number}
 use Rattle.cleartool.specs.Reached.{TakesIn}
 use Rattle.cleartool.specs.declared.reached.Walk.{Walk}
 use Rattle.cleartool.proofs.Leaders.{leader_below}

@@ -4,8 +4,8 @@ use Rattle.std.specs.List.{list_any}
 use Rattle.cc_names.specs.declared.names.NameFault.{NameFault}
 use Rattle.cc_names.specs.declared.selection.Seen.{Seen}
 use Rattle.cc_names.specs.declared.selection.Seen.TheVariants.{Element}
-use Rattle.legal_history.specs.Base.Rows.{Base}
-use Rattle.legal_history.specs.Base.Seen.{at, entries_of}
+use Rattle.base_model.specs.Rows.{Base}
+use Rattle.base_model.specs.Seen.{at, entries_of}
 use Rattle.legal_history.specs.Queries.ListingTexts.{catalog_or_none, path_in}
 
 -- whether it is an element of which a version is selected

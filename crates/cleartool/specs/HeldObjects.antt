@@ -2,8 +2,8 @@
 use Rattle.std.specs.Prelude.{ℕ, true, List, []}
 use Rattle.std.specs.Option.{option_map_or}
 use Rattle.cc_names.specs.References.{held_at}
-use Rattle.legal_history.specs.Base.Changes.{held}
-use Rattle.legal_history.specs.Base.Rows.{Base}
+use Rattle.base_model.specs.Changes.{held}
+use Rattle.base_model.specs.Rows.{Base}
 use Rattle.legal_history.specs.Queries.ListingTexts.{held_line}
 
 -- the line of the object that a view holds at a path; nothing where it holds none

@@ -1,7 +1,7 @@
 -- What a row of an element's history tells.
 use Rattle.std.specs.Prelude.{ℕ, List, [], ◌∷◌, ◌++◌}
 use Rattle.std.specs.Option.{option_map_or}
-use Rattle.legal_history.specs.Base.Rows.{Base, row_at}
+use Rattle.base_model.specs.Rows.{Base, row_at}
 use Rattle.legal_history.specs.Queries.HistoryTexts.{history_line}
 use Rattle.legal_history.specs.Queries.VersionNames.{version_name}
 

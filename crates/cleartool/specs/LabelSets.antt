@@ -8,8 +8,8 @@ use Rattle.cc_names.specs.Labels.{holder}
 use Rattle.cc_names.specs.Versions.{is_number}
 use Rattle.cc_names.specs.declared.rows.Deed.{Deed}
 use Rattle.cc_names.specs.declared.rows.Deed.TheVariants as deeds
-use Rattle.legal_history.specs.Base.Changes.{labels}
-use Rattle.legal_history.specs.Base.Rows.{Base, deed_at}
+use Rattle.base_model.specs.Changes.{labels}
+use Rattle.base_model.specs.Rows.{Base, deed_at}
 
 -- the label that a row of this deed puts on versions
 abbrev pub label_put : Deed → Option (List ℕ)

@@ -12,10 +12,10 @@ use Rattle.cc_names.specs.declared.rows.Kind.TheVariants.{Directory}
 use Rattle.cc_names.specs.declared.selection.Picked.{Picked}
 use Rattle.cc_names.specs.declared.selection.Seen.{Seen}
 use Rattle.cc_names.specs.declared.selection.Seen.TheVariants.{Element, Nothing}
-use Rattle.legal_history.specs.Base.Changes.{held, tree}
-use Rattle.legal_history.specs.Base.Closures.{is_among}
-use Rattle.legal_history.specs.Base.Rows.{Base}
-use Rattle.legal_history.specs.Base.Seen.{at}
+use Rattle.base_model.specs.Changes.{held, tree}
+use Rattle.base_model.specs.Closures.{is_among}
+use Rattle.base_model.specs.Rows.{Base}
+use Rattle.base_model.specs.Seen.{at}
 use Rattle.legal_history.specs.Commands.Decisions.{Answers, answers}
 use Rattle.legal_history.specs.Queries.ListingTexts.{name_line, object_line}
 use Rattle.legal_history.specs.Queries.QueryLines.{ls_tests}

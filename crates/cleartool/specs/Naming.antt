@@ -6,7 +6,7 @@ use Rattle.cc_names.specs.Versions.{versions_on}
 use Rattle.cc_names.specs.declared.changes.TreeChange.{TreeChange}
 use Rattle.cc_names.specs.declared.rows.Deed.{Deed}
 use Rattle.cc_names.specs.declared.rows.Deed.TheVariants as deeds
-use Rattle.legal_history.specs.Base.Rows.{Base}
+use Rattle.base_model.specs.Rows.{Base}
 use Rattle.legal_history.specs.Queries.VersionNames.{behind_slashes, version_name}
 
 -- the names behind `main` that lead to a branch; none where there is no branch

@@ -2,9 +2,9 @@
 use Rattle.std.specs.Prelude.{ℕ, Bool, false, ◌&&◌, ◌||◌, ◌==◌, Option, Some, None, List, [], ◌∷◌, bytes_eq, option_and_then}
 use Rattle.cc_names.specs.declared.rows.Deed.{Deed}
 use Rattle.cc_names.specs.declared.rows.Deed.TheVariants as deeds
-use Rattle.legal_history.specs.Base.Changes.{targets_of}
-use Rattle.legal_history.specs.Base.Closures.{is_among}
-use Rattle.legal_history.specs.Base.Rows.{Base, deed_at, only_where}
+use Rattle.base_model.specs.Changes.{targets_of}
+use Rattle.base_model.specs.Closures.{is_among}
+use Rattle.base_model.specs.Rows.{Base, deed_at, only_where}
 use Rattle.view_lookup.specs.Effects.{holds_one}
 use Rattle.view_lookup.specs.Giving.{gives_in, gives_view}
 

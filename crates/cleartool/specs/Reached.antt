@@ -6,7 +6,7 @@ use Rattle.cc_names.specs.Versions.{numbered, version_id}
 use Rattle.cc_names.specs.declared.changes.TreeChange.{TreeChange}
 use Rattle.cc_names.specs.declared.rows.Deed.{Deed}
 use Rattle.cc_names.specs.declared.rows.Deed.TheVariants as deeds
-use Rattle.legal_history.specs.Base.Rows.{Base, deed_at}
+use Rattle.base_model.specs.Rows.{Base, deed_at}
 use Rattle.legal_history.specs.Queries.Merges.{is_in}
 use Rattle.cleartool.specs.declared.reached.Walk.{Walk}
 

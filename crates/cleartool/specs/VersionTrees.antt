@@ -4,8 +4,8 @@ use Rattle.std.specs.BTreeSet.{BTreeSet}
 use Rattle.std.specs.HashMap.{HashMap}
 use Rattle.std.specs.List.{concat}
 use Rattle.cc_names.specs.Versions.{row_of_version, versions_on}
-use Rattle.legal_history.specs.Base.Changes.{tree}
-use Rattle.legal_history.specs.Base.Rows.{Base}
+use Rattle.base_model.specs.Changes.{tree}
+use Rattle.base_model.specs.Rows.{Base}
 use Rattle.legal_history.specs.Queries.ElementTexts.{branch_lines, branches_leaving, in_brackets, labels_on}
 use Rattle.legal_history.specs.Queries.VersionNames.{at_version, line, version_name}
 use Rattle.cleartool.specs.LabelSets.{labels_at}

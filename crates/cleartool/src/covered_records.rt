@@ -2,9 +2,9 @@
 
 ghost use Rattle.std.specs.Prelude.{◌≡◌, IfOk};
 ghost use Rattle.std.specs.Option.{option_copied};
-ghost use Rattle.legal_history.specs.Builds.Reuse.{agrees};
+ghost use Rattle.base_model.specs.Objects.{agrees, uncovered};
 ghost use Rattle.legal_history.specs.Queries.QueryLines.{covers};
-ghost use Rattle.legal_history.specs.Queries.RecordTexts.{covers_text, uncovered};
+ghost use Rattle.legal_history.specs.Queries.RecordTexts.{covers_text};
 ghost use Rattle.cleartool.specs.Answering.{AnswersAs};
 
 use crate::found::find_object;

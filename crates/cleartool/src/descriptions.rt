@@ -2,7 +2,7 @@
 
 ghost use Rattle.std.specs.Prelude.{◌≡◌, ◌++◌, IfOk, OnOk, map};
 ghost use Rattle.std.specs.List.{concat};
-ghost use Rattle.legal_history.specs.Base.Views.{out};
+ghost use Rattle.base_model.specs.Views.{out};
 ghost use Rattle.legal_history.specs.Queries.ElementTexts.{describe_text, kind_word, selected_lines};
 ghost use Rattle.legal_history.specs.Queries.ListingTexts.{origin_name};
 ghost use Rattle.legal_history.specs.Queries.QueryLines.{describe};

@@ -6,7 +6,7 @@ ghost use Rattle.std.specs.Cmp.Lexicographic.{slice_cmp};
 ghost use Rattle.std.specs.Ordering.{nat_cmp};
 ghost use Rattle.cc_names.specs.Names.{IsName};
 ghost use Rattle.cc_names.specs.Paths.{join_of};
-ghost use Rattle.legal_history.specs.Base.Rows.{size};
+ghost use Rattle.base_model.specs.Rows.{size};
 ghost use Rattle.cleartool.specs.ElementsBelow.{lies_below, lies_below_joined, seen_where};
 
 use crate::sets::given_names::names_given;

@@ -1,7 +1,7 @@
 //! The query for the text of a file, or of an object.
 
 ghost use Rattle.std.specs.Prelude.{◌≡◌, ◌∷◌, [], None, IfOk};
-ghost use Rattle.legal_history.specs.Base.Seen.{at};
+ghost use Rattle.base_model.specs.Seen.{at};
 ghost use Rattle.legal_history.specs.Commands.Decisions.{first_refusal};
 ghost use Rattle.legal_history.specs.Commands.Tests.{needs_no_directory};
 ghost use Rattle.legal_history.specs.Queries.QueryLines.{cat, needs_text, text_at, text_row};

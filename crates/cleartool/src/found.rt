@@ -2,7 +2,7 @@
 
 ghost use Rattle.std.specs.Prelude.{◌≡◌};
 ghost use Rattle.cc_names.specs.References.{held_at};
-ghost use Rattle.legal_history.specs.Base.Changes.{held};
+ghost use Rattle.base_model.specs.Changes.{held};
 ghost use Rattle.legal_history.specs.Commands.Found.{for_object};
 ghost use Rattle.legal_history.specs.Queries.QueryLines.{answers_of};
 ghost use Rattle.cleartool.specs.Answering.{FindsObject, FindsSelected};

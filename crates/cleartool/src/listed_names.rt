@@ -2,7 +2,7 @@
 
 ghost use Rattle.std.specs.Prelude.{◌≡◌, ◌||◌, ℕ, List, IfOk, OnOk};
 ghost use Rattle.cc_names.specs.Paths.{IsPath, last_of, parent_of};
-ghost use Rattle.legal_history.specs.Base.Closures.{is_among};
+ghost use Rattle.base_model.specs.Closures.{is_among};
 ghost use Rattle.cleartool.specs.Owned.{is_name};
 ghost use Rattle.cleartool.specs.Listed.{HasNames, lies_in};
 

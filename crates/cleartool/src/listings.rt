@@ -4,8 +4,8 @@ ghost use Rattle.std.specs.Prelude.{◌≡◌, ◌++◌, None, Some, IfOk, OnOk}
 ghost use Rattle.cc_names.specs.Names.{IsName};
 ghost use Rattle.cc_names.specs.Paths.{join_of};
 ghost use Rattle.cc_names.specs.References.{held_at};
-ghost use Rattle.legal_history.specs.Base.Changes.{held};
-ghost use Rattle.legal_history.specs.Base.Seen.{at};
+ghost use Rattle.base_model.specs.Changes.{held};
+ghost use Rattle.base_model.specs.Seen.{at};
 ghost use Rattle.legal_history.specs.Queries.ListingTexts.{by_rule, ls_text, path_in, picked_line};
 ghost use Rattle.legal_history.specs.Queries.QueryLines.{ls};
 ghost use Rattle.legal_history.specs.Queries.VersionNames.{line};

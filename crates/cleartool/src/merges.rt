@@ -1,7 +1,7 @@
 //! The query for what is left to be merged.
 
 ghost use Rattle.std.specs.Prelude.{◌≡◌, ◌++◌, codes, bytes_eq, IfOk, OnOk};
-ghost use Rattle.legal_history.specs.Base.Views.{out};
+ghost use Rattle.base_model.specs.Views.{out};
 ghost use Rattle.legal_history.specs.Queries.Merges.{branch_of_type, findmerge_text, found_line, merge_line, merge_source, merge_target};
 ghost use Rattle.legal_history.specs.Queries.QueryLines.{findmerge, needs_branch};
 ghost use Rattle.legal_history.specs.Queries.VersionNames.{at_version, line, version_name};

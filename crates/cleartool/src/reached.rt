@@ -1,7 +1,7 @@
 //! Whether one version reaches another, found by a walk back from the other.
 
 ghost use Rattle.std.specs.Prelude.{◌≡◌, IfOk};
-ghost use Rattle.legal_history.specs.Base.Changes.{tree};
+ghost use Rattle.base_model.specs.Changes.{tree};
 ghost use Rattle.legal_history.specs.Queries.Merges.{reaches};
 ghost use Rattle.cleartool.specs.Reached.{predecessor, tail_at};
 

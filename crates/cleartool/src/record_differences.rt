@@ -6,10 +6,10 @@ ghost use Rattle.std.specs.Cmp.Lexicographic.{slice_cmp};
 ghost use Rattle.std.specs.List.{concat};
 ghost use Rattle.std.specs.List.Sorted.{IsStrictlySortedBy};
 ghost use Rattle.std.specs.Ordering.{nat_cmp};
-ghost use Rattle.legal_history.specs.Base.Closures.{is_among};
-ghost use Rattle.legal_history.specs.Builds.Reuse.{are_same_paths};
+ghost use Rattle.base_model.specs.Closures.{is_among};
+ghost use Rattle.base_model.specs.Objects.{are_same_paths, row_in};
 ghost use Rattle.legal_history.specs.Queries.QueryLines.{diffcr};
-ghost use Rattle.legal_history.specs.Queries.RecordTexts.{diffcr_text, is_same_row, path_lines, row_in, side_line, side_name, unless_same};
+ghost use Rattle.legal_history.specs.Queries.RecordTexts.{diffcr_text, is_same_row, path_lines, side_line, side_name, unless_same};
 ghost use Rattle.cleartool.specs.Answering.{AnswersAs};
 ghost use Rattle.cleartool.specs.Differences.{is_read, row_lines};
 

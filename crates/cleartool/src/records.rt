@@ -1,8 +1,9 @@
 //! What the records of objects say.
 
 ghost use Rattle.std.specs.Prelude.{◌≡◌};
-ghost use Rattle.legal_history.specs.Base.Changes.{targets_of};
-ghost use Rattle.legal_history.specs.Queries.RecordTexts.{record_of, recorded_script};
+ghost use Rattle.base_model.specs.Changes.{targets_of};
+ghost use Rattle.base_model.specs.Objects.{record_of};
+ghost use Rattle.legal_history.specs.Queries.RecordTexts.{recorded_script};
 
 use cc_names::paths::Path;
 use cc_names::rows::{Deed, ReadOf};

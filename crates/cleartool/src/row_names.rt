@@ -2,7 +2,7 @@
 //! object.
 
 ghost use Rattle.std.specs.Prelude.{◌≡◌, ◌++◌, OnOk};
-ghost use Rattle.legal_history.specs.Base.Rows.{deed_at};
+ghost use Rattle.base_model.specs.Rows.{deed_at};
 ghost use Rattle.legal_history.specs.Queries.VersionNames.{by_word, row_name};
 ghost use Rattle.cleartool.specs.Recorded.{row_word};
 

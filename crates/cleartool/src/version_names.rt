@@ -4,8 +4,8 @@ ghost use Rattle.std.specs.Prelude.{◌≡◌, codes, ◌<◌, ◌≤◌, ◌∷
 ghost use Rattle.cc_names.specs.Branches.{branch_of_version, names_of_branch, origin_of};
 ghost use Rattle.cc_names.specs.Formed.{Plain};
 ghost use Rattle.cc_names.specs.Versions.{element_of_branch, latest};
-ghost use Rattle.legal_history.specs.Base.Changes.{tree};
-ghost use Rattle.legal_history.specs.Base.Rows.{size, first_rows};
+ghost use Rattle.base_model.specs.Changes.{tree};
+ghost use Rattle.base_model.specs.Rows.{size, first_rows};
 ghost use Rattle.legal_history.specs.Queries.VersionNames.{behind_slashes, branch_name, version_name};
 ghost use Rattle.cleartool.specs.Naming.{names_above, name_of_new, name_on, name_told};
 ghost use Rattle.cc_names.specs.declared.rows.Deed.TheVariants.{Checkin};

@@ -1,7 +1,7 @@
 //! The query for an element's tree of versions.
 
 ghost use Rattle.std.specs.Prelude.{◌≡◌, ◌+◌, ◌<◌, ◌++◌, ℕ, IfOk, OnOk, map};
-ghost use Rattle.legal_history.specs.Base.Changes.{tree};
+ghost use Rattle.base_model.specs.Changes.{tree};
 ghost use Rattle.legal_history.specs.Queries.ElementTexts.{branch_lines, branches_leaving, in_brackets, lsvtree_text};
 ghost use Rattle.legal_history.specs.Queries.QueryLines.{lsvtree};
 ghost use Rattle.legal_history.specs.Queries.VersionNames.{at_version, branch_name, line, version_name};

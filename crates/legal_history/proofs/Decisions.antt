@@ -5,8 +5,10 @@ pub mod DecidedFits
 pub mod DecidedIdle
 pub mod DecidedSays
 pub mod DirectoryFits
+pub mod DueObjects
 pub mod ElementFits
 pub mod FileFits
 pub mod Handed
 pub mod Passed
 pub mod Queried
+pub mod RecordLabels

@@ -2,9 +2,7 @@
 pub mod AgreeSteps
 pub mod AgreedStories
 pub mod ClosureFiles
-pub mod Covered
 pub mod CoveredRuns
-pub mod EntriesBelow
 pub mod FromNothing
 pub mod GivenCommits
 pub mod GivenRows

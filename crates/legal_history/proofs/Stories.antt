@@ -15,4 +15,3 @@ pub mod Room
 pub mod Scrubs
 pub mod SoundStories
 pub mod Started
-pub mod Tables

@@ -9,3 +9,4 @@ pub mod Reuse
 pub mod Serials
 pub mod Turns
 pub mod UnitTurns
+pub mod Values

@@ -1,4 +1,3 @@
-pub mod Base
 pub mod Builds
 pub mod Commands
 pub mod Laws

@@ -5,7 +5,7 @@ use Rattle.cc_names.specs.declared.commands.Command.{Command}
 use Rattle.cc_names.specs.declared.refusals.Refusal.{Refusal}
 use Rattle.cc_names.specs.declared.rows.Deed.{Deed}
 use Rattle.cc_names.specs.declared.rows.Tag.{Tag}
-use Rattle.legal_history.specs.Base.Rows.{Base, size}
+use Rattle.base_model.specs.Rows.{Base, size}
 use Rattle.legal_history.specs.Commands.Decisions.{Decision, Makes}
 use Rattle.legal_history.specs.Commands.Lines.{decision}
 

@@ -1,4 +1,4 @@
-//! What a base says, what a command does to it, which histories are legal, and what a build is worth.
+//! What a command does to a base, which histories are legal, and what a build is worth.
 //!
 //! What it is for: the definitions that every contract above speaks of, and the laws that users of the model may rely on. It has
 //! no code of its own: each public function here has an empty body, and its contract is a law.
@@ -13,7 +13,7 @@
 //! view covers a record, running the record again gives what it has stored. Which rows fit, which objects live and what
 //! their records give when run again hang on no output, and soundness on none of a scrubbed object.
 //!
-//! What it stands on: `cc_names` for plain data, names and the changes of the indexes, `spec_text` for config specs,
+//! What it stands on: `base_model` for what a base says, `cc_names` for plain data, names and the changes of the indexes,
 //! `date_text` for dates, `make_grammar` for the units of a build, `script_grammar` for the runs of scripts, and `sha2` for
 //! digests.
 #![tactic(auto)]

@@ -1,6 +1,5 @@
 -- The states of macros by what is known of those that were touched.
-use Rattle.std.proofs.Common.{◌≡◌, ℕ, zero, suc, ◌+◌, ◌<◌, Some, None, Option, List, ◌∷◌, length, replicate, set, refl, sym, ap, ◌∙◌, unwrap_or, arith}
-use Rattle.std.proofs.Common.{zero-add}
+use Rattle.std.proofs.Common.{◌≡◌, ℕ, zero, suc, ◌+◌, ◌<◌, Some, None, Option, List, ◌∷◌, length, replicate, set, refl, sym, ap, ◌∙◌, unwrap_or, arith, zero-add}
 use Rattle.std.proofs.lemmas.Map.Lookups.{exact_unsigned}
 use Rattle.std.specs.BTreeMap.{BTreeMap, get, is_at, IsEmpty, Updates}
 use Rattle.std.specs.Map.{lookup}

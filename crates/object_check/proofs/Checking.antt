@@ -7,9 +7,9 @@ use Rattle.cc_names.specs.declared.rows.Deed.TheVariants as deeds
 use Rattle.cc_names.specs.declared.rows.ReadOf.{ReadOf}
 use Rattle.script_grammar.specs.Run.{Ran, run}
 use Rattle.script_grammar.specs.Standings.{texts, text_of}
-use Rattle.legal_history.specs.Base.Rows.{Base, deed_at, only_where}
-use Rattle.legal_history.specs.Base.Values.{are_stored, is_true, is_true_deed, outputs_of_result, rerun, run_of_deed}
-use Rattle.legal_history.specs.Queries.RecordTexts.{row_in}
+use Rattle.base_model.specs.Rows.{Base, deed_at, only_where}
+use Rattle.legal_history.specs.Builds.Values.{are_stored, is_true, is_true_deed, outputs_of_result, rerun, run_of_deed}
+use Rattle.base_model.specs.Objects.{row_in}
 use Rattle.object_check.specs.Checks.{IsChecked}
 use Rattle.object_check.specs.Kept.{Values, kept, kept_of, standing, stands_kept, text_kept, texts_kept}
 use Rattle.object_check.specs.declared.checks.Checked.{Checked}

@@ -6,7 +6,7 @@ use Rattle.std.specs.Cmp.Lexicographic.{slice_cmp}
 use Rattle.std.specs.Ordering.{nat_cmp}
 use Rattle.std.specs.Prelude.{option_map, find as find_in}
 use Rattle.cc_names.specs.declared.rows.ReadOf.{ReadOf}
-use Rattle.legal_history.specs.Queries.RecordTexts.{row_in}
+use Rattle.base_model.specs.Objects.{row_in}
 
 -- the row of a path, by the first entry
 row_first : (entry : ReadOf) (entries : List ReadOf) (path : List ℕ) → row_in (entry ∷ entries) path ≡ cond (bytes_eq entry.path path) (Some entry.row) (row_in entries path)

@@ -1,8 +1,8 @@
 -- Values are kept of one object after the other.
 use Rattle.std.proofs.Common.{◌≡◌, refl, ap, sym, subst, ◌∙◌, ℕ, suc, ◌==◌, ◌&&◌, Bool, true, false, cond, nat_lt, Option, None, List, arith}
 use Rattle.std.proofs.lemmas.Bool.Decides.{nat_tests}
-use Rattle.legal_history.specs.Base.Rows.{Base, only_where, row_at, deed_of}
-use Rattle.legal_history.specs.Base.Values.{is_true, is_true_deed, rerun}
+use Rattle.base_model.specs.Rows.{Base, only_where, row_at, deed_of}
+use Rattle.legal_history.specs.Builds.Values.{is_true, is_true_deed, rerun}
 use Rattle.object_check.specs.Kept.{KeepsBelow, Values, kept, kept_of}
 use Rattle.view_lookup.proofs.RowTexts.{no_row}
 

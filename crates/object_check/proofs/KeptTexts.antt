@@ -6,13 +6,13 @@ use Rattle.cc_names.specs.declared.rows.Deed.{Deed}
 use Rattle.cc_names.specs.declared.rows.Deed.TheVariants as deeds
 use Rattle.cc_names.specs.declared.rows.ReadOf.{ReadOf}
 use Rattle.script_grammar.specs.Run.{run}
-use Rattle.legal_history.specs.Base.Rows.{Base, deed_at, only_where}
-use Rattle.legal_history.specs.Base.Changes.{targets_of, targets_of_deed}
-use Rattle.legal_history.specs.Base.Closures.{entries_of_deed, is_publish, is_publish_deed}
-use Rattle.legal_history.specs.Base.Fits.{is_base}
-use Rattle.legal_history.specs.Base.Texts.{text}
-use Rattle.legal_history.specs.Base.Values.{are_stored, output_of_run, outputs_of_run, rerun, run_of_deed, text_of_entry, texts_of_entries}
-use Rattle.legal_history.specs.Queries.RecordTexts.{row_in}
+use Rattle.base_model.specs.Rows.{Base, deed_at, only_where}
+use Rattle.base_model.specs.Changes.{targets_of, targets_of_deed}
+use Rattle.base_model.specs.Closures.{entries_of_deed, is_publish, is_publish_deed}
+use Rattle.base_model.specs.Fits.{is_base}
+use Rattle.base_model.specs.Texts.{text}
+use Rattle.legal_history.specs.Builds.Values.{are_stored, output_of_run, outputs_of_run, rerun, run_of_deed, text_of_entry, texts_of_entries}
+use Rattle.base_model.specs.Objects.{row_in}
 use Rattle.legal_history.proofs.Reuse.Reruns.{rerun_now}
 use Rattle.legal_history.proofs.Reuse.TrueObjects.{object_text, same_texts}
 use Rattle.object_check.specs.Kept.{KeepsBelow, Values, kept, kept_of, text_kept, text_or_output, texts_kept}

@@ -8,14 +8,14 @@ use Rattle.std.specs.Ordering.{nat_cmp}
 use Rattle.std.specs.Prelude.{is_some}
 use Rattle.cc_names.specs.Formed.{Plain}
 use Rattle.cc_names.specs.declared.rows.ReadOf.{ReadOf}
-use Rattle.legal_history.specs.Base.Rows.{Base, size, row_at, deed_of}
-use Rattle.legal_history.specs.Base.Changes.{live}
-use Rattle.legal_history.specs.Base.Closures.{entries_of_deed, is_publish}
-use Rattle.legal_history.specs.Base.Conditions.{is_entry}
-use Rattle.legal_history.specs.Base.Fits.{is_base}
-use Rattle.legal_history.specs.Queries.RecordTexts.{record_of}
-use Rattle.legal_history.proofs.Bases.Owned.{and_first, and_second, row_fits, rows_below}
-use Rattle.legal_history.proofs.Reuse.EntriesBelow.{entries_fit, entry_below}
+use Rattle.base_model.specs.Rows.{Base, size, row_at, deed_of}
+use Rattle.base_model.specs.Changes.{live}
+use Rattle.base_model.specs.Closures.{entries_of_deed, is_publish}
+use Rattle.base_model.specs.Conditions.{is_entry}
+use Rattle.base_model.specs.Fits.{is_base}
+use Rattle.base_model.specs.Objects.{record_of}
+use Rattle.base_model.proofs.Owned.{and_first, and_second, row_fits, rows_below}
+use Rattle.base_model.proofs.EntriesBelow.{entries_fit, entry_below}
 use Rattle.object_check.specs.Needed.{HasLive, IsClosed, NeedsFrom, name_object}
 
 -- an entry that is taken in

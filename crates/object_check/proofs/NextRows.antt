@@ -6,14 +6,14 @@ use Rattle.std.specs.Prelude.{is_some}
 use Rattle.cc_names.specs.Formed.{Plain}
 use Rattle.cc_names.specs.References.{one_where}
 use Rattle.cc_names.specs.declared.rows.Deed.{Deed}
-use Rattle.legal_history.specs.Base.Rows.{Base, size, first_rows, row_at, deed_at, deed_of, only_where}
-use Rattle.legal_history.specs.Base.Changes.{live}
-use Rattle.legal_history.specs.Base.Closures.{entries_of_deed}
-use Rattle.legal_history.specs.Base.Fits.{is_base}
-use Rattle.legal_history.specs.Base.Values.{first_unsound, is_dead_or_true, is_true, live_among, live_count, unsound_among}
-use Rattle.legal_history.proofs.Bases.Owned.{row_fits, rows_below}
-use Rattle.legal_history.proofs.Bases.Stay.{all_rows, first_rows_stay}
-use Rattle.legal_history.proofs.Reuse.EntriesBelow.{AreBelow, deed_entries_below}
+use Rattle.base_model.specs.Rows.{Base, size, first_rows, row_at, deed_at, deed_of, only_where}
+use Rattle.base_model.specs.Changes.{live}
+use Rattle.base_model.specs.Closures.{entries_of_deed}
+use Rattle.base_model.specs.Fits.{is_base}
+use Rattle.legal_history.specs.Builds.Values.{first_unsound, is_dead_or_true, is_true, live_among, live_count, unsound_among}
+use Rattle.base_model.proofs.Owned.{row_fits, rows_below}
+use Rattle.base_model.proofs.Stay.{all_rows, first_rows_stay}
+use Rattle.base_model.proofs.EntriesBelow.{AreBelow, deed_entries_below}
 use Rattle.object_check.specs.Verdicts.{IsFound, live_objects}
 use Rattle.object_check.specs.declared.verdicts.Found.{Found}
 use Rattle.object_check.specs.declared.verdicts.Found.TheVariants.{Dead, Same, Other}

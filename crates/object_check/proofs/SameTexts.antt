@@ -1,6 +1,6 @@
 -- Lists of different lengths differ.
 use Rattle.std.proofs.Common.{◌≡◌, ap, refl, ℕ, Bool, true, false, List, length}
-use Rattle.legal_history.specs.Builds.Reuse.{are_same_paths}
+use Rattle.base_model.specs.Objects.{are_same_paths}
 use Rattle.legal_history.proofs.Reuse.TrueObjects.{same_texts}
 
 pub other_length : (xs ys : List (List ℕ)) → (length xs ≡ length ys → ⊥) → false ≡ are_same_paths xs ys

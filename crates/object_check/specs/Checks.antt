@@ -2,7 +2,7 @@
 use Rattle.std.specs.Prelude.{◌≡◌, Option}
 use Rattle.cc_names.specs.declared.rows.Deed.{Deed}
 use Rattle.script_grammar.specs.Run.{Ran}
-use Rattle.legal_history.specs.Base.Values.{is_true_deed}
+use Rattle.legal_history.specs.Builds.Values.{is_true_deed}
 use Rattle.object_check.specs.Kept.{kept_of}
 use Rattle.object_check.specs.declared.checks.Checked.{Checked}
 

@@ -6,11 +6,11 @@ use Rattle.cc_names.specs.declared.rows.Deed.TheVariants as deeds
 use Rattle.cc_names.specs.declared.rows.ReadOf.{ReadOf}
 use Rattle.script_grammar.specs.Run.{Ran}
 use Rattle.script_grammar.specs.Standings.{Standing}
-use Rattle.legal_history.specs.Base.Rows.{Base, deed_at, only_where}
-use Rattle.legal_history.specs.Base.Changes.{targets_of}
-use Rattle.legal_history.specs.Base.Texts.{text}
-use Rattle.legal_history.specs.Base.Values.{are_stored, output_of_run, outputs_of_run, rerun}
-use Rattle.legal_history.specs.Queries.RecordTexts.{row_in}
+use Rattle.base_model.specs.Rows.{Base, deed_at, only_where}
+use Rattle.base_model.specs.Changes.{targets_of}
+use Rattle.base_model.specs.Texts.{text}
+use Rattle.legal_history.specs.Builds.Values.{are_stored, output_of_run, outputs_of_run, rerun}
+use Rattle.base_model.specs.Objects.{row_in}
 
 -- by the number of an object the outputs of its run, none where that fails; nothing where they are the stored ones
 abbrev pub Values : Type 0

@@ -2,10 +2,10 @@
 use Rattle.std.specs.Prelude.{◌≡◌, ℕ, ◌<◌, ◌≤◌, ◌==◌, Bool, true, ◌&&◌, is_some, List}
 use Rattle.std.specs.List.{list_any}
 use Rattle.cc_names.specs.declared.rows.ReadOf.{ReadOf}
-use Rattle.legal_history.specs.Base.Rows.{Base, size}
-use Rattle.legal_history.specs.Base.Changes.{live}
-use Rattle.legal_history.specs.Base.Closures.{is_publish}
-use Rattle.legal_history.specs.Queries.RecordTexts.{record_of}
+use Rattle.base_model.specs.Rows.{Base, size}
+use Rattle.base_model.specs.Changes.{live}
+use Rattle.base_model.specs.Closures.{is_publish}
+use Rattle.base_model.specs.Objects.{record_of}
 
 -- whether an entry names this row, and the row is an object
 abbrev pub is_object_of : Base → ℕ → ReadOf → Bool

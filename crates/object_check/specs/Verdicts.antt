@@ -1,8 +1,8 @@
 -- What a check of all live objects answers.
 use Rattle.std.specs.Prelude.{◌≡◌, ℕ, Option, true, false, is_some, Some, None}
-use Rattle.legal_history.specs.Base.Rows.{Base}
-use Rattle.legal_history.specs.Base.Changes.{live}
-use Rattle.legal_history.specs.Base.Values.{first_unsound, is_true, live_count}
+use Rattle.base_model.specs.Rows.{Base}
+use Rattle.base_model.specs.Changes.{live}
+use Rattle.legal_history.specs.Builds.Values.{first_unsound, is_true, live_count}
 use Rattle.object_check.specs.declared.verdicts.Verdict.{Verdict}
 use Rattle.object_check.specs.declared.verdicts.Verdict.TheVariants.{Sound, Unsound}
 use Rattle.object_check.specs.declared.verdicts.Found.{Found}

@@ -6,7 +6,7 @@ ghost use Rattle.std.specs.Cmp.Lexicographic.{slice_cmp};
 ghost use Rattle.std.specs.Option.{option_copied};
 ghost use Rattle.std.specs.Ordering.{nat_cmp};
 ghost use Rattle.build_script.specs.Answers.{IsAnswer};
-ghost use Rattle.legal_history.specs.Queries.RecordTexts.{row_in};
+ghost use Rattle.base_model.specs.Objects.{row_in};
 ghost use Rattle.object_check.specs.Kept.{standing};
 
 use crate::values::{Values, text_of_entry};

@@ -3,8 +3,8 @@
 ghost use Rattle.std.specs.Prelude.{◌≡◌, ◌||◌, ℕ, IfOk, OnOk, is_some, suc};
 ghost use Rattle.std.specs.BTreeSet.{contains};
 ghost use Rattle.std.specs.Ordering.{nat_cmp};
-ghost use Rattle.legal_history.specs.Base.Changes.{live};
-ghost use Rattle.legal_history.specs.Queries.RecordTexts.{record_of};
+ghost use Rattle.base_model.specs.Changes.{live};
+ghost use Rattle.base_model.specs.Objects.{record_of};
 ghost use Rattle.object_check.specs.Needed.{is_object_of, name_object, HasLive, IsClosed, NeedsFrom};
 
 use cc_names::memory::NoMemory;

@@ -3,8 +3,8 @@
 ghost use Rattle.std.specs.Prelude.{◌≡◌, nat_eq};
 ghost use Rattle.std.specs.HashMap.{get};
 ghost use Rattle.std.specs.Option.{option_copied};
-ghost use Rattle.legal_history.specs.Base.Texts.{output_at};
-ghost use Rattle.legal_history.specs.Base.Values.{output_of_run};
+ghost use Rattle.base_model.specs.Texts.{output_at};
+ghost use Rattle.legal_history.specs.Builds.Values.{output_of_run};
 ghost use Rattle.object_check.specs.Kept.{text_kept};
 
 use cc_names::lists::List;

@@ -4,7 +4,7 @@ ghost use Rattle.std.specs.Prelude.{◌≡◌, ◌<◌, suc, IfOk, OnOk, nat_eq}
 ghost use Rattle.std.specs.BTreeSet.{contains};
 ghost use Rattle.std.specs.HashMap.{get};
 ghost use Rattle.std.specs.Ordering.{nat_cmp};
-ghost use Rattle.legal_history.specs.Base.Rows.{size};
+ghost use Rattle.base_model.specs.Rows.{size};
 ghost use Rattle.object_check.specs.Kept.{KeepsBelow};
 ghost use Rattle.object_check.specs.Needed.{HasLive, IsClosed};
 ghost use Rattle.object_check.specs.Verdicts.{IsFound, IsVerdict};

@@ -1,6 +1,6 @@
 //! What the headline says of each legal history, and what the promises of one call say of the next.
 
-ghost use Rattle.legal_history.specs.Base.Values.{IsSound};
+ghost use Rattle.legal_history.specs.Builds.Values.{IsSound};
 ghost use Rattle.legal_history.specs.Stories.Steps.{state_of};
 ghost use Rattle.session_run.specs.Promises.HandedOn.{SoundnessIsHandedOn};
 ghost use Rattle.session_run.specs.Promises.Headline.{AreFromNothing, AreOfTheirCommands};

@@ -1,7 +1,7 @@
 //! The top call.
 
 ghost use Rattle.std.specs.Prelude.{◌≡◌, true};
-ghost use Rattle.legal_history.specs.Base.Values.{IsSound};
+ghost use Rattle.legal_history.specs.Builds.Values.{IsSound};
 ghost use Rattle.legal_history.specs.Stories.Steps.{state_of};
 ghost use Rattle.story_log.specs.Stopping.Backed.{may_be_open};
 ghost use Rattle.cc_names.specs.Counts.{rises};

@@ -6,8 +6,8 @@ use Rattle.cc_names.specs.declared.selection.Rule.{Rule}
 use Rattle.cc_names.specs.declared.selection.Selector.{Selector}
 use Rattle.cc_names.specs.declared.selection.Selector.TheVariants.{CheckedOut, Label, Latest, Wherever, Numbered, Config, Nothing}
 use Rattle.spec_text.specs.Laws.{FirstDecides, PicksNothing}
-use Rattle.spec_text.specs.Patterns.{matches}
-use Rattle.spec_text.specs.Rules.{Selectables, finds, found_by, ends_scan, decides, deciding, picked_by}
+use Rattle.base_model.specs.ConfigSpecs.Patterns.{matches}
+use Rattle.base_model.specs.ConfigSpecs.Rules.{Selectables, finds, found_by, ends_scan, decides, deciding, picked_by}
 
 found_before : {A : Type 0} (test : A → Bool) (xs ys : List A) → IsSome (find test xs) → find test (xs ++ ys) ≡ find test xs
 found_before test [] ys h = cc

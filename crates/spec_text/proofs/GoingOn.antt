@@ -1,8 +1,8 @@
 -- What one option leaves to those behind it.
 use Rattle.std.proofs.Common.{◌≡◌, ℕ, Option, Some, None, List, [], ◌∷◌, refl, arith}
-use Rattle.spec_text.specs.Lines.{Options, option_named, with_time, with_nocheckout, with_mkbranch}
+use Rattle.base_model.specs.ConfigSpecs.Lines.{Options, option_named, with_time, with_nocheckout, with_mkbranch}
 use Rattle.spec_text.specs.OptionSteps.{IsNextOption}
-use Rattle.spec_text.specs.declared.options.Named.TheVariants.{Time, NoCheckout, MkBranch}
+use Rattle.base_model.specs.declared.config_specs.Named.TheVariants.{Time, NoCheckout, MkBranch}
 
 pub nocheckout_goes : (word : List ℕ) (words : List (List ℕ)) (before : Options) → option_named word ≡ NoCheckout → IsNextOption word words before words (with_nocheckout before)
 nocheckout_goes word words before named = by words (with_nocheckout before) refl

@@ -1,9 +1,6 @@
-mod WorkedPatterns
-mod WorkedSpecs
-mod WorkedPicks
-pub mod Trying
-pub mod GoingOn
-pub mod Rest
-pub mod Plain
 pub mod Deciding
+pub mod GoingOn
+pub mod Plain
+pub mod Rest
 pub mod Steps
+pub mod Trying

@@ -3,9 +3,9 @@ use Rattle.std.proofs.Common.{◌≡◌, ℕ, Bool, true, false, not, ◌==◌, 
 use Rattle.std.specs.List.{list_all, list_any}
 use Rattle.std.proofs.lemmas.Bool.{eqb-true, and_parts, and_from, or_cases, or_left, or_right}
 use Rattle.cc_names.specs.declared.selection.Segment.TheVariants.{OneName}
-use Rattle.spec_text.specs.WildCards.{tails, has_none}
+use Rattle.base_model.specs.ConfigSpecs.WildCards.{tails, has_none}
 use Rattle.spec_text.specs.Laws.{is_plain, MatchesOwnPath, MatchesEndsOfPaths}
-use Rattle.spec_text.specs.Patterns.{is_star, is_question_mark, fits_byte, matches_name, matches_names, is_lone_star}
+use Rattle.base_model.specs.ConfigSpecs.Patterns.{is_star, is_question_mark, fits_byte, matches_name, matches_names, is_lone_star}
 
 negated : (b : Bool) → not b ≡ true → b ≡ false
 negated true h = cc

@@ -6,11 +6,11 @@ use Rattle.cc_names.specs.declared.memory.Or.TheVariants.{NoMemory, Is}
 use Rattle.cc_names.specs.declared.refusals.SpecCause.{SpecCause}
 use Rattle.cc_names.specs.declared.refusals.SpecError.{SpecError}
 use Rattle.cc_names.specs.declared.selection.Rule.{Rule}
-use Rattle.spec_text.specs.Lines.{line_of}
+use Rattle.base_model.specs.ConfigSpecs.Lines.{line_of}
 use Rattle.spec_text.specs.Reading.{State, nothing_read, after_line, after_read, at_line}
-use Rattle.spec_text.specs.Specs.{before_rules, with_line, rules_from}
-use Rattle.spec_text.specs.declared.lines.Line.{Line}
-use Rattle.spec_text.specs.declared.lines.Line.TheVariants.{Skipped, BeginsBlock, EndsBlock, Gives}
+use Rattle.base_model.specs.ConfigSpecs.Specs.{before_rules, with_line, rules_from}
+use Rattle.base_model.specs.declared.config_specs.Line.{Line}
+use Rattle.base_model.specs.declared.config_specs.Line.TheVariants.{Skipped, BeginsBlock, EndsBlock, Gives}
 
 -- rules and those that follow them
 abbrev pub followed : List Rule → Result (List Rule) SpecError → Result (List Rule) SpecError

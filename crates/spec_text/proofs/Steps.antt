@@ -5,7 +5,7 @@ use Rattle.cc_names.specs.Branches.{branch_from}
 use Rattle.cc_names.specs.declared.changes.TreeChange.{TreeChange}
 use Rattle.cc_names.specs.declared.selection.Picked.{Picked}
 use Rattle.cc_names.specs.declared.selection.Rule.{Rule}
-use Rattle.spec_text.specs.Rules.{Selectables, decides, deciding, picked_by, pick}
+use Rattle.base_model.specs.ConfigSpecs.Rules.{Selectables, decides, deciding, picked_by, pick}
 use Rattle.spec_text.specs.Children.{child}
 use Rattle.spec_text.specs.Verdicts.{verdict}
 

@@ -4,7 +4,7 @@ use Rattle.std.specs.Option.{option_map, option_copied}
 use Rattle.spec_text.specs.Parts.{parts_left}
 use Rattle.std.proofs.lemmas.Bool.{and_parts, or_cases, or_left, or_right}
 use Rattle.std.specs.List.{list_any}
-use Rattle.spec_text.specs.WildCards.{tails, first_fits, matches_from, cards_match}
+use Rattle.base_model.specs.ConfigSpecs.WildCards.{tails, first_fits, matches_from, cards_match}
 
 or_nothing : (b : Bool) → b ≡ (b || false)
 or_nothing true = refl

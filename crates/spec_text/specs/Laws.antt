@@ -8,8 +8,8 @@ use Rattle.cc_names.specs.declared.changes.TreeChange.{TreeChange}
 use Rattle.cc_names.specs.declared.selection.Pattern.{Pattern}
 use Rattle.cc_names.specs.declared.selection.Rule.{Rule}
 use Rattle.cc_names.specs.declared.selection.Segment.TheVariants.{OneName}
-use Rattle.spec_text.specs.Patterns.{is_star, is_question_mark, matches}
-use Rattle.spec_text.specs.Rules.{Selectables, selectables_at, ends_scan, deciding, pick}
+use Rattle.base_model.specs.ConfigSpecs.Patterns.{is_star, is_question_mark, matches}
+use Rattle.base_model.specs.ConfigSpecs.Rules.{Selectables, selectables_at, ends_scan, deciding, pick}
 
 -- a name without wild cards
 abbrev pub is_plain : List ℕ → Bool

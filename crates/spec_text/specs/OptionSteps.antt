@@ -1,6 +1,12 @@
 -- One option of a rule, beside those that were read before it.
 use Rattle.std.specs.Prelude.{◌≡◌, ◌≤◌, ℕ, Option, Some, None, List, ◌∷◌, length}
-use Rattle.spec_text.specs.Lines.{Options, options_from}
+use Rattle.std.specs.Option.{option_copied}
+use Rattle.base_model.specs.ConfigSpecs.Lines.{Options, options_from}
+use Rattle.spec_text.specs.declared.options.Options.{Options as OptionWords}
+
+-- options without where their words lie in memory
+abbrev pub plain_options : OptionWords → Options
+plain_options words = record { time = option_copied words.time; nocheckout = words.nocheckout; mkbranch = option_copied words.mkbranch }
 
 -- reading goes on with these options and what is left, which is no more than before
 pub record GoesOn (word : List ℕ) (words : List (List ℕ)) (before : Options) (rest : List (List ℕ)) (options : Options) : Type 0 where

@@ -6,8 +6,8 @@ use Rattle.cc_names.specs.declared.refusals.SpecCause.{SpecCause}
 use Rattle.cc_names.specs.declared.refusals.SpecCause.TheVariants.{NoBlock}
 use Rattle.cc_names.specs.declared.refusals.SpecError.{SpecError}
 use Rattle.cc_names.specs.declared.selection.Rule.{Rule}
-use Rattle.spec_text.specs.declared.lines.Line.{Line}
-use Rattle.spec_text.specs.declared.lines.Line.TheVariants.{Skipped, BeginsBlock, EndsBlock, Gives}
+use Rattle.base_model.specs.declared.config_specs.Line.{Line}
+use Rattle.base_model.specs.declared.config_specs.Line.TheVariants.{Skipped, BeginsBlock, EndsBlock, Gives}
 
 -- the rules so far, and the times of the blocks that are open, the innermost first
 pub record State : Type 0 where

@@ -2,7 +2,7 @@
 use Rattle.std.specs.Prelude.{◌≡◌, ℕ, true, false, List, [], ◌∷◌}
 use Rattle.std.specs.Option.{option_copied}
 use Rattle.cc_names.specs.declared.selection.Segment.{Segment}
-use Rattle.spec_text.specs.Patterns.{is_dots, fits_name, matches_names}
+use Rattle.base_model.specs.ConfigSpecs.Patterns.{is_dots, fits_name, matches_names}
 use Rattle.spec_text.specs.Parts.{parts_left}
 use Rattle.spec_text.specs.declared.matching.Step.{Step}
 use Rattle.spec_text.specs.declared.matching.Step.TheVariants.{AnyNames, OneName, End, Mismatch}

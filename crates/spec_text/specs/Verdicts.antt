@@ -2,7 +2,7 @@
 use Rattle.std.specs.Prelude.{ℕ, Option, Some, None, List, if◌then◌else◌}
 use Rattle.cc_names.specs.declared.selection.Picked.{Picked}
 use Rattle.cc_names.specs.declared.selection.Rule.{Rule}
-use Rattle.spec_text.specs.Rules.{Selectables, decides, picked_by}
+use Rattle.base_model.specs.ConfigSpecs.Rules.{Selectables, decides, picked_by}
 
 -- what a rule picks, where it decides
 abbrev pub verdict : Selectables → ℕ → List (List ℕ) → Rule → Option (Option Picked)

@@ -8,8 +8,8 @@
 //! with the cause; a pattern matches exactly the paths of its definition. `pick_from` answers what the definition of config specs
 //! gives over whatever answers the queries of `Selectable`; it takes no memory.
 //!
-//! What it stands on: `cc_names` for patterns and rules as data, and for the lines of a text and their words; `date_text`
-//! for dates.
+//! What it stands on: `base_model` for the definitions, `cc_names` for patterns and rules as data, and for the lines of a text
+//! and their words; `date_text` for dates.
 #![tactic(auto)]
 
 mod branches;

@@ -3,29 +3,18 @@
 ghost use Rattle.std.specs.Prelude.{◌≡◌, ◌<◌, ◌^◌, IfOk};
 ghost use Rattle.std.specs.Option.{option_copied};
 ghost use Rattle.cc_names.specs.Answers.{Gives};
-ghost use Rattle.spec_text.specs.Lines.{plain_options, moment_of_word, before_of, rule_of, with_options, no_options, options_from, object_line, element_line, time_line, end_line, is_comment, line_of_words, line_of};
+ghost use Rattle.spec_text.specs.OptionSteps.{plain_options};
+ghost use Rattle.base_model.specs.ConfigSpecs.Lines.{moment_of_word, before_of, rule_of, with_options, no_options, options_from, object_line, element_line, time_line, end_line, is_comment, line_of_words, line_of};
 
 use crate::options::{Options, read_options};
 use crate::patterns::read_pattern;
 use crate::selectors::{read_branch_type, read_selector};
+use base_model::config_specs::Line;
 use cc_names::cuts::Words;
 use cc_names::memory::Or;
 use cc_names::refusals::SpecCause;
 use cc_names::selection::Rule;
 use std::alloc::Global;
-
-/// What a line of a config spec says.
-#[derive(Drop)]
-pub(crate) enum Line {
-    /// Nothing: the line is blank or a comment.
-    Skipped,
-    /// A block of rules with this time begins.
-    BeginsBlock(u64),
-    /// The innermost open block ends.
-    EndsBlock,
-    /// A rule.
-    Gives(Rule),
-}
 
 fn moment(word: &[u8]) -> Result<u64, Or<SpecCause>>
     ensures { Gives result (moment_of_word word.now) }

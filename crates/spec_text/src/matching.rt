@@ -6,7 +6,7 @@
 
 ghost use Rattle.std.specs.Prelude.{◌≡◌};
 ghost use Rattle.std.specs.Option.{option_copied};
-ghost use Rattle.spec_text.specs.Patterns.{matches_name, matches_where, fits_byte, fits_name, is_dots};
+ghost use Rattle.base_model.specs.ConfigSpecs.Patterns.{matches_name, matches_where, fits_byte, fits_name, is_dots};
 ghost use Rattle.spec_text.specs.Steps.{IsStep};
 ghost use Rattle.spec_text.specs.Parts.{parts_left};
 

@@ -2,19 +2,11 @@
 
 ghost use Rattle.std.specs.Prelude.{◌≡◌};
 ghost use Rattle.std.specs.Option.{option_map};
-ghost use Rattle.spec_text.specs.Lines.{plain_options, no_options, option_named, with_time, with_nocheckout, with_mkbranch, options_from};
-ghost use Rattle.spec_text.specs.OptionSteps.{IsNextOption};
+ghost use Rattle.spec_text.specs.OptionSteps.{plain_options, IsNextOption};
+ghost use Rattle.base_model.specs.ConfigSpecs.Lines.{no_options, option_named, with_time, with_nocheckout, with_mkbranch, options_from};
 
+use base_model::config_specs::Named;
 use cc_names::cuts::Words;
-
-/// Which option a word names.
-#[derive(Clone, Copy)]
-pub(crate) enum Named {
-    Time,
-    NoCheckout,
-    MkBranch,
-    Unknown,
-}
 
 /// The options of a rule as they stand, with the words behind them.
 #[derive(Clone, Copy)]

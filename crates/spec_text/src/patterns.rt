@@ -5,8 +5,8 @@ ghost use Rattle.std.specs.Option.{option_copied};
 ghost use Rattle.std.specs.List.{list_all, slice_split};
 ghost use Rattle.cc_names.specs.Answers.{Gives};
 ghost use Rattle.cc_names.specs.Paths.{is_slash, names_of};
-ghost use Rattle.spec_text.specs.WildCards.{has_none};
-ghost use Rattle.spec_text.specs.Patterns.{matches, is_lone_star, is_segment_byte, is_segment, are_three_dots, segment_of, pattern_of_segments, pattern_of};
+ghost use Rattle.base_model.specs.ConfigSpecs.WildCards.{has_none};
+ghost use Rattle.base_model.specs.ConfigSpecs.Patterns.{matches, is_lone_star, is_segment_byte, is_segment, are_three_dots, segment_of, pattern_of_segments, pattern_of};
 ghost use Rattle.spec_text.specs.Parts.{parts_left};
 
 use crate::matching::matches_where;

@@ -2,7 +2,7 @@
 
 ghost use Rattle.std.specs.Prelude.{◌≡◌};
 ghost use Rattle.cc_names.specs.Paths.{names_of};
-ghost use Rattle.spec_text.specs.Rules.{branch_of_type, latest_on, found_by, is_checkout, ends_scan, pick};
+ghost use Rattle.base_model.specs.ConfigSpecs.Rules.{branch_of_type, latest_on, found_by, is_checkout, ends_scan, pick};
 ghost use Rattle.spec_text.specs.Verdicts.{verdict};
 
 use crate::branches::branch_behind;

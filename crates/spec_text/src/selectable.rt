@@ -10,7 +10,7 @@ use cc_names::paths::Path;
 
 /// What there is to select from. Each query answers as its definition does over it.
 pub trait Selectable {
-    ghost use Rattle.spec_text.specs.Rules.{Selectables};
+    ghost use Rattle.base_model.specs.ConfigSpecs.Rules.{Selectables};
 
     ghost selectables: { Self → Selectables };
 

@@ -6,7 +6,7 @@ ghost use Rattle.std.specs.List.{slice_split};
 ghost use Rattle.cc_names.specs.Answers.{Gives};
 ghost use Rattle.cc_names.specs.Paths.{is_at};
 ghost use Rattle.cc_names.specs.TypeNames.{type_name_of};
-ghost use Rattle.spec_text.specs.Selectors.{on_branch, behind_main, behind_dots, selector_of_parts, selector_of_word, of_object, object_of_parts, selector_of, branch_type_of};
+ghost use Rattle.base_model.specs.ConfigSpecs.Selectors.{on_branch, behind_main, behind_dots, selector_of_parts, selector_of_word, of_object, object_of_parts, selector_of, branch_type_of};
 ghost use Rattle.spec_text.specs.Parts.{parts_left};
 
 use crate::parts::split_part;

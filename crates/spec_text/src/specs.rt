@@ -3,9 +3,10 @@
 ghost use Rattle.std.specs.Prelude.{◌≡◌, ◌<◌, ◌^◌, length, slice_get};
 ghost use Rattle.cc_names.specs.Answers.{Gives};
 ghost use Rattle.spec_text.specs.Reading.{at_line};
-ghost use Rattle.spec_text.specs.Specs.{rules_of};
+ghost use Rattle.base_model.specs.ConfigSpecs.Specs.{rules_of};
 
-use crate::lines::{Line, LineContext, read_line};
+use crate::lines::{LineContext, read_line};
+use base_model::config_specs::Line;
 use cc_names::cuts::Lines;
 use cc_names::memory::Or;
 use cc_names::refusals::{SpecCause, SpecError};
@@ -33,7 +34,7 @@ impl Model for Reader {
 }
 
 impl Reader {
-    ghost use Rattle.spec_text.specs.Lines.{line_of};
+    ghost use Rattle.base_model.specs.ConfigSpecs.Lines.{line_of};
     ghost use Rattle.spec_text.specs.Reading.{nothing_read, after_line, after_read};
 
     fn new(alloc: Global) -> Reader

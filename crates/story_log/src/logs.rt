@@ -123,7 +123,7 @@ impl<D: Disk> Log<D> {
     ghost use Rattle.std.specs.Prelude.{◌≡◌, ◌+◌, ◌<◌, ◌^◌, ◌++◌, ◌∷◌, [], length, true, false, IfOk, IfErr, IfSome, OnOk, OnErr, MatchResult};
     ghost use Rattle.cc_names.specs.declared.steps.StoryStep.TheVariants as story_steps;
     ghost use Rattle.disk_model.specs.Counting.{next_count};
-    ghost use Rattle.disk_model.specs.Told.{IfTold};
+    ghost use Rattle.disk_model.specs.Told.{IfTold, Both};
     ghost use Rattle.legal_history.specs.Stories.States.{faults_of};
     ghost use Rattle.legal_history.specs.Stories.Steps.{state_of};
     ghost use Rattle.cc_names.specs.Counts.{rises};
@@ -134,8 +134,7 @@ impl<D: Disk> Log<D> {
     ghost use Rattle.story_log.specs.Logging.Logs.{opened_log, with_phase, with_step, with_sight};
     ghost use Rattle.story_log.specs.Story.Telling.{stands_alone};
     ghost use Rattle.view_lookup.specs.Order.{oldest_first};
-    ghost use Rattle.disk_model.specs.Told.{Both};
-    ghost use Rattle.legal_history.specs.Base.Fits.{fits};
+    ghost use Rattle.base_model.specs.Fits.{fits};
     ghost use Rattle.vob_journal.specs.Added.{WritesOn};
 
     /// The story of a base that was opened, whose rows are those of the journal. The journal comes back where

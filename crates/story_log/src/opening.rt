@@ -1,7 +1,7 @@
 //! How a base is opened: the rows of its journal are read one by one, and each has to fit those before it.
 
 ghost use Rattle.std.specs.Prelude.{◌≡◌, [], ◌∷◌, true, IfSome, IfNone, IfOk, IfErr, OnOk};
-ghost use Rattle.legal_history.specs.Base.Fits.{fits};
+ghost use Rattle.base_model.specs.Fits.{fits};
 ghost use Rattle.disk_model.specs.Devices.{file_of, bytes_of};
 ghost use Rattle.disk_model.specs.Files.{stable};
 ghost use Rattle.disk_model.specs.Told.{IfTold};

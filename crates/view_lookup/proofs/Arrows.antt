@@ -2,8 +2,8 @@
 use Rattle.std.proofs.Common.{◌≡◌, ℕ, Bool, true, false, Option, Some, [], ◌∷◌, refl, ap, ◌∙◌}
 use Rattle.std.specs.Option.{option_or}
 use Rattle.cc_names.specs.Last.{Sets, only_if, left}
-use Rattle.legal_history.specs.Base.Conditions.{arrow_row, is_arrow}
-use Rattle.legal_history.specs.Base.Rows.{Base, only_where, size}
+use Rattle.base_model.specs.Conditions.{arrow_row, is_arrow}
+use Rattle.base_model.specs.Rows.{Base, only_where, size}
 use Rattle.view_lookup.specs.Effects.{merge_effect}
 use Rattle.view_lookup.specs.LookUps.{last_of}
 

@@ -8,9 +8,9 @@ use Rattle.cc_names.specs.declared.changes.TreeChange.{TreeChange}
 use Rattle.cc_names.specs.declared.changes.TreeChange.TheVariants.{BranchMade}
 use Rattle.cc_names.specs.declared.rows.Deed.{Deed}
 use Rattle.cc_names.specs.declared.rows.Deed.TheVariants as deeds
-use Rattle.legal_history.specs.Base.Changes.{tree, tree_after, with_checkin, with_version}
-use Rattle.legal_history.specs.Base.Rows.{Base, size}
-use Rattle.legal_history.specs.Base.Views.{Checkout, out}
+use Rattle.base_model.specs.Changes.{tree, tree_after, with_checkin, with_version}
+use Rattle.base_model.specs.Rows.{Base, size}
+use Rattle.base_model.specs.Views.{Checkout, out}
 use Rattle.view_lookup.specs.Effects.{branch_named_effect}
 use Rattle.view_lookup.specs.LookUps.{last_of}
 

@@ -15,19 +15,19 @@ use Rattle.cc_names.specs.declared.rows.Deed.TheVariants as deeds
 use Rattle.cc_names.specs.declared.rows.Out.TheVariants as outs
 use Rattle.cc_names.specs.declared.rows.Kind.TheVariants.{Directory}
 use Rattle.cc_names.specs.declared.rows.Tag.{Tag}
-use Rattle.legal_history.specs.Base.Catalogs.{Catalog, Edit, BeginsEmpty, BeginsAs, Adds, Removes, Renames, OfCheckout, catalog_of, catalog_source, edit_of, edit_where, edited, first_edit, made_or_older, named, own_of}
-use Rattle.legal_history.specs.Base.Changes.{tree, with_checkin, with_version}
-use Rattle.legal_history.specs.Base.Checkouts.{branch_of, is_latest, latest_beside, other_reserver}
-use Rattle.legal_history.specs.Base.Closures.{greater_of, is_version_of}
-use Rattle.legal_history.specs.Base.Conditions.{exists, has_out, may_check_in}
-use Rattle.legal_history.specs.Base.Fits.{deed_fits, is_base, may_reserve}
-use Rattle.legal_history.specs.Base.Rows.{Base, size, first_rows, row_at, deed_of}
-use Rattle.legal_history.specs.Base.Views.{Checkout, out}
-use Rattle.legal_history.proofs.Bases.Below.{within}
-use Rattle.legal_history.proofs.Bases.Owned.{and_first, and_second, row_fits, rows_below, same_is_same}
-use Rattle.legal_history.proofs.Bases.Stay.{catalog_stays, first_rows_stay, row_stays}
-use Rattle.legal_history.proofs.Bases.TreesStay.{tree_of_first_rows}
-use Rattle.legal_history.proofs.Bases.VersionsStay.{of_element, parts_of}
+use Rattle.base_model.specs.Catalogs.{Catalog, Edit, BeginsEmpty, BeginsAs, Adds, Removes, Renames, OfCheckout, catalog_of, catalog_source, edit_of, edit_where, edited, first_edit, made_or_older, named, own_of}
+use Rattle.base_model.specs.Changes.{tree, with_checkin, with_version}
+use Rattle.base_model.specs.Checkouts.{branch_of, is_latest, latest_beside, other_reserver}
+use Rattle.base_model.specs.Closures.{greater_of, is_version_of}
+use Rattle.base_model.specs.Conditions.{exists, has_out, may_check_in}
+use Rattle.base_model.specs.Fits.{deed_fits, is_base, may_reserve}
+use Rattle.base_model.specs.Rows.{Base, size, first_rows, row_at, deed_of}
+use Rattle.base_model.specs.Views.{Checkout, out}
+use Rattle.base_model.proofs.Below.{within}
+use Rattle.base_model.proofs.Owned.{and_first, and_second, row_fits, rows_below, same_is_same}
+use Rattle.base_model.proofs.Stay.{catalog_stays, first_rows_stay, row_stays}
+use Rattle.base_model.proofs.TreesStay.{tree_of_first_rows}
+use Rattle.base_model.proofs.VersionsStay.{of_element, parts_of}
 use Rattle.view_lookup.specs.Changed.{alters, begins, begun, changed, changes, checked_in_on, is_since}
 use Rattle.view_lookup.specs.Lifetimes.{later}
 use Rattle.view_lookup.specs.Entries.{begun_effect, changed_effect, entry_effect}

@@ -3,7 +3,7 @@ use Rattle.std.proofs.Common.{◌≡◌, ℕ, Bool, true, false, [], ◌∷◌, 
 use Rattle.std.specs.Prelude.{is_some}
 use Rattle.cc_names.specs.Last.{Sets, only_if}
 use Rattle.cc_names.specs.Versions.{is_number, put_if}
-use Rattle.legal_history.specs.Base.Rows.{Base, size}
+use Rattle.base_model.specs.Rows.{Base, size}
 use Rattle.view_lookup.specs.ChangeBearings.{changing_effect}
 use Rattle.view_lookup.specs.Changed.{changing, changing_rows}
 use Rattle.view_lookup.specs.LookUps.{told}

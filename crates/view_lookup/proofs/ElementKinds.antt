@@ -11,9 +11,9 @@ use Rattle.cc_names.specs.declared.rows.Deed.{Deed}
 use Rattle.cc_names.specs.declared.rows.Deed.TheVariants as deeds
 use Rattle.cc_names.specs.declared.rows.Kind.{Kind}
 use Rattle.cc_names.specs.declared.rows.Kind.TheVariants.{Directory}
-use Rattle.legal_history.specs.Base.Changes.{tree, tree_after, with_checkin, with_version}
-use Rattle.legal_history.specs.Base.Rows.{Base, size, row_at, deed_at, deed_of}
-use Rattle.legal_history.specs.Base.Views.{Checkout, out}
+use Rattle.base_model.specs.Changes.{tree, tree_after, with_checkin, with_version}
+use Rattle.base_model.specs.Rows.{Base, size, row_at, deed_at, deed_of}
+use Rattle.base_model.specs.Views.{Checkout, out}
 use Rattle.view_lookup.specs.Made.{kind_made}
 use Rattle.view_lookup.proofs.Newest.{no_later}
 

@@ -5,7 +5,7 @@ use Rattle.std.specs.Option.{option_or}
 use Rattle.std.proofs.lemmas.Bool.Decides.{nat_tests}
 use Rattle.cc_names.specs.Last.{Effect, Keeps, Ends, Sets, left}
 use Rattle.cc_names.specs.declared.rows.Deed.{Deed}
-use Rattle.legal_history.specs.Base.Rows.{Base, size, only_where}
+use Rattle.base_model.specs.Rows.{Base, size, only_where}
 use Rattle.view_lookup.specs.Effects.{map_effect, map_update}
 use Rattle.view_lookup.specs.Lifetimes.{number_of, ended_or, is_behind, within, later, or_else}
 use Rattle.view_lookup.specs.LookUps.{Deeds, Update, told, newest, last_of}

@@ -5,13 +5,13 @@ use Rattle.std.proofs.lemmas.Bool.Decides.{Decides-eqb}
 use Rattle.std.proofs.lemmas.Slice.Eq.{bytes_eq-Decides}
 use Rattle.cc_names.specs.declared.rows.Deed.{Deed}
 use Rattle.cc_names.specs.declared.rows.Deed.TheVariants as deeds
-use Rattle.legal_history.specs.Base.Catalogs.{BeginsEmpty, BeginsAs, Adds, Removes, Renames, edit_where, first_edit, is_out, named, edit_of, own_of}
-use Rattle.legal_history.specs.Base.Conditions.{has_out, has_name}
-use Rattle.legal_history.specs.Base.Fits.{deed_fits, is_base}
-use Rattle.legal_history.specs.Base.Rows.{Base, size, first_rows, row_at, deed_of, deed_at}
-use Rattle.legal_history.proofs.Bases.Deeds.{deed_below}
-use Rattle.legal_history.proofs.Bases.Owned.{and_first, and_second, row_fits, rows_below}
-use Rattle.legal_history.proofs.Bases.Stay.{first_rows_stay}
+use Rattle.base_model.specs.Catalogs.{BeginsEmpty, BeginsAs, Adds, Removes, Renames, edit_where, first_edit, is_out, named, edit_of, own_of}
+use Rattle.base_model.specs.Conditions.{has_out, has_name}
+use Rattle.base_model.specs.Fits.{deed_fits, is_base}
+use Rattle.base_model.specs.Rows.{Base, size, first_rows, row_at, deed_of, deed_at}
+use Rattle.base_model.proofs.Deeds.{deed_below}
+use Rattle.base_model.proofs.Owned.{and_first, and_second, row_fits, rows_below}
+use Rattle.base_model.proofs.Stay.{first_rows_stay}
 use Rattle.view_lookup.proofs.EntryRows.{below_newest}
 
 some_deed : {a b : Deed} → Some a ≡ Some b → a ≡ b

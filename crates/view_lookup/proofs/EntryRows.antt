@@ -6,10 +6,10 @@ use Rattle.cc_names.specs.Last.{Sets, only_if, left}
 use Rattle.cc_names.specs.declared.rows.Deed.{Deed}
 use Rattle.cc_names.specs.declared.rows.Deed.TheVariants as deeds
 use Rattle.cc_names.specs.declared.rows.Out.{Out}
-use Rattle.legal_history.specs.Base.Catalogs.{Catalog, CatalogSource, Empty, OfVersion, OfCheckout, Edit, Same, catalog_source, made_or_older, named, edited, edit_of, catalog_of, own_of}
-use Rattle.legal_history.specs.Base.Rows.{Base, size, first_rows, row_at, deed_of, deed_at}
-use Rattle.legal_history.proofs.Bases.Deeds.{deed_below}
-use Rattle.legal_history.proofs.Bases.Stay.{all_rows, first_rows_stay}
+use Rattle.base_model.specs.Catalogs.{Catalog, CatalogSource, Empty, OfVersion, OfCheckout, Edit, Same, catalog_source, made_or_older, named, edited, edit_of, catalog_of, own_of}
+use Rattle.base_model.specs.Rows.{Base, size, first_rows, row_at, deed_of, deed_at}
+use Rattle.base_model.proofs.Deeds.{deed_below}
+use Rattle.base_model.proofs.Stay.{all_rows, first_rows_stay}
 use Rattle.view_lookup.specs.Changed.{begins, changes}
 use Rattle.view_lookup.specs.Entries.{entry_effect}
 use Rattle.view_lookup.specs.Lifetimes.{or_else}

@@ -5,9 +5,9 @@ use Rattle.std.specs.Str.{bytes_eq}
 use Rattle.std.proofs.lemmas.Slice.Eq.{bytes_eq-Decides}
 use Rattle.std.proofs.Common.{◌≡◌, refl, ℕ, ◌≤◌, Bool, true, false, nat_lt, Option, Some, None, Result, Ok, Err, List, [], ◌∷◌, ap, sym, subst, ◌∙◌, arith}
 use Rattle.cc_names.specs.Formed.{Plain}
-use Rattle.legal_history.specs.Base.Rows.{Base, first_rows, size}
-use Rattle.legal_history.specs.Base.Seen.{file_at}
-use Rattle.legal_history.proofs.Bases.Stay.{all_rows, first_rows_stay}
+use Rattle.base_model.specs.Rows.{Base, first_rows, size}
+use Rattle.base_model.specs.Seen.{file_at}
+use Rattle.base_model.proofs.Stay.{all_rows, first_rows_stay}
 use Rattle.view_lookup.specs.SeenFiles.{AreFiles, AreSeen, AreSeenByViews, IsSeenAs, IsSeenIn, IsSeenOnce, Views}
 use Rattle.view_lookup.specs.declared.seen_files.SeenFiles.{SeenFiles}
 

@@ -3,8 +3,8 @@ use Rattle.std.proofs.Common.{◌≡◌, ℕ, suc, ◌-◌, ◌<◌, ◌≤◌, 
 use Rattle.std.proofs.lemmas.Bool.Decides.{nat_tests}
 use Rattle.std.proofs.lemmas.List.{length-reverse, reverse-append, reverse-reverse, take_all, take-append-le, length-append, length-take, length-take-le, take-take}
 use Rattle.cc_names.specs.Formed.{Plain}
-use Rattle.legal_history.specs.Base.Rows.{Base, size, first_rows}
-use Rattle.legal_history.specs.Base.Fits.{deed_fits, fits, is_base, row_limit}
+use Rattle.base_model.specs.Rows.{Base, size, first_rows}
+use Rattle.base_model.specs.Fits.{deed_fits, fits, is_base, row_limit}
 use Rattle.view_lookup.specs.Front.{IsFront}
 
 -- both of two tests

@@ -9,11 +9,11 @@ use Rattle.cc_names.specs.declared.changes.TreeChange.{TreeChange}
 use Rattle.cc_names.specs.declared.changes.TreeChange.TheVariants.{VersionMade}
 use Rattle.cc_names.specs.declared.rows.Deed.{Deed}
 use Rattle.cc_names.specs.declared.rows.Deed.TheVariants as deeds
-use Rattle.legal_history.specs.Base.Rows.{Base, size}
-use Rattle.legal_history.specs.Base.Changes.{tree, tree_after, with_version, with_checkin}
-use Rattle.legal_history.specs.Base.Views.{Checkout, out}
-use Rattle.legal_history.proofs.Bases.Owned.{same_is_same}
-use Rattle.legal_history.proofs.Bases.TreesStay.{Adds, Nothing, One, adds_row}
+use Rattle.base_model.specs.Rows.{Base, size}
+use Rattle.base_model.specs.Changes.{tree, tree_after, with_version, with_checkin}
+use Rattle.base_model.specs.Views.{Checkout, out}
+use Rattle.base_model.proofs.Owned.{same_is_same}
+use Rattle.base_model.proofs.TreesStay.{Adds, Nothing, One, adds_row}
 use Rattle.view_lookup.specs.Growing as growing
 use Rattle.view_lookup.specs.Growing.{tree_change, with_change}
 

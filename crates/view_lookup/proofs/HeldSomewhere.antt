@@ -15,9 +15,9 @@ use Rattle.cc_names.specs.Versions.{is_number}
 use Rattle.cc_names.specs.declared.rows.Deed.{Deed}
 use Rattle.cc_names.specs.declared.rows.Deed.TheVariants as deeds
 use Rattle.cc_names.specs.declared.rows.ReadOf.{ReadOf}
-use Rattle.legal_history.specs.Base.Changes.{held, targets_of}
-use Rattle.legal_history.specs.Base.Rows.{Base, size, deed_at, deed_of, row_at}
-use Rattle.legal_history.proofs.Bases.HeldObjects.{held_in_order, is_held_there, view_paths_total}
+use Rattle.base_model.specs.Changes.{held, targets_of}
+use Rattle.base_model.specs.Rows.{Base, size, deed_at, deed_of, row_at}
+use Rattle.base_model.proofs.HeldObjects.{held_in_order, is_held_there, view_paths_total}
 use Rattle.view_lookup.specs.Effects.{held_by_maker, holds_one, winked_effect}
 use Rattle.view_lookup.specs.Lifetimes.{ended_or}
 use Rattle.view_lookup.specs.LookUps.{last_of}

@@ -13,8 +13,8 @@ use Rattle.cc_names.specs.Last.{Keeps, Ends, Sets, only_if, left}
 use Rattle.cc_names.specs.References.{ViewPath, Held, is_view_path, view_path_cmp, won, lost, view_gone, held_at, references}
 use Rattle.cc_names.specs.declared.rows.Deed.{Deed}
 use Rattle.cc_names.specs.declared.rows.Deed.TheVariants as deeds
-use Rattle.legal_history.specs.Base.Rows.{Base, size}
-use Rattle.legal_history.specs.Base.Changes.{held, holdings, holdings_after, targets_of}
+use Rattle.base_model.specs.Rows.{Base, size}
+use Rattle.base_model.specs.Changes.{held, holdings, holdings_after, targets_of}
 use Rattle.view_lookup.specs.Effects.{gone_effect, object_effect}
 use Rattle.view_lookup.specs.Lifetimes.{ended_or}
 use Rattle.view_lookup.specs.Made.{is_target}

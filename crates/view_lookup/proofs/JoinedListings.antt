@@ -15,10 +15,10 @@ use Rattle.std.specs.declared.cmp.Ordering.{Ordering}
 use Rattle.std.specs.declared.cmp.Ordering.TheVariants.{Less, Equal, Greater}
 use Rattle.cc_names.specs.declared.changes.VersionId.{VersionId}
 use Rattle.cc_names.specs.declared.rows.ReadOf.{ReadOf}
-use Rattle.legal_history.specs.Base.Closures.{Listing, Input, Inputs, closure, greater_of, is_publish, joined_inputs, listing_of, input_cmp, inputs_of, inputs_of_entry, version_listed, with_version_at}
-use Rattle.legal_history.specs.Base.Rows.{Base, only_where}
-use Rattle.legal_history.proofs.Reuse.Covered.{Keyed, closure_keyed, entries_keyed, entry_keyed, one_input, put_keyed}
-use Rattle.legal_history.proofs.Stories.Tables.{find_after_put}
+use Rattle.base_model.specs.Closures.{Listing, Input, Inputs, closure, greater_of, is_publish, joined_inputs, listing_of, input_cmp, inputs_of, inputs_of_entry, version_listed, with_version_at}
+use Rattle.base_model.specs.Rows.{Base, only_where}
+use Rattle.base_model.proofs.Covered.{Keyed, closure_keyed, entries_keyed, entry_keyed, one_input, put_keyed}
+use Rattle.base_model.proofs.Tables.{find_after_put}
 use Rattle.view_lookup.specs.Listings.{greater, greatest_in}
 
 -- the greater of versions, in any order and each once

@@ -9,10 +9,10 @@ use Rattle.std.specs.Map.{keys_of, lookup}
 use Rattle.std.specs.Ordering.{is_eq, is_lt, nat_cmp}
 use Rattle.std.specs.Prelude.{T}
 use Rattle.std.specs.declared.cmp.Ordering.TheVariants.{Less}
-use Rattle.legal_history.specs.Base.Closures.{closure, listing}
-use Rattle.legal_history.specs.Base.Rows.{Base}
-use Rattle.legal_history.proofs.Bases.Listings.{in_order}
-use Rattle.legal_history.proofs.Stories.Tables.{tied}
+use Rattle.base_model.specs.Closures.{closure, listing}
+use Rattle.base_model.specs.Rows.{Base}
+use Rattle.base_model.proofs.Listings.{in_order}
+use Rattle.base_model.proofs.Tables.{tied}
 use Rattle.view_lookup.specs.Listings.{HasListing, Versions}
 
 both : (a b : Bool) → T a → T b → T (a && b)

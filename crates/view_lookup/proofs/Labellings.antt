@@ -17,8 +17,8 @@ use Rattle.cc_names.specs.declared.rows.Deed.TheVariants as deeds
 use Rattle.cc_names.specs.declared.rows.Placed.{Placed}
 use Rattle.label_book.specs.Marks.{AddsChange, Marks, is_about, of_pair, rows_of_pair}
 use Rattle.label_book.proofs.Pairs.{same_holder}
-use Rattle.legal_history.specs.Base.Rows.{Base, size}
-use Rattle.legal_history.specs.Base.Changes.{labels, labels_after, all_placed}
+use Rattle.base_model.specs.Rows.{Base, size}
+use Rattle.base_model.specs.Changes.{labels, labels_after, all_placed}
 use Rattle.view_lookup.specs.Labelling.{AreLabels}
 
 -- the same changes, twice

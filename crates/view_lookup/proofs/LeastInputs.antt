@@ -17,15 +17,15 @@ use Rattle.std.specs.declared.cmp.Ordering.{Ordering}
 use Rattle.std.specs.declared.cmp.Ordering.TheVariants.{Less, Equal, Greater}
 use Rattle.cc_names.specs.Formed.{Plain}
 use Rattle.cc_names.specs.declared.rows.ReadOf.{ReadOf}
-use Rattle.legal_history.specs.Base.Closures.{Input, Inputs, closure, entries_of_deed, is_publish, joined_inputs, input_cmp, inputs_of, inputs_of_entry}
-use Rattle.legal_history.specs.Base.Conditions.{is_entry}
-use Rattle.legal_history.specs.Base.Fits.{is_base}
-use Rattle.legal_history.specs.Base.Rows.{Base, only_where, size}
-use Rattle.legal_history.specs.Queries.RecordTexts.{record_of}
-use Rattle.legal_history.proofs.Bases.Owned.{and_first, and_second, row_fits, rows_below}
-use Rattle.legal_history.proofs.Reuse.Covered.{Keyed, closure_keyed, entries_keyed, entry_keyed, one_input, put_keyed}
-use Rattle.legal_history.proofs.Reuse.EntriesBelow.{entry_below, entries_fit}
-use Rattle.legal_history.proofs.Stories.Goes.{same_number}
+use Rattle.base_model.specs.Closures.{Input, Inputs, closure, entries_of_deed, is_publish, joined_inputs, input_cmp, inputs_of, inputs_of_entry}
+use Rattle.base_model.specs.Conditions.{is_entry}
+use Rattle.base_model.specs.Fits.{is_base}
+use Rattle.base_model.specs.Rows.{Base, only_where, size}
+use Rattle.base_model.specs.Objects.{record_of}
+use Rattle.base_model.proofs.Owned.{and_first, and_second, row_fits, rows_below}
+use Rattle.base_model.proofs.Covered.{Keyed, closure_keyed, entries_keyed, entry_keyed, one_input, put_keyed}
+use Rattle.base_model.proofs.EntriesBelow.{entry_below, entries_fit}
+use Rattle.base_model.proofs.Tables.{same_number}
 use Rattle.view_lookup.specs.FirstInputs.{Test, first_among, first_input}
 use Rattle.view_lookup.specs.LeastInputs.{above, above_entries, least_in, least_of, least_of_all, least_of_entries, least_of_entry, lesser, lower, passed}
 use Rattle.view_lookup.proofs.LesserPaths.{lesser_join, lesser_swap, lesser_twice}

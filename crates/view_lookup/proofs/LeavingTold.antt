@@ -6,9 +6,9 @@ use Rattle.cc_names.specs.Last.{Sets, only_if}
 use Rattle.cc_names.specs.Versions.{put_if}
 use Rattle.cc_names.specs.declared.rows.Deed.{Deed}
 use Rattle.cc_names.specs.declared.rows.Deed.TheVariants as deeds
-use Rattle.legal_history.specs.Base.Changes.{tree, tree_after, with_checkin, with_version}
-use Rattle.legal_history.specs.Base.Rows.{Base, size, only_where}
-use Rattle.legal_history.specs.Base.Views.{Checkout, out}
+use Rattle.base_model.specs.Changes.{tree, tree_after, with_checkin, with_version}
+use Rattle.base_model.specs.Rows.{Base, size, only_where}
+use Rattle.base_model.specs.Views.{Checkout, out}
 use Rattle.legal_history.specs.Queries.ElementTexts.{branches_leaving, with_some}
 use Rattle.view_lookup.specs.Effects.{leaving_effect}
 use Rattle.view_lookup.specs.LookUps.{told}

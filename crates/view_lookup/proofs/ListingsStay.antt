@@ -14,16 +14,16 @@ use Rattle.cc_names.specs.Versions.{Version, branch_of_change, change_at, elemen
 use Rattle.cc_names.specs.declared.changes.VersionId.{VersionId}
 use Rattle.cc_names.specs.declared.changes.TreeChange.{TreeChange}
 use Rattle.cc_names.specs.declared.rows.ReadOf.{ReadOf}
-use Rattle.legal_history.specs.Base.Changes.{tree}
-use Rattle.legal_history.specs.Base.Closures.{Input, Inputs, closure, entries_of_deed, is_publish, joined_inputs, listing, listing_of, input_cmp, inputs_of, inputs_of_entry, version_listed, with_version_at}
-use Rattle.legal_history.specs.Base.Conditions.{is_entry}
-use Rattle.legal_history.specs.Base.Fits.{deed_fits, is_base}
-use Rattle.legal_history.specs.Base.Rows.{Base, first_rows, size}
-use Rattle.legal_history.proofs.Bases.Below.{Within, older_change, within}
-use Rattle.legal_history.proofs.Bases.Owned.{and_first, and_second, row_fits, rows_below}
-use Rattle.legal_history.proofs.Bases.TreesStay.{Adds, Nothing, One, adds_row}
-use Rattle.legal_history.proofs.Bases.VersionsStay.{apart_below, find_older}
-use Rattle.legal_history.proofs.Reuse.EntriesBelow.{entries_fit, entry_below}
+use Rattle.base_model.specs.Changes.{tree}
+use Rattle.base_model.specs.Closures.{Input, Inputs, closure, entries_of_deed, is_publish, joined_inputs, listing, listing_of, input_cmp, inputs_of, inputs_of_entry, version_listed, with_version_at}
+use Rattle.base_model.specs.Conditions.{is_entry}
+use Rattle.base_model.specs.Fits.{deed_fits, is_base}
+use Rattle.base_model.specs.Rows.{Base, first_rows, size}
+use Rattle.base_model.proofs.Below.{Within, older_change, within}
+use Rattle.base_model.proofs.Owned.{and_first, and_second, row_fits, rows_below}
+use Rattle.base_model.proofs.TreesStay.{Adds, Nothing, One, adds_row}
+use Rattle.base_model.proofs.VersionsStay.{apart_below, find_older}
+use Rattle.base_model.proofs.EntriesBelow.{entries_fit, entry_below}
 use Rattle.version_tree.proofs.FirstRows.{found_on}
 use Rattle.view_lookup.specs.Listings.{AreListings, HasListing, Versions, listing_made, version_in, versions_of, with_listing}
 

@@ -4,7 +4,7 @@ use Rattle.std.specs.Option.{option_or}
 use Rattle.std.specs.declared.random_state.RandomState.{RandomState}
 use Rattle.std.proofs.lemmas.Bool.Decides.{nat_tests}
 use Rattle.cc_names.specs.Versions.{put_if}
-use Rattle.legal_history.specs.Base.Rows.{Base, size, first_rows, deed_of}
+use Rattle.base_model.specs.Rows.{Base, size, first_rows, deed_of}
 use Rattle.view_lookup.specs.LookUps.{Deeds, Update, told_by, told_at, first_told}
 use Rattle.view_lookup.specs.Marked.{AreAtMost, Sink, marked, rows_below, with_marks}
 use Rattle.view_lookup.specs.Subjects.{keys_of}

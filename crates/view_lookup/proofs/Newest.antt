@@ -8,9 +8,9 @@ use Rattle.cc_names.specs.Last.{Effect, Keeps, Ends, Sets, left}
 use Rattle.cc_names.specs.Formed.{Plain}
 use Rattle.cc_names.specs.Versions.{put_if}
 use Rattle.cc_names.specs.declared.rows.Deed.{Deed}
-use Rattle.legal_history.specs.Base.Rows.{Base, size, first_rows, row_at, deed_of, deed_at}
-use Rattle.legal_history.specs.Builds.Reuse.{are_same_paths}
-use Rattle.legal_history.proofs.Bases.Stay.{all_rows}
+use Rattle.base_model.specs.Rows.{Base, size, first_rows, row_at, deed_of, deed_at}
+use Rattle.base_model.specs.Objects.{are_same_paths}
+use Rattle.base_model.proofs.Stay.{all_rows}
 use Rattle.view_lookup.specs.LookUps.{Deeds, Update, told, newest, told_by, told_at, first_told, left_by, last_of, BearsOnAll}
 use Rattle.view_lookup.specs.Subjects.{Subject, Life, Spec, Desk, File, Object, Out, Saved, NameIn, Reserved, Named, Living, Winked, Merge, Merged, History, Changing, Altered, Leaving, BranchNamed, Owned, Given, is_same, key, bears, catalog_subjects, keys_of, plain_subjects, Pool}
 use Rattle.view_lookup.specs.Marked.{with_marks, marked}

@@ -4,7 +4,7 @@ use Rattle.std.specs.List.{list_any}
 use Rattle.std.specs.Option.{option_or}
 use Rattle.std.specs.declared.random_state.RandomState.{RandomState}
 use Rattle.cc_names.specs.Versions.{put_if}
-use Rattle.legal_history.specs.Base.Rows.{Base, size, first_rows, deed_of}
+use Rattle.base_model.specs.Rows.{Base, size, first_rows, deed_of}
 use Rattle.view_lookup.specs.LookUps.{Deeds, told, told_by, left_by, oldest, set_at, last_set, BearsOnAll}
 use Rattle.view_lookup.specs.Marked.{with_marks, marked}
 use Rattle.view_lookup.specs.Subjects.{Subject, key, bears, keys_of}

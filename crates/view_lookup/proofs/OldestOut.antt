@@ -3,9 +3,9 @@ use Rattle.std.proofs.Common.{◌≡◌, ℕ, Bool, true, false, ◌&&◌, Optio
 use Rattle.std.specs.Option.{option_or}
 use Rattle.cc_names.specs.Last.{Sets, only_if}
 use Rattle.cc_names.specs.Versions.{put_if}
-use Rattle.legal_history.specs.Base.Checkouts.{oldest_of, oldest_out, standing_among, with_standing}
-use Rattle.legal_history.specs.Base.Rows.{Base, size, only_where}
-use Rattle.legal_history.specs.Base.Views.{TakenOut, made_out}
+use Rattle.base_model.specs.Checkouts.{oldest_of, oldest_out, standing_among, with_standing}
+use Rattle.base_model.specs.Rows.{Base, size, only_where}
+use Rattle.base_model.specs.Views.{TakenOut, made_out}
 use Rattle.view_lookup.specs.Effects.{standing_effect, standing_of, stands}
 use Rattle.view_lookup.specs.LookUps.{left_by, oldest, told}
 use Rattle.view_lookup.proofs.Oldest.{or_none}

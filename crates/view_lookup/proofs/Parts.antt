@@ -3,8 +3,8 @@ use Rattle.std.proofs.Common.{◌≡◌, ℕ, Bool, true, false, ◌&&◌, ◌==
 use Rattle.cc_names.specs.Last.{Effect, Keeps, Ends, Sets, only_if}
 use Rattle.cc_names.specs.declared.rows.Deed.{Deed}
 use Rattle.cc_names.specs.declared.rows.Deed.TheVariants as deeds
-use Rattle.legal_history.specs.Base.Rows.{Base, size}
-use Rattle.legal_history.specs.Base.Views.{Checkout, making_effect, making_of_out, made_out, out_effect, private_effect, set_by}
+use Rattle.base_model.specs.Rows.{Base, size}
+use Rattle.base_model.specs.Views.{Checkout, making_effect, making_of_out, made_out, out_effect, private_effect, set_by}
 use Rattle.std.specs.Prelude.{Option, Some, None, option_map}
 use Rattle.view_lookup.specs.Effects.{end_effect, file_effect, taken_effect, kept_checkout, plain_checkout, map_effect, row_of_kept, desk_effect, saved_effect}
 use Rattle.view_lookup.specs.Lifetimes.{ended_or, or_else}

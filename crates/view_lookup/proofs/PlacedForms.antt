@@ -13,16 +13,15 @@ use Rattle.std.specs.declared.cmp.Ordering.TheVariants.{Less, Equal, Greater}
 use Rattle.cc_names.specs.Formed.{IsListOf, IsPlaced, element_of}
 use Rattle.cc_names.specs.Versions.{change_at, kind_by}
 use Rattle.cc_names.specs.declared.changes.TreeChange.{TreeChange}
-use Rattle.legal_history.specs.Base.Changes.{tree}
-use Rattle.legal_history.specs.Base.Closures.{Listing, closure, is_version_of, listing}
-use Rattle.legal_history.specs.Base.Fits.{is_base}
-use Rattle.legal_history.specs.Base.Rows.{Base, size}
-use Rattle.legal_history.specs.Commands.LabelLines.{as_placed, placed_by}
-use Rattle.legal_history.proofs.Bases.Below.{within}
-use Rattle.legal_history.proofs.Bases.LabelsHold.{all_listed}
-use Rattle.legal_history.proofs.Bases.Listings.{in_order}
-use Rattle.legal_history.proofs.Bases.Owned.{version_has_kind}
-use Rattle.legal_history.proofs.Bases.VersionsStay.{of_element, parts_of}
+use Rattle.base_model.specs.Changes.{tree}
+use Rattle.base_model.specs.Closures.{Listing, closure, is_version_of, listing, as_placed, placed_by}
+use Rattle.base_model.specs.Fits.{is_base}
+use Rattle.base_model.specs.Rows.{Base, size}
+use Rattle.base_model.proofs.Below.{within}
+use Rattle.base_model.proofs.LabelsHold.{all_listed}
+use Rattle.base_model.proofs.Listings.{in_order}
+use Rattle.base_model.proofs.Owned.{version_has_kind}
+use Rattle.base_model.proofs.VersionsStay.{of_element, parts_of}
 
 t_first : (a b : Bool) → T (a && b) → T a
 t_first true b h = tt

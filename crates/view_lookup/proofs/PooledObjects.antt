@@ -2,8 +2,8 @@
 use Rattle.std.proofs.Common.{◌≡◌, ℕ, Bool, true, false, ◌&&◌, Option, Some, List, [], ◌∷◌, refl}
 use Rattle.std.specs.Prelude.{is_some}
 use Rattle.cc_names.specs.Last.{Sets, only_if, left}
-use Rattle.legal_history.specs.Base.Changes.{live}
-use Rattle.legal_history.specs.Base.Rows.{Base, size}
+use Rattle.base_model.specs.Changes.{live}
+use Rattle.base_model.specs.Rows.{Base, size}
 use Rattle.view_lookup.specs.Effects.{pool_effect}
 use Rattle.view_lookup.specs.LookUps.{last_of}
 use Rattle.view_lookup.specs.Pool.{Test, newest_passing, publishes}

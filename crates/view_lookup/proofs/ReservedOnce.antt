@@ -13,19 +13,19 @@ use Rattle.cc_names.specs.declared.rows.Deed.{Deed}
 use Rattle.cc_names.specs.declared.rows.Tag.{Tag}
 use Rattle.cc_names.specs.declared.rows.Deed.TheVariants as deeds
 use Rattle.cc_names.specs.declared.rows.Out.TheVariants as outs
-use Rattle.legal_history.specs.Base.Changes.{tree}
-use Rattle.legal_history.specs.Base.Checkouts.{checkouts, other_reserver, reserver, reserves, row_of_checkout, standing_among, view_of, with_standing}
-use Rattle.legal_history.specs.Base.Closures.{is_version_of}
-use Rattle.legal_history.specs.Base.Fits.{deed_fits, is_base}
-use Rattle.legal_history.specs.Base.Rows.{Base, deed_of, only_where, size}
-use Rattle.legal_history.specs.Base.Views.{Checkout, TakenOut, made_out, out, out_effect}
-use Rattle.legal_history.proofs.Bases.Below.{last_holds, older_change, within}
-use Rattle.legal_history.proofs.Bases.FilesBelow.{out_row}
-use Rattle.legal_history.proofs.Bases.Owned.{and_first, and_second, row_fits, rows_below}
-use Rattle.legal_history.proofs.Bases.Stay.{row_stays}
-use Rattle.legal_history.proofs.Bases.TreesStay.{Adds, Nothing, One, adds_row}
-use Rattle.legal_history.proofs.Bases.VersionRows.{newest_deed}
-use Rattle.legal_history.proofs.Bases.VersionsStay.{apart_below, of_element, parts_of}
+use Rattle.base_model.specs.Changes.{tree}
+use Rattle.base_model.specs.Checkouts.{checkouts, other_reserver, reserver, reserves, row_of_checkout, standing_among, view_of, with_standing}
+use Rattle.base_model.specs.Closures.{is_version_of}
+use Rattle.base_model.specs.Fits.{deed_fits, is_base}
+use Rattle.base_model.specs.Rows.{Base, deed_of, only_where, size}
+use Rattle.base_model.specs.Views.{Checkout, TakenOut, made_out, out, out_effect}
+use Rattle.base_model.proofs.Below.{last_holds, older_change, within}
+use Rattle.base_model.proofs.FilesBelow.{out_row}
+use Rattle.base_model.proofs.Owned.{and_first, and_second, row_fits, rows_below}
+use Rattle.base_model.proofs.Stay.{row_stays}
+use Rattle.base_model.proofs.TreesStay.{Adds, Nothing, One, adds_row}
+use Rattle.base_model.proofs.VersionRows.{newest_deed}
+use Rattle.base_model.proofs.VersionsStay.{apart_below, of_element, parts_of}
 use Rattle.view_lookup.specs.Effects.{reserving_effect, stands}
 use Rattle.view_lookup.specs.LookUps.{last_of}
 use Rattle.view_lookup.specs.Reservations.{newest_reserving, reserving, taken_at}

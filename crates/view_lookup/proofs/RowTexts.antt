@@ -4,8 +4,8 @@ use Rattle.std.specs.List.{slice_get}
 use Rattle.std.proofs.lemmas.Bool.Decides.{nat_tests}
 use Rattle.std.proofs.lemmas.List.{length-reverse, reverse-append, reverse-reverse, drop_more, drop-drop}
 use Rattle.cc_names.specs.Formed.{Plain}
-use Rattle.legal_history.specs.Base.Rows.{Base, size, row_at}
-use Rattle.legal_history.specs.Base.Texts.{output_at}
+use Rattle.base_model.specs.Rows.{Base, size, row_at}
+use Rattle.base_model.specs.Texts.{output_at}
 
 -- no number behind another is 0
 not_zero : (n : ℕ) → (suc n == 0) ≡ false

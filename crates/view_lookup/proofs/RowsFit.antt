@@ -4,10 +4,10 @@ use Rattle.cc_names.specs.Formed.{Plain}
 use Rattle.cc_names.specs.declared.rows.ReadOf.{ReadOf}
 use Rattle.cc_names.specs.declared.rows.Deed.{Deed}
 use Rattle.cc_names.specs.declared.rows.Deed.TheVariants as deeds
-use Rattle.legal_history.specs.Base.Rows.{Base, row_at, deed_of}
-use Rattle.legal_history.specs.Base.Changes.{targets_of_deed}
-use Rattle.legal_history.specs.Base.Closures.{is_among}
-use Rattle.legal_history.specs.Base.Conditions.{element_of_text, is_some_file, makes_file_text, is_entry}
+use Rattle.base_model.specs.Rows.{Base, row_at, deed_of}
+use Rattle.base_model.specs.Changes.{targets_of_deed}
+use Rattle.base_model.specs.Closures.{is_among}
+use Rattle.base_model.specs.Conditions.{element_of_text, is_some_file, makes_file_text, is_entry}
 
 -- whether the deed of a row, where there is one, makes the text at a path
 abbrev pub made_at : Base → ℕ → List ℕ → Option Deed → Bool

@@ -6,8 +6,8 @@ use Rattle.cc_names.specs.Last.{Keeps, Ends, Sets, only_if, left}
 use Rattle.cc_names.specs.declared.rows.Deed.{Deed}
 use Rattle.cc_names.specs.declared.rows.Deed.TheVariants as deeds
 use Rattle.cc_names.specs.Formed.{Plain}
-use Rattle.legal_history.specs.Base.Rows.{Base, size, row_at, deed_at, deed_of}
-use Rattle.legal_history.specs.Base.Views.{default_spec, spec_effect, spec_text}
+use Rattle.base_model.specs.Rows.{Base, size, row_at, deed_at, deed_of}
+use Rattle.base_model.specs.Views.{default_spec, spec_effect, spec_text}
 use Rattle.view_lookup.specs.Effects.{spec_row_effect}
 use Rattle.view_lookup.specs.Lifetimes.{or_else}
 use Rattle.view_lookup.specs.LookUps.{last_of}

@@ -9,9 +9,9 @@ use Rattle.cc_names.specs.declared.refusals.SpecError.{SpecError}
 use Rattle.cc_names.specs.declared.rows.Deed.{Deed}
 use Rattle.cc_names.specs.declared.rows.Deed.TheVariants as deeds
 use Rattle.cc_names.specs.declared.selection.Rule.{Rule}
-use Rattle.spec_text.specs.Specs.{rules_of}
-use Rattle.legal_history.specs.Base.Rows.{Base, size, first_rows, row_at, deed_of, deed_at, only_where}
-use Rattle.legal_history.specs.Base.Seen.{rules_read, rules_of_spec, rules}
+use Rattle.base_model.specs.ConfigSpecs.Specs.{rules_of}
+use Rattle.base_model.specs.Rows.{Base, size, first_rows, row_at, deed_of, deed_at, only_where}
+use Rattle.base_model.specs.Seen.{rules_read, rules_of_spec, rules}
 use Rattle.view_lookup.specs.Effects.{spec_row_effect}
 use Rattle.view_lookup.specs.LookUps.{last_of}
 use Rattle.view_lookup.specs.Made.{spec_made}

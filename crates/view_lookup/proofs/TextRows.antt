@@ -2,9 +2,9 @@
 use Rattle.std.proofs.Common.{◌≡◌, ℕ, suc, ◌<◌, ◌≤◌, ◌==◌, Bool, true, false, nat_lt, Option, Some, None, List, [], ◌∷◌, length, refl, ap, sym, ◌∙◌, arith}
 use Rattle.std.proofs.lemmas.Bool.Decides.{nat_tests}
 use Rattle.cc_names.specs.Formed.{Plain}
-use Rattle.legal_history.specs.Base.Rows.{Base, size, first_rows, row_at}
-use Rattle.legal_history.specs.Base.Texts.{TextSource, Bytes, OfRow, NoText, source_of, text}
-use Rattle.legal_history.proofs.Bases.Stay.{all_rows}
+use Rattle.base_model.specs.Rows.{Base, size, first_rows, row_at}
+use Rattle.base_model.specs.Texts.{TextSource, Bytes, OfRow, NoText, source_of, text}
+use Rattle.base_model.proofs.Stay.{all_rows}
 use Rattle.view_lookup.proofs.Newest.{no_later}
 
 -- the text of a source, where an earlier row has this one

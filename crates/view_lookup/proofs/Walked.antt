@@ -7,7 +7,7 @@ use Rattle.cc_names.specs.Last.{Keeps}
 use Rattle.std.specs.declared.random_state.RandomState.{RandomState}
 use Rattle.cc_names.specs.Versions.{put_if}
 use Rattle.cc_names.specs.declared.rows.Deed.{Deed}
-use Rattle.legal_history.specs.Base.Rows.{Base, size, first_rows}
+use Rattle.base_model.specs.Rows.{Base, size, first_rows}
 use Rattle.view_lookup.specs.LookUps.{Deeds, Update, told, told_at, BearsOnAll}
 use Rattle.view_lookup.specs.Marked.{with_marks, marked}
 use Rattle.view_lookup.specs.Subjects.{Subject, key, bears, keys_of}

@@ -7,10 +7,10 @@ use Rattle.cc_names.specs.declared.rows.Deed.TheVariants as deeds
 use Rattle.cc_names.specs.declared.rows.Out.TheVariants as outs
 use Rattle.cc_names.specs.declared.rows.Placed.{Placed}
 use Rattle.cc_names.specs.Versions.{is_number}
-use Rattle.legal_history.specs.Base.Changes.{targets_of, live}
-use Rattle.legal_history.specs.Base.Rows.{Base, size}
+use Rattle.base_model.specs.Changes.{targets_of, live}
+use Rattle.base_model.specs.Rows.{Base, size}
 use Rattle.view_lookup.specs.Effects.{life_effect, end_effect, gone_effect, file_effect, object_effect, living_effect, named_effect, merge_effect, merged_effect, set_effect, map_effect, kept_checkout, desk_effect, saved_effect, reserving_effect, stands, standing_effect, holds_one, winked_effect, pool_effect, leaving_effect, branch_named_effect}
-use Rattle.legal_history.specs.Builds.Reuse.{are_same_paths}
+use Rattle.base_model.specs.Objects.{are_same_paths}
 use Rattle.view_lookup.specs.Giving.{naming_effect, own_effect}
 use Rattle.view_lookup.specs.Histories.{history_effect, is_placed_on}
 use Rattle.view_lookup.specs.LookUps.{BearsOnAll}

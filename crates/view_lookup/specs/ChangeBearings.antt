@@ -9,8 +9,8 @@ use Rattle.cc_names.specs.Last.{Keeps, Sets, only_if, left}
 use Rattle.cc_names.specs.Versions.{is_number, put_if}
 use Rattle.cc_names.specs.declared.rows.Deed.{Deed}
 use Rattle.cc_names.specs.declared.rows.Deed.TheVariants as deeds
-use Rattle.legal_history.specs.Base.Catalogs.{BeginsEmpty, BeginsAs, Adds, Removes, Renames, edit_of, edit_where, first_edit, is_out}
-use Rattle.legal_history.specs.Base.Rows.{Base, size, deed_at, deed_of, row_at}
+use Rattle.base_model.specs.Catalogs.{BeginsEmpty, BeginsAs, Adds, Removes, Renames, edit_of, edit_where, first_edit, is_out}
+use Rattle.base_model.specs.Rows.{Base, size, deed_at, deed_of, row_at}
 use Rattle.view_lookup.specs.Changed.{alters, begins, begun, changed, changes, changing, changing_rows, checked_in_on, checked_in_rows, changing_rows_of, is_since, names_by, names_of_deed}
 use Rattle.view_lookup.specs.LookUps.{Deeds, BearsOnAll}
 use Rattle.view_lookup.specs.Subjects.{Changing, Altered, altered_subjects, changing_subjects, is_same}

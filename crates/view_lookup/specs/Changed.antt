@@ -4,10 +4,10 @@ use Rattle.cc_names.specs.Last.{Sets, only_if, last}
 use Rattle.cc_names.specs.Versions.{is_number, put_if}
 use Rattle.cc_names.specs.declared.rows.Deed.{Deed}
 use Rattle.cc_names.specs.declared.rows.Deed.TheVariants as deeds
-use Rattle.legal_history.specs.Base.Catalogs.{Edit, BeginsEmpty, BeginsAs, Adds, Removes, Renames, edit_of}
-use Rattle.legal_history.specs.Base.Checkouts.{branch_of}
-use Rattle.legal_history.specs.Base.Rows.{Base, size, deed_at}
-use Rattle.legal_history.specs.Base.Views.{out}
+use Rattle.base_model.specs.Catalogs.{Edit, BeginsEmpty, BeginsAs, Adds, Removes, Renames, edit_of}
+use Rattle.base_model.specs.Checkouts.{branch_of}
+use Rattle.base_model.specs.Rows.{Base, size, deed_at}
+use Rattle.base_model.specs.Views.{out}
 
 -- whether an edit begins the catalog of a checkout
 abbrev pub begins : Edit → Bool

@@ -6,12 +6,12 @@ use Rattle.cc_names.specs.References.{held_at}
 use Rattle.cc_names.specs.declared.rows.Deed.{Deed}
 use Rattle.cc_names.specs.declared.rows.Deed.TheVariants as deeds
 use Rattle.cc_names.specs.declared.rows.TypeKind.{TypeKind}
-use Rattle.legal_history.specs.Base.Changes.{held, live_effect, targets_of, type_effect, live}
+use Rattle.base_model.specs.Changes.{held, live_effect, targets_of, type_effect, live}
 use Rattle.cc_names.specs.Versions.{is_number}
-use Rattle.legal_history.specs.Base.Checkouts.{row_of_checkout}
-use Rattle.legal_history.specs.Base.Conditions.{is_arrow}
-use Rattle.legal_history.specs.Base.Rows.{Base, size}
-use Rattle.legal_history.specs.Base.Views as model
+use Rattle.base_model.specs.Checkouts.{row_of_checkout}
+use Rattle.base_model.specs.Conditions.{is_arrow}
+use Rattle.base_model.specs.Rows.{Base, size}
+use Rattle.base_model.specs.Views as model
 use Rattle.view_lookup.specs.Lifetimes.{or_else}
 use Rattle.view_lookup.specs.LookUps.{Deeds, Update}
 use Rattle.view_lookup.specs.Made.{is_target}

@@ -1,8 +1,8 @@
 -- A name in a catalog, told by the newest row that bears on it: what rows do to the catalog of a view's checkout of a directory.
 use Rattle.std.specs.Prelude.{◌≡◌, ℕ, ◌<◌, List, length}
 use Rattle.cc_names.specs.Last.{Sets, only_if}
-use Rattle.legal_history.specs.Base.Catalogs.{Catalog, Edit, Same, BeginsEmpty, BeginsAs, Adds, Removes, Renames, named, catalog_of, own_of, edit_of}
-use Rattle.legal_history.specs.Base.Rows.{Base, size, first_rows}
+use Rattle.base_model.specs.Catalogs.{Catalog, Edit, Same, BeginsEmpty, BeginsAs, Adds, Removes, Renames, named, catalog_of, own_of, edit_of}
+use Rattle.base_model.specs.Rows.{Base, size, first_rows}
 use Rattle.view_lookup.specs.Changed.{begins, changes}
 use Rattle.view_lookup.specs.LookUps.{Deeds}
 use Rattle.view_lookup.specs.Lifetimes.{or_else}

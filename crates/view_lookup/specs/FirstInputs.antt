@@ -1,8 +1,8 @@
 -- The first path, in byte order, of what an object rests on in the end, of which a test holds.
 use Rattle.std.specs.Prelude.{ℕ, Bool, Option, Some, None, List, [], ◌∷◌}
 use Rattle.std.specs.Option.{option_or}
-use Rattle.legal_history.specs.Base.Closures.{Inputs, closure}
-use Rattle.legal_history.specs.Base.Rows.{Base, only_where}
+use Rattle.base_model.specs.Closures.{Inputs, closure}
+use Rattle.base_model.specs.Rows.{Base, only_where}
 
 -- a test of a path and the row there
 abbrev pub Test : Type 0

@@ -1,7 +1,7 @@
 -- The first rows of a base are a base.
 use Rattle.std.specs.Prelude.{◌≡◌, ℕ, suc, ◌≤◌, true, length}
-use Rattle.legal_history.specs.Base.Rows.{Base, first_rows}
-use Rattle.legal_history.specs.Base.Fits.{is_base}
+use Rattle.base_model.specs.Rows.{Base, first_rows}
+use Rattle.base_model.specs.Fits.{is_base}
 
 -- There are this many rows behind row 0 or more, and so many of them are a base.
 pub record IsFront (count : ℕ) (b : Base) : Type 0 where

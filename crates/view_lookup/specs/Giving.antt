@@ -3,7 +3,7 @@ use Rattle.std.specs.Prelude.{ℕ, Bool, false, ◌==◌, List, bytes_eq}
 use Rattle.cc_names.specs.Last.{Sets, only_if}
 use Rattle.cc_names.specs.declared.rows.Deed.{Deed}
 use Rattle.cc_names.specs.declared.rows.Deed.TheVariants as deeds
-use Rattle.legal_history.specs.Base.Rows.{size}
+use Rattle.base_model.specs.Rows.{size}
 use Rattle.view_lookup.specs.LookUps.{Deeds}
 
 -- whether a deed gives the view something

@@ -5,7 +5,7 @@ use Rattle.cc_names.specs.Last.{Sets, only_if}
 use Rattle.cc_names.specs.declared.rows.Deed.{Deed}
 use Rattle.cc_names.specs.declared.rows.Deed.TheVariants as deeds
 use Rattle.cc_names.specs.declared.rows.Placed.{Placed}
-use Rattle.legal_history.specs.Base.Rows.{Base, size}
+use Rattle.base_model.specs.Rows.{Base, size}
 use Rattle.view_lookup.specs.LookUps.{Deeds}
 use Rattle.view_lookup.specs.Walks.{all_told}
 

@@ -2,8 +2,8 @@
 -- config specs and of what the records of objects list.
 use Rattle.std.specs.Prelude.{◌≡◌, ◌-◌, true, nat_eq, min, reverse, vec_len, vec_capacity}
 use Rattle.std.specs.HashMap.{get, spare}
-use Rattle.legal_history.specs.Base.Changes.{labels, tree}
-use Rattle.legal_history.specs.Base.Fits.{is_base}
+use Rattle.base_model.specs.Changes.{labels, tree}
+use Rattle.base_model.specs.Fits.{is_base}
 use Rattle.view_lookup.specs.Labelling.{AreLabels}
 use Rattle.view_lookup.specs.Listings.{AreListings, versions_of}
 use Rattle.view_lookup.specs.Marked.{IsMarked}

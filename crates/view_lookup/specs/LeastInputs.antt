@@ -3,8 +3,8 @@ use Rattle.std.specs.Prelude.{ℕ, suc, max, cond, Option, Some, None, List, [],
 use Rattle.std.specs.Cmp.Lexicographic.{slice_cmp}
 use Rattle.std.specs.Ordering.{is_lt, nat_cmp}
 use Rattle.cc_names.specs.declared.rows.ReadOf.{ReadOf}
-use Rattle.legal_history.specs.Base.Closures.{Inputs, closure, is_publish, inputs_of_entry}
-use Rattle.legal_history.specs.Base.Rows.{Base, only_where}
+use Rattle.base_model.specs.Closures.{Inputs, closure, is_publish, inputs_of_entry}
+use Rattle.base_model.specs.Rows.{Base, only_where}
 use Rattle.view_lookup.specs.FirstInputs.{Test}
 
 -- the lesser of two paths

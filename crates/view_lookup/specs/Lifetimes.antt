@@ -1,7 +1,7 @@
 -- Things of a view, which are there no more once its life began anew or ended.
 use Rattle.std.specs.Prelude.{ℕ, Bool, true, cond, nat_lt, Option, Some, None}
 use Rattle.cc_names.specs.Last.{Effect, Keeps, Ends, Sets}
-use Rattle.legal_history.specs.Base.Rows.{only_where}
+use Rattle.base_model.specs.Rows.{only_where}
 use Rattle.view_lookup.specs.LookUps.{Update}
 
 -- the number of the row of an update

@@ -5,8 +5,8 @@ use Rattle.std.specs.FinMap.Entries.{find}
 use Rattle.std.specs.Map.{lookup}
 use Rattle.std.specs.Ordering.{nat_cmp}
 use Rattle.cc_names.specs.declared.rows.Deed.{Deed}
-use Rattle.legal_history.specs.Base.Closures.{Listing, closure, entries_of_deed, greater_of, listing, listing_of, inputs_of}
-use Rattle.legal_history.specs.Base.Rows.{Base, only_where}
+use Rattle.base_model.specs.Closures.{Listing, closure, entries_of_deed, greater_of, listing, listing_of, inputs_of}
+use Rattle.base_model.specs.Rows.{Base, only_where}
 
 -- versions by their elements, as a map has them
 abbrev pub Versions : Type 0

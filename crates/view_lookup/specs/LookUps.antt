@@ -3,7 +3,7 @@ use Rattle.std.specs.Prelude.{◌≡◌, ℕ, false, Option, Some, None, List, [
 use Rattle.std.specs.Option.{option_or}
 use Rattle.cc_names.specs.Last.{Effect, Keeps, Ends, Sets, last}
 use Rattle.cc_names.specs.declared.rows.Deed.{Deed}
-use Rattle.legal_history.specs.Base.Rows.{Base, size, deed_at, first_rows}
+use Rattle.base_model.specs.Rows.{Base, size, deed_at, first_rows}
 use Rattle.view_lookup.specs.Subjects.{Subject, bears}
 use Rattle.view_lookup.specs.declared.look_ups.Does.{Does}
 use Rattle.view_lookup.specs.declared.look_ups.Does.TheVariants as does

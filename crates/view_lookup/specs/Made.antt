@@ -4,8 +4,8 @@ use Rattle.std.specs.List.{list_any}
 use Rattle.cc_names.specs.declared.rows.Deed.{Deed}
 use Rattle.cc_names.specs.declared.rows.Deed.TheVariants as deeds
 use Rattle.cc_names.specs.declared.rows.Kind.{Kind}
-use Rattle.legal_history.specs.Base.Texts.{TextSource, Bytes, OfRow, NoText}
-use Rattle.legal_history.specs.Base.Views.{default_spec}
+use Rattle.base_model.specs.Texts.{TextSource, Bytes, OfRow, NoText}
+use Rattle.base_model.specs.Views.{default_spec}
 use Rattle.view_lookup.specs.declared.texts.TextSource as code
 use Rattle.view_lookup.specs.declared.texts.TextSource.TheVariants as codes
 

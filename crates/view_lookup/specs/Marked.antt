@@ -2,7 +2,7 @@
 use Rattle.std.specs.Prelude.{◌≡◌, ℕ, ◌<◌, ◌≤◌, ◌==◌, ◌++◌, Bool, true, false, nat_lt, Option, Some, None, List, [], ◌∷◌, length, reverse, IfSome}
 use Rattle.std.specs.declared.random_state.RandomState.{RandomState}
 use Rattle.cc_names.specs.Versions.{put_if}
-use Rattle.legal_history.specs.Base.Rows.{Base, size}
+use Rattle.base_model.specs.Rows.{Base, size}
 use Rattle.view_lookup.specs.Subjects.{keys_of}
 use Rattle.view_lookup.specs.declared.marks.Link.{Link}
 

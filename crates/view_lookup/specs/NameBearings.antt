@@ -4,8 +4,8 @@ use Rattle.std.proofs.Common.{ap, ap₂}
 use Rattle.std.specs.List.{list_any}
 use Rattle.cc_names.specs.Last.{Keeps, Sets, only_if}
 use Rattle.cc_names.specs.declared.rows.Deed.TheVariants as deeds
-use Rattle.legal_history.specs.Base.Catalogs.{BeginsEmpty, BeginsAs, Adds, Removes, Renames, edit_where, first_edit, is_out}
-use Rattle.legal_history.specs.Base.Rows.{size}
+use Rattle.base_model.specs.Catalogs.{BeginsEmpty, BeginsAs, Adds, Removes, Renames, edit_where, first_edit, is_out}
+use Rattle.base_model.specs.Rows.{size}
 use Rattle.view_lookup.specs.Changed.{begins, changes}
 use Rattle.view_lookup.specs.Entries.{begun_effect, changed_effect}
 use Rattle.view_lookup.specs.LookUps.{BearsOnAll}

@@ -1,7 +1,7 @@
 -- A base has its newest row first; memory has rows, links and config specs from the oldest on.
 use Rattle.std.specs.Prelude.{List, reverse}
 use Rattle.cc_names.specs.Formed.{Plain}
-use Rattle.legal_history.specs.Base.Rows.{Base}
+use Rattle.base_model.specs.Rows.{Base}
 
 -- the rows of a base, oldest first
 abbrev pub oldest_first : Base → List Plain

@@ -3,9 +3,9 @@ use Rattle.std.specs.Prelude.{ℕ, Bool, true, false, ◌&&◌, Option, Some, No
 use Rattle.cc_names.specs.declared.rows.Deed.{Deed}
 use Rattle.cc_names.specs.declared.rows.Deed.TheVariants as deeds
 use Rattle.cc_names.specs.declared.rows.ReadOf.{ReadOf}
-use Rattle.legal_history.specs.Base.Changes.{live}
-use Rattle.legal_history.specs.Base.Rows.{Base, size}
-use Rattle.legal_history.specs.Builds.Reuse.{are_same_paths}
+use Rattle.base_model.specs.Changes.{live}
+use Rattle.base_model.specs.Rows.{Base, size}
+use Rattle.base_model.specs.Objects.{are_same_paths}
 
 -- a test of records, by their scripts and entries
 abbrev pub Test : Type 0

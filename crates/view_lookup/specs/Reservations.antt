@@ -1,8 +1,8 @@
 -- The reserved checkouts on a branch.
 use Rattle.std.specs.Prelude.{ℕ, Option, find, option_and_then}
-use Rattle.legal_history.specs.Base.Checkouts.{checkouts, reserves}
-use Rattle.legal_history.specs.Base.Rows.{Base, deed_at}
-use Rattle.legal_history.specs.Base.Views.{TakenOut, made_out}
+use Rattle.base_model.specs.Checkouts.{checkouts, reserves}
+use Rattle.base_model.specs.Rows.{Base, deed_at}
+use Rattle.base_model.specs.Views.{TakenOut, made_out}
 use Rattle.view_lookup.specs.Effects.{reserving_effect}
 use Rattle.view_lookup.specs.LookUps.{last_of}
 

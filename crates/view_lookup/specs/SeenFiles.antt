@@ -3,8 +3,8 @@ use Rattle.std.specs.Prelude.{◌≡◌, ℕ, ◌≤◌, Option, Some, List}
 use Rattle.std.specs.HashMap.{HashMap, get}
 use Rattle.std.specs.Str.{bytes_eq}
 use Rattle.std.specs.declared.random_state.RandomState.{RandomState}
-use Rattle.legal_history.specs.Base.Rows.{Base, first_rows, size}
-use Rattle.legal_history.specs.Base.Seen.{file_at}
+use Rattle.base_model.specs.Rows.{Base, first_rows, size}
+use Rattle.base_model.specs.Seen.{file_at}
 use Rattle.view_lookup.specs.declared.seen_files.SeenFiles.{SeenFiles}
 
 -- the rows of files by their paths, as a map has them

@@ -4,8 +4,8 @@ use Rattle.std.specs.Option.{option_and_then, option_map}
 use Rattle.cc_names.specs.declared.refusals.SpecError.{SpecError}
 use Rattle.cc_names.specs.declared.rows.Deed.{Deed}
 use Rattle.cc_names.specs.declared.selection.Rule.{Rule}
-use Rattle.spec_text.specs.Specs.{rules_of}
-use Rattle.legal_history.specs.Base.Rows.{Base, size, only_where}
+use Rattle.base_model.specs.ConfigSpecs.Specs.{rules_of}
+use Rattle.base_model.specs.Rows.{Base, size, only_where}
 use Rattle.view_lookup.specs.Made.{spec_made}
 use Rattle.view_lookup.specs.declared.view_specs.Parsed.{Parsed}
 

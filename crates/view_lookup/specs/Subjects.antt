@@ -9,9 +9,9 @@ use Rattle.cc_names.specs.declared.rows.Deed.{Deed}
 use Rattle.cc_names.specs.declared.rows.Deed.TheVariants as deeds
 use Rattle.cc_names.specs.declared.rows.Out.TheVariants as outs
 use Rattle.cc_names.specs.declared.rows.Placed.{Placed}
-use Rattle.legal_history.specs.Base.Changes.{targets_of, tree}
-use Rattle.legal_history.specs.Base.Rows.{Base, size}
-use Rattle.legal_history.specs.Builds.Reuse.{are_same_paths}
+use Rattle.base_model.specs.Changes.{targets_of, tree}
+use Rattle.base_model.specs.Rows.{Base, size}
+use Rattle.base_model.specs.Objects.{are_same_paths}
 use Rattle.view_lookup.specs.Changed.{changing, checked_in_on, checked_in_rows, names_by}
 use Rattle.view_lookup.specs.NumberKeys.{key_by, key_by_paths, key_with}
 use Rattle.view_lookup.specs.declared.subjects.Subject as code

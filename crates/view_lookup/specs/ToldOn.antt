@@ -1,7 +1,7 @@
 -- Which row of a branch tells of a name in the catalog of a version.
 use Rattle.std.specs.Prelude.{ℕ, Option, List}
 use Rattle.cc_names.specs.Last.{Sets, only_if, last}
-use Rattle.legal_history.specs.Base.Rows.{Base, size}
+use Rattle.base_model.specs.Rows.{Base, size}
 use Rattle.view_lookup.specs.Changed.{alters}
 
 -- the newest version of the branch that alters the name

@@ -1,7 +1,7 @@
 -- The rows that do something to a thing, one after the other, the newest first.
 use Rattle.std.specs.Prelude.{ℕ, ◌&&◌, nat_lt, min, is_some, Option, List, [], ◌∷◌}
 use Rattle.cc_names.specs.Versions.{put_if}
-use Rattle.legal_history.specs.Base.Rows.{Base, size}
+use Rattle.base_model.specs.Rows.{Base, size}
 use Rattle.view_lookup.specs.LookUps.{Deeds, Update, told}
 
 -- the numbers of the rows that do something

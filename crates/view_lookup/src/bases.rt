@@ -5,11 +5,11 @@ ghost use Rattle.std.specs.Prelude.{◌≡◌, ◌≤◌, ◌∷◌, [], ℕ, Li
 ghost use Rattle.std.specs.Option.{option_and_then, option_copied};
 ghost use Rattle.cc_names.specs.Labels.{holder, labels_of_first_rows};
 ghost use Rattle.cc_names.specs.Versions.{of_first_rows, version_id};
-ghost use Rattle.legal_history.specs.Base.Changes.{labels, tree};
-ghost use Rattle.legal_history.specs.Base.Closures.{listing};
-ghost use Rattle.legal_history.specs.Base.Rows.{deed_at, first_rows, row_at, size};
-ghost use Rattle.legal_history.specs.Base.Seen.{file_at};
-ghost use Rattle.legal_history.specs.Base.Fits.{fits, is_base, row_limit};
+ghost use Rattle.base_model.specs.Changes.{labels, tree};
+ghost use Rattle.base_model.specs.Closures.{listing};
+ghost use Rattle.base_model.specs.Rows.{deed_at, first_rows, row_at, size};
+ghost use Rattle.base_model.specs.Seen.{file_at};
+ghost use Rattle.base_model.specs.Fits.{fits, is_base, row_limit};
 ghost use Rattle.view_lookup.specs.Labelling.{HasLabelRoom};
 ghost use Rattle.view_lookup.specs.Listings.{HasListing, listing_made, versions_of};
 ghost use Rattle.view_lookup.specs.LookUps.{last_of, newest, oldest};
@@ -293,7 +293,7 @@ pub struct FirstRows<'a> {
 }
 
 impl<'a> Model for FirstRows<'a> {
-    ghost use Rattle.legal_history.specs.Base.Rows.{Base, first_rows};
+    ghost use Rattle.base_model.specs.Rows.{Base, first_rows};
     ghost use Rattle.std.specs.Prelude.{suc};
     ghost use Rattle.view_lookup.specs.Front.{IsFront};
 

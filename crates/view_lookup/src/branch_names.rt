@@ -2,8 +2,8 @@
 
 ghost use Rattle.std.specs.Prelude.{◌≡◌};
 ghost use Rattle.cc_names.specs.Branches.{branch_named};
-ghost use Rattle.legal_history.specs.Base.Changes.{tree};
-ghost use Rattle.legal_history.specs.Base.Conditions.{has_branch};
+ghost use Rattle.base_model.specs.Changes.{tree};
+ghost use Rattle.base_model.specs.Conditions.{has_branch};
 
 use crate::bases::FirstRows;
 use crate::look_ups::{Does, LookUp, only_if};

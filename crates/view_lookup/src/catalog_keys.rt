@@ -2,7 +2,7 @@
 
 ghost use Rattle.std.specs.Prelude.{◌≡◌, ◌++◌, Some, map, option_to_list, IfOk, OnOk};
 ghost use Rattle.std.specs.Option.{option_copied};
-ghost use Rattle.legal_history.specs.Base.Rows.{deed_at};
+ghost use Rattle.base_model.specs.Rows.{deed_at};
 ghost use Rattle.view_lookup.specs.Changed as changed;
 ghost use Rattle.view_lookup.specs.Subjects as model;
 

@@ -1,9 +1,9 @@
 //! Which element a name stands for in a catalog: in that of a version of a directory, or in that of a view's checkout of one.
 
 ghost use Rattle.std.specs.Prelude.{◌≡◌, Some, suc};
-ghost use Rattle.legal_history.specs.Base.Catalogs.{catalog_of, named, own_of};
-ghost use Rattle.legal_history.specs.Base.Closures.{greater_of};
-ghost use Rattle.legal_history.specs.Base.Rows.{first_rows};
+ghost use Rattle.base_model.specs.Catalogs.{catalog_of, named, own_of};
+ghost use Rattle.base_model.specs.Closures.{greater_of};
+ghost use Rattle.base_model.specs.Rows.{first_rows};
 ghost use Rattle.view_lookup.specs.Entries.{Resolves, catalog_in, entry_effect};
 ghost use Rattle.view_lookup.specs.LookUps.{last_of};
 ghost use Rattle.view_lookup.specs.ToldOn.{altered_by};

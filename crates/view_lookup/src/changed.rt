@@ -2,7 +2,7 @@
 
 ghost use Rattle.std.specs.Prelude.{◌≡◌, ◌&&◌, option_map, IfOk};
 ghost use Rattle.std.specs.Option.{option_and_then};
-ghost use Rattle.legal_history.specs.Base.Checkouts.{branch_of};
+ghost use Rattle.base_model.specs.Checkouts.{branch_of};
 ghost use Rattle.view_lookup.specs.Changed as model;
 ghost use Rattle.view_lookup.specs.Effects.{plain_checkout};
 

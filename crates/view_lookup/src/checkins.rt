@@ -3,10 +3,10 @@
 ghost use Rattle.std.specs.Prelude.{◌≡◌, option_map};
 ghost use Rattle.std.specs.Option.{option_and_then, option_copied};
 ghost use Rattle.cc_names.specs.Branches.{branch_of_version};
-ghost use Rattle.legal_history.specs.Base.Changes.{tree};
-ghost use Rattle.legal_history.specs.Base.Checkouts.{branch_of, other_reserver, reserver};
-ghost use Rattle.legal_history.specs.Base.Conditions.{is_unreserved, may_check_in};
-ghost use Rattle.legal_history.specs.Base.Fits.{may_reserve};
+ghost use Rattle.base_model.specs.Changes.{tree};
+ghost use Rattle.base_model.specs.Checkouts.{branch_of, other_reserver, reserver};
+ghost use Rattle.base_model.specs.Conditions.{is_unreserved, may_check_in};
+ghost use Rattle.base_model.specs.Fits.{may_reserve};
 ghost use Rattle.view_lookup.specs.Effects.{plain_checkout};
 
 use crate::bases::FirstRows;

@@ -2,7 +2,7 @@
 
 ghost use Rattle.std.specs.Prelude.{◌≡◌, ◌≤◌, max, suc, IfOk};
 ghost use Rattle.std.specs.Option.{option_copied};
-ghost use Rattle.legal_history.specs.Queries.RecordTexts.{record_of};
+ghost use Rattle.base_model.specs.Objects.{record_of};
 ghost use Rattle.view_lookup.specs.FirstInputs.{first_input};
 ghost use Rattle.view_lookup.specs.LeastInputs.{above, above_entries, least_of_all, least_of_entries, least_of_entry, lesser};
 

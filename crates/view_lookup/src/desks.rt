@@ -1,9 +1,9 @@
 //! What a view has checked out.
 
 ghost use Rattle.std.specs.Prelude.{◌≡◌, ◌==◌, ◌&&◌, bytes_eq, option_map};
-ghost use Rattle.legal_history.specs.Base.Conditions.{has_out};
-ghost use Rattle.legal_history.specs.Base.Views as model;
-ghost use Rattle.legal_history.specs.Base.Views.{making, out};
+ghost use Rattle.base_model.specs.Conditions.{has_out};
+ghost use Rattle.base_model.specs.Views as model;
+ghost use Rattle.base_model.specs.Views.{making, out};
 ghost use Rattle.view_lookup.specs.Effects.{kept_checkout, map_effect, map_update, plain_checkout, plain_taken, row_of_kept};
 ghost use Rattle.view_lookup.specs.LookUps.{effect_of};
 

@@ -1,7 +1,7 @@
 //! What a view's checkouts of directories name, and which elements are directories and which files.
 
 ghost use Rattle.std.specs.Prelude.{◌≡◌};
-ghost use Rattle.legal_history.specs.Base.Conditions.{has_name, has_out_by_name, is_directory, is_file};
+ghost use Rattle.base_model.specs.Conditions.{has_name, has_out_by_name, is_directory, is_file};
 
 use crate::bases::FirstRows;
 use crate::catalogs::named_by_checkout;

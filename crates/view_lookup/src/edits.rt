@@ -1,8 +1,8 @@
 //! What rows do to the catalogs of views' checkouts of directories.
 
 ghost use Rattle.std.specs.Prelude.{◌≡◌, ◌==◌, ◌&&◌, ◌||◌, bytes_eq};
-ghost use Rattle.legal_history.specs.Base.Catalogs as model;
-ghost use Rattle.legal_history.specs.Base.Rows.{size};
+ghost use Rattle.base_model.specs.Catalogs as model;
+ghost use Rattle.base_model.specs.Rows.{size};
 ghost use Rattle.view_lookup.specs.Changed.{begins, changes};
 ghost use Rattle.view_lookup.specs.Entries.{plain_edit};
 

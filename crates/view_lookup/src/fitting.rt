@@ -4,11 +4,11 @@ ghost use Rattle.std.specs.Prelude.{◌≡◌, ◌||◌, Some, true, IfErr, IfOk
 ghost use Rattle.std.specs.List.{list_all};
 ghost use Rattle.cc_names.specs.Formed.{IsDeedFormed, IsText};
 ghost use Rattle.cc_names.specs.declared.rows.Deed.TheVariants as deeds;
-ghost use Rattle.legal_history.specs.Base.Changes.{targets_of_deed};
-ghost use Rattle.legal_history.specs.Base.Closures.{is_among};
-ghost use Rattle.legal_history.specs.Base.Conditions.{element_of_text, is_entry, is_some_file, makes_file_text, may_be_scrubbed};
-ghost use Rattle.legal_history.specs.Base.Rows.{Base};
-ghost use Rattle.legal_history.specs.Base.Fits.{deed_fits, fits};
+ghost use Rattle.base_model.specs.Changes.{targets_of_deed};
+ghost use Rattle.base_model.specs.Closures.{is_among};
+ghost use Rattle.base_model.specs.Conditions.{element_of_text, is_entry, is_some_file, makes_file_text, may_be_scrubbed};
+ghost use Rattle.base_model.specs.Rows.{Base};
+ghost use Rattle.base_model.specs.Fits.{deed_fits, fits};
 ghost use Rattle.view_lookup.specs.Grouped.{sets_spec};
 
 use crate::bases::{FirstRows, row_at};

@@ -5,8 +5,8 @@ ghost use Rattle.std.specs.List.{list_all};
 ghost use Rattle.cc_names.specs.declared.rows.Deed.TheVariants as deeds;
 ghost use Rattle.cc_names.specs.declared.rows.Kind.{Kind};
 ghost use Rattle.cc_names.specs.declared.rows.Out.{Out};
-ghost use Rattle.legal_history.specs.Base.Conditions.{is_placed};
-ghost use Rattle.legal_history.specs.Base.Fits.{deed_fits};
+ghost use Rattle.base_model.specs.Conditions.{is_placed};
+ghost use Rattle.base_model.specs.Fits.{deed_fits};
 ghost use Rattle.view_lookup.specs.Grouped.{is_of_catalog, is_of_checkout, is_of_version};
 
 use crate::bases::FirstRows;

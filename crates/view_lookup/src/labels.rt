@@ -7,8 +7,8 @@ ghost use Rattle.cc_names.specs.Falling.{IsAbove};
 ghost use Rattle.cc_names.specs.Formed.{IsDeedFormed, element_of};
 ghost use Rattle.cc_names.specs.Labels.{holder};
 ghost use Rattle.label_book.specs.Marks.{KeepsAll, rows_of_pair};
-ghost use Rattle.legal_history.specs.Base.Changes.{all_placed, labels, labels_after};
-ghost use Rattle.legal_history.specs.Base.Conditions.{has_label};
+ghost use Rattle.base_model.specs.Changes.{all_placed, labels, labels_after};
+ghost use Rattle.base_model.specs.Conditions.{has_label};
 ghost use Rattle.view_lookup.specs.Labelling.{AreLabels, AreReady, HasLabelRoom};
 
 use crate::bases::FirstRows;

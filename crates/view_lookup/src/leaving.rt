@@ -1,7 +1,7 @@
 //! The branches that leave a version.
 
 ghost use Rattle.std.specs.Prelude.{◌≡◌, IfOk};
-ghost use Rattle.legal_history.specs.Base.Changes.{tree};
+ghost use Rattle.base_model.specs.Changes.{tree};
 ghost use Rattle.legal_history.specs.Queries.ElementTexts.{branches_leaving};
 
 use crate::bases::FirstRows;

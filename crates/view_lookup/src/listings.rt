@@ -8,10 +8,9 @@ ghost use Rattle.std.specs.HashMap.{spare};
 ghost use Rattle.std.specs.List.Sorted.{IsStrictlySortedBy};
 ghost use Rattle.std.specs.Ordering.{nat_cmp};
 ghost use Rattle.cc_names.specs.Formed.{IsListOf, IsPlaced, element_of};
-ghost use Rattle.legal_history.specs.Base.Changes.{targets_of};
-ghost use Rattle.legal_history.specs.Base.Closures.{closure, greater_of, is_among, is_publish, listed, listing_of, inputs_of, inputs_of_entry};
-ghost use Rattle.legal_history.specs.Base.Rows.{only_where};
-ghost use Rattle.legal_history.specs.Commands.LabelLines.{as_placed, placed_by};
+ghost use Rattle.base_model.specs.Changes.{targets_of};
+ghost use Rattle.base_model.specs.Closures.{closure, greater_of, is_among, is_publish, listed, listing_of, inputs_of, inputs_of_entry, as_placed, placed_by};
+ghost use Rattle.base_model.specs.Rows.{only_where};
 ghost use Rattle.view_lookup.specs.Listings.{HasListing, greater, listing_made, versions_of, with_listing};
 
 use crate::bases::{FirstRows, row_at};

@@ -1,7 +1,7 @@
 //! Merges of one version of an element into another.
 
 ghost use Rattle.std.specs.Prelude.{◌≡◌};
-ghost use Rattle.legal_history.specs.Base.Conditions.{arrow_row};
+ghost use Rattle.base_model.specs.Conditions.{arrow_row};
 
 use crate::bases::FirstRows;
 use crate::look_ups::{Does, LookUp, only_if};

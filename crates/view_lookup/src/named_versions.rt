@@ -2,7 +2,7 @@
 
 ghost use Rattle.std.specs.Prelude.{◌≡◌, option_and_then};
 ghost use Rattle.cc_names.specs.Branches.{branch_above, branch_behind, branch_named, if_above};
-ghost use Rattle.legal_history.specs.Base.Changes.{tree};
+ghost use Rattle.base_model.specs.Changes.{tree};
 ghost use Rattle.legal_history.specs.Commands.LabelLines.{version_named};
 
 use crate::bases::FirstRows;

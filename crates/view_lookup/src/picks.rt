@@ -2,7 +2,7 @@
 
 ghost use Rattle.std.specs.Prelude.{◌≡◌};
 ghost use Rattle.cc_names.specs.Paths.{names_of};
-ghost use Rattle.legal_history.specs.Base.Seen.{selected};
+ghost use Rattle.base_model.specs.Seen.{selected};
 
 use crate::bases::FirstRows;
 use crate::branch_names::branch_named;

@@ -1,7 +1,7 @@
 //! The pool: the objects with the same targets, whichever view made them.
 
 ghost use Rattle.std.specs.Prelude.{◌≡◌};
-ghost use Rattle.legal_history.specs.Builds.Reuse.{are_same_paths};
+ghost use Rattle.base_model.specs.Objects.{are_same_paths};
 ghost use Rattle.view_lookup.specs.Pool.{newest_object, publishes};
 
 use crate::bases::FirstRows;

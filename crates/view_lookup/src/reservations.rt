@@ -2,7 +2,7 @@
 
 ghost use Rattle.std.specs.Prelude.{◌≡◌, option_map};
 ghost use Rattle.std.specs.Option.{option_copied};
-ghost use Rattle.legal_history.specs.Base.Checkouts.{other_reserver, reserver};
+ghost use Rattle.base_model.specs.Checkouts.{other_reserver, reserver};
 ghost use Rattle.view_lookup.specs.Effects.{plain_taken};
 ghost use Rattle.view_lookup.specs.Reservations.{newest_reserving, reserving};
 

@@ -2,9 +2,9 @@
 
 ghost use Rattle.std.specs.Prelude.{◌≡◌, IfOk};
 ghost use Rattle.cc_names.specs.References.{is_held};
-ghost use Rattle.legal_history.specs.Base.Changes.{held};
-ghost use Rattle.legal_history.specs.Base.Conditions.{may_be_scrubbed};
-ghost use Rattle.legal_history.specs.Base.Rows.{deed_at};
+ghost use Rattle.base_model.specs.Changes.{held};
+ghost use Rattle.base_model.specs.Conditions.{may_be_scrubbed};
+ghost use Rattle.base_model.specs.Rows.{deed_at};
 ghost use Rattle.view_lookup.specs.Effects.{held_by_maker, holds_one, winked_effect};
 ghost use Rattle.view_lookup.specs.Walks.{all_told};
 

@@ -3,11 +3,11 @@
 ghost use Rattle.std.specs.Prelude.{◌≡◌, ◌<◌, ◌≤◌, length, is_some, option_map};
 ghost use Rattle.cc_names.specs.Paths.{names_of};
 ghost use Rattle.cc_names.specs.Versions.{kind_of};
-ghost use Rattle.legal_history.specs.Base.Catalogs.{named};
-ghost use Rattle.legal_history.specs.Base.Changes.{tree};
-ghost use Rattle.legal_history.specs.Base.Rows.{Base};
-ghost use Rattle.legal_history.specs.Base.Seen.{as_seen, at, below, directory_at, element_at, entries_by, entries_of, file_at, path_limit, private_or, selected};
-ghost use Rattle.legal_history.specs.Base.Views.{private};
+ghost use Rattle.base_model.specs.Catalogs.{named};
+ghost use Rattle.base_model.specs.Changes.{tree};
+ghost use Rattle.base_model.specs.Rows.{Base};
+ghost use Rattle.base_model.specs.Seen.{as_seen, at, below, directory_at, element_at, entries_by, entries_of, file_at, path_limit, private_or, selected};
+ghost use Rattle.base_model.specs.Views.{private};
 ghost use Rattle.view_lookup.specs.Entries.{catalog_in};
 ghost use Rattle.view_lookup.specs.Made.{kind_made};
 

@@ -3,7 +3,7 @@
 ghost use Rattle.std.specs.Prelude.{◌≡◌, ℕ, ◌≤◌, List, IfOk, IfSome, OnOk};
 ghost use Rattle.std.specs.HashMap.{get};
 ghost use Rattle.std.specs.Str.{bytes_eq};
-ghost use Rattle.legal_history.specs.Base.Rows.{Base, size};
+ghost use Rattle.base_model.specs.Rows.{Base, size};
 ghost use Rattle.view_lookup.specs.SeenFiles.{AreFiles, AreSeen, AreSeenByViews, IsSeenAs, IsSeenIn, IsSeenOnce};
 
 use crate::bases::FirstRows;

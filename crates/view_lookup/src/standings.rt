@@ -1,7 +1,7 @@
 //! The checkouts of a view that stand.
 
 ghost use Rattle.std.specs.Prelude.{◌≡◌};
-ghost use Rattle.legal_history.specs.Base.Checkouts.{oldest_out};
+ghost use Rattle.base_model.specs.Checkouts.{oldest_out};
 ghost use Rattle.view_lookup.specs.Effects.{plain_taken, stands};
 
 use crate::bases::FirstRows;

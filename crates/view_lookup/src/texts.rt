@@ -2,8 +2,7 @@
 
 ghost use Rattle.std.specs.Prelude.{◌≡◌};
 ghost use Rattle.std.specs.Option.{option_copied};
-ghost use Rattle.legal_history.specs.Builds.Fresh.{texts};
-ghost use Rattle.legal_history.specs.Base.Texts.{of_making, of_output, output_at, source_of, text};
+ghost use Rattle.base_model.specs.Texts.{texts, of_making, of_output, output_at, source_of, text};
 ghost use Rattle.view_lookup.specs.Made.{plain_source};
 
 use crate::bases::{FirstRows, first_rows, row_at};

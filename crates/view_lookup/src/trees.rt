@@ -4,9 +4,9 @@ ghost use Rattle.std.specs.Prelude.{◌≡◌};
 ghost use Rattle.std.specs.Option.{option_copied};
 ghost use Rattle.cc_names.specs.Branches.{branch_of_version, name_of_branch, origin_of};
 ghost use Rattle.cc_names.specs.Versions.{is_number, latest, numbered, version_id};
-ghost use Rattle.legal_history.specs.Base.Changes.{tree};
-ghost use Rattle.legal_history.specs.Base.Checkouts.{is_latest, latest_beside};
-ghost use Rattle.legal_history.specs.Base.Closures.{is_version_of};
+ghost use Rattle.base_model.specs.Changes.{tree};
+ghost use Rattle.base_model.specs.Checkouts.{is_latest, latest_beside};
+ghost use Rattle.base_model.specs.Closures.{is_version_of};
 
 use crate::bases::FirstRows;
 use cc_names::changes::VersionId;

@@ -1,8 +1,8 @@
 //! The types of labels and of branches.
 
 ghost use Rattle.std.specs.Prelude.{◌≡◌};
-ghost use Rattle.legal_history.specs.Base.Changes.{kind_of_type};
-ghost use Rattle.legal_history.specs.Base.Conditions.{is_branch_type, is_label_type, is_reserved_name, is_type_taken};
+ghost use Rattle.base_model.specs.Changes.{kind_of_type};
+ghost use Rattle.base_model.specs.Conditions.{is_branch_type, is_label_type, is_reserved_name, is_type_taken};
 
 use crate::bases::FirstRows;
 use crate::look_ups::{Does, LookUp, only_if};

@@ -3,8 +3,8 @@
 ghost use Rattle.std.specs.Prelude.{◌≡◌, ◌<◌, IfOk, map, vec_len, vec_capacity};
 ghost use Rattle.std.specs.Option.{option_copied};
 ghost use Rattle.cc_names.specs.Falling.{Falls};
-ghost use Rattle.legal_history.specs.Base.Seen.{rules};
-ghost use Rattle.legal_history.specs.Base.Views.{spec_text};
+ghost use Rattle.base_model.specs.Seen.{rules};
+ghost use Rattle.base_model.specs.Views.{spec_text};
 ghost use Rattle.view_lookup.specs.Effects.{spec_row_effect};
 ghost use Rattle.view_lookup.specs.LookUps.{last_of};
 ghost use Rattle.view_lookup.specs.Made.{spec_made};

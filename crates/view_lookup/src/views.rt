@@ -1,7 +1,7 @@
 //! A view's own state: its life, and its private files.
 
 ghost use Rattle.std.specs.Prelude.{◌≡◌, bytes_eq, ◌&&◌, option_map};
-ghost use Rattle.legal_history.specs.Base.Views.{view_row, private};
+ghost use Rattle.base_model.specs.Views.{view_row, private};
 ghost use Rattle.view_lookup.specs.Effects.{end_effect};
 ghost use Rattle.view_lookup.specs.Lifetimes.{number_of, within};
 ghost use Rattle.view_lookup.specs.LookUps.{newest};

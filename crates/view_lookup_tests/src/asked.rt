@@ -3,7 +3,7 @@
 //! A line of a table is how many rows are asked, row 0 included, a row as a line of `spelled_rows`, ` => ` and whether it fits.
 
 ghost use Rattle.std.specs.Prelude.{◌≡◌, true, OnOk};
-ghost use Rattle.legal_history.specs.Base.Fits.{fits};
+ghost use Rattle.base_model.specs.Fits.{fits};
 ghost use Rattle.view_lookup.specs.Shown.{HasRoom};
 
 use crate::spelled_rows::{number_of, row_of};

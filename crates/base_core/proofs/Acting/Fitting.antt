@@ -4,7 +4,7 @@ use Rattle.cc_names.specs.Formed.{Plain}
 use Rattle.cc_names.specs.declared.steps.StoryStep.{StoryStep}
 use Rattle.cc_names.specs.declared.steps.StoryStep.TheVariants as story_steps
 use Rattle.legal_history.specs.Stories.Committing.{MayCommit}
-use Rattle.legal_history.specs.Base.Fits.{fits, is_base}
+use Rattle.base_model.specs.Fits.{fits, is_base}
 use Rattle.legal_history.specs.Stories.States.{State, start, ticks_of}
 use Rattle.legal_history.specs.Stories.Steps.{state_of}
 use Rattle.legal_history.specs.Stories.Lawful.{Legal}

@@ -16,19 +16,20 @@ use Rattle.cc_names.specs.declared.rows.TypeKind.TheVariants as type_kinds
 use Rattle.cc_names.specs.declared.selection.Picked.{Picked}
 use Rattle.cc_names.specs.declared.selection.Seen.{Seen}
 use Rattle.cc_names.specs.declared.selection.Seen.TheVariants.{Private, Element, Unselected, Nothing}
-use Rattle.legal_history.specs.Base.Changes.{held}
-use Rattle.legal_history.specs.Base.Seen.{at}
+use Rattle.base_model.specs.Changes.{held}
+use Rattle.base_model.specs.Seen.{at}
 use Rattle.legal_history.specs.Commands.CheckoutLines.{branch_by, checkin_of, checkin_tests, checkout_deed, checkout_of, checkout_tests, deciding_rule, mkbranch_of, mkbranch_tests, out_unless, uncheckout_of}
 use Rattle.legal_history.specs.Commands.CheckoutTests.{needs_out}
 use Rattle.legal_history.specs.Commands.Decisions.{Scene, Decision, Makes, past, unless_refused}
 use Rattle.legal_history.specs.Commands.DirectoryLines.{mkelem_in, mv_in, mv_tests, rmname_in, rmname_tests}
 use Rattle.legal_history.specs.Commands.FileLines.{last_name, save_deed}
 use Rattle.legal_history.specs.Commands.Found.{for_element, for_object, for_selected}
-use Rattle.legal_history.specs.Commands.LabelLines.{labels_or_nothing, mkarrow_from, mkarrow_of, mkarrow_tests, mklabel_config_of, mklabel_config_tests, mklabel_of, mklabel_tests, placed_by, rmlabel_of, rmlabel_tests, version_named}
+use Rattle.legal_history.specs.Commands.LabelLines.{labels_or_nothing, mkarrow_from, mkarrow_of, mkarrow_tests, mklabel_config_of, mklabel_config_tests, mklabel_of, mklabel_tests, rmlabel_of, rmlabel_tests, version_named}
+use Rattle.base_model.specs.Closures.{placed_by}
 use Rattle.legal_history.specs.Commands.Lines.{change_decision}
 use Rattle.legal_history.specs.Commands.ObjectLines.{due, scrub_of}
 use Rattle.legal_history.specs.Commands.Tests.{needs_free_path, needs_idle, needs_view}
-use Rattle.legal_history.specs.Base.Views.{out}
+use Rattle.base_model.specs.Views.{out}
 use Rattle.legal_history.proofs.Decisions.Handed.{IfDecided, answer_is, change_is, element_is, object_is, past_is, row_is, selected_is, version_is}
 use Rattle.base_core.specs.Calls.Acting.{FinishesCommand}
 

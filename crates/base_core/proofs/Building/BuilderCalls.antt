@@ -4,7 +4,7 @@ use Rattle.std.specs.Prelude.{option_and_then, option_map, unwrap_or}
 use Rattle.std.specs.List.{filter, range_with_len}
 use Rattle.std.proofs.lemmas.Option.{slice_get_within}
 use Rattle.build_script.specs.declared.files.Got.{Got}
-use Rattle.legal_history.specs.Base.Rows.{Base}
+use Rattle.base_model.specs.Rows.{Base}
 use Rattle.legal_history.specs.Builds.Active.{Build, build_of}
 use Rattle.legal_history.specs.Stories.States.{State}
 use Rattle.clearmake.specs.Calls.{IsBuilding, WasStarted, is_released, released}

@@ -6,7 +6,7 @@ use Rattle.cc_names.specs.Formed.{Plain, IsFormed}
 use Rattle.cc_names.specs.declared.steps.StoryStep.{StoryStep}
 use Rattle.cc_names.specs.declared.steps.StoryStep.TheVariants as story_steps
 use Rattle.disk_model.specs.Told.{Sight}
-use Rattle.legal_history.specs.Base.Fits.{fits}
+use Rattle.base_model.specs.Fits.{fits}
 use Rattle.legal_history.specs.Builds.Active.{Build, Given, build_of, is_outcome}
 use Rattle.legal_history.specs.Laws.BuildLaws.{BuildIsConsistent}
 use Rattle.legal_history.specs.Stories.States.{State, start, ticks_of}

@@ -13,10 +13,10 @@ use Rattle.cc_names.specs.declared.rows.Tag.{Tag}
 use Rattle.cc_names.specs.declared.units.Unit.{Unit}
 use Rattle.build_core.specs.BuildForms.{IsBuildFormed}
 use Rattle.build_core.specs.Plans.{Meets, Plans}
-use Rattle.legal_history.specs.Base.Rows.{Base, size}
+use Rattle.base_model.specs.Rows.{Base, size}
 use Rattle.legal_history.specs.Builds.Active.{Build, build_of, building, reserved}
 use Rattle.legal_history.specs.Commands.Decisions.{Scene, Begins}
-use Rattle.legal_history.specs.Base.Fits.{row_limit}
+use Rattle.base_model.specs.Fits.{row_limit}
 use Rattle.legal_history.specs.Commands.Lines.{decision}
 use Rattle.legal_history.specs.Stories.Commanded.{command_of}
 use Rattle.legal_history.specs.Stories.States.{State, scene, done_of, command_behind, next_tag, next_command, decided}

@@ -7,7 +7,7 @@ use Rattle.build_core.specs.UnitSteps.{IsStep}
 use Rattle.build_core.specs.declared.steps.UnitStep.{UnitStep}
 use Rattle.build_core.specs.declared.steps.UnitStep.TheVariants as next
 use Rattle.script_grammar.specs.Lines.{script_of}
-use Rattle.legal_history.specs.Base.Rows.{Base, first_rows}
+use Rattle.base_model.specs.Rows.{Base, first_rows}
 use Rattle.legal_history.specs.Builds.Active.{Build, build_of, came_to, is_outcome, unit_at}
 use Rattle.legal_history.specs.Builds.Fresh.{script_text, sees_file, sees_directory}
 use Rattle.legal_history.specs.Builds.Consistency.{IsConsistent}

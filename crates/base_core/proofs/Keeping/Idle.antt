@@ -10,7 +10,7 @@ use Rattle.cc_names.specs.declared.desks.Next.TheVariants as nexts
 use Rattle.cc_names.specs.declared.refusals.Refusal.{Refusal}
 use Rattle.cc_names.specs.declared.rows.Tag.{Tag}
 use Rattle.build_core.specs.Slots.{numbered, held_in}
-use Rattle.legal_history.specs.Base.Rows.{only_where}
+use Rattle.base_model.specs.Rows.{only_where}
 use Rattle.legal_history.specs.Builds.Active.{Build, build_of}
 use Rattle.legal_history.specs.Commands.Decisions.{Decision}
 use Rattle.legal_history.specs.Commands.Lines.{decision}

@@ -3,8 +3,8 @@ use Rattle.std.proofs.Common.{◌≡◌, ◌≢◌, ℕ, ◌+◌, ◌-◌, ◌�
 use Rattle.std.proofs.lemmas.List.{length-set}
 use Rattle.cc_names.specs.Formed.{Plain}
 use Rattle.build_core.specs.Slots.{numbered, held_in}
-use Rattle.legal_history.specs.Base.Fits.{row_limit}
-use Rattle.legal_history.specs.Base.Rows.{size}
+use Rattle.base_model.specs.Fits.{row_limit}
+use Rattle.base_model.specs.Rows.{size}
 use Rattle.legal_history.specs.Builds.Active.{Build, build_of, reserved}
 use Rattle.legal_history.specs.Stories.States.{State, done_of}
 use Rattle.base_core.specs.Calls.Building.{IsBuildKept}

@@ -11,8 +11,8 @@ use Rattle.cc_names.specs.declared.steps.StoryStep.{StoryStep}
 use Rattle.cc_names.specs.declared.steps.StoryStep.TheVariants as story_steps
 use Rattle.build_core.specs.Slots.{numbered}
 use Rattle.disk_model.specs.Told.{Sight}
-use Rattle.legal_history.specs.Base.Fits.{row_limit}
-use Rattle.legal_history.specs.Base.Rows.{Base}
+use Rattle.base_model.specs.Fits.{row_limit}
+use Rattle.base_model.specs.Rows.{Base}
 use Rattle.legal_history.specs.Builds.Active.{Build, build_of, reserved}
 use Rattle.legal_history.specs.Stories.Lawful.{Lawful}
 use Rattle.legal_history.specs.Stories.States.{State, start, done_of, with_done}

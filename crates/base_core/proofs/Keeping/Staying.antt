@@ -3,7 +3,7 @@ use Rattle.std.proofs.Common.{◌≡◌, ℕ, ◌+◌, ◌≤◌, ap, ap₂, sym
 use Rattle.std.specs.Prelude.{option_and_then}
 use Rattle.cc_names.specs.Commands.{lane_at}
 use Rattle.cc_names.specs.declared.desks.Next.TheVariants as nexts
-use Rattle.legal_history.specs.Base.Rows.{size}
+use Rattle.base_model.specs.Rows.{size}
 use Rattle.legal_history.specs.Builds.Active.{Build}
 use Rattle.legal_history.specs.Stories.States.{State, done_of, command_behind, next_tag}
 use Rattle.base_core.specs.Calls.Building.{IsBuildKept}

@@ -13,11 +13,11 @@ use Rattle.cc_names.specs.declared.rows.Tag.{Tag}
 use Rattle.cc_names.specs.declared.steps.Step.TheVariants as steps
 use Rattle.cc_names.specs.declared.steps.StoryStep.{StoryStep}
 use Rattle.cc_names.specs.declared.steps.StoryStep.TheVariants as story_steps
-use Rattle.legal_history.specs.Base.Rows.{Base, size}
+use Rattle.base_model.specs.Rows.{Base, size}
 use Rattle.legal_history.specs.Builds.Active.{Active}
 use Rattle.legal_history.specs.Stories.Committing.{MakesRow}
 use Rattle.legal_history.specs.Commands.Decisions.{Makes, Answers}
-use Rattle.legal_history.specs.Base.Fits.{fits}
+use Rattle.base_model.specs.Fits.{fits}
 use Rattle.legal_history.specs.Stories.States.{State, decided, next_command, next_tag, with_done}
 use Rattle.legal_history.specs.Stories.Steps.{state_of, active_after, done_after}
 use Rattle.cleartool.specs.Naming.{name_told}

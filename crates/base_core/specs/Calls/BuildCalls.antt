@@ -15,10 +15,11 @@ use Rattle.cc_names.specs.declared.units.Unit.{Unit}
 use Rattle.build_core.specs.declared.steps.UnitStep.{UnitStep}
 use Rattle.build_core.specs.declared.steps.UnitStep.TheVariants as next
 use Rattle.script_grammar.specs.Run.{Ran}
-use Rattle.legal_history.specs.Base.Rows.{size}
+use Rattle.base_model.specs.Rows.{size}
 use Rattle.legal_history.specs.Builds.Active.{Build, Came, Started, build_of, came_to, is_outcome, unit_at}
 use Rattle.legal_history.specs.Builds.Choices.{here, publish_of}
-use Rattle.legal_history.specs.Builds.Reuse.{held_at_all, reusable}
+use Rattle.base_model.specs.Objects.{held_at_all}
+use Rattle.legal_history.specs.Builds.Reuse.{reusable}
 use Rattle.legal_history.specs.Laws.FromNothing.{MayTake}
 use Rattle.legal_history.specs.Stories.States.{State, next_tag}
 use Rattle.legal_history.specs.Stories.Steps.{after, state_of, with_came}

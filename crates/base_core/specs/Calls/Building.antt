@@ -5,10 +5,10 @@ use Rattle.cc_names.specs.declared.refusals.Refusal.{Refusal}
 use Rattle.cc_names.specs.declared.rows.Tag.{Tag}
 use Rattle.cc_names.specs.declared.desks.Next.TheVariants as nexts
 use Rattle.build_core.specs.BuildForms.{IsBuildFormed}
-use Rattle.legal_history.specs.Base.Rows.{size}
+use Rattle.base_model.specs.Rows.{size}
 use Rattle.legal_history.specs.Builds.Active.{Build, reserved}
 use Rattle.legal_history.specs.Commands.Decisions.{Begins}
-use Rattle.legal_history.specs.Base.Fits.{row_limit}
+use Rattle.base_model.specs.Fits.{row_limit}
 use Rattle.legal_history.specs.Stories.States.{State, decided, next_tag}
 use Rattle.legal_history.specs.Stories.Steps.{begun}
 use Rattle.base_core.specs.Calls.Acting.{IsNextTag, RefusalWas}

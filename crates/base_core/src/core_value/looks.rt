@@ -16,7 +16,7 @@ impl<D: Disk> Core<D> {
     ghost use Rattle.cc_names.specs.declared.commands.Command.TheVariants as commands;
     ghost use Rattle.cc_names.specs.declared.desks.Next.TheVariants as nexts;
     ghost use Rattle.session_text.specs.Formed.{IsClearmake, IsCommand};
-    ghost use Rattle.legal_history.specs.Base.Rows.{size};
+    ghost use Rattle.base_model.specs.Rows.{size};
     ghost use Rattle.legal_history.specs.Builds.Active.{Build, build_of, building, reserved};
     ghost use Rattle.legal_history.specs.Stories.Commanded.{command_of};
     ghost use Rattle.legal_history.specs.Stories.Lawful.{Legal};

@@ -2,7 +2,7 @@
 
 ghost use Rattle.std.specs.Prelude.{◌≡◌, ◌||◌, ℕ, List, IfOk, OnOk};
 ghost use Rattle.std.specs.Option.{option_copied};
-ghost use Rattle.legal_history.specs.Base.Closures.{is_among};
+ghost use Rattle.base_model.specs.Closures.{is_among};
 ghost use Rattle.cleartool.specs.Owned.{is_name, name_at, name_given, was_named};
 
 use cc_names::memory::NoMemory;

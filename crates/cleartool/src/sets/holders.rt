@@ -4,9 +4,9 @@ ghost use Rattle.std.specs.Prelude.{◌≡◌, ◌||◌, ℕ, List, IfOk, OnOk};
 ghost use Rattle.std.specs.List.{list_any};
 ghost use Rattle.std.specs.Option.{option_copied};
 ghost use Rattle.cc_names.specs.References.{count};
-ghost use Rattle.legal_history.specs.Base.Changes.{held};
-ghost use Rattle.legal_history.specs.Base.Closures.{is_among};
-ghost use Rattle.legal_history.specs.Base.Rows.{deed_at};
+ghost use Rattle.base_model.specs.Changes.{held};
+ghost use Rattle.base_model.specs.Closures.{is_among};
+ghost use Rattle.base_model.specs.Rows.{deed_at};
 ghost use Rattle.cleartool.specs.Owned.{is_name, maker_by, winker, winker_at};
 
 use crate::sets::given_names::add_name;

@@ -3,8 +3,8 @@
 ghost use Rattle.std.specs.Prelude.{◌≡◌, ◌||◌, ℕ, true, List, IfOk, OnOk};
 ghost use Rattle.std.specs.List.{AllByRecursion};
 ghost use Rattle.cc_names.specs.Formed.{IsBelowRoot};
-ghost use Rattle.legal_history.specs.Base.Closures.{is_among};
-ghost use Rattle.legal_history.specs.Base.Rows.{deed_at};
+ghost use Rattle.base_model.specs.Closures.{is_among};
+ghost use Rattle.base_model.specs.Rows.{deed_at};
 ghost use Rattle.cleartool.specs.Owned.{is_given_by, paths_by, was_given};
 
 use cc_names::memory::NoMemory;

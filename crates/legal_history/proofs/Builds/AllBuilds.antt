@@ -6,8 +6,7 @@ use Rattle.std.specs.FinMap.Entries.{put}
 use Rattle.legal_history.specs.Builds.Active.{Active, Build, Came, build_of, building, is_of_view, tag_of}
 use Rattle.legal_history.specs.Stories.Steps.{noted, noted_in, with_came, with_build, without_build, faulted_in}
 use Rattle.legal_history.proofs.Builds.FreshSeen.{bytes_itself}
-use Rattle.legal_history.proofs.Stories.Goes.{same_number}
-use Rattle.legal_history.proofs.Stories.Tables.{find_after_put, find_without}
+use Rattle.base_model.proofs.Tables.{same_number, find_after_put, find_without}
 
 -- each active build is so, in its lane
 pub record Each (P : ℕ → Build → Type 0) (active : Active) : Type 0 where

@@ -6,16 +6,15 @@ use Rattle.cc_names.specs.declared.commands.Command.{Command}
 use Rattle.cc_names.specs.declared.commands.Lane.{Lane}
 use Rattle.cc_names.specs.declared.rows.Tag.{Tag}
 use Rattle.cc_names.specs.declared.units.Unit.{Unit}
-use Rattle.legal_history.specs.Base.Rows.{size, first_rows, only_where}
+use Rattle.base_model.specs.Rows.{size, first_rows, only_where}
 use Rattle.legal_history.specs.Builds.Active.{Build, Came, build_of}
 use Rattle.legal_history.specs.Commands.Decisions.{Begins}
 use Rattle.legal_history.specs.Builds.Fresh.{all_finished, fresh, fresh_of}
 use Rattle.legal_history.specs.Stories.States.{State, all_done, command_behind, decided, done_of, is_next, lanes_done, next_command, next_tag, same_tag, with_done}
 use Rattle.legal_history.specs.Stories.Steps.{begun, build_asked, with_came}
-use Rattle.legal_history.proofs.Stories.Goes.{same_number}
-use Rattle.legal_history.proofs.Bases.Owned.{and_first, and_second}
-use Rattle.legal_history.proofs.Bases.Stay.{all_rows}
-use Rattle.legal_history.proofs.Stories.Tables.{find_put_other}
+use Rattle.base_model.proofs.Tables.{same_number, find_put_other}
+use Rattle.base_model.proofs.Owned.{and_first, and_second}
+use Rattle.base_model.proofs.Stay.{all_rows}
 use Rattle.legal_history.specs.Stories.Commanded.{command_of, IsOfCommand}
 use Rattle.legal_history.proofs.Stories.DecidedSteps.{decided_of, says_of, begun_is}
 

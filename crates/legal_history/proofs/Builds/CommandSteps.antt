@@ -8,15 +8,15 @@ use Rattle.cc_names.specs.declared.steps.Step.{Step}
 use Rattle.cc_names.specs.declared.steps.Step.TheVariants as steps
 use Rattle.cc_names.specs.declared.steps.StoryStep.{StoryStep}
 use Rattle.cc_names.specs.declared.steps.StoryStep.TheVariants as story_steps
-use Rattle.legal_history.specs.Base.Rows.{size}
+use Rattle.base_model.specs.Rows.{size}
 use Rattle.legal_history.specs.Builds.Active.{Active, Build, Came, Given, Concluded, build_of, unit_with_first}
-use Rattle.legal_history.specs.Base.Changes.{targets_of}
+use Rattle.base_model.specs.Changes.{targets_of}
 use Rattle.legal_history.specs.Stories.States.{State, End, Committed, Faulted, build_by, done_of, start, with_done}
 use Rattle.legal_history.specs.Stories.Steps.{after, after_step, active_after, begun, came_by_starting, done_after, done_by_fault, faulted_in, noted, state_from, state_of, with_build, without_build}
 use Rattle.legal_history.specs.Stories.Committing.{MakesRow}
 use Rattle.legal_history.specs.Stories.Lawful.{Lawful, LawfulStep, Legal, LegalFrom}
 use Rattle.legal_history.proofs.Stories.Goes.{decided_is_idle, of_lane}
-use Rattle.legal_history.proofs.Bases.Stay.{first_rows_stay}
+use Rattle.base_model.proofs.Stay.{first_rows_stay}
 use Rattle.legal_history.specs.Stories.Commanded.{IsOfCommand}
 use Rattle.legal_history.proofs.Builds.AllBuilds.{Each, each_as, each_begun, each_faulted, each_noted, each_without}
 use Rattle.legal_history.proofs.Builds.CommandStays.{apart_from_idle, begun_commanded, came_commanded, command_stays, faulted_commanded, none_left, other_done}

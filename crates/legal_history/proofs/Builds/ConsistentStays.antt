@@ -5,15 +5,15 @@ use Rattle.std.specs.Ordering.{nat_cmp}
 use Rattle.std.specs.FinMap.Entries.{find}
 use Rattle.cc_names.specs.Formed.{Plain}
 use Rattle.cc_names.specs.declared.units.Unit.{Unit}
-use Rattle.legal_history.specs.Base.Rows.{Base, size, deed_of}
+use Rattle.base_model.specs.Rows.{Base, size, deed_of}
 use Rattle.legal_history.specs.Builds.Active.{Build, Came, came_to, is_outcome, object_of, unit_at}
-use Rattle.legal_history.specs.Base.Changes.{targets_of_deed}
-use Rattle.legal_history.specs.Base.Fits.{is_base}
+use Rattle.base_model.specs.Changes.{targets_of_deed}
+use Rattle.base_model.specs.Fits.{is_base}
 use Rattle.legal_history.specs.Stories.Steps.{with_came}
 use Rattle.legal_history.specs.Builds.Consistency.{InOrder, IsObjectOf, IsReady, IsConsistent}
-use Rattle.legal_history.proofs.Stories.Goes.{comes_to, same_number}
-use Rattle.legal_history.proofs.Bases.Stay.{first_rows_stay, all_rows, row_stays}
-use Rattle.legal_history.proofs.Stories.Tables.{find_after_put}
+use Rattle.legal_history.proofs.Stories.Goes.{comes_to}
+use Rattle.base_model.proofs.Tables.{same_number, find_after_put}
+use Rattle.base_model.proofs.Stay.{first_rows_stay, all_rows, row_stays}
 
 -- an object keeps its targets when a row is added
 pub is_object_stays : (row : Plain) (b : Base) (unit : Unit) (id : ℕ) → IsObjectOf b unit id → IsObjectOf (row ∷ b) unit id

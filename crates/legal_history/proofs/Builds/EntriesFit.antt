@@ -11,19 +11,19 @@ use Rattle.std.specs.declared.cmp.Ordering.{Ordering}
 use Rattle.std.specs.declared.cmp.Ordering.TheVariants.{Less, Equal, Greater}
 use Rattle.std.specs.FinMap.Entries.{put, by_order}
 use Rattle.cc_names.specs.declared.units.Unit.{Unit}
-use Rattle.legal_history.specs.Base.Rows.{Base, first_rows, deed_at, only_where}
+use Rattle.base_model.specs.Rows.{Base, first_rows, deed_at, only_where}
 use Rattle.legal_history.specs.Builds.Active.{Build, object_of}
-use Rattle.legal_history.specs.Base.Changes.{targets_of}
+use Rattle.base_model.specs.Changes.{targets_of}
 use Rattle.legal_history.specs.Builds.Choices.{unit_of_member, members_before, object_among, visible, entry_row, in_order, as_entry, entries}
-use Rattle.legal_history.specs.Base.Closures.{is_among}
-use Rattle.legal_history.specs.Base.Conditions.{is_entry, makes_file_text}
+use Rattle.base_model.specs.Closures.{is_among}
+use Rattle.base_model.specs.Conditions.{is_entry, makes_file_text}
 use Rattle.legal_history.specs.Builds.Consistency.{IsObjectOf, IsReady, IsConsistent}
-use Rattle.legal_history.specs.Base.Seen.{file_at}
+use Rattle.base_model.specs.Seen.{file_at}
 use Rattle.legal_history.specs.Builds.Serials.{makes, needed}
-use Rattle.legal_history.proofs.Bases.FilesBelow.{beyond}
-use Rattle.legal_history.proofs.Builds.FreshSeen.{or_first, or_second}
+use Rattle.base_model.proofs.FilesBelow.{beyond}
+use Rattle.base_model.proofs.Either.{or_first, or_second}
 use Rattle.legal_history.proofs.Builds.Pairs.{Pair, unit_in, member_of, pairs_before, members_paired, needed_mapped}
-use Rattle.legal_history.proofs.Bases.FileRows.{FileText, file_is_text, file_text_stays_all}
+use Rattle.base_model.proofs.FileRows.{FileText, file_is_text, file_text_stays_all}
 use Rattle.legal_history.proofs.Builds.NeededAgree.{needed_each, ready_over}
 
 -- the object that a unit was given has the unit's targets

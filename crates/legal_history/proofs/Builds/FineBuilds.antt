@@ -8,13 +8,13 @@ use Rattle.cc_names.specs.declared.rows.Deed.{Deed}
 use Rattle.cc_names.specs.declared.rows.Deed.TheVariants as deeds
 use Rattle.cc_names.specs.declared.rows.Tag.{Tag}
 use Rattle.cc_names.specs.declared.units.Unit.{Unit}
-use Rattle.legal_history.specs.Base.Rows.{Base, size}
+use Rattle.base_model.specs.Rows.{Base, size}
 use Rattle.legal_history.specs.Builds.Active.{Build, Came, build_of, building, came_to, is_outcome, unit_at}
-use Rattle.legal_history.specs.Base.Conditions.{exists}
+use Rattle.base_model.specs.Conditions.{exists}
 use Rattle.legal_history.specs.Stories.States.{State}
 use Rattle.legal_history.specs.Stories.Steps.{noted, with_came}
 use Rattle.legal_history.specs.Laws.FromNothing.{MayTake}
-use Rattle.legal_history.specs.Base.Views.{view_row}
+use Rattle.base_model.specs.Views.{view_row}
 use Rattle.legal_history.specs.Builds.Consistency.{IsReady, IsConsistent}
 use Rattle.legal_history.proofs.Stories.Goes.{of_lane}
 use Rattle.legal_history.proofs.Builds.ConsistentStays.{KeepsConsistent, consistent_came, consistent_row}

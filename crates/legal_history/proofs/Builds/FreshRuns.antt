@@ -6,17 +6,17 @@ use Rattle.cc_names.specs.Files.{Files}
 use Rattle.cc_names.specs.declared.steps.UnitEnd.TheVariants.{Kept}
 use Rattle.cc_names.specs.declared.units.Unit.{Unit}
 use Rattle.script_grammar.specs.Run.{run}
-use Rattle.legal_history.specs.Base.Rows.{Base, first_rows, only_where}
+use Rattle.base_model.specs.Rows.{Base, first_rows, only_where}
 use Rattle.legal_history.specs.Builds.Active.{Build, Came, Started, Concluded, Given, object_of}
-use Rattle.legal_history.specs.Builds.Choices.{unit_of_member, object_among, text_of_row, visible, here}
-use Rattle.legal_history.specs.Base.Closures.{is_among}
-use Rattle.legal_history.specs.Builds.Fresh.{output_of, output_or_file, texts, script_text}
+use Rattle.legal_history.specs.Builds.Choices.{unit_of_member, object_among, visible, here}
+use Rattle.base_model.specs.Texts.{text_of_row, texts, output_at}
+use Rattle.base_model.specs.Closures.{is_among}
+use Rattle.legal_history.specs.Builds.Fresh.{output_of, output_or_file, script_text}
 use Rattle.legal_history.specs.Builds.Freshness.{Agrees, HasOutputs, AgreesSoFar, done_in}
 use Rattle.legal_history.specs.Builds.Consistency.{IsReady}
-use Rattle.legal_history.specs.Base.Seen.{file_at}
+use Rattle.base_model.specs.Seen.{file_at}
 use Rattle.legal_history.specs.Builds.Serials.{Outcome, Made, Without, unit_of, makes, needed}
-use Rattle.legal_history.specs.Base.Texts.{output_at}
-use Rattle.legal_history.proofs.Bases.FilesBelow.{file_text}
+use Rattle.base_model.proofs.FilesBelow.{file_text}
 use Rattle.legal_history.proofs.Builds.FreshSeen.{bytes_turned}
 use Rattle.legal_history.proofs.Builds.Pairs.{Pair, unit_in, member_of, finished_of, pairs_before, members_paired, done_paired, needed_mapped}
 use Rattle.legal_history.proofs.Builds.NeededAgree.{PairsAgree, ready_over, needed_agree}

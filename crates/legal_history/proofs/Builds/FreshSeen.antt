@@ -1,5 +1,5 @@
 -- A unit of a build that agrees with the build from nothing so far sees, and waits for, the same as there.
-use Rattle.std.proofs.Common.{◌≡◌, refl, ap, sym, subst, ◌∙◌, ℕ, zero, suc, ◌+◌, ◌<◌, Bool, true, false, cond, ◌||◌, ◌==◌, Option, Some, None, List, [], ◌∷◌, map, arith}
+use Rattle.std.proofs.Common.{◌≡◌, refl, ap, sym, subst, ◌∙◌, ℕ, zero, suc, ◌+◌, ◌<◌, Bool, true, false, cond, ◌==◌, Option, Some, None, List, [], ◌∷◌, map, arith}
 use Rattle.std.proofs.lemmas.Bool.Decides.{nat_tests}
 use Rattle.std.proofs.lemmas.Slice.Eq.{bytes_eq-Decides}
 use Rattle.std.specs.Prelude.{option_map, find, slice_get, bytes_eq}
@@ -7,23 +7,16 @@ use Rattle.std.specs.List.{list_any}
 use Rattle.cc_names.specs.declared.steps.UnitEnd.TheVariants.{Kept, Blocked, Failed}
 use Rattle.cc_names.specs.declared.refusals.UnitFault.TheVariants.{NoRule}
 use Rattle.cc_names.specs.declared.units.Unit.{Unit}
-use Rattle.legal_history.specs.Base.Rows.{Base, first_rows}
+use Rattle.base_model.specs.Rows.{Base, first_rows}
 use Rattle.legal_history.specs.Builds.Active.{Build, Came, Started, Concluded, Given, came_to, is_outcome, number_from, unit_at}
-use Rattle.legal_history.specs.Base.Closures.{is_among}
+use Rattle.base_model.specs.Closures.{is_among}
 use Rattle.legal_history.specs.Builds.Fresh.{sees_file, sees_directory}
 use Rattle.legal_history.specs.Builds.Freshness.{Agrees, AgreesSoFar, done_in, outcome_in, early_from_nothing}
 use Rattle.legal_history.specs.Builds.Consistency.{InOrder, IsReady}
 use Rattle.legal_history.specs.Builds.Serials.{Outcome, Made, Without, Standing, standing_of_end, standing_of_outcome, standing_or_file, standing_in, is_missing, is_bad, makes, first_end, no_directory, no_script}
 use Rattle.legal_history.specs.Builds.Turns.{standing_of_came, standing_of_unit, early_in}
 use Rattle.legal_history.proofs.Builds.Pairs.{Pair, finished_of, with_pair, pairs_before, done_paired}
-
-pub or_first : (a b : Bool) → a ≡ true → (a || b) ≡ true
-or_first true b h = refl
-or_first false b h = absurd (cc)
-
-pub or_second : (a b : Bool) → b ≡ true → (a || b) ≡ true
-or_second true b h = refl
-or_second false b h = h
+use Rattle.base_model.proofs.Either.{or_first, or_second}
 
 pub bytes_itself : (xs : List ℕ) → bytes_eq xs xs ≡ true
 bytes_itself xs = (bytes_eq-Decides xs xs).1 refl

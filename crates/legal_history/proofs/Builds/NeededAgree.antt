@@ -3,13 +3,14 @@ use Rattle.std.proofs.Common.{◌≡◌, refl, ap, subst, ℕ, zero, suc, Bool, 
 use Rattle.std.specs.Prelude.{is_some, bytes_eq}
 use Rattle.std.specs.List.{AllByRecursion, list_any}
 use Rattle.cc_names.specs.declared.units.Unit.{Unit}
-use Rattle.legal_history.specs.Base.Rows.{Base, first_rows}
+use Rattle.base_model.specs.Rows.{Base, first_rows}
 use Rattle.legal_history.specs.Builds.Active.{Build, Came, came_to, is_outcome, unit_at}
-use Rattle.legal_history.specs.Base.Closures.{is_among}
+use Rattle.base_model.specs.Closures.{is_among}
 use Rattle.legal_history.specs.Builds.Freshness.{Agrees, AgreesSoFar, outcome_in}
 use Rattle.legal_history.specs.Builds.Consistency.{IsReady, IsConsistent}
 use Rattle.legal_history.specs.Builds.Serials.{makes, needed}
-use Rattle.legal_history.proofs.Builds.FreshSeen.{or_first, or_second, bytes_itself, outcome_there}
+use Rattle.base_model.proofs.Either.{or_first, or_second}
+use Rattle.legal_history.proofs.Builds.FreshSeen.{bytes_itself, outcome_there}
 use Rattle.legal_history.proofs.Builds.Pairs.{Pair, unit_in, with_pair, pairs_before}
 
 -- a pair whose unit has an outcome that agrees

@@ -15,7 +15,7 @@ use Rattle.make_grammar.specs.Units.{unless_refused, main_file}
 use Rattle.make_grammar.proofs.FormedMakefiles.{makefiles_are_formed}
 use Rattle.make_grammar.proofs.UnitLaws as laws
 use Rattle.legal_history.specs.Builds.Active.{number_from}
-use Rattle.legal_history.specs.Base.Closures.{is_among}
+use Rattle.base_model.specs.Closures.{is_among}
 use Rattle.legal_history.specs.Builds.Consistency.{InOrder}
 
 -- units are counted alike

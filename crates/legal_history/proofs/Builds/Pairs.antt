@@ -4,10 +4,11 @@ use Rattle.std.proofs.lemmas.List.{reverse-append}
 use Rattle.std.specs.Prelude.{reverse, slice_get}
 use Rattle.std.specs.List.{list_any}
 use Rattle.cc_names.specs.declared.units.Unit.{Unit}
-use Rattle.legal_history.specs.Base.Rows.{Base}
+use Rattle.base_model.specs.Rows.{Base}
 use Rattle.legal_history.specs.Builds.Active.{Build, Came, came_to, unit_at}
 use Rattle.legal_history.specs.Builds.Choices.{Member, members_from, members_before}
-use Rattle.legal_history.specs.Builds.Fresh.{serial, texts, sees_file, sees_directory}
+use Rattle.legal_history.specs.Builds.Fresh.{serial, sees_file, sees_directory}
+use Rattle.base_model.specs.Texts.{texts}
 use Rattle.legal_history.specs.Builds.Freshness.{done_in, outcome_in}
 use Rattle.legal_history.specs.Builds.Serials.{Outcome, Finished, makes, needed}
 

@@ -8,17 +8,17 @@ use Rattle.cc_names.specs.declared.rows.Deed.TheVariants as deeds
 use Rattle.cc_names.specs.declared.rows.ReadOf.{ReadOf}
 use Rattle.cc_names.specs.declared.rows.Tag.{Tag}
 use Rattle.cc_names.specs.declared.units.Unit.{Unit}
-use Rattle.legal_history.specs.Base.Rows.{Base, size, first_rows, row_at, deed_of}
+use Rattle.base_model.specs.Rows.{Base, size, first_rows, row_at, deed_of}
 use Rattle.legal_history.specs.Builds.Active.{Build, Given}
-use Rattle.legal_history.specs.Base.Changes.{targets_of_deed}
-use Rattle.legal_history.specs.Builds.Choices.{here, visible, entries, publish_of, publish_by, text_of_row}
+use Rattle.base_model.specs.Changes.{targets_of_deed}
+use Rattle.legal_history.specs.Builds.Choices.{here, visible, entries, publish_of, publish_by}
+use Rattle.base_model.specs.Texts.{text_of_row, Bytes, OfRow, NoText, of_output, output_at, text}
 use Rattle.legal_history.specs.Builds.Fresh.{outcome_of_run, script_text}
 use Rattle.legal_history.specs.Builds.Freshness.{Agrees, HasOutputs, AgreesSoFar, outcome_in, early_from_nothing}
 use Rattle.legal_history.specs.Builds.Consistency.{IsObjectOf, IsReady}
 use Rattle.legal_history.specs.Builds.Serials.{makes}
-use Rattle.legal_history.specs.Base.Texts.{Bytes, OfRow, NoText, of_output, output_at, text}
-use Rattle.legal_history.proofs.Bases.Owned.{same_is_same}
-use Rattle.legal_history.proofs.Bases.Stay.{first_rows_stay}
+use Rattle.base_model.proofs.Owned.{same_is_same}
+use Rattle.base_model.proofs.Stay.{first_rows_stay}
 use Rattle.legal_history.proofs.Builds.ReadyUnits.{outcome_by_run, outputs_whole}
 
 -- what the deed of a publish is made of

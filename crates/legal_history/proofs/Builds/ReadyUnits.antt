@@ -11,18 +11,18 @@ use Rattle.script_grammar.specs.Lines.{script_of}
 use Rattle.script_grammar.specs.Run.{State, Done, Ran, run, run_of, after_lines, nothing_written, carried_out, traced, unless_fault, output_before, outputs_of}
 use Rattle.script_grammar.specs.declared.lines.Line.{Line}
 use Rattle.script_grammar.proofs.CarriedLemmas.{traced-and_then}
-use Rattle.legal_history.specs.Base.Rows.{Base, first_rows}
+use Rattle.base_model.specs.Rows.{Base, first_rows}
 use Rattle.legal_history.specs.Builds.Active.{Build, came_to, is_outcome, number_from, unit_with}
 use Rattle.legal_history.specs.Builds.Choices.{here}
-use Rattle.legal_history.specs.Base.Closures.{is_among}
-use Rattle.legal_history.specs.Builds.Fresh.{outcome_of_run, end_or_run, output_or_file, texts}
+use Rattle.base_model.specs.Closures.{is_among}
+use Rattle.legal_history.specs.Builds.Fresh.{outcome_of_run, end_or_run, output_or_file}
+use Rattle.base_model.specs.Texts.{texts, output_at}
 use Rattle.legal_history.specs.Builds.Freshness.{AgreesSoFar, done_in, outcome_in, early_from_nothing}
 use Rattle.legal_history.specs.Builds.Consistency.{IsReady}
 use Rattle.legal_history.specs.Builds.Serials.{Without, unit_of, needed}
-use Rattle.legal_history.specs.Base.Texts.{output_at}
 use Rattle.legal_history.specs.Builds.Turns.{is_over, is_ready}
 use Rattle.legal_history.proofs.Builds.FreshSeen.{bytes_turned}
-use Rattle.legal_history.proofs.Bases.Owned.{and_first, and_second}
+use Rattle.base_model.proofs.Owned.{and_first, and_second}
 use Rattle.legal_history.proofs.Builds.FreshRuns.{run_same}
 
 -- a unit that passes the test is ready

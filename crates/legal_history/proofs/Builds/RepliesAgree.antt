@@ -6,16 +6,17 @@ use Rattle.std.specs.Prelude.{reverse, slice_get}
 use Rattle.cc_names.specs.declared.replies.Reply.TheVariants.{Built}
 use Rattle.cc_names.specs.declared.steps.StoryStep.{StoryStep}
 use Rattle.cc_names.specs.declared.units.Unit.{Unit}
-use Rattle.legal_history.specs.Base.Rows.{Base, first_rows}
+use Rattle.base_model.specs.Rows.{Base, first_rows}
 use Rattle.legal_history.specs.Builds.Active.{Build, Came, came_to, is_outcome, unit_at}
-use Rattle.legal_history.specs.Builds.Fresh.{all_finished, serial, texts, sees_file, sees_directory}
+use Rattle.legal_history.specs.Builds.Fresh.{all_finished, serial, sees_file, sees_directory}
+use Rattle.base_model.specs.Texts.{texts}
 use Rattle.legal_history.specs.Builds.Freshness.{Agrees, AgreesSoFar, outcome_in}
 use Rattle.legal_history.specs.Laws.Ends.{IsLeft}
 use Rattle.legal_history.specs.Laws.FromNothing.{EndsAsFromNothing}
 use Rattle.legal_history.specs.Builds.Serials.{Finished}
 use Rattle.legal_history.specs.Stories.States.{State}
 use Rattle.legal_history.specs.Builds.Turns.{all_over, is_complete}
-use Rattle.legal_history.proofs.Bases.Owned.{and_first, and_second}
+use Rattle.base_model.proofs.Owned.{and_first, and_second}
 use Rattle.legal_history.proofs.Builds.Pairs.{finished_of, with_pair, pairs_before, done_paired}
 use Rattle.legal_history.specs.Builds.Replied.{lines_from, finished_from, reply_of, reply_from_nothing}
 use Rattle.legal_history.proofs.Builds.FreshSeen.{outcome_there}

@@ -9,8 +9,7 @@ use Rattle.std.specs.FinMap.Entries.{put, find, where_key, by_order, below_all, 
 use Rattle.cc_names.specs.References.{one_where}
 use Rattle.cc_names.specs.declared.units.Unit.{Unit}
 use Rattle.legal_history.specs.Builds.Active.{Active, Build, Came, build_of, is_outcome, reserved}
-use Rattle.legal_history.proofs.Stories.Goes.{same_number}
-use Rattle.legal_history.proofs.Stories.Tables.{find_after_put, find_put_same}
+use Rattle.base_model.proofs.Tables.{same_number, find_after_put, find_put_same}
 
 -- how many of some units, numbered from n on, have no outcome
 abbrev pub waits_from : List (ℕ × Came) → ℕ → List Unit → ℕ

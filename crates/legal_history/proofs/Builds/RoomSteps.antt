@@ -17,11 +17,11 @@ use Rattle.cc_names.specs.declared.steps.StoryStep.TheVariants as story_steps
 use Rattle.cc_names.specs.declared.steps.UnitEnd.{UnitEnd}
 use Rattle.cc_names.specs.declared.steps.UnitEnd.TheVariants as ends
 use Rattle.cc_names.specs.declared.units.Unit.{Unit}
-use Rattle.legal_history.specs.Base.Rows.{Base, size}
+use Rattle.base_model.specs.Rows.{Base, size}
 use Rattle.legal_history.specs.Builds.Active.{Active, Build, Came, Given, Concluded, build_of, is_outcome, unit_with_first}
-use Rattle.legal_history.specs.Base.Changes.{targets_of}
+use Rattle.base_model.specs.Changes.{targets_of}
 use Rattle.legal_history.specs.Commands.Decisions.{Makes, Begins}
-use Rattle.legal_history.specs.Base.Fits.{row_limit}
+use Rattle.base_model.specs.Fits.{row_limit}
 use Rattle.legal_history.specs.Stories.States.{State, decided, build_by}
 use Rattle.legal_history.specs.Stories.Steps.{after, after_step, noted, noted_in, with_came, came_by_starting, active_after, begun, build_asked, with_build, without_build, faulted_in}
 use Rattle.legal_history.specs.Stories.Committing.{MakesRow}

@@ -10,9 +10,10 @@ use Rattle.cc_names.specs.declared.steps.UnitEnd.TheVariants as ends
 use Rattle.cc_names.specs.declared.units.Unit.{Unit}
 use Rattle.script_grammar.specs.Lines.{script_of}
 use Rattle.script_grammar.specs.declared.lines.Line.{Line}
-use Rattle.legal_history.specs.Base.Rows.{Base, size, first_rows}
+use Rattle.base_model.specs.Rows.{Base, size, first_rows}
 use Rattle.legal_history.specs.Builds.Active.{Build, Started, Concluded, Given, build_of, came_to, is_outcome, object_of, unit_at}
-use Rattle.legal_history.specs.Builds.Choices.{here, text_of_row, visible}
+use Rattle.legal_history.specs.Builds.Choices.{here, visible}
+use Rattle.base_model.specs.Texts.{text_of_row}
 use Rattle.legal_history.specs.Builds.Fresh.{outcome_of_run, script_text}
 use Rattle.legal_history.specs.Builds.Freshness.{Agrees, AgreesSoFar, early_from_nothing}
 use Rattle.legal_history.specs.Builds.Consistency.{IsReady}

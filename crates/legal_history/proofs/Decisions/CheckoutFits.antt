@@ -8,27 +8,27 @@ use Rattle.cc_names.specs.declared.refusals.Refusal.TheVariants as refusals
 use Rattle.cc_names.specs.declared.rows.Deed.TheVariants as deeds
 use Rattle.cc_names.specs.declared.rows.Kind.{Kind}
 use Rattle.cc_names.specs.declared.rows.Kind.TheVariants.{File, Directory}
-use Rattle.legal_history.specs.Base.Rows.{Base}
-use Rattle.legal_history.specs.Base.Changes.{tree}
-use Rattle.legal_history.specs.Base.Checkouts.{latest_beside, is_latest, other_reserver, branch_of}
+use Rattle.base_model.specs.Rows.{Base}
+use Rattle.base_model.specs.Changes.{tree}
+use Rattle.base_model.specs.Checkouts.{latest_beside, is_latest, other_reserver, branch_of}
 use Rattle.legal_history.specs.Commands.CheckoutLines.{checkin, checkin_of, checkin_tests}
-use Rattle.legal_history.specs.Base.Closures.{is_version_of}
-use Rattle.legal_history.specs.Base.Conditions.{has_out, is_file, is_directory, is_file_kind, is_directory_kind, may_check_in}
+use Rattle.base_model.specs.Closures.{is_version_of}
+use Rattle.base_model.specs.Conditions.{has_out, is_file, is_directory, is_file_kind, is_directory_kind, may_check_in}
 use Rattle.legal_history.specs.Commands.Decisions.{Scene}
 use Rattle.legal_history.specs.Commands.FileLines.{save}
 use Rattle.legal_history.specs.Commands.Found.{for_element}
-use Rattle.legal_history.specs.Base.Fits.{is_base}
-use Rattle.legal_history.specs.Base.Seen.{at}
+use Rattle.base_model.specs.Fits.{is_base}
+use Rattle.base_model.specs.Seen.{at}
 use Rattle.legal_history.specs.Commands.CheckoutTests.{needs_no_other, needs_latest_origin, refused_unless_same}
 use Rattle.legal_history.specs.Commands.Tests.{needs_view, needs_idle}
-use Rattle.legal_history.specs.Base.Views.{Checkout, out}
+use Rattle.base_model.specs.Views.{Checkout, out}
 use Rattle.legal_history.proofs.Decisions.DirectoryFits.{save_fits_by, was_out}
 use Rattle.legal_history.proofs.Decisions.FileFits.{Fits, RowFits}
 use Rattle.legal_history.proofs.Decisions.Handed.{past_is, element_is, row_is}
-use Rattle.legal_history.proofs.Bases.Origins.{out_is_version}
-use Rattle.legal_history.proofs.Bases.Owned.{version_has_kind}
+use Rattle.base_model.proofs.Origins.{out_is_version}
+use Rattle.base_model.proofs.Owned.{version_has_kind}
 use Rattle.legal_history.proofs.Decisions.Passed.{unless_passes, fits_by}
-use Rattle.legal_history.proofs.Bases.VersionsStay.{parts_of, of_element}
+use Rattle.base_model.proofs.VersionsStay.{parts_of, of_element}
 
 -- what is there, by its test
 pub some_of : {A : Type 0} (o : Option A) → is_some o ≡ true → (a : A) × (o ≡ Some a)

@@ -9,18 +9,19 @@ use Rattle.cc_names.specs.declared.rows.Kind.{Kind}
 use Rattle.cc_names.specs.declared.rows.Kind.TheVariants.{File, Directory}
 use Rattle.cc_names.specs.declared.rows.TypeKind.TheVariants as type_kinds
 use Rattle.legal_history.specs.Builds.Active.{building}
-use Rattle.legal_history.specs.Base.Changes.{held}
+use Rattle.base_model.specs.Changes.{held}
 use Rattle.legal_history.specs.Commands.CheckoutLines.{checkout_of, mkbranch_of, mkbranch_tests, out_unless, checkin_of, checkin_tests, uncheckout_of}
 use Rattle.legal_history.specs.Commands.CheckoutTests.{needs_out}
 use Rattle.legal_history.specs.Commands.Decisions.{Scene}
 use Rattle.legal_history.specs.Commands.DirectoryLines.{mkelem, mkelem_in, rmname_in, rmname_tests, mv_in, mv_tests}
 use Rattle.legal_history.specs.Commands.FileLines.{last_name, mkview_tests, rmview_tests, setcs_tests, save_tests, save_deed, rm_tests}
 use Rattle.legal_history.specs.Commands.Found.{for_selected, for_element, for_object}
-use Rattle.legal_history.specs.Commands.LabelLines.{mklabel_of, mklabel_tests, rmlabel_of, rmlabel_tests, mklabel_config_of, mklabel_config_tests, placed_by, mkarrow_of, mkarrow_from, mkarrow_tests, version_named}
+use Rattle.legal_history.specs.Commands.LabelLines.{mklabel_of, mklabel_tests, rmlabel_of, rmlabel_tests, mklabel_config_of, mklabel_config_tests, mkarrow_of, mkarrow_from, mkarrow_tests, version_named}
+use Rattle.base_model.specs.Closures.{placed_by}
 use Rattle.legal_history.specs.Commands.Lines.{decision}
 use Rattle.legal_history.specs.Commands.ObjectLines.{rmdo_tests, due}
-use Rattle.legal_history.specs.Base.Seen.{at}
-use Rattle.legal_history.specs.Base.Views.{out}
+use Rattle.base_model.specs.Seen.{at}
+use Rattle.base_model.specs.Views.{out}
 use Rattle.legal_history.specs.Commands.Tests.{needs_view, needs_idle, needs_free_path, needs_free_type}
 use Rattle.legal_history.proofs.Decisions.DecidedSays.{Says, by_row, by_checkout, was_idle, saved_suits, by_labels, by_scrub, by_build}
 use Rattle.legal_history.proofs.Decisions.Handed.{IfDecided, past_is, selected_is, element_is, object_is, version_is, change_is}

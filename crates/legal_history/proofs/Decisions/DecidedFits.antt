@@ -22,16 +22,16 @@ use Rattle.cc_names.specs.declared.rows.Placed.{Placed}
 use Rattle.cc_names.specs.declared.rows.TypeKind.TheVariants as type_kinds
 use Rattle.cc_names.specs.declared.units.Unit.{Unit}
 use Rattle.make_grammar.specs.Graphs.{units}
-use Rattle.legal_history.specs.Base.Rows.{Base, size}
+use Rattle.base_model.specs.Rows.{Base, size}
 use Rattle.legal_history.specs.Commands.Found.{for_object}
 use Rattle.legal_history.specs.Commands.Tests.{needs_view}
-use Rattle.legal_history.specs.Base.Changes.{tree, held, live}
-use Rattle.legal_history.specs.Base.Closures.{Inputs, Listing, closure, listing, listing_of, version_listed, with_version_at, greater_of, is_version_of}
-use Rattle.legal_history.specs.Base.Conditions.{is_label_type, is_placed, may_be_scrubbed}
+use Rattle.base_model.specs.Changes.{tree, held, live}
+use Rattle.base_model.specs.Closures.{Inputs, Listing, closure, listing, listing_of, version_listed, with_version_at, greater_of, is_version_of, as_placed, placed_by}
+use Rattle.base_model.specs.Conditions.{is_label_type, is_placed, may_be_scrubbed}
 use Rattle.legal_history.specs.Commands.Decisions.{Makes, Begins, Scene, first_refusal, unless_refused, needs_room}
-use Rattle.legal_history.specs.Base.Fits.{fits, is_base}
-use Rattle.legal_history.specs.Builds.Fresh.{texts}
-use Rattle.legal_history.specs.Commands.LabelLines.{as_placed, placed_by, mklabel_config, mklabel_config_of, mklabel_config_tests, labels_or_nothing}
+use Rattle.base_model.specs.Fits.{fits, is_base}
+use Rattle.base_model.specs.Texts.{texts}
+use Rattle.legal_history.specs.Commands.LabelLines.{mklabel_config, mklabel_config_of, mklabel_config_tests, labels_or_nothing}
 use Rattle.legal_history.specs.Commands.Lines.{decision}
 use Rattle.legal_history.specs.Commands.ObjectLines.{due_among, due, scrub, scrub_of, clearmake_tests, build_unless}
 use Rattle.legal_history.proofs.Decisions.CheckoutFits.{save_fits, checkin_fits}
@@ -40,11 +40,11 @@ use Rattle.legal_history.proofs.Decisions.ElementFits.{checkout_fits, mkbranch_f
 use Rattle.legal_history.proofs.Decisions.FileFits.{Fits, RowFits, mkview_fits, rmview_fits, setcs_fits, rm_fits, mktype_fits, rmdo_fits}
 use Rattle.legal_history.proofs.Decisions.Handed.{past_is, object_is, row_is, answer_is}
 use Rattle.legal_history.proofs.Decisions.Queried.{query_is}
-use Rattle.legal_history.proofs.Bases.LabelsHold.{greater, all_listed, version_id_listed}
-use Rattle.legal_history.proofs.Stories.Tables.{tied}
-use Rattle.legal_history.proofs.Bases.Owned.{and_first, and_second}
+use Rattle.base_model.proofs.LabelsHold.{greater, all_listed, version_id_listed}
+use Rattle.base_model.proofs.Tables.{tied}
+use Rattle.base_model.proofs.Owned.{and_first, and_second}
 use Rattle.legal_history.proofs.Decisions.Passed.{AllPass, unless_passes, fits_by}
-use Rattle.legal_history.proofs.Bases.VersionsStay.{is_version}
+use Rattle.base_model.proofs.VersionsStay.{is_version}
 
 -- each entry of a listing is a version of its element
 abbrev AllVersions : Base → Listing → Type 0

@@ -20,14 +20,14 @@ use Rattle.cc_names.specs.declared.selection.Seen.{Seen}
 use Rattle.cc_names.specs.declared.selection.Seen.TheVariants.{Private, Element, Unselected, Nothing}
 use Rattle.cc_names.specs.declared.units.Unit.{Unit}
 use Rattle.make_grammar.specs.Graphs.{units}
-use Rattle.legal_history.specs.Base.Rows.{size}
+use Rattle.base_model.specs.Rows.{size}
 use Rattle.legal_history.specs.Builds.Active.{Active, building, reserved}
 use Rattle.legal_history.specs.Commands.CheckoutLines.{checkout_of, checkout_by_rule, checkout_tests, checkout_deed, branch_by, deciding_rule}
-use Rattle.legal_history.specs.Base.Conditions.{exists}
+use Rattle.base_model.specs.Conditions.{exists}
 use Rattle.legal_history.specs.Commands.Decisions.{Decision, Makes, Answers, Begins, Scene, first_refusal, unless_refused, needs_room, makes, answers}
 use Rattle.legal_history.specs.Commands.FileLines.{save_deed}
-use Rattle.legal_history.specs.Base.Fits.{row_limit}
-use Rattle.legal_history.specs.Builds.Fresh.{texts}
+use Rattle.base_model.specs.Fits.{row_limit}
+use Rattle.base_model.specs.Texts.{texts}
 use Rattle.legal_history.specs.Commands.LabelLines.{labels_or_nothing}
 use Rattle.legal_history.specs.Commands.ObjectLines.{scrub_of, clearmake, clearmake_tests, build_unless}
 use Rattle.legal_history.proofs.Decisions.Handed.{IfDecided, answer_is}

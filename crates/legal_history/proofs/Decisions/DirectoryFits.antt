@@ -5,19 +5,19 @@ use Rattle.cc_names.specs.declared.rows.Deed.TheVariants as deeds
 use Rattle.cc_names.specs.declared.rows.Kind.{Kind}
 use Rattle.cc_names.specs.declared.selection.Seen.{Seen}
 use Rattle.cc_names.specs.declared.selection.Seen.TheVariants.{Private, Element, Unselected, Nothing}
-use Rattle.legal_history.specs.Base.Rows.{Base, size}
+use Rattle.base_model.specs.Rows.{Base, size}
 use Rattle.legal_history.specs.Commands.CheckoutLines.{uncheckout, uncheckout_of}
-use Rattle.legal_history.specs.Base.Conditions.{exists, has_out, is_file, is_directory, has_name, has_out_by_name}
+use Rattle.base_model.specs.Conditions.{exists, has_out, is_file, is_directory, has_name, has_out_by_name}
 use Rattle.legal_history.specs.Commands.Decisions.{Scene}
 use Rattle.legal_history.specs.Commands.DirectoryLines.{mkelem, mkelem_in, rmname, rmname_in, rmname_tests, mv, mv_in, mv_tests}
 use Rattle.legal_history.specs.Commands.FileLines.{last_name, save, save_tests, save_deed, saves_at, saves_element}
 use Rattle.legal_history.specs.Commands.Found.{for_element}
-use Rattle.legal_history.specs.Base.Fits.{fits, row_limit}
+use Rattle.base_model.specs.Fits.{fits, row_limit}
 use Rattle.legal_history.specs.Commands.LabelLines.{rmlabel, rmlabel_of, rmlabel_tests}
-use Rattle.legal_history.specs.Base.Seen.{at}
+use Rattle.base_model.specs.Seen.{at}
 use Rattle.legal_history.specs.Commands.CheckoutTests.{needs_out, needs_not_out}
 use Rattle.legal_history.specs.Commands.Tests.{needs_view, needs_idle, needs_free_path}
-use Rattle.legal_history.specs.Base.Views.{Checkout, out}
+use Rattle.base_model.specs.Views.{Checkout, out}
 use Rattle.legal_history.proofs.Decisions.FileFits.{Fits, RowFits}
 use Rattle.legal_history.proofs.Decisions.Handed.{Changes, past_is, element_is, change_is, row_is}
 use Rattle.legal_history.proofs.Decisions.Passed.{where_passes, unless_passes, fits_by}

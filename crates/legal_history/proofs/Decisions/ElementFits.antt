@@ -12,27 +12,27 @@ use Rattle.cc_names.specs.declared.selection.Picked.{Picked}
 use Rattle.cc_names.specs.declared.selection.Rule.{Rule}
 use Rattle.cc_names.specs.declared.selection.Seen.TheVariants.{Element}
 use Rattle.cc_names.specs.declared.selection.Selector.TheVariants as selectors
-use Rattle.legal_history.specs.Base.Rows.{Base, size}
-use Rattle.legal_history.specs.Base.Changes.{tree}
-use Rattle.legal_history.specs.Base.Checkouts.{latest_beside, is_latest}
+use Rattle.base_model.specs.Rows.{Base, size}
+use Rattle.base_model.specs.Changes.{tree}
+use Rattle.base_model.specs.Checkouts.{latest_beside, is_latest}
 use Rattle.legal_history.specs.Commands.CheckoutLines.{checkout, checkout_of, checkout_by_rule, checkout_tests, checkout_by, checkout_deed, reserves_if, branch_by, deciding_rule, mkbranch, mkbranch_of, mkbranch_tests, out_unless, out_by}
-use Rattle.legal_history.specs.Base.Closures.{is_version_of}
-use Rattle.legal_history.specs.Base.Conditions.{exists, has_out, is_branch_type, is_label_type, has_branch, arrow_row}
+use Rattle.base_model.specs.Closures.{is_version_of}
+use Rattle.base_model.specs.Conditions.{exists, has_out, is_branch_type, is_label_type, has_branch, arrow_row}
 use Rattle.legal_history.specs.Commands.Decisions.{Scene}
 use Rattle.legal_history.specs.Commands.Found.{for_selected}
-use Rattle.legal_history.specs.Base.Fits.{fits, is_base, row_limit, may_reserve}
+use Rattle.base_model.specs.Fits.{fits, is_base, row_limit, may_reserve}
 use Rattle.legal_history.specs.Commands.LabelLines.{mklabel, mklabel_of, mklabel_tests, needs_version_picked, mkarrow, mkarrow_of, mkarrow_from, mkarrow_tests, version_named}
-use Rattle.legal_history.specs.Base.Seen.{at}
+use Rattle.base_model.specs.Seen.{at}
 use Rattle.legal_history.specs.Commands.Tests.{needs_view, needs_idle, needs_branch_type, needs_no_branch}
-use Rattle.legal_history.specs.Base.Views.{out}
-use Rattle.legal_history.proofs.Bases.CatalogElements.{IsElement}
+use Rattle.base_model.specs.Views.{out}
+use Rattle.base_model.proofs.CatalogElements.{IsElement}
 use Rattle.legal_history.proofs.Decisions.CheckoutFits.{has_latest, latest_passes, none_mapped}
 use Rattle.legal_history.proofs.Decisions.DirectoryFits.{was_not_out}
 use Rattle.legal_history.proofs.Decisions.FileFits.{Fits, RowFits}
 use Rattle.legal_history.proofs.Decisions.Handed.{past_is, selected_is, version_is, row_is}
-use Rattle.legal_history.proofs.Bases.Makings.{making_is_out, seen_element}
+use Rattle.base_model.proofs.Makings.{making_is_out, seen_element}
 use Rattle.legal_history.proofs.Decisions.Passed.{AllPass, where_passes, unless_passes, fits_by}
-use Rattle.legal_history.proofs.Bases.Picks.{IsPick, picked_is, found_version}
+use Rattle.base_model.proofs.Picks.{IsPick, picked_is, found_version}
 
 -- an element that stands at a path of a base, with what was picked of it
 record Picks (b : Base) (v : List ℕ) (e : ℕ) (picked : Picked) : Type 0 where

@@ -1,5 +1,5 @@
 -- The rows of the commands on views and private files fit.
-use Rattle.std.proofs.Common.{◌≡◌, refl, ap, subst, ◌∙◌, ℕ, Bool, true, false, not, Option, Some, None, Result, Ok, Err, List, [], ◌∷◌}
+use Rattle.std.proofs.Common.{◌≡◌, refl, ap, subst, ◌∙◌, ℕ, Bool, true, false, not, Some, None, Result, Ok, Err, List, [], ◌∷◌}
 use Rattle.std.proofs.lemmas.List.{reverse-reverse}
 use Rattle.std.specs.Bool.{⊤}
 use Rattle.std.specs.Prelude.{is_ok, reverse}
@@ -10,24 +10,21 @@ use Rattle.cc_names.specs.declared.rows.TypeKind.{TypeKind}
 use Rattle.cc_names.specs.declared.selection.Rule.{Rule}
 use Rattle.cc_names.specs.declared.selection.Seen.{Seen}
 use Rattle.cc_names.specs.declared.selection.Seen.TheVariants.{Private, Element, Unselected, Nothing}
-use Rattle.spec_text.specs.Specs.{rules_of}
+use Rattle.base_model.specs.ConfigSpecs.Specs.{rules_of}
 use Rattle.cc_names.specs.Paths.{joined, names_of}
 use Rattle.cc_names.proofs.PathParts.{joined-names_of}
-use Rattle.cc_names.specs.declared.selection.Picked.{Picked}
-use Rattle.legal_history.specs.Base.Rows.{Base}
-use Rattle.legal_history.specs.Base.Catalogs.{Catalog, named}
-use Rattle.legal_history.specs.Base.Views.{private}
-use Rattle.legal_history.specs.Base.Conditions.{exists}
+use Rattle.base_model.specs.Views.{private}
+use Rattle.base_model.specs.Conditions.{exists}
 use Rattle.legal_history.specs.Commands.Decisions.{Decision, Makes, Answers, Begins, Scene}
 use Rattle.legal_history.specs.Commands.FileLines.{mkview, mkview_tests, rmview, rmview_tests, setcs, setcs_tests, rm, rm_tests}
-use Rattle.legal_history.specs.Base.Fits.{fits}
-use Rattle.legal_history.specs.Base.Seen.{at, at_names, below, private_or, as_seen, element_at, entries_of, selected}
+use Rattle.base_model.specs.Fits.{fits}
+use Rattle.base_model.specs.Seen.{at}
 use Rattle.legal_history.specs.Commands.LabelLines.{mktype}
 use Rattle.legal_history.specs.Commands.ObjectLines.{rmdo, rmdo_tests}
 use Rattle.legal_history.specs.Commands.Tests.{needs_rules, needs_private, needs_free_type}
-use Rattle.legal_history.proofs.Bases.Makings.{short_is_seen}
 use Rattle.legal_history.proofs.Decisions.Handed.{IfDecided, row_is}
 use Rattle.legal_history.proofs.Decisions.Passed.{Made, where_passes, unless_passes, fits_by}
+use Rattle.base_model.proofs.PrivateFiles.{private_at}
 
 -- a decision's row, where it makes one, fits
 abbrev pub Fits : Scene → Decision → Type 0
@@ -60,30 +57,6 @@ setcs_fits s v text = row_is (Fits s) s (setcs_tests s v text) (deeds.Setcs v te
         let there : exists s.base v ≡ true = unless_passes _ _ m.pass.0 in
         let ok : is_ok (rules_of text) ≡ true = were_read _ m.pass.1.1.0 in
         fits_by s.base (deeds.Setcs v text) m.room (rw (there, ok) refl)
-
--- a private file that stands somewhere is the view's
-private_of_or : (o : Option ℕ) (seen : Seen) (row : ℕ) → ((r : ℕ) → seen ≡ Private r → ⊥) → private_or o seen ≡ Private row → o ≡ Some row
-private_of_or None seen row never e = absurd (never row e)
-private_of_or (Some r) seen row never e = cc
-
-no_private : (e : ℕ) (picked : Option Picked) (r : ℕ) → as_seen e picked ≡ Private r → ⊥
-no_private e None r h = cc
-no_private e (Some picked) r h = cc
-
-no_private_element : (b : Base) (v : List ℕ) (names : List (List ℕ)) (e : Option ℕ) (r : ℕ) → element_at b v names e ≡ Private r → ⊥
-no_private_element b v names None r h = cc
-no_private_element b v names (Some e) r h = no_private e (selected b v e names) r h
-
-private_below : (b : Base) (v : List ℕ) (names : List (List ℕ)) (name : List ℕ) (entries : Option Catalog) (row : ℕ) →
-    below b v names name entries ≡ Private row → private b v (joined names) ≡ Some row
-private_below b v names name None row h = absurd (cc)
-private_below b v names name (Some entries) row h =
-    private_of_or (private b v (joined names)) (element_at b v names (named name entries)) row (no_private_element b v names (named name entries))
-    (short_is_seen (joined names) _ (Private row) (λ e. cc) h)
-
-pub private_at : (b : Base) (v : List ℕ) (back : List (List ℕ)) (row : ℕ) → at_names b v back ≡ Private row → private b v (joined (reverse back)) ≡ Some row
-private_at b v [] row h = absurd (no_private 0 (selected b v 0 []) row h)
-private_at b v (name ∷ above) row h = private_below b v (reverse (name ∷ above)) name (entries_of b v (at_names b v above)) row h
 
 was_private : (path : List ℕ) (seen : Seen) → needs_private path seen ≡ None → (row : ℕ) × (seen ≡ Private row)
 was_private path (Private row) e = (row, refl)

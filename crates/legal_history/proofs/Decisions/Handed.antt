@@ -5,9 +5,9 @@ use Rattle.cc_names.specs.declared.rows.Deed.{Deed}
 use Rattle.cc_names.specs.declared.selection.Picked.{Picked}
 use Rattle.cc_names.specs.declared.selection.Seen.{Seen}
 use Rattle.cc_names.specs.declared.selection.Seen.TheVariants.{Private, Element, Unselected, Nothing}
-use Rattle.legal_history.specs.Base.Rows.{Base}
-use Rattle.legal_history.specs.Base.Conditions.{exists, has_out, is_directory}
-use Rattle.legal_history.specs.Base.Seen.{at}
+use Rattle.base_model.specs.Rows.{Base}
+use Rattle.base_model.specs.Conditions.{exists, has_out, is_directory}
+use Rattle.base_model.specs.Seen.{at}
 use Rattle.legal_history.specs.Commands.Decisions.{Decision, Makes, Answers, Scene, first_refusal, unless_refused, needs_room, past, makes, answers}
 use Rattle.legal_history.specs.Commands.DirectoryLines.{changes_directory, out_directory}
 use Rattle.legal_history.specs.Commands.FileLines.{parent}

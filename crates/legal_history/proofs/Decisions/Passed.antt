@@ -4,10 +4,10 @@ use Rattle.std.proofs.lemmas.Bool.{lt-ltb, ltb-false}
 use Rattle.std.specs.Bool.{⊤}
 use Rattle.cc_names.specs.declared.refusals.Refusal.{Refusal}
 use Rattle.cc_names.specs.declared.rows.Deed.{Deed}
-use Rattle.legal_history.specs.Base.Rows.{Base, size}
+use Rattle.base_model.specs.Rows.{Base, size}
 use Rattle.legal_history.specs.Builds.Active.{reserved}
 use Rattle.legal_history.specs.Commands.Decisions.{Decision, Makes, Scene, first_refusal, unless_refused, needs_room, makes, answers}
-use Rattle.legal_history.specs.Base.Fits.{deed_fits, fits, row_limit}
+use Rattle.base_model.specs.Fits.{deed_fits, fits, row_limit}
 use Rattle.legal_history.specs.Commands.Tests.{refused_where, refused_unless}
 
 -- each test of a list gives no refusal

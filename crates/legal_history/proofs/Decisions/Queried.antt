@@ -6,10 +6,10 @@ use Rattle.cc_names.specs.References.{held_at}
 use Rattle.cc_names.specs.declared.commands.Query.{Query}
 use Rattle.cc_names.specs.declared.commands.Query.TheVariants as queries
 use Rattle.cc_names.specs.declared.selection.Picked.{Picked}
-use Rattle.legal_history.specs.Base.Changes.{held}
-use Rattle.legal_history.specs.Base.Rows.{Base}
-use Rattle.legal_history.specs.Base.Seen.{at}
-use Rattle.legal_history.specs.Base.Views.{spec_text}
+use Rattle.base_model.specs.Changes.{held}
+use Rattle.base_model.specs.Rows.{Base}
+use Rattle.base_model.specs.Seen.{at}
+use Rattle.base_model.specs.Views.{spec_text}
 use Rattle.legal_history.specs.Commands.Decisions.{Decision, Answers, answers}
 use Rattle.legal_history.specs.Commands.Found.{for_selected, for_object}
 use Rattle.legal_history.specs.Commands.Lines.{query_decision}
@@ -19,7 +19,8 @@ use Rattle.legal_history.specs.Queries.HistoryTexts.{lshistory_text}
 use Rattle.legal_history.specs.Queries.ListingTexts.{ls_text, lsdo_text}
 use Rattle.legal_history.specs.Queries.Merges.{findmerge_text}
 use Rattle.legal_history.specs.Queries.QueryLines.{ls_tests, cat_tests, cat_version_tests, text_row, text_at, version_seen, answers_of, answers_of_object, findmerge_tests}
-use Rattle.legal_history.specs.Queries.RecordTexts.{catcr_text, diffcr_text, covers_text, uncovered}
+use Rattle.legal_history.specs.Queries.RecordTexts.{catcr_text, diffcr_text, covers_text}
+use Rattle.base_model.specs.Objects.{uncovered}
 use Rattle.legal_history.proofs.Decisions.Handed.{IfDecided, past_is, selected_is, object_is, answer_is}
 
 text_is : (P : Decision → Type 0) (b : Base) (v path : List ℕ) (text : ℕ → Picked → List ℕ) → ((t : List ℕ) → P (Answers t)) → IfDecided P (answers_of b v path text)

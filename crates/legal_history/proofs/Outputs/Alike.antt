@@ -3,20 +3,20 @@ use Rattle.std.proofs.Common.{◌≡◌, refl, ap, sym, ◌∙◌, ℕ, Bool, tr
 use Rattle.std.specs.Prelude.{is_some}
 use Rattle.cc_names.specs.declared.rows.Deed.{Deed}
 use Rattle.cc_names.specs.declared.rows.Deed.TheVariants as deeds
-use Rattle.legal_history.specs.Base.Blanked.{blank_deed, blanked, AreSameButForOutputs, AreSameButForScrubbedOutputs}
-use Rattle.legal_history.specs.Base.Changes.{live, targets_of}
-use Rattle.legal_history.specs.Base.Closures.{is_publish, is_publish_deed}
-use Rattle.legal_history.specs.Base.Fits.{fits, is_base}
-use Rattle.legal_history.specs.Base.Rows.{Base, size, deed_at}
-use Rattle.legal_history.specs.Base.Texts.{text}
-use Rattle.legal_history.specs.Base.Values.{is_true, is_true_deed, rerun, IsSound}
+use Rattle.base_model.specs.Blanked.{blank_deed, blanked, AreSameButForOutputs, AreSameButForScrubbedOutputs}
+use Rattle.base_model.specs.Changes.{live, targets_of}
+use Rattle.base_model.specs.Closures.{is_publish, is_publish_deed}
+use Rattle.base_model.specs.Fits.{fits, is_base}
+use Rattle.base_model.specs.Rows.{Base, size, deed_at}
+use Rattle.base_model.specs.Texts.{text}
+use Rattle.legal_history.specs.Builds.Values.{is_true, is_true_deed, rerun, IsSound}
 use Rattle.legal_history.proofs.Outputs.Deeds.{deed_among}
 use Rattle.legal_history.proofs.Outputs.Fitting.{fits_same, base_same}
 use Rattle.legal_history.proofs.Outputs.Reruns.{text_same, rerun_same}
 use Rattle.legal_history.proofs.Outputs.States.{live_same, targets_same, publish_same}
 use Rattle.legal_history.proofs.Reuse.SoundRows.{is_new, live_below, lived_before}
 use Rattle.legal_history.proofs.Reuse.TrueObjects.{live_is_true, object_text}
-use Rattle.legal_history.proofs.Stories.Goes.{same_number}
+use Rattle.base_model.proofs.Tables.{same_number}
 
 -- what is the same of a blanked base is the same of two bases
 by_blanked : {A : Type 0} (f : Base → A) → ((b : Base) → f (blanked b) ≡ f b) → (one two : Base) →

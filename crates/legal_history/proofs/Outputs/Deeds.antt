@@ -5,8 +5,8 @@ use Rattle.cc_names.specs.Last.{Effect, left, last}
 use Rattle.cc_names.specs.declared.rows.Deed.{Deed}
 use Rattle.cc_names.specs.declared.rows.Deed.TheVariants as deeds
 use Rattle.cc_names.specs.declared.rows.ReadOf.{ReadOf}
-use Rattle.legal_history.specs.Base.Blanked.{blank_outputs, blank_deed, blank_row, blanked}
-use Rattle.legal_history.specs.Base.Rows.{Base, size, row_at, deed_of, deed_at}
+use Rattle.base_model.specs.Blanked.{blank_outputs, blank_deed, blank_row, blanked}
+use Rattle.base_model.specs.Rows.{Base, size, row_at, deed_of, deed_at}
 
 -- what a function says of publishes
 abbrev OfPublishes : Type 0 → Type 0

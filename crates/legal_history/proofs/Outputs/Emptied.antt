@@ -4,14 +4,14 @@ use Rattle.std.specs.Prelude.{is_some}
 use Rattle.cc_names.specs.Formed.{Plain}
 use Rattle.cc_names.specs.declared.rows.Deed.{Deed}
 use Rattle.cc_names.specs.declared.rows.Deed.TheVariants as deeds
-use Rattle.legal_history.specs.Base.Blanked.{blank_outputs, blank_deed, blank_row, blank_unless, blanked_but, blanked, emptied, AreSameButForScrubbedOutputs}
-use Rattle.legal_history.specs.Base.Changes.{live}
-use Rattle.legal_history.specs.Base.Fits.{is_base}
-use Rattle.legal_history.specs.Base.Rows.{Base, size, deed_at}
-use Rattle.legal_history.specs.Base.Values.{IsSound}
+use Rattle.base_model.specs.Blanked.{blank_outputs, blank_deed, blank_row, blank_unless, blanked_but, blanked, emptied, AreSameButForScrubbedOutputs}
+use Rattle.base_model.specs.Changes.{live}
+use Rattle.base_model.specs.Fits.{is_base}
+use Rattle.base_model.specs.Rows.{Base, size, deed_at}
+use Rattle.legal_history.specs.Builds.Values.{IsSound}
 use Rattle.legal_history.proofs.Outputs.Alike.{base_alike, sound_alike}
 use Rattle.legal_history.proofs.Outputs.Deeds.{deed_among}
-use Rattle.legal_history.proofs.Stories.Goes.{same_number}
+use Rattle.base_model.proofs.Tables.{same_number}
 
 outputs_twice : (outputs : List (List ℕ)) → blank_outputs (blank_outputs outputs) ≡ blank_outputs outputs
 outputs_twice [] = refl

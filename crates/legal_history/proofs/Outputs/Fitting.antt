@@ -11,16 +11,16 @@ use Rattle.cc_names.specs.declared.rows.Deed.{Deed}
 use Rattle.cc_names.specs.declared.rows.Deed.TheVariants as deeds
 use Rattle.cc_names.specs.declared.rows.Placed.{Placed}
 use Rattle.cc_names.specs.declared.rows.ReadOf.{ReadOf}
-use Rattle.spec_text.specs.Specs.{rules_of}
-use Rattle.legal_history.specs.Base.Blanked.{blank_deed, blanked}
-use Rattle.legal_history.specs.Base.Catalogs.{named}
-use Rattle.legal_history.specs.Base.Checkouts.{is_latest}
-use Rattle.legal_history.specs.Base.Closures.{is_among, is_of_element, is_version_of}
-use Rattle.legal_history.specs.Base.Conditions.{exists, has_out, is_file, is_file_kind, is_directory_kind, has_name, may_check_in, is_label_kind, is_branch_kind, is_reserved_name, is_put, is_some_file, makes_file_text, is_entry, may_be_scrubbed, is_arrow, arrow_row}
-use Rattle.legal_history.specs.Base.Fits.{may_reserve, deed_fits, row_limit, fits, is_base}
-use Rattle.legal_history.specs.Base.Rows.{Base, deed_at, only_where}
-use Rattle.legal_history.specs.Base.Views.{Checkout}
-use Rattle.legal_history.proofs.Bases.VersionRows.{element_stays}
+use Rattle.base_model.specs.ConfigSpecs.Specs.{rules_of}
+use Rattle.base_model.specs.Blanked.{blank_deed, blanked}
+use Rattle.base_model.specs.Catalogs.{named}
+use Rattle.base_model.specs.Checkouts.{is_latest}
+use Rattle.base_model.specs.Closures.{is_among, is_of_element, is_version_of}
+use Rattle.base_model.specs.Conditions.{exists, has_out, is_file, is_file_kind, is_directory_kind, has_name, may_check_in, is_label_kind, is_branch_kind, is_reserved_name, is_put, is_some_file, makes_file_text, is_entry, may_be_scrubbed, is_arrow, arrow_row}
+use Rattle.base_model.specs.Fits.{may_reserve, deed_fits, row_limit, fits, is_base}
+use Rattle.base_model.specs.Rows.{Base, deed_at, only_where}
+use Rattle.base_model.specs.Views.{Checkout}
+use Rattle.base_model.proofs.VersionRows.{element_stays}
 use Rattle.legal_history.proofs.Outputs.Deeds.{deed_same, size_same, at_same}
 use Rattle.legal_history.proofs.Outputs.States.{view_same, out_same, private_same, type_same, live_same, targets_same, tree_same, labels_same, held_same, own_same, reserver_same, other_reserver_same}
 

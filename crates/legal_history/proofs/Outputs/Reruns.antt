@@ -4,21 +4,21 @@ use Rattle.std.specs.Prelude.{option_and_then}
 use Rattle.cc_names.specs.declared.rows.Deed.{Deed}
 use Rattle.cc_names.specs.declared.rows.Deed.TheVariants as deeds
 use Rattle.script_grammar.specs.Run.{Ran}
-use Rattle.legal_history.specs.Base.Blanked.{blank_deed, blanked}
-use Rattle.legal_history.specs.Base.Changes.{targets_of}
-use Rattle.legal_history.specs.Base.Checkouts.{is_latest}
-use Rattle.legal_history.specs.Base.Closures.{is_publish, is_publish_deed, is_version_of}
-use Rattle.legal_history.specs.Base.Conditions.{exists, has_out, is_branch_type, has_branch, element_of_text}
-use Rattle.legal_history.specs.Base.Fits.{may_reserve, deed_fits, is_base}
-use Rattle.legal_history.specs.Base.Rows.{Base, size, deed_at}
-use Rattle.legal_history.specs.Base.Texts.{TextSource, Bytes, OfRow, NoText, of_making, source_of, text}
-use Rattle.legal_history.specs.Base.Values.{output_of_run, outputs_of_run, text_of_entry, run_of_deed, rerun}
-use Rattle.legal_history.specs.Base.Views.{making}
-use Rattle.legal_history.specs.Queries.RecordTexts.{row_in}
-use Rattle.legal_history.proofs.Bases.Owned.{row_fits, rows_below, third_of}
-use Rattle.legal_history.proofs.Bases.OwnRows.{making_text}
-use Rattle.legal_history.proofs.Bases.RootRow.{no_row}
-use Rattle.legal_history.proofs.Bases.VersionRows.{TextAt, version_text}
+use Rattle.base_model.specs.Blanked.{blank_deed, blanked}
+use Rattle.base_model.specs.Changes.{targets_of}
+use Rattle.base_model.specs.Checkouts.{is_latest}
+use Rattle.base_model.specs.Closures.{is_publish, is_publish_deed, is_version_of}
+use Rattle.base_model.specs.Conditions.{exists, has_out, is_branch_type, has_branch, element_of_text}
+use Rattle.base_model.specs.Fits.{may_reserve, deed_fits, is_base}
+use Rattle.base_model.specs.Rows.{Base, size, deed_at}
+use Rattle.base_model.specs.Texts.{TextSource, Bytes, OfRow, NoText, of_making, source_of, text}
+use Rattle.legal_history.specs.Builds.Values.{output_of_run, outputs_of_run, text_of_entry, run_of_deed, rerun}
+use Rattle.base_model.specs.Views.{making}
+use Rattle.base_model.specs.Objects.{row_in}
+use Rattle.base_model.proofs.Owned.{row_fits, rows_below, third_of}
+use Rattle.base_model.proofs.OwnRows.{making_text}
+use Rattle.base_model.proofs.RootRow.{no_row}
+use Rattle.base_model.proofs.VersionRows.{TextAt, version_text}
 use Rattle.legal_history.proofs.Outputs.Deeds.{deed_among, deed_same, size_same}
 use Rattle.legal_history.proofs.Outputs.States.{making_same, targets_same, publish_same}
 

@@ -10,13 +10,13 @@ use Rattle.cc_names.specs.declared.changes.ReferenceChange.{ReferenceChange}
 use Rattle.cc_names.specs.declared.changes.ReferenceChange.TheVariants.{Won}
 use Rattle.cc_names.specs.declared.rows.Deed.{Deed}
 use Rattle.cc_names.specs.declared.rows.Deed.TheVariants as deeds
-use Rattle.legal_history.specs.Base.Blanked.{blank_deed, blanked}
-use Rattle.legal_history.specs.Base.Catalogs.{catalog_of, own_of, catalog_source, edit_of, edited, made_or_older}
-use Rattle.legal_history.specs.Base.Changes.{tree, tree_after, with_checkin, labels, labels_after, targets_of, targets_of_deed, holdings, holdings_after, held, live, live_effect, kind_of_type, type_effect}
-use Rattle.legal_history.specs.Base.Checkouts.{row_of_checkout, with_standing, standing_among, view_of, reserves, reserver, other_reserver}
-use Rattle.legal_history.specs.Base.Closures.{is_publish, is_publish_deed}
-use Rattle.legal_history.specs.Base.Rows.{Base}
-use Rattle.legal_history.specs.Base.Views.{TakenOut, view_row, view_effect, out, out_effect, made_out, making, making_effect, private, private_effect}
+use Rattle.base_model.specs.Blanked.{blank_deed, blanked}
+use Rattle.base_model.specs.Catalogs.{catalog_of, own_of, catalog_source, edit_of, edited, made_or_older}
+use Rattle.base_model.specs.Changes.{tree, tree_after, with_checkin, labels, labels_after, targets_of, targets_of_deed, holdings, holdings_after, held, live, live_effect, kind_of_type, type_effect}
+use Rattle.base_model.specs.Checkouts.{row_of_checkout, with_standing, standing_among, view_of, reserves, reserver, other_reserver}
+use Rattle.base_model.specs.Closures.{is_publish, is_publish_deed}
+use Rattle.base_model.specs.Rows.{Base}
+use Rattle.base_model.specs.Views.{TakenOut, view_row, view_effect, out, out_effect, made_out, making, making_effect, private, private_effect}
 use Rattle.legal_history.proofs.Outputs.Deeds.{deed_same, size_same, last_same, at_same}
 
 pub view_same : (b : Base) (v : List ℕ) → view_row (blanked b) v ≡ view_row b v

@@ -12,14 +12,14 @@ use Rattle.cc_names.specs.declared.steps.StoryStep.TheVariants as story_steps
 use Rattle.cc_names.specs.declared.steps.UnitEnd.{UnitEnd}
 use Rattle.cc_names.specs.declared.steps.UnitEnd.TheVariants as ends
 use Rattle.cc_names.specs.declared.units.Unit.{Unit}
-use Rattle.legal_history.specs.Base.Rows.{size}
+use Rattle.base_model.specs.Rows.{size}
 use Rattle.legal_history.specs.Builds.Active.{Build, Concluded, Given, build_of, object_of, unit_with_first}
-use Rattle.legal_history.specs.Base.Changes.{targets_of}
+use Rattle.base_model.specs.Changes.{targets_of}
 use Rattle.legal_history.specs.Stories.Committing.{MakesRow}
 use Rattle.legal_history.specs.Commands.Decisions.{Begins}
-use Rattle.legal_history.specs.Base.Fits.{is_base}
+use Rattle.base_model.specs.Fits.{is_base}
 use Rattle.legal_history.specs.Builds.Freshness.{AgreesSoFar}
-use Rattle.legal_history.specs.Base.Values as values
+use Rattle.legal_history.specs.Builds.Values as values
 use Rattle.legal_history.specs.Stories.States.{State, decided, build_by}
 use Rattle.legal_history.specs.Stories.Steps.{after, after_step, active_after, begun, build_asked, came_by_starting, noted}
 use Rattle.legal_history.specs.Stories.Lawful.{Lawful, LawfulStep}

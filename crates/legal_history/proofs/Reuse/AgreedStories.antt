@@ -6,7 +6,7 @@ use Rattle.legal_history.specs.Builds.Freshness.{AgreesSoFar}
 use Rattle.legal_history.specs.Stories.States.{State, Opening, start}
 use Rattle.legal_history.specs.Stories.Steps.{after, state_from, state_of}
 use Rattle.legal_history.specs.Stories.Lawful.{Lawful, Legal, LegalFrom}
-use Rattle.legal_history.specs.Base.Values as values
+use Rattle.legal_history.specs.Builds.Values as values
 use Rattle.legal_history.proofs.Stories.SoundStories.{IsSound, none_active, sound_first, sound_step}
 use Rattle.legal_history.proofs.Reuse.AgreeSteps.{BuildsAgree, agree_step}
 use Rattle.legal_history.proofs.Reuse.GivenCommits.{AllHeld}

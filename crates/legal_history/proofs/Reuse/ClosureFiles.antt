@@ -15,16 +15,16 @@ use Rattle.cc_names.specs.declared.rows.Deed.TheVariants as deeds
 use Rattle.cc_names.specs.declared.rows.Kind.{Kind}
 use Rattle.cc_names.specs.declared.rows.Kind.TheVariants.{File, Directory}
 use Rattle.cc_names.specs.declared.rows.ReadOf.{ReadOf}
-use Rattle.legal_history.specs.Base.Rows.{Base, size, deed_at}
-use Rattle.legal_history.specs.Base.Changes.{targets_of_deed, tree}
-use Rattle.legal_history.specs.Base.Closures.{Input, Inputs, input_cmp, joined_inputs, inputs_of_entry, inputs_of, closure, entries_of_deed, is_among, is_publish, is_publish_deed, is_version_of}
-use Rattle.legal_history.specs.Base.Conditions.{element_of_text, is_file_kind, is_some_file, makes_file_text, is_entry}
-use Rattle.legal_history.specs.Base.Fits.{is_base}
-use Rattle.legal_history.proofs.Bases.Owned.{and_first, and_second, row_fits, rows_below}
-use Rattle.legal_history.proofs.Bases.FileRows.{FileText, file_text_stays}
-use Rattle.legal_history.proofs.Bases.VersionRows.{version_text}
-use Rattle.legal_history.proofs.Reuse.Covered.{one_input}
-use Rattle.legal_history.proofs.Reuse.EntriesBelow.{entry_below, entries_fit}
+use Rattle.base_model.specs.Rows.{Base, size, deed_at}
+use Rattle.base_model.specs.Changes.{targets_of_deed, tree}
+use Rattle.base_model.specs.Closures.{Input, Inputs, input_cmp, joined_inputs, inputs_of_entry, inputs_of, closure, entries_of_deed, is_among, is_publish, is_publish_deed, is_version_of}
+use Rattle.base_model.specs.Conditions.{element_of_text, is_file_kind, is_some_file, makes_file_text, is_entry}
+use Rattle.base_model.specs.Fits.{is_base}
+use Rattle.base_model.proofs.Owned.{and_first, and_second, row_fits, rows_below}
+use Rattle.base_model.proofs.FileRows.{FileText, file_text_stays}
+use Rattle.base_model.proofs.VersionRows.{version_text}
+use Rattle.base_model.proofs.Covered.{one_input}
+use Rattle.base_model.proofs.EntriesBelow.{entry_below, entries_fit}
 
 -- each input made the text of a file, where it is not row 0
 abbrev OfFiles : Base → Inputs → Type 0

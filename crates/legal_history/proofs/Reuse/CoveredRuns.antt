@@ -6,20 +6,19 @@ use Rattle.cc_names.specs.declared.rows.Deed.{Deed}
 use Rattle.cc_names.specs.declared.rows.Deed.TheVariants as deeds
 use Rattle.cc_names.specs.declared.rows.ReadOf.{ReadOf}
 use Rattle.script_grammar.specs.Run.{Ran, run}
-use Rattle.legal_history.specs.Base.Rows.{Base, size}
-use Rattle.legal_history.specs.Base.Changes.{targets_of}
-use Rattle.legal_history.specs.Base.Closures.{Inputs, inputs_of_entry, inputs_of, closure, entries_of_deed, is_publish}
-use Rattle.legal_history.specs.Base.Fits.{is_base}
-use Rattle.legal_history.specs.Builds.Fresh.{texts}
-use Rattle.legal_history.specs.Queries.RecordTexts.{row_in, uncovered}
-use Rattle.legal_history.specs.Base.Seen.{file_at}
-use Rattle.legal_history.specs.Base.Texts.{text}
-use Rattle.legal_history.specs.Base.Values.{output_of_run, outputs_of_run, text_of_entry, texts_of_entries, run_of_deed, rerun, text_seen, texts_seen, rerun_on, again, is_true}
-use Rattle.legal_history.proofs.Bases.Owned.{row_fits, rows_below}
-use Rattle.legal_history.proofs.Bases.Stay.{text_stays}
+use Rattle.base_model.specs.Rows.{Base, size}
+use Rattle.base_model.specs.Changes.{targets_of}
+use Rattle.base_model.specs.Closures.{Inputs, inputs_of_entry, inputs_of, closure, entries_of_deed, is_publish}
+use Rattle.base_model.specs.Fits.{is_base}
+use Rattle.base_model.specs.Texts.{texts, text}
+use Rattle.base_model.specs.Objects.{row_in, uncovered}
+use Rattle.base_model.specs.Seen.{file_at}
+use Rattle.legal_history.specs.Builds.Values.{output_of_run, outputs_of_run, text_of_entry, texts_of_entries, run_of_deed, rerun, text_seen, texts_seen, rerun_on, again, is_true}
+use Rattle.base_model.proofs.Owned.{row_fits, rows_below}
+use Rattle.base_model.proofs.Stay.{text_stays}
 use Rattle.legal_history.specs.Laws.Objects.{outputs_of, outputs_of_deed}
-use Rattle.legal_history.proofs.Reuse.Covered.{Covers, entry_covered, closure_covered, own_input}
-use Rattle.legal_history.proofs.Reuse.EntriesBelow.{AreBelow, deed_entries_below}
+use Rattle.base_model.proofs.Covered.{Covers, entry_covered, closure_covered, own_input}
+use Rattle.base_model.proofs.EntriesBelow.{AreBelow, deed_entries_below}
 use Rattle.legal_history.proofs.Reuse.SeenTexts.{number_is}
 use Rattle.legal_history.proofs.Reuse.TrueObjects.{true_object}
 

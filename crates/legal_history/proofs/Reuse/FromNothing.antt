@@ -3,15 +3,15 @@ use Rattle.std.proofs.Common.{◌≡◌, refl, ap, sym, ◌∙◌, ℕ, ◌<◌,
 use Rattle.cc_names.specs.declared.rows.Deed.{Deed}
 use Rattle.cc_names.specs.declared.rows.Deed.TheVariants as deeds
 use Rattle.cc_names.specs.declared.units.Unit.{Unit}
-use Rattle.legal_history.specs.Base.Rows.{Base, size, first_rows, deed_at}
+use Rattle.base_model.specs.Rows.{Base, size, first_rows, deed_at}
 use Rattle.legal_history.specs.Builds.Active.{Build}
-use Rattle.legal_history.specs.Base.Changes.{targets_of, targets_of_deed}
-use Rattle.legal_history.specs.Builds.Choices.{text_of_row, visible}
+use Rattle.base_model.specs.Changes.{targets_of, targets_of_deed}
+use Rattle.base_model.specs.Texts.{text_of_row, output_at, text}
+use Rattle.legal_history.specs.Builds.Choices.{visible}
 use Rattle.legal_history.specs.Builds.Fresh.{outcome_of_run, script_text}
 use Rattle.legal_history.specs.Builds.Freshness.{AgreesSoFar, early_from_nothing}
 use Rattle.legal_history.specs.Builds.Consistency.{IsReady}
-use Rattle.legal_history.specs.Base.Texts.{output_at, text}
-use Rattle.legal_history.proofs.Bases.Deeds.{deed_below}
+use Rattle.base_model.proofs.Deeds.{deed_below}
 use Rattle.legal_history.proofs.Builds.ReadyUnits.{outcome_by_run, outputs_whole}
 use Rattle.legal_history.specs.Laws.FromNothing.{IsAsFromNothing}
 use Rattle.legal_history.specs.Laws.Objects.{IsTheRun, outputs_of, outputs_of_deed}

@@ -8,12 +8,12 @@ use Rattle.cc_names.specs.declared.rows.Deed.TheVariants as deeds
 use Rattle.cc_names.specs.declared.rows.ReadOf.{ReadOf}
 use Rattle.cc_names.specs.declared.rows.Tag.{Tag}
 use Rattle.cc_names.specs.declared.units.Unit.{Unit}
-use Rattle.legal_history.specs.Base.Rows.{Base, size}
+use Rattle.base_model.specs.Rows.{Base, size}
 use Rattle.legal_history.specs.Builds.Active.{Build, Given, build_of, came_to, is_outcome, object_of, number_from, unit_at, unit_with_first}
-use Rattle.legal_history.specs.Base.Closures.{is_among}
+use Rattle.base_model.specs.Closures.{is_among}
 use Rattle.legal_history.specs.Commands.Decisions.{Makes}
-use Rattle.legal_history.specs.Base.Changes.{targets_of}
-use Rattle.legal_history.specs.Base.Fits.{deed_fits, is_base}
+use Rattle.base_model.specs.Changes.{targets_of}
+use Rattle.base_model.specs.Fits.{deed_fits, is_base}
 use Rattle.legal_history.specs.Builds.Reuse.{reusable}
 use Rattle.legal_history.specs.Builds.Serials.{makes}
 use Rattle.legal_history.specs.Stories.States.{State, scene, decided}

@@ -11,20 +11,21 @@ use Rattle.cc_names.specs.declared.rows.Deed.TheVariants as deeds
 use Rattle.cc_names.specs.declared.rows.ReadOf.{ReadOf}
 use Rattle.cc_names.specs.declared.rows.Tag.{Tag}
 use Rattle.cc_names.specs.declared.units.Unit.{Unit}
-use Rattle.legal_history.specs.Base.Rows.{Base, size}
+use Rattle.base_model.specs.Rows.{Base, size}
 use Rattle.legal_history.specs.Builds.Active.{Active, Build, Came, Started, Concluded, Given, build_of, building, came_to, is_outcome, object_of, unit_at, unit_with_first}
-use Rattle.legal_history.specs.Base.Changes.{held, live, targets_of}
-use Rattle.legal_history.specs.Base.Closures.{is_among}
-use Rattle.legal_history.specs.Base.Fits.{deed_fits}
+use Rattle.base_model.specs.Changes.{held, live, targets_of}
+use Rattle.base_model.specs.Closures.{is_among}
+use Rattle.base_model.specs.Fits.{deed_fits}
 use Rattle.legal_history.specs.Builds.Serials.{makes}
 use Rattle.legal_history.specs.Stories.Steps.{with_came}
-use Rattle.legal_history.proofs.Builds.FreshSeen.{or_first, bytes_itself}
-use Rattle.legal_history.proofs.Stories.Goes.{same_number}
-use Rattle.legal_history.proofs.Bases.Owned.{same_is_same}
+use Rattle.base_model.proofs.Either.{or_first}
+use Rattle.legal_history.proofs.Builds.FreshSeen.{bytes_itself}
+use Rattle.base_model.proofs.Tables.{same_number}
+use Rattle.base_model.proofs.Owned.{same_is_same}
 use Rattle.legal_history.proofs.Builds.ConsistentStays.{came_now}
 use Rattle.legal_history.proofs.Builds.AllBuilds.{builds_there}
-use Rattle.legal_history.proofs.Bases.HeldObjects.{is_held_there, held_lives_on}
-use Rattle.legal_history.proofs.Bases.HeldPaths.{Leaves, held_after_won, path_stays}
+use Rattle.base_model.proofs.HeldObjects.{is_held_there, held_lives_on}
+use Rattle.base_model.proofs.HeldPaths.{Leaves, held_after_won, path_stays}
 use Rattle.legal_history.specs.Laws.Given.{IsHeld, HoldsGiven}
 use Rattle.legal_history.proofs.Decisions.DecidedSays.{Idle}
 

@@ -8,17 +8,17 @@ use Rattle.cc_names.specs.declared.steps.StoryStep.TheVariants as story_steps
 use Rattle.cc_names.specs.declared.steps.UnitEnd.{UnitEnd}
 use Rattle.cc_names.specs.declared.steps.UnitEnd.TheVariants as ends
 use Rattle.cc_names.specs.declared.units.Unit.{Unit}
-use Rattle.legal_history.specs.Base.Rows.{size}
+use Rattle.base_model.specs.Rows.{size}
 use Rattle.legal_history.specs.Builds.Active.{Build, Came, Concluded, build_of, object_of, unit_at}
 use Rattle.legal_history.specs.Commands.Decisions.{Begins}
-use Rattle.legal_history.specs.Base.Fits.{is_base}
+use Rattle.base_model.specs.Fits.{is_base}
 use Rattle.legal_history.specs.Stories.States.{State, decided, build_by}
 use Rattle.legal_history.specs.Stories.Steps.{after, after_step, noted, came_by_starting, came_of_unit, begun, build_asked, with_came}
 use Rattle.legal_history.specs.Stories.Lawful.{Lawful, LawfulStep}
 use Rattle.legal_history.specs.Builds.UnitTurns.{ComesTo, Keeps}
 use Rattle.legal_history.specs.Builds.Turns.{unreadable}
 use Rattle.legal_history.proofs.Stories.Goes.{of_lane}
-use Rattle.legal_history.proofs.Bases.Owned.{row_fits}
+use Rattle.base_model.proofs.Owned.{row_fits}
 use Rattle.legal_history.proofs.Builds.AllBuilds.{Each, each_noted, each_without, each_begun, each_faulted}
 use Rattle.legal_history.proofs.Stories.DecidedSteps.{decided_of, says_of, begun_is}
 use Rattle.legal_history.proofs.Builds.FineBuilds.{some_same}

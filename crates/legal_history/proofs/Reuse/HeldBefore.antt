@@ -11,14 +11,15 @@ use Rattle.cc_names.specs.declared.steps.Step.TheVariants as steps
 use Rattle.cc_names.specs.declared.steps.StoryStep.{StoryStep}
 use Rattle.cc_names.specs.declared.steps.StoryStep.TheVariants as story_steps
 use Rattle.cc_names.specs.declared.units.Unit.{Unit}
-use Rattle.legal_history.specs.Base.Rows.{Base, deed_at, deed_of, only_where, size}
-use Rattle.legal_history.specs.Base.Changes.{held, targets_of}
-use Rattle.legal_history.specs.Base.Closures.{is_among}
-use Rattle.legal_history.specs.Base.Fits.{is_base}
+use Rattle.base_model.specs.Rows.{Base, deed_at, deed_of, only_where, size}
+use Rattle.base_model.specs.Changes.{held, targets_of}
+use Rattle.base_model.specs.Closures.{is_among}
+use Rattle.base_model.specs.Fits.{is_base}
 use Rattle.legal_history.specs.Builds.Active.{Build, Came, Concluded, Given, Started, build_of, came_to, is_outcome, unit_at, unit_with_first}
 use Rattle.legal_history.specs.Builds.Consistency.{IsReady}
 use Rattle.legal_history.specs.Builds.Fresh.{script_text}
-use Rattle.legal_history.specs.Builds.Reuse.{by_options, held_at_all, held_at_each, held_at_others, if_matches, matches, newest_match, record_matches, reusable}
+use Rattle.legal_history.specs.Builds.Reuse.{by_options, if_matches, matches, newest_match, record_matches, reusable}
+use Rattle.base_model.specs.Objects.{held_at_all, held_at_each, held_at_others}
 use Rattle.legal_history.specs.Builds.Serials.{makes}
 use Rattle.legal_history.specs.Builds.UnitTurns.{IsRunning, Starts}
 use Rattle.legal_history.specs.Commands.Decisions.{Begins}
@@ -26,18 +27,19 @@ use Rattle.legal_history.specs.Stories.Growth.{Continues, On, Over, StaysTheBuil
 use Rattle.legal_history.specs.Stories.Lawful.{Lawful, Legal, LegalFrom, LawfulStep}
 use Rattle.legal_history.specs.Stories.States.{State, build_by, decided, start}
 use Rattle.legal_history.specs.Stories.Steps.{active_after, after, after_step, begun, build_asked, came_by_starting, noted, state_from, state_of, with_came}
-use Rattle.legal_history.proofs.Bases.Stay.{row_stays_all}
+use Rattle.base_model.proofs.Stay.{row_stays_all}
 use Rattle.legal_history.proofs.Builds.AllBuilds.{Each, each_begun, each_faulted, each_noted, each_without}
 use Rattle.legal_history.proofs.Builds.FineBuilds.{some_same}
-use Rattle.legal_history.proofs.Builds.FreshSeen.{bytes_itself, or_first, or_second}
+use Rattle.legal_history.proofs.Builds.FreshSeen.{bytes_itself}
+use Rattle.base_model.proofs.Either.{or_first, or_second}
 use Rattle.legal_history.proofs.Builds.ReadyUnits.{ready_by}
 use Rattle.legal_history.proofs.Stories.DecidedSteps.{begun_is, decided_of, says_of}
-use Rattle.legal_history.proofs.Stories.Goes.{of_lane, same_number, step_goes}
+use Rattle.legal_history.proofs.Stories.Goes.{of_lane, step_goes}
+use Rattle.base_model.proofs.Tables.{same_number, find_after_put}
 use Rattle.legal_history.proofs.Stories.GoingOn.{GoesOnSo}
 use Rattle.legal_history.proofs.Stories.Grows.{step_extends}
 use Rattle.legal_history.proofs.Stories.SoundStories.{IsSound, none_active, sound_first, sound_step, story_is_sound}
 use Rattle.legal_history.proofs.Stories.Started.{same_selection}
-use Rattle.legal_history.proofs.Stories.Tables.{find_after_put}
 use Rattle.legal_history.proofs.Reuse.GivenCommits.{AllHeld}
 use Rattle.legal_history.proofs.Reuse.GivenSteps.{held_step}
 use Rattle.legal_history.proofs.Reuse.PlaceStays.{place_step}

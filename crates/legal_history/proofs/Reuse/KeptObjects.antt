@@ -5,15 +5,17 @@ use Rattle.std.specs.Prelude.{bytes_eq}
 use Rattle.cc_names.specs.References.{held_at}
 use Rattle.cc_names.specs.Versions.{is_number}
 use Rattle.cc_names.specs.declared.units.Unit.{Unit}
-use Rattle.legal_history.specs.Base.Rows.{Base}
+use Rattle.base_model.specs.Rows.{Base}
 use Rattle.legal_history.specs.Builds.Active.{Build, unit_at}
-use Rattle.legal_history.specs.Base.Changes.{held}
-use Rattle.legal_history.specs.Base.Closures.{is_among}
-use Rattle.legal_history.specs.Base.Fits.{is_base}
+use Rattle.base_model.specs.Changes.{held}
+use Rattle.base_model.specs.Closures.{is_among}
+use Rattle.base_model.specs.Fits.{is_base}
 use Rattle.legal_history.specs.Builds.Consistency.{IsObjectOf}
-use Rattle.legal_history.specs.Builds.Reuse.{held_at_all, held_at_each, held_at_others, reusable}
-use Rattle.legal_history.proofs.Builds.FreshSeen.{or_first, bytes_itself}
-use Rattle.legal_history.proofs.Bases.Owned.{and_first, and_second}
+use Rattle.base_model.specs.Objects.{held_at_all, held_at_each, held_at_others}
+use Rattle.legal_history.specs.Builds.Reuse.{reusable}
+use Rattle.base_model.proofs.Either.{or_first}
+use Rattle.legal_history.proofs.Builds.FreshSeen.{bytes_itself}
+use Rattle.base_model.proofs.Owned.{and_first, and_second}
 use Rattle.legal_history.specs.Laws.Given.{IsHeld}
 use Rattle.legal_history.proofs.Reuse.Matched.{match_targets}
 use Rattle.legal_history.proofs.Reuse.Reusables.{held_lives, only_one, reusable_matches}

@@ -7,9 +7,9 @@ use Rattle.cc_names.specs.declared.rows.Tag.{Tag}
 use Rattle.cc_names.specs.declared.steps.Step.TheVariants as steps
 use Rattle.cc_names.specs.declared.steps.StoryStep.{StoryStep}
 use Rattle.cc_names.specs.declared.steps.StoryStep.TheVariants as story_steps
-use Rattle.legal_history.specs.Base.Rows.{Base}
-use Rattle.legal_history.specs.Base.Fits.{is_base}
-use Rattle.legal_history.specs.Base.Values as values
+use Rattle.base_model.specs.Rows.{Base}
+use Rattle.base_model.specs.Fits.{is_base}
+use Rattle.legal_history.specs.Builds.Values as values
 use Rattle.legal_history.specs.Laws.Stops.{IsLeftByStop, OfCommits, WithRowLeft, WithRowInFlight}
 use Rattle.legal_history.specs.Stories.Committing.{MayCommit, LeavesRow}
 use Rattle.legal_history.specs.Stories.Lawful.{Commits, Lawful, Legal, LegalFrom}

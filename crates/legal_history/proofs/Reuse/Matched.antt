@@ -11,16 +11,18 @@ use Rattle.cc_names.specs.declared.units.Unit.{Unit}
 use Rattle.script_grammar.specs.Frame.{Agree}
 use Rattle.script_grammar.specs.Run.{Ran, run}
 use Rattle.script_grammar.proofs.FrameLemmas.{run_framed}
-use Rattle.legal_history.specs.Base.Rows.{Base, first_rows, deed_at}
+use Rattle.base_model.specs.Rows.{Base, first_rows, deed_at}
 use Rattle.legal_history.specs.Builds.Active.{Build}
-use Rattle.legal_history.specs.Base.Changes.{targets_of, targets_of_deed}
-use Rattle.legal_history.specs.Builds.Choices.{text_of_row, visible}
-use Rattle.legal_history.specs.Base.Fits.{is_base}
+use Rattle.base_model.specs.Changes.{targets_of, targets_of_deed}
+use Rattle.base_model.specs.Texts.{text_of_row}
+use Rattle.legal_history.specs.Builds.Choices.{visible}
+use Rattle.base_model.specs.Fits.{is_base}
 use Rattle.legal_history.specs.Builds.Fresh.{script_text}
-use Rattle.legal_history.specs.Queries.RecordTexts.{row_in, recorded_script, script_of_deed}
-use Rattle.legal_history.specs.Builds.Reuse.{agrees, are_same_paths, entry_agrees, record_matches, matches}
-use Rattle.legal_history.specs.Base.Values.{outputs_of_run, outputs_of_result, has_entries, reads_of_run, text_of_entry, texts_of_entries, rerun, is_true, IsSound}
-use Rattle.legal_history.proofs.Bases.Owned.{and_first, and_second}
+use Rattle.base_model.specs.Objects.{row_in, agrees, are_same_paths}
+use Rattle.legal_history.specs.Queries.RecordTexts.{recorded_script, script_of_deed}
+use Rattle.legal_history.specs.Builds.Reuse.{entry_agrees, record_matches, matches}
+use Rattle.legal_history.specs.Builds.Values.{outputs_of_run, outputs_of_result, has_entries, reads_of_run, text_of_entry, texts_of_entries, rerun, is_true, IsSound}
+use Rattle.base_model.proofs.Owned.{and_first, and_second}
 use Rattle.legal_history.specs.Laws.Objects.{outputs_of_deed, GivesLive, IsTheRun}
 use Rattle.legal_history.proofs.Reuse.Reruns.{rerun_now}
 use Rattle.legal_history.proofs.Reuse.SeenTexts.{SeesTrue, unit_sees_true, entry_text}

@@ -3,13 +3,13 @@ use Rattle.std.proofs.Common.{◌≡◌, ℕ, suc, true, Option, Some, None, Lis
 use Rattle.cc_names.specs.declared.rows.Deed.{Deed}
 use Rattle.cc_names.specs.declared.rows.Deed.TheVariants as deeds
 use Rattle.cc_names.specs.declared.units.Unit.{Unit}
-use Rattle.legal_history.specs.Base.Rows.{Base, deed_at}
+use Rattle.base_model.specs.Rows.{Base, deed_at}
 use Rattle.legal_history.specs.Builds.Active.{Build}
 use Rattle.legal_history.specs.Builds.Choices.{visible}
-use Rattle.legal_history.specs.Base.Closures.{entries_of_deed}
+use Rattle.base_model.specs.Closures.{entries_of_deed}
 use Rattle.legal_history.specs.Builds.Fresh.{script_text}
-use Rattle.legal_history.specs.Queries.RecordTexts.{record_of, row_in}
-use Rattle.legal_history.specs.Builds.Reuse.{agrees, matches, record_matches}
+use Rattle.base_model.specs.Objects.{record_of, row_in, agrees}
+use Rattle.legal_history.specs.Builds.Reuse.{matches, record_matches}
 use Rattle.legal_history.specs.Laws.Given.{SeenBy}
 use Rattle.legal_history.proofs.Reuse.Matched.{matching, named_agrees}
 use Rattle.legal_history.proofs.Reuse.Members.{seen_by}

@@ -3,12 +3,12 @@ use Rattle.std.proofs.Common.{◌≡◌, refl, ap, sym, ◌∙◌, ℕ, zero, su
 use Rattle.std.specs.List.{list_any}
 use Rattle.std.specs.Option.{option_or}
 use Rattle.cc_names.specs.declared.units.Unit.{Unit}
-use Rattle.legal_history.specs.Base.Rows.{Base, first_rows, only_where}
+use Rattle.base_model.specs.Rows.{Base, first_rows, only_where}
 use Rattle.legal_history.specs.Builds.Active.{Build, came_to, object_of, unit_at}
 use Rattle.legal_history.specs.Builds.Choices.{unit_of_member, members_before, object_among, visible}
-use Rattle.legal_history.specs.Base.Closures.{is_among}
+use Rattle.base_model.specs.Closures.{is_among}
 use Rattle.legal_history.specs.Builds.Freshness.{outcome_in}
-use Rattle.legal_history.specs.Base.Seen.{file_at}
+use Rattle.base_model.specs.Seen.{file_at}
 use Rattle.legal_history.specs.Builds.Serials.{makes, needed}
 use Rattle.legal_history.proofs.Builds.Pairs.{Pair, unit_in, member_of, with_pair, pairs_before, members_paired, needed_mapped}
 use Rattle.legal_history.proofs.Builds.NeededAgree.{some_made, among_both}

@@ -19,23 +19,24 @@ use Rattle.cc_names.specs.declared.selection.Picked.{Picked}
 use Rattle.cc_names.specs.declared.selection.Seen.{Seen}
 use Rattle.cc_names.specs.declared.selection.Seen.TheVariants.{Private, Element, Unselected, Nothing}
 use Rattle.cc_names.specs.declared.units.Unit.{Unit}
-use Rattle.legal_history.specs.Base.Rows.{Base, first_rows, deed_at}
+use Rattle.base_model.specs.Rows.{Base, first_rows, deed_at}
 use Rattle.legal_history.specs.Builds.Active.{Build}
-use Rattle.legal_history.specs.Base.Changes.{live, tree}
+use Rattle.base_model.specs.Changes.{live, tree}
 use Rattle.legal_history.specs.Builds.Choices.{as_entry, entries, entry_row, here, in_order, visible}
-use Rattle.legal_history.specs.Base.Closures.{is_version_of}
-use Rattle.legal_history.specs.Base.Fits.{is_base}
+use Rattle.base_model.specs.Closures.{is_version_of}
+use Rattle.base_model.specs.Fits.{is_base}
 use Rattle.legal_history.specs.Builds.Fresh.{script_text}
-use Rattle.legal_history.specs.Builds.Reuse.{agrees, entry_agrees, matches, record_matches, reusable}
-use Rattle.legal_history.specs.Base.Seen.{at, file_at, file_seen, row_of_file}
-use Rattle.legal_history.proofs.Decisions.FileFits.{private_at}
+use Rattle.base_model.specs.Objects.{agrees}
+use Rattle.legal_history.specs.Builds.Reuse.{entry_agrees, matches, record_matches, reusable}
+use Rattle.base_model.specs.Seen.{at, file_at, file_seen, row_of_file}
+use Rattle.base_model.proofs.PrivateFiles.{private_at}
 use Rattle.legal_history.proofs.Builds.FreshSeen.{bytes_itself}
-use Rattle.legal_history.proofs.Bases.Makings.{seen_element}
-use Rattle.legal_history.proofs.Bases.Owned.{same_is_same}
-use Rattle.legal_history.proofs.Bases.Picks.{IsPick, picked_is}
-use Rattle.legal_history.proofs.Bases.NamedEdits.{one_element}
-use Rattle.legal_history.proofs.Bases.RootRow.{no_row, root_is_directory, root_version}
-use Rattle.legal_history.proofs.Bases.OwnRows.{making_text, private_put}
+use Rattle.base_model.proofs.Makings.{seen_element}
+use Rattle.base_model.proofs.Owned.{same_is_same}
+use Rattle.base_model.proofs.Picks.{IsPick, picked_is}
+use Rattle.base_model.proofs.NamedEdits.{one_element}
+use Rattle.base_model.proofs.RootRow.{no_row, root_is_directory, root_version}
+use Rattle.base_model.proofs.OwnRows.{making_text, private_put}
 use Rattle.legal_history.specs.Laws.Objects.{GivesLive}
 use Rattle.legal_history.proofs.Reuse.Members.{seen_by}
 use Rattle.legal_history.specs.Laws.Given.{SeenBy, ByUnit, ByFile}

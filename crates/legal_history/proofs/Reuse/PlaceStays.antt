@@ -10,10 +10,10 @@ use Rattle.cc_names.specs.declared.steps.Step.TheVariants as steps
 use Rattle.cc_names.specs.declared.steps.StoryStep.{StoryStep}
 use Rattle.cc_names.specs.declared.steps.StoryStep.TheVariants as story_steps
 use Rattle.cc_names.specs.declared.units.Unit.{Unit}
-use Rattle.legal_history.specs.Base.Rows.{size}
+use Rattle.base_model.specs.Rows.{size}
 use Rattle.legal_history.specs.Builds.Active.{Active, Build, Came, Given, build_of, came_to, is_outcome, number_from, unit_at, unit_with_first}
-use Rattle.legal_history.specs.Base.Changes.{held, targets_of}
-use Rattle.legal_history.specs.Base.Closures.{is_among}
+use Rattle.base_model.specs.Changes.{held, targets_of}
+use Rattle.base_model.specs.Closures.{is_among}
 use Rattle.legal_history.specs.Commands.Decisions.{Makes}
 use Rattle.legal_history.specs.Builds.Serials.{makes}
 use Rattle.legal_history.specs.Stories.States.{State, scene, decided}
@@ -21,12 +21,12 @@ use Rattle.legal_history.specs.Stories.Steps.{after, active_after, noted, noted_
 use Rattle.legal_history.specs.Stories.Committing.{MakesRow}
 use Rattle.legal_history.specs.Stories.Lawful.{Lawful, Legal}
 use Rattle.legal_history.proofs.Stories.Goes.{of_lane}
-use Rattle.legal_history.proofs.Stories.Tables.{find_put_same}
+use Rattle.base_model.proofs.Tables.{find_put_same}
 use Rattle.legal_history.proofs.Stories.DecidedSteps.{decided_of}
 use Rattle.legal_history.proofs.Builds.FineBuilds.{some_same, takes_for}
 use Rattle.legal_history.proofs.Builds.Published.{is_publish}
 use Rattle.legal_history.proofs.Stories.SoundStories.{IsSound, story_is_sound}
-use Rattle.legal_history.proofs.Bases.HeldPaths.{Leaves, path_stays}
+use Rattle.base_model.proofs.HeldPaths.{Leaves, path_stays}
 use Rattle.legal_history.proofs.Decisions.DecidedIdle.{decided_idle}
 use Rattle.legal_history.proofs.Reuse.GivenRows.{IsOfCommand, idle_leaves}
 use Rattle.legal_history.proofs.Reuse.GivenCommits.{AllHeld, PublishIs, publish_is, wink_is}

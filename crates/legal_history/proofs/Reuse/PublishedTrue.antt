@@ -15,18 +15,20 @@ use Rattle.cc_names.specs.declared.rows.ReadOf.{ReadOf}
 use Rattle.cc_names.specs.declared.units.Unit.{Unit}
 use Rattle.script_grammar.specs.Run.{Ran, run}
 use Rattle.script_grammar.proofs.FrameLemmas.{run_framed}
-use Rattle.legal_history.specs.Base.Rows.{Base, size, first_rows, deed_at}
+use Rattle.base_model.specs.Rows.{Base, size, first_rows, deed_at}
 use Rattle.legal_history.specs.Builds.Active.{Build}
-use Rattle.legal_history.specs.Builds.Choices.{here, visible, text_of_row, entry_row, in_order, as_entry, entries}
-use Rattle.legal_history.specs.Base.Closures.{is_among}
-use Rattle.legal_history.specs.Base.Fits.{is_base}
+use Rattle.legal_history.specs.Builds.Choices.{here, visible, entry_row, in_order, as_entry, entries}
+use Rattle.base_model.specs.Texts.{text_of_row}
+use Rattle.base_model.specs.Closures.{is_among}
+use Rattle.base_model.specs.Fits.{is_base}
 use Rattle.legal_history.specs.Builds.Fresh.{script_text}
-use Rattle.legal_history.specs.Queries.RecordTexts.{row_in}
-use Rattle.legal_history.specs.Base.Values.{outputs_of_result, has_entries, are_stored, text_of_entry, texts_of_entries, run_of_deed, rerun, is_true, is_true_deed, IsSound}
-use Rattle.legal_history.proofs.Builds.FreshSeen.{or_first, or_second, bytes_itself}
-use Rattle.legal_history.proofs.Bases.Owned.{same_is_same}
+use Rattle.base_model.specs.Objects.{row_in}
+use Rattle.legal_history.specs.Builds.Values.{outputs_of_result, has_entries, are_stored, text_of_entry, texts_of_entries, run_of_deed, rerun, is_true, is_true_deed, IsSound}
+use Rattle.base_model.proofs.Either.{or_first, or_second}
+use Rattle.legal_history.proofs.Builds.FreshSeen.{bytes_itself}
+use Rattle.base_model.proofs.Owned.{same_is_same}
 use Rattle.legal_history.proofs.Builds.Published.{IsPublish}
-use Rattle.legal_history.proofs.Bases.VersionRows.{newest_deed}
+use Rattle.base_model.proofs.VersionRows.{newest_deed}
 use Rattle.legal_history.specs.Laws.Objects.{GivesLive}
 use Rattle.legal_history.proofs.Reuse.SeenTexts.{SeesTrue, unit_sees_true, own_entry_text}
 use Rattle.legal_history.proofs.Reuse.TrueObjects.{texts_alike}

@@ -5,12 +5,12 @@ use Rattle.cc_names.specs.declared.rows.Tag.{Tag}
 use Rattle.cc_names.specs.declared.steps.StoryStep.{StoryStep}
 use Rattle.cc_names.specs.declared.units.Unit.{Unit}
 use Rattle.legal_history.specs.Builds.Active.{Build, build_of}
-use Rattle.legal_history.specs.Base.Changes.{live}
+use Rattle.base_model.specs.Changes.{live}
 use Rattle.legal_history.specs.Builds.Reuse.{matches, reusable}
 use Rattle.legal_history.specs.Stories.States.{Opening}
 use Rattle.legal_history.specs.Stories.Steps.{state_of}
 use Rattle.legal_history.specs.Stories.Lawful.{Legal}
-use Rattle.legal_history.specs.Base.Values.{IsSound}
+use Rattle.legal_history.specs.Builds.Values.{IsSound}
 use Rattle.legal_history.specs.Laws.FromNothing.{IsAsFromNothing, MayTake}
 use Rattle.legal_history.specs.Laws.Objects.{IsTheRun}
 use Rattle.legal_history.proofs.Builds.FineBuilds.{takes_for}

@@ -6,16 +6,16 @@ use Rattle.cc_names.specs.declared.rows.Deed.{Deed}
 use Rattle.cc_names.specs.declared.rows.Deed.TheVariants as deeds
 use Rattle.cc_names.specs.declared.rows.ReadOf.{ReadOf}
 use Rattle.script_grammar.specs.Run.{Ran, run}
-use Rattle.legal_history.specs.Base.Rows.{Base, size, row_at, deed_of, deed_at}
-use Rattle.legal_history.specs.Base.Changes.{targets_of_deed}
-use Rattle.legal_history.specs.Base.Closures.{entries_of_deed, is_publish_deed}
-use Rattle.legal_history.specs.Base.Fits.{is_base}
-use Rattle.legal_history.specs.Queries.RecordTexts.{row_in}
-use Rattle.legal_history.specs.Base.Values.{output_of_run, outputs_of_run, text_of_entry, texts_of_entries, run_of_deed, rerun}
-use Rattle.legal_history.proofs.Bases.Owned.{row_fits, rows_below}
-use Rattle.legal_history.proofs.Bases.Stay.{row_stays, text_stays}
-use Rattle.legal_history.proofs.Bases.VersionsStay.{apart_below}
-use Rattle.legal_history.proofs.Reuse.EntriesBelow.{AreBelow, deed_entries_below}
+use Rattle.base_model.specs.Rows.{Base, size, row_at, deed_of, deed_at}
+use Rattle.base_model.specs.Changes.{targets_of_deed}
+use Rattle.base_model.specs.Closures.{entries_of_deed, is_publish_deed}
+use Rattle.base_model.specs.Fits.{is_base}
+use Rattle.base_model.specs.Objects.{row_in}
+use Rattle.legal_history.specs.Builds.Values.{output_of_run, outputs_of_run, text_of_entry, texts_of_entries, run_of_deed, rerun}
+use Rattle.base_model.proofs.Owned.{row_fits, rows_below}
+use Rattle.base_model.proofs.Stay.{row_stays, text_stays}
+use Rattle.base_model.proofs.VersionsStay.{apart_below}
+use Rattle.base_model.proofs.EntriesBelow.{AreBelow, deed_entries_below}
 
 pub deed_stays : (row : Plain) (b : Base) (r : ℕ) → r < size b → deed_at (row ∷ b) r ≡ deed_at b r
 deed_stays row b r low = ap deed_of (row_stays row b r low)

@@ -3,13 +3,14 @@ use Rattle.std.proofs.Common.{◌≡◌, refl, ap, subst, ◌∙◌, ℕ, Bool, 
 use Rattle.std.specs.Prelude.{is_some, nat_lt}
 use Rattle.cc_names.specs.References.{held_at}
 use Rattle.cc_names.specs.declared.units.Unit.{Unit}
-use Rattle.legal_history.specs.Base.Rows.{Base, size, first_rows, only_where}
+use Rattle.base_model.specs.Rows.{Base, size, first_rows, only_where}
 use Rattle.legal_history.specs.Builds.Active.{Build}
-use Rattle.legal_history.specs.Base.Changes.{held, live}
-use Rattle.legal_history.specs.Base.Fits.{is_base}
-use Rattle.legal_history.specs.Builds.Reuse.{matches, held_at_each, held_at_others, held_at_all, if_matches, newest_match, by_options, reusable}
-use Rattle.legal_history.proofs.Bases.Owned.{rows_below, and_first, and_second}
-use Rattle.legal_history.proofs.Bases.HeldObjects.{held_is_live}
+use Rattle.base_model.specs.Changes.{held, live}
+use Rattle.base_model.specs.Fits.{is_base}
+use Rattle.legal_history.specs.Builds.Reuse.{matches, if_matches, newest_match, by_options, reusable}
+use Rattle.base_model.specs.Objects.{held_at_each, held_at_others, held_at_all}
+use Rattle.base_model.proofs.Owned.{rows_below, and_first, and_second}
+use Rattle.base_model.proofs.HeldObjects.{held_is_live}
 
 -- an object that is live and whose record matches the unit
 pub record LiveMatch (b : Base) (build : Build) (n : ℕ) (unit : Unit) (id : ℕ) : Type 0 where

@@ -2,14 +2,15 @@
 use Rattle.std.proofs.Common.{◌≡◌, refl, ap, sym, subst, ◌∙◌, ℕ, ◌<◌, Option, Some, None, List, ◌++◌}
 use Rattle.cc_names.specs.declared.units.Unit.{Unit}
 use Rattle.script_grammar.specs.Run.{run}
-use Rattle.legal_history.specs.Base.Rows.{Base, size, first_rows}
+use Rattle.base_model.specs.Rows.{Base, size, first_rows}
 use Rattle.legal_history.specs.Builds.Active.{Build}
-use Rattle.legal_history.specs.Builds.Choices.{here, text_of_row, visible, visible_in}
+use Rattle.legal_history.specs.Builds.Choices.{here, visible, visible_in}
+use Rattle.base_model.specs.Texts.{text_of_row}
 use Rattle.legal_history.specs.Builds.Consistency.{IsConsistent}
 use Rattle.legal_history.specs.Builds.Fresh.{script_text}
 use Rattle.legal_history.specs.Laws.Given.{SeenBy, ByUnit, ByFile}
-use Rattle.legal_history.proofs.Bases.FilesBelow.{beyond, file_is_below}
-use Rattle.legal_history.proofs.Bases.Stay.{first_rows_stay_all, more_below, text_stays_all}
+use Rattle.base_model.proofs.FilesBelow.{beyond, file_is_below}
+use Rattle.base_model.proofs.Stay.{first_rows_stay_all, more_below, text_stays_all}
 use Rattle.legal_history.proofs.Reuse.Members.{seen_by}
 
 seen_below : (b : Base) (build : Build) (n : ℕ) (unit : Unit) (path : List ℕ) (row : ℕ) → IsConsistent b build → visible b build n unit path ≡ Some row → row < size b

@@ -6,20 +6,20 @@ use Rattle.cc_names.specs.Versions.{is_number}
 use Rattle.cc_names.specs.declared.rows.Deed.{Deed}
 use Rattle.cc_names.specs.declared.rows.Deed.TheVariants as deeds
 use Rattle.cc_names.specs.declared.units.Unit.{Unit}
-use Rattle.legal_history.specs.Base.Rows.{Base, first_rows, deed_at}
+use Rattle.base_model.specs.Rows.{Base, first_rows, deed_at}
 use Rattle.legal_history.specs.Builds.Active.{Build}
-use Rattle.legal_history.specs.Base.Changes.{targets_of, targets_of_deed}
-use Rattle.legal_history.specs.Builds.Choices.{entry_row, text_of_row, visible}
-use Rattle.legal_history.specs.Base.Closures.{is_publish, is_publish_deed}
-use Rattle.legal_history.specs.Base.Conditions.{makes_file_text}
-use Rattle.legal_history.specs.Base.Fits.{is_base}
-use Rattle.legal_history.specs.Builds.Reuse.{agrees}
-use Rattle.legal_history.specs.Base.Seen.{file_at}
-use Rattle.legal_history.specs.Base.Texts.{output_at, text}
-use Rattle.legal_history.specs.Base.Values.{output_of_run, outputs_of_run, text_of_entry, is_true, rerun, IsSound}
-use Rattle.legal_history.proofs.Bases.FilesBelow.{beyond}
-use Rattle.legal_history.proofs.Bases.FileRows.{FileText, file_is_text, file_text_stays_all}
-use Rattle.legal_history.proofs.Bases.RootRow.{no_row}
+use Rattle.base_model.specs.Changes.{targets_of, targets_of_deed}
+use Rattle.legal_history.specs.Builds.Choices.{entry_row, visible}
+use Rattle.base_model.specs.Texts.{text_of_row, output_at, text}
+use Rattle.base_model.specs.Closures.{is_publish, is_publish_deed}
+use Rattle.base_model.specs.Conditions.{makes_file_text}
+use Rattle.base_model.specs.Fits.{is_base}
+use Rattle.base_model.specs.Objects.{agrees}
+use Rattle.base_model.specs.Seen.{file_at}
+use Rattle.legal_history.specs.Builds.Values.{output_of_run, outputs_of_run, text_of_entry, is_true, rerun, IsSound}
+use Rattle.base_model.proofs.FilesBelow.{beyond}
+use Rattle.base_model.proofs.FileRows.{FileText, file_is_text, file_text_stays_all}
+use Rattle.base_model.proofs.RootRow.{no_row}
 use Rattle.legal_history.specs.Laws.Objects.{GivesLive}
 use Rattle.legal_history.proofs.Reuse.Members.{seen_by}
 use Rattle.legal_history.specs.Laws.Given.{SeenBy, ByUnit, ByFile}

@@ -10,23 +10,21 @@ use Rattle.cc_names.specs.Versions.{version_id, kind_of}
 use Rattle.cc_names.specs.declared.changes.VersionId.{VersionId}
 use Rattle.cc_names.specs.declared.rows.Kind.TheVariants.{File}
 use Rattle.cc_names.specs.declared.selection.Picked.{Picked}
-use Rattle.spec_text.specs.Rules.{finds, is_checkout, picked_by}
-use Rattle.legal_history.specs.Base.Rows.{Base, only_where}
-use Rattle.legal_history.specs.Base.Changes.{targets_of, tree}
-use Rattle.legal_history.specs.Base.Closures.{Input, Inputs, input_cmp, closure, greater_of, is_among, is_version_of, listed, listing, listing_of, version_listed, with_version_at}
-use Rattle.legal_history.specs.Base.Fits.{is_base}
-use Rattle.legal_history.specs.Queries.RecordTexts.{uncovered, uncovered_among}
-use Rattle.legal_history.specs.Builds.Reuse.{agrees}
-use Rattle.legal_history.specs.Base.Seen.{file_at, file_seen, row_of_file, selected, sources}
-use Rattle.legal_history.proofs.Stories.Goes.{same_number}
-use Rattle.legal_history.proofs.Bases.LabelsHold.{greater, version_id_listed}
-use Rattle.legal_history.proofs.Bases.Makings.{seen_element}
-use Rattle.legal_history.proofs.Bases.Owned.{same_is_same}
-use Rattle.legal_history.proofs.Stories.Tables.{find_after_put}
-use Rattle.legal_history.proofs.Bases.VersionsStay.{is_version}
+use Rattle.base_model.specs.ConfigSpecs.Rules.{finds, is_checkout, picked_by}
+use Rattle.base_model.specs.Rows.{Base, only_where}
+use Rattle.base_model.specs.Changes.{targets_of, tree}
+use Rattle.base_model.specs.Closures.{Input, Inputs, input_cmp, closure, greater_of, is_among, is_version_of, listed, listing, listing_of, version_listed, with_version_at}
+use Rattle.base_model.specs.Fits.{is_base}
+use Rattle.base_model.specs.Objects.{uncovered, uncovered_among, agrees}
+use Rattle.base_model.specs.Seen.{file_at, file_seen, row_of_file, selected, sources}
+use Rattle.base_model.proofs.Tables.{same_number, find_after_put}
+use Rattle.base_model.proofs.LabelsHold.{greater, version_id_listed}
+use Rattle.base_model.proofs.Makings.{seen_element}
+use Rattle.base_model.proofs.Owned.{same_is_same}
+use Rattle.base_model.proofs.VersionsStay.{is_version}
 use Rattle.legal_history.specs.Laws.Selected.{SeesByRecord, IsOnlyVersion, IsSelected, WasAbsent, IsVersion}
 use Rattle.legal_history.proofs.Reuse.ClosureFiles.{listed_is_file}
-use Rattle.legal_history.proofs.Reuse.Covered.{Keyed, closure_keyed, front_found, later_found}
+use Rattle.base_model.proofs.Covered.{Keyed, closure_keyed, front_found, later_found}
 
 -- what the listing of some inputs has of an element is the row of one of them that is a version of it
 listed_is : (b : Base) (P : ℕ → Type 0) (e : ℕ) (inputs : Inputs) (r : ℕ) → Keyed inputs → ((input : Input) → is_some (find input_cmp input inputs) ≡ true → is_version_of b e input.1 ≡ true → P input.1) →

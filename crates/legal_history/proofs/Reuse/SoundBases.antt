@@ -7,15 +7,15 @@ use Rattle.cc_names.specs.declared.rows.Tag.{Tag}
 use Rattle.cc_names.specs.declared.steps.Step.TheVariants as steps
 use Rattle.cc_names.specs.declared.steps.StoryStep.{StoryStep}
 use Rattle.cc_names.specs.declared.steps.StoryStep.TheVariants as story_steps
-use Rattle.legal_history.specs.Base.Rows.{Base, size}
+use Rattle.base_model.specs.Rows.{Base, size}
 use Rattle.legal_history.specs.Builds.Active.{Build, build_of}
-use Rattle.legal_history.specs.Base.Closures.{is_publish_deed}
+use Rattle.base_model.specs.Closures.{is_publish_deed}
 use Rattle.legal_history.specs.Stories.States.{State, Opening, start}
 use Rattle.legal_history.specs.Stories.Steps.{after, state_from, state_of}
 use Rattle.legal_history.specs.Stories.Committing.{MakesRow}
 use Rattle.legal_history.specs.Stories.Lawful.{Lawful, LegalFrom, Legal}
-use Rattle.legal_history.specs.Base.Values.{is_true}
-use Rattle.legal_history.specs.Base.Values as values
+use Rattle.legal_history.specs.Builds.Values.{is_true}
+use Rattle.legal_history.specs.Builds.Values as values
 use Rattle.legal_history.proofs.Stories.Goes.{of_lane}
 use Rattle.legal_history.proofs.Builds.Published.{is_publish}
 use Rattle.legal_history.proofs.Stories.SoundStories.{IsSound, sound_step, sound_first, none_active}

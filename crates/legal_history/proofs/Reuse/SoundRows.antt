@@ -6,11 +6,11 @@ use Rattle.cc_names.specs.Formed.{Plain}
 use Rattle.cc_names.specs.Last.{Ends, Sets, only_if, left}
 use Rattle.cc_names.specs.declared.rows.Deed.{Deed}
 use Rattle.cc_names.specs.declared.rows.Deed.TheVariants as deeds
-use Rattle.legal_history.specs.Base.Rows.{Base, size}
-use Rattle.legal_history.specs.Base.Changes.{live, live_effect}
-use Rattle.legal_history.specs.Base.Closures.{is_publish_deed}
-use Rattle.legal_history.specs.Base.Values.{is_true, is_true_deed, IsSound}
-use Rattle.legal_history.proofs.Stories.Goes.{same_number}
+use Rattle.base_model.specs.Rows.{Base, size}
+use Rattle.base_model.specs.Changes.{live, live_effect}
+use Rattle.base_model.specs.Closures.{is_publish_deed}
+use Rattle.legal_history.specs.Builds.Values.{is_true, is_true_deed, IsSound}
+use Rattle.base_model.proofs.Tables.{same_number}
 use Rattle.legal_history.proofs.Reuse.Reruns.{deed_stays, rerun_stays}
 use Rattle.legal_history.proofs.Reuse.TrueObjects.{live_is_true}
 

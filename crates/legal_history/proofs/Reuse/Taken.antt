@@ -10,9 +10,9 @@ use Rattle.cc_names.specs.declared.steps.StoryStep.{StoryStep}
 use Rattle.cc_names.specs.declared.steps.StoryStep.TheVariants as story_steps
 use Rattle.cc_names.specs.declared.steps.UnitEnd.TheVariants as ends
 use Rattle.cc_names.specs.declared.units.Unit.{Unit}
-use Rattle.legal_history.specs.Base.Changes.{live}
-use Rattle.legal_history.specs.Base.Fits.{is_base}
-use Rattle.legal_history.specs.Base.Rows.{deed_at}
+use Rattle.base_model.specs.Changes.{live}
+use Rattle.base_model.specs.Fits.{is_base}
+use Rattle.base_model.specs.Rows.{deed_at}
 use Rattle.legal_history.specs.Builds.Active.{Build, unit_at, unit_with_first}
 use Rattle.legal_history.specs.Builds.Choices.{entries, here, visible}
 use Rattle.legal_history.specs.Builds.Fresh.{script_text}

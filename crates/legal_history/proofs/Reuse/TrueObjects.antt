@@ -6,12 +6,12 @@ use Rattle.cc_names.specs.Formed.{Plain}
 use Rattle.cc_names.specs.declared.rows.Deed.{Deed}
 use Rattle.cc_names.specs.declared.rows.Deed.TheVariants as deeds
 use Rattle.cc_names.specs.declared.rows.ReadOf.{ReadOf}
-use Rattle.legal_history.specs.Base.Rows.{Base, size, row_at, deed_of, deed_at}
-use Rattle.legal_history.specs.Base.Changes.{live}
-use Rattle.legal_history.specs.Builds.Reuse.{are_same_paths}
-use Rattle.legal_history.specs.Base.Texts.{Bytes, OfRow, NoText, of_output, output_at, source_of, text}
-use Rattle.legal_history.specs.Base.Values.{outputs_of_run, reads_of_run, has_entries, are_stored, is_true, is_true_deed, rerun, IsSound}
-use Rattle.legal_history.proofs.Bases.Owned.{and_first, and_second}
+use Rattle.base_model.specs.Rows.{Base, size, row_at, deed_of, deed_at}
+use Rattle.base_model.specs.Changes.{live}
+use Rattle.base_model.specs.Objects.{are_same_paths}
+use Rattle.base_model.specs.Texts.{Bytes, OfRow, NoText, of_output, output_at, source_of, text}
+use Rattle.legal_history.specs.Builds.Values.{outputs_of_run, reads_of_run, has_entries, are_stored, is_true, is_true_deed, rerun, IsSound}
+use Rattle.base_model.proofs.Owned.{and_first, and_second}
 
 -- lists of the same texts are one list
 pub same_texts : (xs ys : List (List ℕ)) → are_same_paths xs ys ≡ true → xs ≡ ys

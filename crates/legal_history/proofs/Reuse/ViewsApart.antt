@@ -1,5 +1,5 @@
 -- No two active builds are of one view.
-use Rattle.std.proofs.Common.{◌≡◌, refl, ap, sym, ◌∙◌, ℕ, Bool, true, false, cond, ◌==◌, Option, Some, None, Result, Ok, List}
+use Rattle.std.proofs.Common.{◌≡◌, refl, ap, sym, ◌∙◌, ℕ, Bool, true, false, cond, ◌==◌, Option, Some, None, Result, Ok, List, subst}
 use Rattle.std.specs.Ordering.{nat_cmp}
 use Rattle.std.specs.FinMap.Entries.{put}
 use Rattle.cc_names.specs.declared.commands.Command.TheVariants as commands
@@ -7,22 +7,20 @@ use Rattle.cc_names.specs.declared.refusals.Refusal.{Refusal}
 use Rattle.cc_names.specs.declared.rows.Tag.{Tag}
 use Rattle.cc_names.specs.declared.units.Unit.{Unit}
 use Rattle.make_grammar.specs.Graphs.{units}
-use Rattle.legal_history.specs.Base.Rows.{size}
+use Rattle.base_model.specs.Rows.{size}
 use Rattle.legal_history.specs.Builds.Active.{Active, Build, Came, build_of, building}
 use Rattle.legal_history.specs.Commands.Decisions.{Scene, Begins, first_refusal}
-use Rattle.legal_history.specs.Builds.Fresh.{texts}
+use Rattle.base_model.specs.Texts.{texts}
 use Rattle.legal_history.specs.Commands.Lines.{decision}
 use Rattle.legal_history.specs.Commands.ObjectLines.{clearmake_tests, build_unless}
 use Rattle.legal_history.specs.Stories.States.{State, scene, decided}
 use Rattle.legal_history.specs.Stories.Steps.{begun, build_asked, noted, with_came, with_build, without_build, faulted_in}
-use Rattle.legal_history.proofs.Stories.Goes.{same_number}
+use Rattle.base_model.proofs.Tables.{same_number, find_after_put}
 use Rattle.legal_history.proofs.Decisions.Passed.{all_pass}
-use Rattle.legal_history.proofs.Stories.Tables.{find_after_put}
 use Rattle.legal_history.proofs.Builds.AllBuilds.{Each, each_noted, each_without, each_faulted, builds_there}
 use Rattle.legal_history.proofs.Decisions.DecidedSays.{was_idle}
 use Rattle.legal_history.proofs.Stories.DecidedSteps.{decided_of, says_of, begun_is}
 use Rattle.legal_history.proofs.Builds.FineBuilds.{some_same}
-use Rattle.std.proofs.Common.{subst}
 
 pub record ViewsApart (active : Active) : Type 0 where
   pub one_lane : (lane other : ℕ) (one two : Build) → build_of active lane ≡ Some one → build_of active other ≡ Some two → one.view ≡ two.view → lane ≡ other

@@ -4,10 +4,10 @@ use Rattle.cc_names.specs.Formed.{Plain}
 use Rattle.cc_names.specs.declared.rows.Deed.{Deed}
 use Rattle.cc_names.specs.declared.rows.Deed.TheVariants as deeds
 use Rattle.cc_names.specs.declared.units.Unit.{Unit}
-use Rattle.legal_history.specs.Base.Rows.{Base}
+use Rattle.base_model.specs.Rows.{Base}
 use Rattle.legal_history.specs.Builds.Active.{Build, unit_at, unit_with_first}
-use Rattle.legal_history.specs.Base.Changes.{targets_of}
-use Rattle.legal_history.specs.Base.Fits.{is_base}
+use Rattle.base_model.specs.Changes.{targets_of}
+use Rattle.base_model.specs.Fits.{is_base}
 use Rattle.legal_history.specs.Builds.Reuse.{reusable}
 use Rattle.legal_history.specs.Laws.Given.{IsHeld}
 use Rattle.legal_history.proofs.Reuse.GivenRows.{wink_held}

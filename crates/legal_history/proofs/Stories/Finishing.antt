@@ -18,7 +18,7 @@ use Rattle.make_grammar.specs.Graphs.{units}
 use Rattle.legal_history.specs.Builds.Active.{Build, build_of}
 use Rattle.legal_history.specs.Stories.Committing.{FaultsAt, MakesRow}
 use Rattle.legal_history.specs.Commands.Decisions.{Answers, Begins, Decision, Makes, Scene, first_refusal, needs_room, unless_refused}
-use Rattle.legal_history.specs.Builds.Fresh.{texts}
+use Rattle.base_model.specs.Texts.{texts}
 use Rattle.legal_history.specs.Commands.Lines.{decision}
 use Rattle.legal_history.specs.Commands.ObjectLines.{build_unless, clearmake_tests}
 use Rattle.legal_history.specs.Stories.States.{State, build_by, decided, done_of, next_command, next_tag, scene, with_done}
@@ -28,7 +28,8 @@ use Rattle.legal_history.specs.Laws.Ends.{IsLeft, IsRefused}
 use Rattle.legal_history.proofs.Builds.CommandStays.{next_is, other_done}
 use Rattle.legal_history.proofs.Builds.FineBuilds.{some_same}
 use Rattle.legal_history.proofs.Decisions.DecidedIdle.{builds_nothing}
-use Rattle.legal_history.proofs.Stories.Goes.{decided_is_idle, of_lane, same_number}
+use Rattle.legal_history.proofs.Stories.Goes.{decided_is_idle, of_lane}
+use Rattle.base_model.proofs.Tables.{same_number}
 use Rattle.legal_history.proofs.Stories.Leaving.{ends_so}
 
 -- a lane that finishes a command has one more

@@ -13,7 +13,7 @@ use Rattle.cc_names.specs.declared.steps.StoryStep.TheVariants as story_steps
 use Rattle.cc_names.specs.declared.steps.UnitEnd.{UnitEnd}
 use Rattle.cc_names.specs.declared.steps.UnitEnd.TheVariants as ends
 use Rattle.cc_names.specs.declared.refusals.UnitFault.TheVariants as unit_faults
-use Rattle.legal_history.specs.Base.Rows.{only_where}
+use Rattle.base_model.specs.Rows.{only_where}
 use Rattle.legal_history.specs.Stories.States.{State, start, decided, is_next, next_command, command_behind, done_of}
 use Rattle.legal_history.specs.Stories.Steps.{after, state_from}
 use Rattle.legal_history.specs.Stories.Committing.{MakesRow}

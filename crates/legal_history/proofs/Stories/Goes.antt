@@ -1,6 +1,5 @@
 -- A lawful step leaves each active build as it is, lets it go on, or ends it.
-use Rattle.std.proofs.Common.{◌≡◌, refl, ap, subst, ◌∙◌, inl, inr, ℕ, Bool, true, false, cond, not, ◌==◌, Option, Some, None, arith}
-use Rattle.std.proofs.lemmas.Bool.Decides.{nat_tests}
+use Rattle.std.proofs.Common.{◌≡◌, refl, ap, subst, ◌∙◌, inl, inr, ℕ, Bool, true, false, cond, not, ◌==◌, Option, Some, None}
 use Rattle.std.specs.Prelude.{Result, is_none, is_some, option_map, option_and_then, ◌&&◌}
 use Rattle.std.specs.Ordering.{nat_cmp}
 use Rattle.std.specs.FinMap.Entries.{put}
@@ -17,9 +16,9 @@ use Rattle.cc_names.specs.declared.steps.UnitEnd.{UnitEnd}
 use Rattle.cc_names.specs.declared.steps.UnitEnd.TheVariants as ends
 use Rattle.cc_names.specs.declared.refusals.UnitFault.TheVariants as unit_faults
 use Rattle.cc_names.specs.declared.units.Unit.{Unit}
-use Rattle.legal_history.specs.Base.Rows.{only_where}
+use Rattle.base_model.specs.Rows.{only_where}
 use Rattle.legal_history.specs.Builds.Active.{Active, Build, Came, build_of, came_to, is_outcome, unit_with_first}
-use Rattle.legal_history.specs.Base.Changes.{targets_of}
+use Rattle.base_model.specs.Changes.{targets_of}
 use Rattle.legal_history.specs.Stories.Growth.{Continues, StaysTheBuild, Over, On}
 use Rattle.cc_names.specs.declared.refusals.Refusal.{Refusal}
 use Rattle.legal_history.specs.Commands.Decisions.{Decision}
@@ -29,13 +28,10 @@ use Rattle.legal_history.specs.Stories.Steps.{after, after_step, noted, with_cam
 use Rattle.legal_history.specs.Stories.Committing.{MakesRow}
 use Rattle.legal_history.specs.Stories.Lawful.{Lawful, LawfulStep}
 use Rattle.legal_history.specs.Builds.UnitTurns.{ComesTo, Waits}
-use Rattle.legal_history.proofs.Stories.Tables.{find_after_put, find_put_same, find_put_other, find_without}
+use Rattle.base_model.proofs.Tables.{find_after_put, find_put_same, find_put_other, find_without, same_number}
 
 pub continues_itself : (b : Build) → Continues b b
 continues_itself b = record { tag = refl; view = refl; rows = refl; own_only = refl; rebuild = refl; units = refl; outcomes = λ n h. refl; begun = λ n h. h }
-
-pub same_number : (m n : ℕ) → (m == n) ≡ true → m ≡ n
-same_number m n e = grind (arith, nat_tests)
 
 -- a unit with an outcome is not the one that waits
 apart_from : (b : Build) (n m : ℕ) → is_outcome (came_to b n) ≡ false → is_outcome (came_to b m) ≡ true → (m == n) ≡ false

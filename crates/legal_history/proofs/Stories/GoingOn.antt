@@ -3,17 +3,17 @@ use Rattle.std.proofs.Common.{◌≡◌, ap, sym, subst, ◌∙◌, ℕ, true, S
 use Rattle.std.specs.Prelude.{is_some}
 use Rattle.cc_names.specs.declared.steps.StoryStep.{StoryStep}
 use Rattle.cc_names.specs.declared.units.Unit.{Unit}
-use Rattle.legal_history.specs.Base.Rows.{Base, first_rows}
+use Rattle.base_model.specs.Rows.{Base, first_rows, Extends}
 use Rattle.legal_history.specs.Builds.Active.{Build, build_of, came_to, unit_at}
 use Rattle.legal_history.specs.Builds.Consistency.{IsReady, IsConsistent}
-use Rattle.legal_history.specs.Stories.Growth.{Continues, StaysTheBuild, Over, On, Extends}
+use Rattle.legal_history.specs.Stories.Growth.{Continues, StaysTheBuild, Over, On}
 use Rattle.legal_history.specs.Stories.States.{State, start}
 use Rattle.legal_history.specs.Stories.Steps.{after, state_of}
 use Rattle.legal_history.specs.Stories.Lawful.{Lawful, Legal}
 use Rattle.legal_history.proofs.Stories.Fronts.{first_opens}
 use Rattle.legal_history.proofs.Stories.Goes.{step_goes}
 use Rattle.legal_history.proofs.Stories.Grows.{is_opened, step_extends}
-use Rattle.legal_history.proofs.Bases.Stay.{first_rows_stay_all}
+use Rattle.base_model.proofs.Stay.{first_rows_stay_all}
 use Rattle.legal_history.proofs.Stories.SoundStories.{build_is_consistent}
 
 -- a consistent build goes on while its base grows, and a unit of it is ready

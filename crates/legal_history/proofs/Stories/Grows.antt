@@ -6,8 +6,7 @@ use Rattle.cc_names.specs.declared.steps.Step.{Step}
 use Rattle.cc_names.specs.declared.steps.Step.TheVariants as steps
 use Rattle.cc_names.specs.declared.steps.StoryStep.{StoryStep}
 use Rattle.cc_names.specs.declared.steps.StoryStep.TheVariants as story_steps
-use Rattle.legal_history.specs.Base.Rows.{Base}
-use Rattle.legal_history.specs.Stories.Growth.{Extends}
+use Rattle.base_model.specs.Rows.{Base, Extends}
 use Rattle.legal_history.specs.Stories.States.{State, start}
 use Rattle.legal_history.specs.Stories.Steps.{after, after_step, state_from, state_of}
 use Rattle.legal_history.specs.Stories.Lawful.{Lawful, LegalFrom, Legal}

@@ -25,7 +25,8 @@ use Rattle.legal_history.specs.Stories.Steps.{after, after_step, done_after, don
 use Rattle.legal_history.specs.Stories.Lawful.{Lawful, LawfulStep, Legal, LegalFrom}
 use Rattle.legal_history.proofs.Builds.CommandStays.{next_is, other_done}
 use Rattle.legal_history.proofs.Builds.CommandSteps.{AllCommanded, none_begun, step_commanded}
-use Rattle.legal_history.proofs.Stories.Goes.{of_lane, same_number}
+use Rattle.legal_history.proofs.Stories.Goes.{of_lane}
+use Rattle.base_model.proofs.Tables.{same_number}
 use Rattle.legal_history.proofs.Stories.LaterSteps.{own_done}
 use Rattle.legal_history.proofs.Stories.LaterStories.{story_later}
 use Rattle.legal_history.proofs.Stories.SoundStories.{IsSound, sound_first, sound_step}

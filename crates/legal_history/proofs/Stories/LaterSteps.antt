@@ -14,9 +14,9 @@ use Rattle.legal_history.specs.Stories.Steps.{after, after_step, done_after, don
 use Rattle.legal_history.specs.Stories.Lawful.{Lawful}
 use Rattle.legal_history.specs.Laws.Ends.{IsLeft}
 use Rattle.legal_history.proofs.Builds.CommandStays.{other_done}
-use Rattle.legal_history.proofs.Stories.Goes.{same_number, step_goes}
+use Rattle.base_model.proofs.Tables.{same_number, find_put_same}
+use Rattle.legal_history.proofs.Stories.Goes.{step_goes}
 use Rattle.legal_history.proofs.Stories.Leaving.{is_left}
-use Rattle.legal_history.proofs.Stories.Tables.{find_put_same}
 
 -- a lane that finishes a command has one more
 pub own_done : (done : List (ℕ × ℕ)) (lane : ℕ) → done_of (with_done done lane) lane ≡ done_of done lane + 1

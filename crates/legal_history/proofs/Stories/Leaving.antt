@@ -9,14 +9,14 @@ use Rattle.cc_names.specs.declared.steps.Step.{Step}
 use Rattle.cc_names.specs.declared.steps.Step.TheVariants as steps
 use Rattle.cc_names.specs.declared.steps.StoryStep.{StoryStep}
 use Rattle.cc_names.specs.declared.steps.StoryStep.TheVariants as story_steps
-use Rattle.legal_history.specs.Base.Rows.{Base}
+use Rattle.base_model.specs.Rows.{Base}
 use Rattle.legal_history.specs.Builds.Active.{Active, Build, Came, build_of}
 use Rattle.legal_history.specs.Stories.States.{State, build_by}
 use Rattle.legal_history.specs.Stories.Steps.{after, after_step, noted_in, with_came, with_build, without_build, faulted_in, active_after, begun}
 use Rattle.legal_history.specs.Stories.Lawful.{Lawful, LawfulStep, EndsBuild}
 use Rattle.legal_history.specs.Builds.Turns.{is_complete}
-use Rattle.legal_history.proofs.Stories.Goes.{of_lane, same_number}
-use Rattle.legal_history.proofs.Stories.Tables.{find_after_put, find_without}
+use Rattle.legal_history.proofs.Stories.Goes.{of_lane}
+use Rattle.base_model.proofs.Tables.{same_number, find_after_put, find_without}
 use Rattle.legal_history.specs.Laws.Ends.{IsLeft}
 
 -- where one build is put, every active lane still builds

@@ -3,9 +3,9 @@ use Rattle.std.proofs.Common.{◌≡◌, refl, ap, ap₂, subst, ℕ, ◌+◌, �
 use Rattle.cc_names.specs.References.{one_where}
 use Rattle.cc_names.specs.declared.steps.StoryStep.{StoryStep}
 use Rattle.cc_names.specs.declared.units.Unit.{Unit}
-use Rattle.legal_history.specs.Base.Rows.{size}
+use Rattle.base_model.specs.Rows.{size}
 use Rattle.legal_history.specs.Builds.Active.{Active, Build, came_to, is_outcome}
-use Rattle.legal_history.specs.Base.Fits.{row_limit}
+use Rattle.base_model.specs.Fits.{row_limit}
 use Rattle.legal_history.specs.Stories.Steps.{state_of}
 use Rattle.legal_history.specs.Stories.Lawful.{Legal}
 use Rattle.legal_history.proofs.Builds.Room.{waits_from, all_waiting}

@@ -7,7 +7,7 @@ use Rattle.cc_names.specs.declared.rows.Deed.TheVariants as deeds
 use Rattle.cc_names.specs.declared.rows.Tag.{Tag}
 use Rattle.cc_names.specs.declared.steps.StoryStep.{StoryStep}
 use Rattle.cc_names.specs.declared.steps.StoryStep.TheVariants as story_steps
-use Rattle.legal_history.specs.Base.Changes.{held, live}
+use Rattle.base_model.specs.Changes.{held, live}
 use Rattle.legal_history.specs.Commands.Decisions.{Makes}
 use Rattle.legal_history.specs.Commands.Lines.{decision}
 use Rattle.legal_history.specs.Laws.Dues.{AreDue}
@@ -15,8 +15,8 @@ use Rattle.legal_history.specs.Stories.Committing.{MakesRow}
 use Rattle.legal_history.specs.Stories.Lawful.{Legal}
 use Rattle.legal_history.specs.Stories.States.{State, decided, scene, start}
 use Rattle.legal_history.specs.Stories.Steps.{state_of}
-use Rattle.legal_history.proofs.Bases.DueObjects.{scrub_lists, scrub_ascends}
-use Rattle.legal_history.proofs.Bases.HeldObjects.{held_is_live}
+use Rattle.legal_history.proofs.Decisions.DueObjects.{scrub_lists, scrub_ascends}
+use Rattle.base_model.proofs.HeldObjects.{held_is_live}
 use Rattle.legal_history.proofs.Stories.DecidedSteps.{decided_of, says_of}
 use Rattle.legal_history.proofs.Stories.Fronts.{front_is_legal, rest_is_legal}
 use Rattle.legal_history.proofs.Stories.SoundStories.{base_fits}

@@ -11,13 +11,13 @@ use Rattle.cc_names.specs.declared.steps.Step.TheVariants as steps
 use Rattle.cc_names.specs.declared.steps.StoryStep.{StoryStep}
 use Rattle.cc_names.specs.declared.steps.StoryStep.TheVariants as story_steps
 use Rattle.cc_names.specs.declared.units.Unit.{Unit}
-use Rattle.legal_history.specs.Base.Rows.{Base, size}
+use Rattle.base_model.specs.Rows.{Base, size}
 use Rattle.legal_history.specs.Builds.Active.{Build, build_of}
-use Rattle.legal_history.specs.Base.Changes.{live}
+use Rattle.base_model.specs.Changes.{live}
 use Rattle.legal_history.specs.Builds.Choices.{here, visible, entries}
-use Rattle.legal_history.specs.Base.Conditions.{exists, is_entry}
+use Rattle.base_model.specs.Conditions.{exists, is_entry}
 use Rattle.legal_history.specs.Commands.Decisions.{Makes}
-use Rattle.legal_history.specs.Base.Fits.{fits, is_base, row_limit}
+use Rattle.base_model.specs.Fits.{fits, is_base, row_limit}
 use Rattle.legal_history.specs.Builds.Consistency.{IsReady, IsConsistent}
 use Rattle.legal_history.specs.Stories.States.{State, scene, start}
 use Rattle.legal_history.specs.Stories.Steps.{after, active_after, state_from, state_of}
@@ -27,7 +27,7 @@ use Rattle.legal_history.proofs.Decisions.DecidedFits.{decided_fits}
 use Rattle.legal_history.proofs.Stories.Fronts.{first_opens}
 use Rattle.legal_history.proofs.Stories.Goes.{of_lane}
 use Rattle.legal_history.proofs.Stories.Grows.{stays_opened}
-use Rattle.legal_history.proofs.Bases.Owned.{and_first}
+use Rattle.base_model.proofs.Owned.{and_first}
 use Rattle.legal_history.proofs.Builds.AllBuilds.{Each}
 use Rattle.legal_history.proofs.Builds.BuildSteps.{step_fine}
 use Rattle.legal_history.proofs.Stories.DecidedSteps.{decided_of}

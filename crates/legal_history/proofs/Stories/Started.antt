@@ -5,13 +5,14 @@ use Rattle.std.specs.List.{AllByRecursion, list_any}
 use Rattle.std.specs.Option.{option_or}
 use Rattle.cc_names.specs.declared.units.Unit.{Unit}
 use Rattle.script_grammar.specs.Run.{run}
-use Rattle.legal_history.specs.Base.Rows.{Base, first_rows, only_where}
+use Rattle.base_model.specs.Rows.{Base, first_rows, only_where}
 use Rattle.legal_history.specs.Builds.Active.{Build, is_outcome, object_of}
-use Rattle.legal_history.specs.Builds.Choices.{Member, unit_of_member, members_from, members_before, object_among, here, text_of_row, visible}
+use Rattle.legal_history.specs.Builds.Choices.{Member, unit_of_member, members_from, members_before, object_among, here, visible}
+use Rattle.base_model.specs.Texts.{text_of_row}
 use Rattle.legal_history.specs.Builds.Fresh.{script_text}
 use Rattle.legal_history.specs.Builds.Consistency.{IsReady, IsConsistent}
 use Rattle.legal_history.specs.Stories.Growth.{Continues}
-use Rattle.legal_history.specs.Base.Seen.{file_at}
+use Rattle.base_model.specs.Seen.{file_at}
 use Rattle.legal_history.specs.Builds.Serials.{makes, needed}
 use Rattle.legal_history.proofs.Builds.Pairs.{Pair, unit_in, member_of, pairs_before, members_paired, needed_mapped}
 use Rattle.legal_history.proofs.Builds.NeededAgree.{needed_each, ready_over}

@@ -7,14 +7,14 @@ use Rattle.cc_names.specs.declared.commands.Command.TheVariants as commands
 use Rattle.cc_names.specs.declared.commands.Change.TheVariants as changes
 use Rattle.cc_names.specs.declared.refusals.Refusal.TheVariants as refusals
 use Rattle.cc_names.specs.declared.rows.Deed.TheVariants as deeds
-use Rattle.legal_history.specs.Base.Rows.{Base, first_rows}
-use Rattle.legal_history.specs.Base.Changes.{tree}
+use Rattle.base_model.specs.Rows.{Base, first_rows}
+use Rattle.base_model.specs.Changes.{tree}
 use Rattle.legal_history.specs.Commands.Decisions.{Makes}
-use Rattle.legal_history.specs.Base.Fits.{is_base}
-use Rattle.legal_history.specs.Base.Seen.{file_at}
-use Rattle.legal_history.specs.Base.Texts.{text}
+use Rattle.base_model.specs.Fits.{is_base}
+use Rattle.base_model.specs.Seen.{file_at}
+use Rattle.base_model.specs.Texts.{text}
 use Rattle.legal_history.specs.Queries.VersionNames.{line, version_name}
-use Rattle.legal_history.specs.Base.Views.{making, out}
+use Rattle.base_model.specs.Views.{making, out}
 use Rattle.legal_history.specs.Worked.{base_of, decisions}
 use Rattle.legal_history.proofs.Worked.TwoViews.{v, w, two_views, all_deeds}
 

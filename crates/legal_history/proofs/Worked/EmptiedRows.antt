@@ -3,11 +3,11 @@ use Rattle.std.proofs.Common.{◌≡◌, refl, true, false, Some, None, [], ◌�
 use Rattle.std.specs.Prelude.{codes, map}
 use Rattle.cc_names.specs.declared.rows.Deed.{Deed}
 use Rattle.cc_names.specs.declared.rows.Deed.TheVariants as deeds
-use Rattle.legal_history.specs.Base.Blanked.{blank_deed, blanked, emptied, AreSameButForOutputs}
-use Rattle.legal_history.specs.Base.Fits.{is_base}
-use Rattle.legal_history.specs.Base.Rows.{Base, deed_at}
-use Rattle.legal_history.specs.Base.Texts.{text}
-use Rattle.legal_history.specs.Base.Values.{first_unsound, is_true, value}
+use Rattle.base_model.specs.Blanked.{blank_deed, blanked, emptied, AreSameButForOutputs}
+use Rattle.base_model.specs.Fits.{is_base}
+use Rattle.base_model.specs.Rows.{Base, deed_at}
+use Rattle.base_model.specs.Texts.{text}
+use Rattle.legal_history.specs.Builds.Values.{first_unsound, is_true, value}
 use Rattle.legal_history.specs.Worked.{base_of}
 use Rattle.legal_history.proofs.Worked.TwoViews.{v, w, hi, script, publish, first_deeds}
 use Rattle.legal_history.proofs.Worked.ReuseRows.{publish_in}

@@ -10,7 +10,7 @@ use Rattle.cc_names.specs.declared.rows.Deed.TheVariants as deeds
 use Rattle.cc_names.specs.declared.steps.Step.TheVariants as steps
 use Rattle.cc_names.specs.declared.steps.StoryStep.{StoryStep}
 use Rattle.cc_names.specs.declared.steps.StoryStep.TheVariants as story_steps
-use Rattle.legal_history.specs.Base.Values.{first_unsound}
+use Rattle.legal_history.specs.Builds.Values.{first_unsound}
 use Rattle.legal_history.specs.Builds.Active.{Given}
 use Rattle.legal_history.specs.Laws.Stops.{IsLeftByStop, WithRowLeft}
 use Rattle.legal_history.specs.Stories.States.{all_done, build_by}

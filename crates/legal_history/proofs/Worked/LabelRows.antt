@@ -7,10 +7,10 @@ use Rattle.cc_names.specs.declared.commands.Change.TheVariants as changes
 use Rattle.cc_names.specs.declared.refusals.Refusal.TheVariants as refusals
 use Rattle.cc_names.specs.declared.rows.Deed.TheVariants as deeds
 use Rattle.cc_names.specs.declared.rows.TypeKind.TheVariants as type_kinds
-use Rattle.legal_history.specs.Base.Rows.{Base}
-use Rattle.legal_history.specs.Base.Changes.{labels}
+use Rattle.base_model.specs.Rows.{Base}
+use Rattle.base_model.specs.Changes.{labels}
 use Rattle.legal_history.specs.Commands.Decisions.{Makes}
-use Rattle.legal_history.specs.Base.Fits.{is_base}
+use Rattle.base_model.specs.Fits.{is_base}
 use Rattle.legal_history.specs.Worked.{base_of, decisions}
 use Rattle.legal_history.proofs.Worked.TwoViews.{v, two_views, all_deeds}
 

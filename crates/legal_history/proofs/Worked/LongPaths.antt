@@ -6,10 +6,10 @@ use Rattle.cc_names.specs.declared.rows.Deed.{Deed}
 use Rattle.cc_names.specs.declared.rows.Deed.TheVariants as deeds
 use Rattle.cc_names.specs.declared.rows.Kind.TheVariants.{File, Directory}
 use Rattle.cc_names.specs.declared.selection.Seen.TheVariants.{Element, Nothing}
-use Rattle.legal_history.specs.Base.Rows.{Base}
-use Rattle.legal_history.specs.Base.Fits.{is_base}
+use Rattle.base_model.specs.Rows.{Base}
+use Rattle.base_model.specs.Fits.{is_base}
 use Rattle.legal_history.specs.Queries.ListingTexts.{ls_text}
-use Rattle.legal_history.specs.Base.Seen.{at, at_names}
+use Rattle.base_model.specs.Seen.{at, at_names}
 use Rattle.legal_history.specs.Worked.{base_of}
 use Rattle.legal_history.proofs.Worked.TwoViews.{v}
 

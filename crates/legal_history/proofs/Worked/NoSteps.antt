@@ -10,10 +10,10 @@ use Rattle.cc_names.specs.declared.rows.Tag.{Tag}
 use Rattle.cc_names.specs.declared.steps.UnitEnd.{UnitEnd}
 use Rattle.cc_names.specs.declared.units.Unit.{Unit}
 use Rattle.legal_history.specs.Builds.Active.{Build, came_to, is_outcome, unit_at, unit_with_first}
-use Rattle.legal_history.specs.Base.Changes.{targets_of}
+use Rattle.base_model.specs.Changes.{targets_of}
 use Rattle.legal_history.specs.Builds.Choices.{here, publish_of}
 use Rattle.legal_history.specs.Commands.Decisions.{Answers, Begins}
-use Rattle.legal_history.specs.Builds.Reuse.{held_at_all}
+use Rattle.base_model.specs.Objects.{held_at_all}
 use Rattle.legal_history.specs.Stories.States.{State, decided, build_by}
 use Rattle.legal_history.specs.Stories.Committing.{MakesRow, RowFor}
 use Rattle.legal_history.specs.Stories.Lawful.{BeginsBuild, EndsBuild}

@@ -11,14 +11,15 @@ use Rattle.cc_names.specs.declared.refusals.SpecCause.TheVariants as causes
 use Rattle.cc_names.specs.declared.rows.Deed.{Deed}
 use Rattle.cc_names.specs.declared.rows.Deed.TheVariants as deeds
 use Rattle.cc_names.specs.declared.rows.TypeKind.TheVariants as type_kinds
-use Rattle.legal_history.specs.Base.Rows.{Base, first_rows}
-use Rattle.legal_history.specs.Base.Changes.{labels}
-use Rattle.legal_history.specs.Base.Closures.{listing, listing_of}
+use Rattle.base_model.specs.Rows.{Base, first_rows}
+use Rattle.base_model.specs.Changes.{labels}
+use Rattle.base_model.specs.Closures.{listing, listing_of}
 use Rattle.legal_history.specs.Commands.Decisions.{Makes, Answers, Begins}
-use Rattle.legal_history.specs.Base.Fits.{is_base}
+use Rattle.base_model.specs.Fits.{is_base}
 use Rattle.legal_history.specs.Builds.Fresh.{fresh}
-use Rattle.legal_history.specs.Builds.Reuse.{reusable, held_at_all}
-use Rattle.legal_history.specs.Base.Seen.{file_at}
+use Rattle.legal_history.specs.Builds.Reuse.{reusable}
+use Rattle.base_model.specs.Objects.{held_at_all}
+use Rattle.base_model.specs.Seen.{file_at}
 use Rattle.legal_history.specs.Queries.VersionNames.{line, version_name}
 use Rattle.legal_history.specs.Worked.{base_of, decisions, with_decision}
 use Rattle.legal_history.proofs.Worked.ReuseRows.{build_in}

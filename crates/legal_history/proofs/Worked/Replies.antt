@@ -11,7 +11,7 @@ use Rattle.cc_names.specs.declared.rows.Deed.{Deed}
 use Rattle.cc_names.specs.declared.rows.Deed.TheVariants as deeds
 use Rattle.cc_names.specs.declared.steps.UnitEnd.TheVariants.{Blocked, Kept, Failed}
 use Rattle.cc_names.specs.declared.units.UnitScript.TheVariants.{Lines}
-use Rattle.legal_history.specs.Base.Rows.{Base}
+use Rattle.base_model.specs.Rows.{Base}
 use Rattle.legal_history.specs.Builds.Active.{Build, Came, Concluded, Given}
 use Rattle.legal_history.specs.Queries.VersionNames.{line}
 use Rattle.legal_history.specs.Worked.{tag, base_of}

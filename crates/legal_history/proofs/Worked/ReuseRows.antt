@@ -5,12 +5,13 @@ use Rattle.cc_names.specs.declared.commands.Command.{Command}
 use Rattle.cc_names.specs.declared.commands.Command.TheVariants as commands
 use Rattle.cc_names.specs.declared.rows.Deed.{Deed}
 use Rattle.cc_names.specs.declared.rows.Deed.TheVariants as deeds
-use Rattle.legal_history.specs.Base.Rows.{Base, first_rows}
+use Rattle.base_model.specs.Rows.{Base, first_rows}
 use Rattle.legal_history.specs.Builds.Active.{Build}
 use Rattle.legal_history.specs.Commands.Decisions.{Begins}
-use Rattle.legal_history.specs.Base.Fits.{is_base}
+use Rattle.base_model.specs.Fits.{is_base}
 use Rattle.legal_history.specs.Builds.Fresh.{fresh}
-use Rattle.legal_history.specs.Builds.Reuse.{reusable, held_at_all}
+use Rattle.legal_history.specs.Builds.Reuse.{reusable}
+use Rattle.base_model.specs.Objects.{held_at_all}
 use Rattle.legal_history.specs.Stories.Steps.{new_build}
 use Rattle.legal_history.specs.Worked.{tag, base_of, decisions}
 use Rattle.legal_history.proofs.Worked.TwoViews.{v, w, hi, makefile, script, unit, built, publish, first_deeds, all_deeds, two_views}

@@ -5,13 +5,13 @@ use Rattle.cc_names.specs.declared.commands.Command.TheVariants as commands
 use Rattle.cc_names.specs.declared.commands.Query.TheVariants as queries
 use Rattle.cc_names.specs.declared.commands.Change.TheVariants as changes
 use Rattle.cc_names.specs.declared.rows.Deed.TheVariants as deeds
-use Rattle.legal_history.specs.Base.Rows.{Base, first_rows}
-use Rattle.legal_history.specs.Base.Changes.{held, live}
+use Rattle.base_model.specs.Rows.{Base, first_rows}
+use Rattle.base_model.specs.Changes.{held, live}
 use Rattle.legal_history.specs.Commands.Decisions.{Makes, Answers, Begins}
-use Rattle.legal_history.specs.Base.Fits.{is_base}
+use Rattle.base_model.specs.Fits.{is_base}
 use Rattle.legal_history.specs.Builds.Fresh.{fresh}
 use Rattle.legal_history.specs.Builds.Reuse.{reusable}
-use Rattle.legal_history.specs.Base.Texts.{text}
+use Rattle.base_model.specs.Texts.{text}
 use Rattle.legal_history.specs.Laws.Dues.{is_due_object}
 use Rattle.legal_history.specs.Worked.{base_of, decisions}
 use Rattle.legal_history.proofs.Worked.ReuseRows.{build_in, publish_in}

@@ -4,15 +4,15 @@ use Rattle.std.specs.FinMap.Entries.{find}
 use Rattle.std.specs.Ordering.{eq_by_cmp}
 use Rattle.std.specs.Prelude.{codes, is_some}
 use Rattle.cc_names.specs.declared.rows.Deed.TheVariants as deeds
-use Rattle.legal_history.specs.Base.Rows.{Base}
-use Rattle.legal_history.specs.Base.Closures.{Input, input_cmp, closure}
-use Rattle.legal_history.specs.Base.Fits.{is_base}
-use Rattle.legal_history.specs.Queries.RecordTexts.{uncovered}
+use Rattle.base_model.specs.Rows.{Base}
+use Rattle.base_model.specs.Closures.{Input, input_cmp, closure}
+use Rattle.base_model.specs.Fits.{is_base}
+use Rattle.base_model.specs.Objects.{uncovered}
 use Rattle.legal_history.specs.Queries.VersionNames.{line}
 use Rattle.legal_history.specs.Worked.{base_of}
 use Rattle.legal_history.proofs.Worked.TwoViews.{all_deeds, v}
 use Rattle.legal_history.specs.Laws.Selected.{IsSelected, IsVersion, SeesByRecord}
-use Rattle.legal_history.proofs.Reuse.Covered.{one_input}
+use Rattle.base_model.proofs.Covered.{one_input}
 
 abbrev x : List ℕ
 x = codes "x"

@@ -12,11 +12,11 @@ use Rattle.cc_names.specs.declared.rows.Deed.{Deed}
 use Rattle.cc_names.specs.declared.rows.Deed.TheVariants as deeds
 use Rattle.cc_names.specs.declared.rows.Kind.TheVariants.{File}
 use Rattle.date_text.proofs.OnLiterals.{dates_on_literals}
-use Rattle.legal_history.specs.Base.Rows.{Base}
+use Rattle.base_model.specs.Rows.{Base}
 use Rattle.legal_history.specs.Commands.Decisions.{Decision, Makes, Answers}
-use Rattle.legal_history.specs.Base.Fits.{is_base}
+use Rattle.base_model.specs.Fits.{is_base}
 use Rattle.legal_history.specs.Commands.Lines.{decision}
-use Rattle.legal_history.specs.Base.Seen.{file_at}
+use Rattle.base_model.specs.Seen.{file_at}
 use Rattle.legal_history.specs.Queries.VersionNames.{line, version_name}
 use Rattle.legal_history.specs.Worked.{tag, base_of, decisions}
 use Rattle.legal_history.proofs.Worked.TwoViews.{v, w}

@@ -11,15 +11,15 @@ use Rattle.cc_names.specs.declared.rows.Deed.TheVariants as deeds
 use Rattle.cc_names.specs.declared.rows.Kind.TheVariants.{File}
 use Rattle.cc_names.specs.declared.units.Unit.{Unit}
 use Rattle.cc_names.specs.declared.units.UnitScript.TheVariants as scripts
-use Rattle.legal_history.specs.Base.Rows.{Base, first_rows}
-use Rattle.legal_history.specs.Base.Catalogs.{catalog_of}
-use Rattle.legal_history.specs.Base.Changes.{held}
+use Rattle.base_model.specs.Rows.{Base, first_rows}
+use Rattle.base_model.specs.Catalogs.{catalog_of}
+use Rattle.base_model.specs.Changes.{held}
 use Rattle.legal_history.specs.Commands.Decisions.{Makes, Begins}
-use Rattle.legal_history.specs.Base.Fits.{is_base}
+use Rattle.base_model.specs.Fits.{is_base}
 use Rattle.legal_history.specs.Builds.Fresh.{fresh}
-use Rattle.legal_history.specs.Base.Seen.{file_at, directory_at}
+use Rattle.base_model.specs.Seen.{file_at, directory_at}
 use Rattle.legal_history.specs.Builds.Serials.{Made, Finished}
-use Rattle.legal_history.specs.Base.Texts.{text}
+use Rattle.base_model.specs.Texts.{text}
 use Rattle.legal_history.specs.Queries.VersionNames.{line, version_name}
 use Rattle.legal_history.specs.Worked.{base_of, decisions}
 

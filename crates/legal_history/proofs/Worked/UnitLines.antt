@@ -12,9 +12,9 @@ use Rattle.cc_names.specs.declared.rows.Deed.TheVariants as deeds
 use Rattle.cc_names.specs.declared.rows.TypeKind.TheVariants as type_kinds
 use Rattle.cc_names.specs.declared.steps.UnitEnd.TheVariants.{Kept}
 use Rattle.sha2.specs.Sha256.{sha256}
-use Rattle.legal_history.specs.Base.Rows.{Base, first_rows}
+use Rattle.base_model.specs.Rows.{Base, first_rows}
 use Rattle.legal_history.specs.Builds.Active.{Build, Came, Concluded, Given}
-use Rattle.legal_history.specs.Base.Fits.{is_base}
+use Rattle.base_model.specs.Fits.{is_base}
 use Rattle.legal_history.specs.Queries.VersionNames.{line}
 use Rattle.legal_history.specs.Worked.{tag, row}
 use Rattle.legal_history.proofs.Worked.TwoViews.{v, w, hi, script, unit, two_views}

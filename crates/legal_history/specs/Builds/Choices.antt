@@ -10,12 +10,12 @@ use Rattle.cc_names.specs.declared.rows.ReadOf.{ReadOf}
 use Rattle.cc_names.specs.declared.refusals.ScriptFault.{ScriptFault}
 use Rattle.cc_names.specs.declared.units.Unit.{Unit}
 use Rattle.script_grammar.specs.Run.{Ran, run}
-use Rattle.legal_history.specs.Base.Rows.{Base, first_rows, only_where}
+use Rattle.base_model.specs.Rows.{Base, first_rows, only_where}
 use Rattle.legal_history.specs.Builds.Active.{Build, Came, came_to, object_of}
 use Rattle.legal_history.specs.Builds.Fresh.{script_text}
-use Rattle.legal_history.specs.Base.Seen.{file_at}
+use Rattle.base_model.specs.Seen.{file_at}
 use Rattle.legal_history.specs.Builds.Serials.{makes, needed}
-pub use Rattle.legal_history.specs.Base.Texts.{text_of_row}
+use Rattle.base_model.specs.Texts.{text_of_row}
 
 -- a unit of a build with what it has come to
 pub record Member : Type 0 where

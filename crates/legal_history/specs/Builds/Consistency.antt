@@ -1,11 +1,11 @@
 -- What holds of every active build of a legal story, whatever base was opened and whatever its units have come to.
 use Rattle.std.specs.Prelude.{◌≡◌, ℕ, ◌<◌, ◌≤◌, true, Some, is_some, List, slice_get}
 use Rattle.cc_names.specs.declared.units.Unit.{Unit}
-use Rattle.legal_history.specs.Base.Rows.{Base, size, first_rows}
+use Rattle.base_model.specs.Rows.{Base, size, first_rows}
 use Rattle.legal_history.specs.Builds.Active.{Build, came_to, is_outcome, object_of, number_from, unit_at}
-use Rattle.legal_history.specs.Base.Changes.{targets_of}
-use Rattle.legal_history.specs.Base.Closures.{is_among}
-use Rattle.legal_history.specs.Base.Fits.{is_base}
+use Rattle.base_model.specs.Changes.{targets_of}
+use Rattle.base_model.specs.Closures.{is_among}
+use Rattle.base_model.specs.Fits.{is_base}
 use Rattle.legal_history.specs.Builds.Serials.{makes}
 
 -- units in order: a target is of one unit, and a prerequisite that is a unit's target is one of an earlier unit

@@ -1,5 +1,5 @@
 -- The build from nothing on what a view sees.
-use Rattle.std.specs.Prelude.{ℕ, Bool, Option, Some, None, Result, Ok, Err, is_some, List, [], ◌∷◌, reverse, option_and_then}
+use Rattle.std.specs.Prelude.{ℕ, Bool, Option, Some, None, Result, Ok, Err, is_some, List, [], ◌∷◌, reverse}
 use Rattle.std.specs.Option.{option_or}
 use Rattle.cc_names.specs.Files.{Files}
 use Rattle.cc_names.specs.declared.commands.Macro.{Macro}
@@ -13,14 +13,10 @@ use Rattle.cc_names.specs.declared.units.UnitScript.{UnitScript}
 use Rattle.cc_names.specs.declared.units.UnitScript.TheVariants as scripts
 use Rattle.script_grammar.specs.Run.{run}
 use Rattle.make_grammar.specs.Graphs.{units}
-use Rattle.legal_history.specs.Base.Rows.{Base}
-use Rattle.legal_history.specs.Base.Seen.{file_at, directory_at}
+use Rattle.base_model.specs.Rows.{Base}
+use Rattle.base_model.specs.Seen.{file_at, directory_at}
 use Rattle.legal_history.specs.Builds.Serials.{Outcome, Made, Without, Finished, unit_of, early_end, standing_in, needed}
-use Rattle.legal_history.specs.Base.Texts.{output_at, text}
-
--- the texts of the files that the view sees
-abbrev pub texts : Base → List ℕ → Files
-texts b v path = option_and_then (λ row. text b row path) (file_at b v path)
+use Rattle.base_model.specs.Texts.{output_at, text, texts}
 
 -- whether the view sees a file at the path
 abbrev pub sees_file : Base → List ℕ → List ℕ → Bool

@@ -3,11 +3,11 @@ use Rattle.std.specs.Prelude.{◌≡◌, ℕ, true, Option, Some, None, is_some,
 use Rattle.cc_names.specs.declared.steps.UnitEnd.{UnitEnd}
 use Rattle.cc_names.specs.declared.steps.UnitEnd.TheVariants.{Kept}
 use Rattle.cc_names.specs.declared.units.Unit.{Unit}
-use Rattle.legal_history.specs.Base.Rows.{Base, first_rows}
+use Rattle.base_model.specs.Rows.{Base, first_rows}
 use Rattle.legal_history.specs.Builds.Active.{Build, Came, Started, Concluded, Given, came_to, is_outcome, object_of, unit_at}
-use Rattle.legal_history.specs.Builds.Fresh.{serial, serial_of, texts, sees_file, sees_directory}
+use Rattle.legal_history.specs.Builds.Fresh.{serial, serial_of, sees_file, sees_directory}
+use Rattle.base_model.specs.Texts.{texts, text, output_at}
 use Rattle.legal_history.specs.Builds.Serials.{Outcome, Made, Without, Finished, makes, early_end, standing_in}
-use Rattle.legal_history.specs.Base.Texts.{text, output_at}
 use Rattle.legal_history.specs.Builds.Consistency.{IsObjectOf, IsConsistent}
 
 -- the first n units of a build, finished from nothing at its reference rows, the last first

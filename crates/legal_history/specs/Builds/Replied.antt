@@ -12,12 +12,12 @@ use Rattle.cc_names.specs.declared.steps.UnitEnd.{UnitEnd}
 use Rattle.cc_names.specs.declared.steps.UnitEnd.TheVariants as ends
 use Rattle.cc_names.specs.declared.units.Unit.{Unit}
 use Rattle.sha2.specs.Sha256.{sha256}
-use Rattle.legal_history.specs.Base.Rows.{Base, first_rows, row_at}
+use Rattle.base_model.specs.Rows.{Base, first_rows, row_at}
 use Rattle.legal_history.specs.Builds.Active.{Build, Came, Started, Concluded, Given, came_to, object_of}
 use Rattle.legal_history.specs.Builds.Fresh.{all_finished}
 use Rattle.legal_history.specs.Builds.Serials.{Outcome, Made, Without, Finished}
 use Rattle.legal_history.specs.Stories.States.{same_tag}
-use Rattle.legal_history.specs.Base.Texts.{text, output_at}
+use Rattle.base_model.specs.Texts.{text, output_at}
 
 -- the length and the SHA-256 of an output
 abbrev pub digest_of : List ℕ → Digest

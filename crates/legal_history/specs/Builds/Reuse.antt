@@ -1,29 +1,17 @@
 -- Which object a unit may reuse in place of a run of its script.
-use Rattle.std.specs.Prelude.{ℕ, zero, suc, Bool, true, false, ◌&&◌, Option, Some, None, is_some, is_none, List, [], ◌∷◌, bytes_eq}
+use Rattle.std.specs.Prelude.{ℕ, Bool, true, false, ◌&&◌, Option, Some, None, is_some, List, [], ◌∷◌, bytes_eq}
 use Rattle.std.specs.Option.{option_or}
 use Rattle.std.specs.List.{list_all}
-use Rattle.cc_names.specs.References.{held_at}
-use Rattle.cc_names.specs.Versions.{is_number}
 use Rattle.cc_names.specs.declared.rows.Deed.{Deed}
 use Rattle.cc_names.specs.declared.rows.Deed.TheVariants as deeds
 use Rattle.cc_names.specs.declared.rows.ReadOf.{ReadOf}
 use Rattle.cc_names.specs.declared.units.Unit.{Unit}
-use Rattle.legal_history.specs.Base.Rows.{Base, size, deed_at, only_where}
+use Rattle.base_model.specs.Rows.{Base, size, deed_at, only_where}
 use Rattle.legal_history.specs.Builds.Active.{Build}
-use Rattle.legal_history.specs.Base.Changes.{held, live}
+use Rattle.base_model.specs.Changes.{live}
 use Rattle.legal_history.specs.Builds.Choices.{visible}
 use Rattle.legal_history.specs.Builds.Fresh.{script_text}
-
--- whether two lists have the same paths in the same order
-abbrev pub are_same_paths : List (List ℕ) → List (List ℕ) → Bool
-are_same_paths [] [] = true
-are_same_paths (p ∷ ps) (q ∷ qs) = bytes_eq p q && are_same_paths ps qs
-are_same_paths _ _ = false
-
--- whether a row is the one that was found; row 0 says that nothing was there
-abbrev pub agrees : ℕ → Option ℕ → Bool
-agrees zero found = is_none found
-agrees (suc row) found = is_number (suc row) found
+use Rattle.base_model.specs.Objects.{are_same_paths, agrees, held_at_all}
 
 -- whether an entry has the row that is visible at its path, or says that nothing was there and nothing is visible
 abbrev pub entry_agrees : (List ℕ → Option ℕ) → ReadOf → Bool
@@ -38,20 +26,6 @@ record_matches targets script rows _ = false
 -- whether the record of an object matches unit n of a build
 abbrev pub matches : Base → Build → ℕ → Unit → ℕ → Bool
 matches b build n unit id = record_matches unit.targets (script_text unit.script) (visible b build n unit) (deed_at b id)
-
--- an object where it is held at each of some paths
-abbrev pub held_at_each : Base → List ℕ → List (List ℕ) → ℕ → Bool
-held_at_each b v paths id = list_all (λ path. is_number id (held_at (held b) v path)) paths
-
--- the object that is held at one target, where it is held at the others too
-abbrev pub held_at_others : Base → List ℕ → List (List ℕ) → Option ℕ → Option ℕ
-held_at_others b v paths None = None
-held_at_others b v paths (Some id) = only_where (held_at_each b v paths id) (Some id)
-
--- the object that the view holds at every target
-abbrev pub held_at_all : Base → List ℕ → List (List ℕ) → Option ℕ
-held_at_all b v [] = None
-held_at_all b v (target ∷ targets) = held_at_others b v targets (held_at (held b) v target)
 
 -- an object where its record matches
 abbrev pub if_matches : Base → Build → ℕ → Unit → Option ℕ → Option ℕ

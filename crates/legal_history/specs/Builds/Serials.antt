@@ -9,8 +9,8 @@ use Rattle.cc_names.specs.declared.units.Unit.{Unit}
 use Rattle.cc_names.specs.declared.units.UnitScript.{UnitScript}
 use Rattle.cc_names.specs.declared.units.UnitScript.TheVariants as scripts
 use Rattle.make_grammar.specs.Graphs.{first_target}
-use Rattle.legal_history.specs.Base.Rows.{only_where}
-use Rattle.legal_history.specs.Base.Closures.{is_among}
+use Rattle.base_model.specs.Rows.{only_where}
+use Rattle.base_model.specs.Closures.{is_among}
 use Rattle.legal_history.specs.Commands.FileLines.{parent}
 
 -- what a path is to a unit that has it as a prerequisite: neither a unit nor a file; a file, or a unit that was made; or

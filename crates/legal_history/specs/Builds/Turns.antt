@@ -7,7 +7,7 @@ use Rattle.cc_names.specs.declared.steps.UnitEnd.TheVariants.{Failed}
 use Rattle.cc_names.specs.declared.refusals.UnitFault.TheVariants.{Script}
 use Rattle.cc_names.specs.declared.units.Unit.{Unit}
 use Rattle.script_grammar.specs.Lines.{script_of}
-use Rattle.legal_history.specs.Base.Rows.{Base, first_rows}
+use Rattle.base_model.specs.Rows.{Base, first_rows}
 use Rattle.legal_history.specs.Builds.Active.{Build, Came, Started, Concluded, came_to, is_outcome, unit_with}
 use Rattle.legal_history.specs.Builds.Fresh.{script_text, sees_file, sees_directory}
 use Rattle.legal_history.specs.Builds.Serials.{Standing, Good, standing_of_end, standing_or_file, early_end}

@@ -9,9 +9,10 @@ use Rattle.cc_names.specs.declared.steps.UnitEnd.{UnitEnd}
 use Rattle.cc_names.specs.declared.steps.UnitEnd.TheVariants.{Kept, Failed}
 use Rattle.cc_names.specs.declared.units.Unit.{Unit}
 use Rattle.legal_history.specs.Builds.Active.{Build, Started, came_to, is_outcome, unit_at, unit_with_first}
-use Rattle.legal_history.specs.Base.Changes.{targets_of}
+use Rattle.base_model.specs.Changes.{targets_of}
 use Rattle.legal_history.specs.Builds.Choices.{here, publish_of}
-use Rattle.legal_history.specs.Builds.Reuse.{held_at_all, reusable}
+use Rattle.base_model.specs.Objects.{held_at_all}
+use Rattle.legal_history.specs.Builds.Reuse.{reusable}
 use Rattle.legal_history.specs.Stories.States.{State, build_by}
 use Rattle.legal_history.specs.Builds.Turns.{early, is_ready}
 

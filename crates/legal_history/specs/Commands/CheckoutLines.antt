@@ -7,13 +7,13 @@ use Rattle.cc_names.specs.declared.rows.Out.{Out}
 use Rattle.cc_names.specs.declared.rows.Out.TheVariants as outs
 use Rattle.cc_names.specs.declared.selection.Picked.{Picked}
 use Rattle.cc_names.specs.declared.selection.Rule.{Rule}
-use Rattle.legal_history.specs.Base.Rows.{Base}
+use Rattle.base_model.specs.Rows.{Base}
 use Rattle.legal_history.specs.Commands.Decisions.{Scene, Decision, past, makes}
 use Rattle.legal_history.specs.Commands.Found.{for_selected, for_element}
-use Rattle.legal_history.specs.Base.Seen.{at, rules}
+use Rattle.base_model.specs.Seen.{at, rules}
 use Rattle.legal_history.specs.Commands.CheckoutTests.{needs_out, needs_not_out, needs_unreserved, needs_no_other, needs_latest, needs_latest_origin, needs_change, needs_checkout_rule}
 use Rattle.legal_history.specs.Commands.Tests.{needs_view, needs_idle, needs_branch_type, needs_no_branch}
-use Rattle.legal_history.specs.Base.Views.{out}
+use Rattle.base_model.specs.Views.{out}
 
 -- the rule of the view's config spec that decided on an element of which this was picked
 abbrev pub deciding_rule : Base → List ℕ → Picked → Option Rule

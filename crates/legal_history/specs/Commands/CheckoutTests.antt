@@ -5,13 +5,13 @@ use Rattle.cc_names.specs.Versions.{is_number}
 use Rattle.cc_names.specs.declared.refusals.Refusal.{Refusal}
 use Rattle.cc_names.specs.declared.refusals.Refusal.TheVariants as refusals
 use Rattle.cc_names.specs.declared.selection.Rule.{Rule}
-use Rattle.legal_history.specs.Base.Rows.{Base}
-use Rattle.legal_history.specs.Base.Changes.{tree}
-use Rattle.legal_history.specs.Base.Checkouts.{reserver, other_reserver, branch_of, latest_beside}
-use Rattle.legal_history.specs.Base.Conditions.{is_file}
+use Rattle.base_model.specs.Rows.{Base}
+use Rattle.base_model.specs.Changes.{tree}
+use Rattle.base_model.specs.Checkouts.{reserver, other_reserver, branch_of, latest_beside}
+use Rattle.base_model.specs.Conditions.{is_file}
 use Rattle.legal_history.specs.Commands.Tests.{refused_unless, refused_where}
-use Rattle.legal_history.specs.Base.Texts.{text, text_of_row}
-use Rattle.legal_history.specs.Base.Views.{Checkout, making}
+use Rattle.base_model.specs.Texts.{text, text_of_row}
+use Rattle.base_model.specs.Views.{Checkout, making}
 
 -- the view has the element out
 abbrev pub needs_out : List ℕ → Option Checkout → Option Refusal

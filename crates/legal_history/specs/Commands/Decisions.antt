@@ -4,9 +4,9 @@ use Rattle.cc_names.specs.declared.refusals.Refusal.{Refusal}
 use Rattle.cc_names.specs.declared.refusals.Refusal.TheVariants as refusals
 use Rattle.cc_names.specs.declared.rows.Deed.{Deed}
 use Rattle.cc_names.specs.declared.units.Unit.{Unit}
-use Rattle.legal_history.specs.Base.Rows.{Base, size}
+use Rattle.base_model.specs.Rows.{Base, size}
 use Rattle.legal_history.specs.Builds.Active.{Active, reserved}
-use Rattle.legal_history.specs.Base.Fits.{row_limit}
+use Rattle.base_model.specs.Fits.{row_limit}
 
 -- what a command that is not refused comes to: a row with this deed, a text that answers it, or a build of these units
 pub data Decision : Type 0 where

@@ -6,15 +6,15 @@ use Rattle.cc_names.specs.declared.names.NameFault.{NameFault}
 use Rattle.cc_names.specs.declared.refusals.Refusal.{Refusal}
 use Rattle.cc_names.specs.declared.rows.Deed.TheVariants as deeds
 use Rattle.cc_names.specs.declared.rows.Kind.{Kind}
-use Rattle.legal_history.specs.Base.Rows.{Base}
-use Rattle.legal_history.specs.Base.Catalogs.{named, own_of}
+use Rattle.base_model.specs.Rows.{Base}
+use Rattle.base_model.specs.Catalogs.{named, own_of}
 use Rattle.legal_history.specs.Commands.Decisions.{Scene, Decision, past, makes}
 use Rattle.legal_history.specs.Commands.FileLines.{parent, last_name}
 use Rattle.legal_history.specs.Commands.Found.{for_directory}
-use Rattle.legal_history.specs.Base.Seen.{at}
+use Rattle.base_model.specs.Seen.{at}
 use Rattle.legal_history.specs.Commands.CheckoutTests.{needs_not_out}
 use Rattle.legal_history.specs.Commands.Tests.{needs_view, needs_idle, needs_parent_out, needs_name, needs_free_path}
-use Rattle.legal_history.specs.Base.Views.{out}
+use Rattle.base_model.specs.Views.{out}
 
 -- what each of these commands does to the directory in which a path lies, once the view is found to have that out
 abbrev pub out_directory : Scene → List ℕ → List ℕ → (ℕ → Result Decision Refusal) → ℕ → Result Decision Refusal

@@ -8,15 +8,15 @@ use Rattle.cc_names.specs.declared.rows.Deed.{Deed}
 use Rattle.cc_names.specs.declared.rows.Deed.TheVariants as deeds
 use Rattle.cc_names.specs.declared.selection.Seen.{Seen}
 use Rattle.cc_names.specs.declared.selection.Seen.TheVariants.{Private, Element, Unselected, Nothing}
-use Rattle.spec_text.specs.Specs.{rules_of}
-use Rattle.legal_history.specs.Base.Rows.{Base}
-use Rattle.legal_history.specs.Base.Changes.{held}
-use Rattle.legal_history.specs.Base.Conditions.{is_directory}
+use Rattle.base_model.specs.ConfigSpecs.Specs.{rules_of}
+use Rattle.base_model.specs.Rows.{Base}
+use Rattle.base_model.specs.Changes.{held}
+use Rattle.base_model.specs.Conditions.{is_directory}
 use Rattle.legal_history.specs.Commands.Decisions.{Scene, Decision, makes}
-use Rattle.legal_history.specs.Base.Seen.{at}
+use Rattle.base_model.specs.Seen.{at}
 use Rattle.legal_history.specs.Commands.CheckoutTests.{needs_out}
 use Rattle.legal_history.specs.Commands.Tests.{refused_where, needs_view, needs_new_view, needs_idle, needs_no_checkouts, needs_rules, needs_selected, needs_directory, needs_private}
-use Rattle.legal_history.specs.Base.Views.{Checkout, out}
+use Rattle.base_model.specs.Views.{Checkout, out}
 
 -- The path of the directory in which a path lies. That of the root is never asked for: the paths of the commands that ask
 -- lie below the root, and so do those of rows.

@@ -5,8 +5,8 @@ use Rattle.cc_names.specs.declared.refusals.Refusal.TheVariants as refusals
 use Rattle.cc_names.specs.declared.selection.Picked.{Picked}
 use Rattle.cc_names.specs.declared.selection.Seen.{Seen}
 use Rattle.cc_names.specs.declared.selection.Seen.TheVariants.{Private, Element, Unselected, Nothing}
-use Rattle.legal_history.specs.Base.Rows.{Base}
-use Rattle.legal_history.specs.Base.Conditions.{is_directory}
+use Rattle.base_model.specs.Rows.{Base}
+use Rattle.base_model.specs.Conditions.{is_directory}
 use Rattle.legal_history.specs.Commands.Decisions.{Decision, past}
 use Rattle.legal_history.specs.Commands.Tests.{refused_unless}
 

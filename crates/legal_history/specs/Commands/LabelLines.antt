@@ -1,5 +1,5 @@
 -- The commands on types, labels and arrows: the tests of each in their order, and its deed.
-use Rattle.std.specs.Prelude.{ℕ, Bool, true, false, ◌&&◌, ◌==◌, nat_lt, Option, Some, None, Result, List, [], ◌∷◌, is_none, map, option_map, option_and_then}
+use Rattle.std.specs.Prelude.{ℕ, Bool, true, false, ◌&&◌, ◌==◌, nat_lt, Option, Some, None, Result, List, [], ◌∷◌, is_none, option_map, option_and_then}
 use Rattle.std.specs.Option.{option_or}
 use Rattle.cc_names.specs.Branches.{branch_behind}
 use Rattle.cc_names.specs.Labels.{holder}
@@ -12,16 +12,16 @@ use Rattle.cc_names.specs.declared.rows.Deed.TheVariants as deeds
 use Rattle.cc_names.specs.declared.rows.Placed.{Placed}
 use Rattle.cc_names.specs.declared.rows.TypeKind.{TypeKind}
 use Rattle.cc_names.specs.declared.selection.Picked.{Picked}
-use Rattle.legal_history.specs.Base.Rows.{Base, only_where}
-use Rattle.legal_history.specs.Base.Changes.{tree, labels, held}
-use Rattle.legal_history.specs.Base.Closures.{Inputs, closure, listing}
-use Rattle.legal_history.specs.Base.Conditions.{has_label, arrow_row}
+use Rattle.base_model.specs.Rows.{Base, only_where}
+use Rattle.base_model.specs.Changes.{tree, labels, held}
+use Rattle.base_model.specs.Closures.{Inputs, closure, placed_by}
+use Rattle.base_model.specs.Conditions.{has_label, arrow_row}
 use Rattle.legal_history.specs.Commands.Decisions.{Scene, Decision, past, makes, answers}
 use Rattle.legal_history.specs.Commands.Found.{for_selected, for_element, for_object, for_version}
-use Rattle.legal_history.specs.Base.Seen.{at}
+use Rattle.base_model.specs.Seen.{at}
 use Rattle.legal_history.specs.Commands.CheckoutTests.{needs_not_out}
 use Rattle.legal_history.specs.Commands.Tests.{refused_where, refused_unless, needs_view, needs_label_type, needs_free_type}
-use Rattle.legal_history.specs.Base.Views.{Checkout, out}
+use Rattle.base_model.specs.Views.{Checkout, out}
 
 -- `mklbtype L` and `mkbrtype B`: a type of labels or of branches
 abbrev pub mktype : Scene → TypeKind → List ℕ → Result Decision Refusal
@@ -82,14 +82,6 @@ outsider_among b (input ∷ inputs) =
 -- the first path of an object's closure that is there and no version
 abbrev pub outsider : Base → ℕ → Option (List ℕ)
 outsider b id = outsider_among b (closure b id)
-
--- an element with its version, as a place of a label
-abbrev pub as_placed : ℕ × ℕ → Placed
-as_placed entry = record { element = entry.0; version = entry.1 }
-
--- a version of each element that the record of an object lists
-abbrev pub placed_by : Base → ℕ → List Placed
-placed_by b id = map as_placed (listing b id)
 
 -- the label is free on each of some elements
 abbrev pub labels_free : Base → Bool → List ℕ → List Placed → List (Option Refusal)

@@ -9,7 +9,7 @@ use Rattle.cc_names.specs.declared.commands.Query.TheVariants as queries
 use Rattle.cc_names.specs.declared.refusals.Refusal.{Refusal}
 use Rattle.cc_names.specs.declared.rows.Kind.TheVariants.{File, Directory}
 use Rattle.cc_names.specs.declared.rows.TypeKind.TheVariants as type_kinds
-use Rattle.legal_history.specs.Base.Rows.{Base}
+use Rattle.base_model.specs.Rows.{Base}
 use Rattle.legal_history.specs.Commands.CheckoutLines.{checkout, mkbranch, checkin, uncheckout}
 use Rattle.legal_history.specs.Commands.Decisions.{Scene, Decision}
 use Rattle.legal_history.specs.Commands.DirectoryLines.{mkelem, rmname, mv}

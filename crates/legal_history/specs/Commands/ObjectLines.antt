@@ -7,10 +7,10 @@ use Rattle.cc_names.specs.declared.refusals.Refusal.{Refusal}
 use Rattle.cc_names.specs.declared.rows.Deed.TheVariants as deeds
 use Rattle.cc_names.specs.declared.units.Unit.{Unit}
 use Rattle.make_grammar.specs.Graphs.{units}
-use Rattle.legal_history.specs.Base.Rows.{Base, size}
-use Rattle.legal_history.specs.Base.Changes.{held, live}
+use Rattle.base_model.specs.Rows.{Base, size}
+use Rattle.base_model.specs.Changes.{held, live}
 use Rattle.legal_history.specs.Commands.Decisions.{Scene, Decision, first_refusal, makes, answers, begins}
-use Rattle.legal_history.specs.Builds.Fresh.{texts}
+use Rattle.base_model.specs.Texts.{texts}
 use Rattle.legal_history.specs.Commands.Tests.{needs_view, needs_idle, needs_object}
 
 -- the tests of `rmdo V P`

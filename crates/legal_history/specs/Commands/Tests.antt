@@ -8,13 +8,13 @@ use Rattle.cc_names.specs.declared.refusals.SpecError.{SpecError}
 use Rattle.cc_names.specs.declared.selection.Rule.{Rule}
 use Rattle.cc_names.specs.declared.selection.Seen.{Seen}
 use Rattle.cc_names.specs.declared.selection.Seen.TheVariants.{Private, Element, Unselected, Nothing}
-use Rattle.legal_history.specs.Base.Rows.{Base}
+use Rattle.base_model.specs.Rows.{Base}
 use Rattle.legal_history.specs.Builds.Active.{building}
-use Rattle.legal_history.specs.Base.Changes.{tree, held}
-use Rattle.legal_history.specs.Base.Checkouts.{oldest_out}
-use Rattle.legal_history.specs.Base.Conditions.{is_directory, has_name, is_label_type, is_branch_type, is_type_taken}
+use Rattle.base_model.specs.Changes.{tree, held}
+use Rattle.base_model.specs.Checkouts.{oldest_out}
+use Rattle.base_model.specs.Conditions.{is_directory, has_name, is_label_type, is_branch_type, is_type_taken}
 use Rattle.legal_history.specs.Commands.Decisions.{Scene}
-use Rattle.legal_history.specs.Base.Views.{view_row, out, private}
+use Rattle.base_model.specs.Views.{view_row, out, private}
 
 -- the refusal where a test holds
 abbrev pub refused_where : Bool → Refusal → Option Refusal

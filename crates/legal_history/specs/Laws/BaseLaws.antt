@@ -7,17 +7,17 @@ use Rattle.std.specs.Ordering.{nat_cmp}
 use Rattle.cc_names.specs.Formed.{Plain}
 use Rattle.cc_names.specs.References.{Held, view_path_cmp, held_at, is_held, is_held_by, count}
 use Rattle.cc_names.specs.declared.rows.Deed.TheVariants as deeds
-use Rattle.legal_history.specs.Base.Rows.{Base, size, first_rows, row_at}
-use Rattle.legal_history.specs.Base.Catalogs.{catalog_of, named, own_of}
-use Rattle.legal_history.specs.Base.Changes.{held, live}
-use Rattle.legal_history.specs.Base.Closures.{is_among, is_version_of}
-use Rattle.legal_history.specs.Base.Fits.{is_base}
-use Rattle.legal_history.specs.Laws.Counts.{AreOnce, holding_views}
-use Rattle.legal_history.specs.Laws.Directories.{directory_of}
-use Rattle.legal_history.specs.Laws.FirstRows.{SayTheSame}
+use Rattle.base_model.specs.Rows.{Base, size, first_rows, row_at}
+use Rattle.base_model.specs.Catalogs.{catalog_of, named, own_of}
+use Rattle.base_model.specs.Changes.{held, live}
+use Rattle.base_model.specs.Closures.{is_among, is_version_of}
+use Rattle.base_model.specs.Fits.{is_base}
+use Rattle.base_model.specs.Counts.{AreOnce, holding_views}
+use Rattle.base_model.specs.Directories.{directory_of}
+use Rattle.base_model.specs.FirstRows.{SayTheSame}
 use Rattle.legal_history.specs.Queries.Merges.{Reaches, reaches}
-use Rattle.legal_history.specs.Base.Texts.{text}
-use Rattle.legal_history.specs.Base.Views.{Checkout, out}
+use Rattle.base_model.specs.Texts.{text}
+use Rattle.base_model.specs.Views.{Checkout, out}
 
 -- What a base says of its first rows never changes when rows are added: the rows themselves, so all that is defined on
 -- them; the text that a row made; and the catalog of a directory's version.

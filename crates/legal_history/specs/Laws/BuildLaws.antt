@@ -6,9 +6,9 @@ use Rattle.cc_names.specs.declared.commands.Command.TheVariants as commands
 use Rattle.cc_names.specs.declared.rows.Tag.{Tag}
 use Rattle.cc_names.specs.declared.steps.StoryStep.{StoryStep}
 use Rattle.cc_names.specs.declared.units.Unit.{Unit}
-use Rattle.legal_history.specs.Base.Rows.{Base}
+use Rattle.base_model.specs.Rows.{Base}
 use Rattle.legal_history.specs.Builds.Active.{Build, build_of, came_to, unit_at, is_outcome}
-use Rattle.legal_history.specs.Base.Changes.{held}
+use Rattle.base_model.specs.Changes.{held}
 use Rattle.legal_history.specs.Builds.Choices.{here, visible}
 use Rattle.legal_history.specs.Stories.Commanded.{IsOfCommand}
 use Rattle.legal_history.specs.Builds.Freshness.{AgreesSoFar}
@@ -22,7 +22,7 @@ use Rattle.legal_history.specs.Stories.States.{State, Opening, done_of, next_com
 use Rattle.legal_history.specs.Stories.Steps.{after, state_of}
 use Rattle.legal_history.specs.Stories.Lawful.{Lawful, Legal}
 use Rattle.legal_history.specs.Builds.Turns.{is_complete}
-use Rattle.legal_history.specs.Base.Values.{IsSound}
+use Rattle.legal_history.specs.Builds.Values.{IsSound}
 use Rattle.legal_history.specs.Builds.Consistency.{IsConsistent}
 
 -- After a lawful step an active build is over, or it goes on: it is the same build of the same units, and no outcome of a

@@ -10,12 +10,12 @@ use Rattle.cc_names.specs.declared.commands.Change.TheVariants as changes
 use Rattle.cc_names.specs.declared.rows.Deed.{Deed}
 use Rattle.cc_names.specs.declared.rows.Deed.TheVariants as deeds
 use Rattle.cc_names.specs.declared.rows.Placed.{Placed}
-use Rattle.legal_history.specs.Base.Changes.{held, targets_of, tree}
-use Rattle.legal_history.specs.Base.Closures.{Input, closure, is_among, listed}
+use Rattle.base_model.specs.Changes.{held, targets_of, tree}
+use Rattle.base_model.specs.Closures.{Input, closure, is_among, listed}
 use Rattle.legal_history.specs.Commands.Decisions.{Scene, Makes}
-use Rattle.legal_history.specs.Base.Fits.{fits, is_base}
+use Rattle.base_model.specs.Fits.{fits, is_base}
 use Rattle.legal_history.specs.Laws.Dues.{is_due_object}
-use Rattle.legal_history.specs.Laws.Listed.{IsListed}
+use Rattle.base_model.specs.Listed.{IsListed}
 use Rattle.legal_history.specs.Commands.Lines.{decision}
 
 -- A row that is decided of a command fits the base, for every command that makes one.

@@ -6,7 +6,7 @@ use Rattle.cc_names.specs.Formed.{Plain}
 use Rattle.cc_names.specs.declared.commands.Command.TheVariants as commands
 use Rattle.cc_names.specs.declared.commands.Change.TheVariants as changes
 use Rattle.cc_names.specs.declared.rows.Tag.{Tag}
-use Rattle.legal_history.specs.Base.Rows.{Base, row_at}
+use Rattle.base_model.specs.Rows.{Base, row_at}
 use Rattle.legal_history.specs.Commands.ObjectLines.{is_due}
 use Rattle.legal_history.specs.Stories.States.{State, next_command}
 

@@ -2,11 +2,11 @@
 use Rattle.std.specs.Prelude.{◌≡◌, ℕ, ◌<◌, true, Some, List, is_some}
 use Rattle.cc_names.specs.References.{held_at}
 use Rattle.cc_names.specs.declared.units.Unit.{Unit}
-use Rattle.legal_history.specs.Base.Rows.{Base, first_rows}
+use Rattle.base_model.specs.Rows.{Base, first_rows}
 use Rattle.legal_history.specs.Builds.Active.{Build, came_to, object_of, unit_at}
-use Rattle.legal_history.specs.Base.Changes.{held, live}
-use Rattle.legal_history.specs.Base.Closures.{is_among}
-use Rattle.legal_history.specs.Base.Seen.{file_at}
+use Rattle.base_model.specs.Changes.{held, live}
+use Rattle.base_model.specs.Closures.{is_among}
+use Rattle.base_model.specs.Seen.{file_at}
 use Rattle.legal_history.specs.Builds.Serials.{makes}
 
 -- An object that unit n of a build was given is live, and the build's view holds it at every target of the unit, of which

@@ -3,9 +3,9 @@ use Rattle.std.specs.Prelude.{◌≡◌, ℕ, true, Option, Some, None, Ok, List
 use Rattle.cc_names.specs.declared.rows.Deed.{Deed}
 use Rattle.cc_names.specs.declared.rows.Deed.TheVariants as deeds
 use Rattle.cc_names.specs.declared.units.Unit.{Unit}
-use Rattle.legal_history.specs.Base.Rows.{Base, deed_at}
+use Rattle.base_model.specs.Rows.{Base, deed_at}
 use Rattle.legal_history.specs.Builds.Active.{Build, came_to, object_of}
-use Rattle.legal_history.specs.Base.Changes.{live, targets_of}
+use Rattle.base_model.specs.Changes.{live, targets_of}
 use Rattle.legal_history.specs.Builds.Choices.{here}
 
 -- the outputs that a publish stores

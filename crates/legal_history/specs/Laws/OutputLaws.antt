@@ -1,13 +1,13 @@
 -- What does not hang on the bytes of objects. Each is promised by a function of `laws::outputs`.
 use Rattle.std.specs.Prelude.{◌≡◌, ℕ, List, true, false, is_some}
 use Rattle.cc_names.specs.declared.rows.Deed.{Deed}
-use Rattle.legal_history.specs.Base.Blanked.{blank_deed, blanked, emptied, AreSameButForOutputs, AreSameButForScrubbedOutputs}
-use Rattle.legal_history.specs.Base.Changes.{live, targets_of}
-use Rattle.legal_history.specs.Base.Closures.{is_publish}
-use Rattle.legal_history.specs.Base.Fits.{fits, is_base}
-use Rattle.legal_history.specs.Base.Rows.{Base}
-use Rattle.legal_history.specs.Base.Texts.{text}
-use Rattle.legal_history.specs.Base.Values.{rerun, IsSound}
+use Rattle.base_model.specs.Blanked.{blank_deed, blanked, emptied, AreSameButForOutputs, AreSameButForScrubbedOutputs}
+use Rattle.base_model.specs.Changes.{live, targets_of}
+use Rattle.base_model.specs.Closures.{is_publish}
+use Rattle.base_model.specs.Fits.{fits, is_base}
+use Rattle.base_model.specs.Rows.{Base}
+use Rattle.base_model.specs.Texts.{text}
+use Rattle.legal_history.specs.Builds.Values.{rerun, IsSound}
 
 -- A base with all outputs emptied says what the full one says: which rows fit, with their own outputs emptied too, and
 -- whether it is a base; which objects are live, and their targets; the runs of records; and the text of each row that

@@ -1,13 +1,13 @@
 -- Where a record may be run again, and what selection by a record covers. Each is promised by a function of `laws::records`.
 use Rattle.std.specs.Prelude.{◌≡◌, ℕ, List, None, is_some, true}
 use Rattle.std.specs.FinMap.Entries.{find}
-use Rattle.legal_history.specs.Base.Rows.{Base}
-use Rattle.legal_history.specs.Base.Closures.{closure, input_cmp}
-use Rattle.legal_history.specs.Base.Fits.{is_base}
+use Rattle.base_model.specs.Rows.{Base}
+use Rattle.base_model.specs.Closures.{closure, input_cmp}
+use Rattle.base_model.specs.Fits.{is_base}
 use Rattle.legal_history.specs.Laws.Objects.{outputs_of}
 use Rattle.legal_history.specs.Laws.Selected.{IsSelected}
-use Rattle.legal_history.specs.Queries.RecordTexts.{uncovered}
-use Rattle.legal_history.specs.Base.Values.{again, is_true}
+use Rattle.base_model.specs.Objects.{uncovered}
+use Rattle.legal_history.specs.Builds.Values.{again, is_true}
 
 -- Where what a view sees covers the record of a true object, the record gives the stored outputs when it is run again in
 -- that view.

@@ -6,23 +6,23 @@ use Rattle.cc_names.specs.declared.rows.Tag.{Tag}
 use Rattle.cc_names.specs.declared.steps.StoryStep.{StoryStep}
 use Rattle.cc_names.specs.declared.steps.UnitEnd.TheVariants as ends
 use Rattle.cc_names.specs.declared.units.Unit.{Unit}
-use Rattle.legal_history.specs.Base.Rows.{Base, size, deed_at}
+use Rattle.base_model.specs.Rows.{Base, size, deed_at}
 use Rattle.legal_history.specs.Builds.Active.{Build, build_of, unit_at, Concluded, Given, unit_with_first}
-use Rattle.legal_history.specs.Base.Changes.{live, targets_of}
+use Rattle.base_model.specs.Changes.{live, targets_of}
 use Rattle.legal_history.specs.Builds.Choices.{here, visible, entries, publish_of}
-use Rattle.legal_history.specs.Base.Closures.{is_publish_deed}
-use Rattle.legal_history.specs.Base.Fits.{is_base}
+use Rattle.base_model.specs.Closures.{is_publish_deed}
+use Rattle.base_model.specs.Fits.{is_base}
 use Rattle.legal_history.specs.Builds.Fresh.{script_text}
 use Rattle.legal_history.specs.Builds.Freshness.{AgreesSoFar}
 use Rattle.legal_history.specs.Laws.FromNothing.{IsAsFromNothing, MayRun, MayTake}
 use Rattle.legal_history.specs.Laws.Given.{IsHeld, SeenBy}
 use Rattle.legal_history.specs.Laws.Objects.{GivesLive, IsTheRun}
-use Rattle.legal_history.specs.Queries.RecordTexts.{record_of, row_in}
-use Rattle.legal_history.specs.Builds.Reuse.{held_at_all, matches, reusable}
+use Rattle.base_model.specs.Objects.{record_of, row_in, held_at_all}
+use Rattle.legal_history.specs.Builds.Reuse.{matches, reusable}
 use Rattle.legal_history.specs.Stories.States.{State, Opening}
 use Rattle.legal_history.specs.Stories.Steps.{state_of, with_came}
 use Rattle.legal_history.specs.Stories.Lawful.{Legal}
-use Rattle.legal_history.specs.Base.Values.{is_true, IsSound}
+use Rattle.legal_history.specs.Builds.Values.{is_true, IsSound}
 
 -- Along a legal story a base that was sound as it was opened stays sound; so one that was opened without rows is sound.
 abbrev pub BaseStaysSoundStays : Type 0

@@ -6,10 +6,10 @@ use Rattle.cc_names.specs.declared.selection.Picked.{Picked}
 use Rattle.cc_names.specs.declared.selection.Rule.{Rule}
 use Rattle.cc_names.specs.declared.selection.Seen.TheVariants.{Element}
 use Rattle.cc_names.specs.declared.selection.Selector.TheVariants.{Config}
-use Rattle.spec_text.specs.Rules.{deciding}
-use Rattle.legal_history.specs.Base.Rows.{Base}
-use Rattle.legal_history.specs.Base.Closures.{Input, input_cmp, closure, is_version_of}
-use Rattle.legal_history.specs.Base.Seen.{at, file_at, rules, sources}
+use Rattle.base_model.specs.ConfigSpecs.Rules.{deciding}
+use Rattle.base_model.specs.Rows.{Base}
+use Rattle.base_model.specs.Closures.{Input, input_cmp, closure, is_version_of}
+use Rattle.base_model.specs.Seen.{at, file_at, rules, sources}
 
 -- A view sees element e at a path by the record of an object: the rule that decides there is `-config TARGET@@ID`.
 -- In a base what a record lists are versions of files, so that e is one need not be said.

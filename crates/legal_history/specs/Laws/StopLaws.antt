@@ -5,9 +5,9 @@ use Rattle.cc_names.specs.declared.rows.Tag.{Tag}
 use Rattle.cc_names.specs.declared.steps.Step.TheVariants as steps
 use Rattle.cc_names.specs.declared.steps.StoryStep.{StoryStep}
 use Rattle.cc_names.specs.declared.steps.StoryStep.TheVariants as story_steps
-use Rattle.legal_history.specs.Base.Rows.{Base}
-use Rattle.legal_history.specs.Base.Fits.{is_base}
-use Rattle.legal_history.specs.Base.Values.{IsSound}
+use Rattle.base_model.specs.Rows.{Base}
+use Rattle.base_model.specs.Fits.{is_base}
+use Rattle.legal_history.specs.Builds.Values.{IsSound}
 use Rattle.legal_history.specs.Laws.Stops.{IsLeftByStop}
 use Rattle.legal_history.specs.Stories.States.{Opening}
 use Rattle.legal_history.specs.Stories.Steps.{state_of}

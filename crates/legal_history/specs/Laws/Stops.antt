@@ -1,7 +1,7 @@
 -- What a stop may leave of a story, as a base.
 use Rattle.std.specs.Prelude.{◌≡◌, Some, ◌∷◌}
 use Rattle.cc_names.specs.Formed.{Plain}
-use Rattle.legal_history.specs.Base.Rows.{Base}
+use Rattle.base_model.specs.Rows.{Base}
 use Rattle.legal_history.specs.Stories.Committing.{MayCommit}
 use Rattle.legal_history.specs.Stories.States.{State, hanging}
 

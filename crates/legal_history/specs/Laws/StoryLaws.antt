@@ -5,11 +5,10 @@ use Rattle.cc_names.specs.References.{held_at}
 use Rattle.cc_names.specs.declared.rows.Deed.TheVariants as deeds
 use Rattle.cc_names.specs.declared.steps.StoryStep.{StoryStep}
 use Rattle.cc_names.specs.declared.steps.StoryStep.TheVariants as story_steps
-use Rattle.legal_history.specs.Base.Rows.{size}
+use Rattle.base_model.specs.Rows.{size, Extends}
 use Rattle.legal_history.specs.Builds.Active.{Build, build_of}
-use Rattle.legal_history.specs.Base.Changes.{held, live}
-use Rattle.legal_history.specs.Base.Fits.{is_base, row_limit}
-use Rattle.legal_history.specs.Stories.Growth.{Extends}
+use Rattle.base_model.specs.Changes.{held, live}
+use Rattle.base_model.specs.Fits.{is_base, row_limit}
 use Rattle.legal_history.specs.Stories.Steps.{state_of}
 use Rattle.legal_history.specs.Stories.Lawful.{Lawful, Legal}
 use Rattle.legal_history.specs.Laws.Dues.{AreDue}

@@ -11,14 +11,15 @@ use Rattle.cc_names.specs.declared.steps.StoryStep.{StoryStep}
 use Rattle.cc_names.specs.declared.steps.StoryStep.TheVariants as story_steps
 use Rattle.cc_names.specs.declared.steps.UnitEnd.TheVariants as ends
 use Rattle.cc_names.specs.declared.units.Unit.{Unit}
-use Rattle.legal_history.specs.Base.Rows.{deed_at}
+use Rattle.base_model.specs.Rows.{deed_at}
 use Rattle.legal_history.specs.Builds.Active.{Build, Started, came_to, unit_at, unit_with_first}
-use Rattle.legal_history.specs.Base.Changes.{live, targets_of}
+use Rattle.base_model.specs.Changes.{live, targets_of}
 use Rattle.legal_history.specs.Builds.Choices.{entries, here, visible}
 use Rattle.legal_history.specs.Builds.Fresh.{script_text}
 use Rattle.legal_history.specs.Laws.Given.{SeenBy}
-use Rattle.legal_history.specs.Queries.RecordTexts.{record_of, row_in, recorded_script}
-use Rattle.legal_history.specs.Builds.Reuse.{held_at_all, matches, reusable}
+use Rattle.base_model.specs.Objects.{record_of, row_in, held_at_all}
+use Rattle.legal_history.specs.Queries.RecordTexts.{recorded_script}
+use Rattle.legal_history.specs.Builds.Reuse.{matches, reusable}
 use Rattle.legal_history.specs.Builds.UnitTurns.{IsRunning}
 use Rattle.legal_history.specs.Stories.States.{State, build_by}
 use Rattle.legal_history.specs.Stories.Steps.{state_of}

@@ -1,10 +1,9 @@
 -- The texts that tell of one element: what is selected of it, and its tree of versions.
-use Rattle.std.specs.Prelude.{ℕ, zero, suc, Bool, true, false, ◌==◌, Option, Some, None, List, [], ◌∷◌, ◌++◌, codes, map, filter, reverse}
+use Rattle.std.specs.Prelude.{ℕ, zero, suc, Bool, true, false, ◌==◌, Option, Some, None, List, [], ◌∷◌, ◌++◌, codes, map, filter, reverse, decimal}
 use Rattle.std.specs.List.{concat}
 use Rattle.std.specs.Ordering.{nat_cmp}
 use Rattle.std.specs.Cmp.Lexicographic.{slice_cmp}
 use Rattle.std.specs.FinMap.Entries.{put}
-use Rattle.std.specs.Prelude.{decimal}
 use Rattle.cc_names.specs.Labels.{holder}
 use Rattle.cc_names.specs.Versions.{Version, versions_on, is_number}
 use Rattle.cc_names.specs.declared.changes.TreeChange.{TreeChange}
@@ -13,12 +12,12 @@ use Rattle.cc_names.specs.declared.rows.Deed.{Deed}
 use Rattle.cc_names.specs.declared.rows.Deed.TheVariants as deeds
 use Rattle.cc_names.specs.declared.rows.TypeKind.TheVariants as type_kinds
 use Rattle.cc_names.specs.declared.selection.Picked.{Picked}
-use Rattle.legal_history.specs.Base.Rows.{Base, size, only_where}
-use Rattle.legal_history.specs.Base.Changes.{tree, labels}
-use Rattle.legal_history.specs.Base.Conditions.{is_directory}
+use Rattle.base_model.specs.Rows.{Base, size, only_where}
+use Rattle.base_model.specs.Changes.{tree, labels}
+use Rattle.base_model.specs.Conditions.{is_directory}
 use Rattle.legal_history.specs.Queries.ListingTexts.{origin_name}
 use Rattle.legal_history.specs.Queries.VersionNames.{line, branch_name, version_name, at_version}
-use Rattle.legal_history.specs.Base.Views.{out}
+use Rattle.base_model.specs.Views.{out}
 
 -- names in byte order, each with itself
 abbrev pub NameSet : Type 0

@@ -4,9 +4,9 @@ use Rattle.cc_names.specs.declared.rows.Deed.{Deed}
 use Rattle.cc_names.specs.declared.rows.Deed.TheVariants as deeds
 use Rattle.cc_names.specs.declared.rows.Placed.{Placed}
 use Rattle.date_text.specs.Dates.{text_of}
-use Rattle.legal_history.specs.Base.Rows.{Base, size}
+use Rattle.base_model.specs.Rows.{Base, size}
 use Rattle.legal_history.specs.Queries.VersionNames.{line, branch_name, version_name}
-use Rattle.legal_history.specs.Base.Views.{out}
+use Rattle.base_model.specs.Views.{out}
 
 -- a date, a blank, and what was done
 abbrev pub dated : ℕ → List ℕ → List ℕ

@@ -12,13 +12,13 @@ use Rattle.cc_names.specs.declared.rows.Deed.TheVariants as deeds
 use Rattle.cc_names.specs.declared.selection.Picked.{Picked}
 use Rattle.cc_names.specs.declared.selection.Seen.{Seen}
 use Rattle.cc_names.specs.declared.selection.Seen.TheVariants.{Private, Element, Unselected, Nothing}
-use Rattle.legal_history.specs.Base.Rows.{Base}
-use Rattle.legal_history.specs.Base.Catalogs.{Catalog}
-use Rattle.legal_history.specs.Base.Changes.{held}
+use Rattle.base_model.specs.Rows.{Base}
+use Rattle.base_model.specs.Catalogs.{Catalog}
+use Rattle.base_model.specs.Changes.{held}
 use Rattle.legal_history.specs.Commands.FileLines.{parent, last_name}
-use Rattle.legal_history.specs.Base.Seen.{at, entries_of}
+use Rattle.base_model.specs.Seen.{at, entries_of}
 use Rattle.legal_history.specs.Queries.VersionNames.{line, version_name, at_version}
-use Rattle.legal_history.specs.Base.Views.{Checkout, out, private}
+use Rattle.base_model.specs.Views.{Checkout, out, private}
 
 -- names with what stands at each, in byte order
 abbrev pub Names : Type 0

@@ -13,13 +13,13 @@ use Rattle.cc_names.specs.declared.rows.Deed.TheVariants as deeds
 use Rattle.cc_names.specs.declared.selection.Picked.{Picked}
 use Rattle.cc_names.specs.declared.selection.Seen.{Seen}
 use Rattle.cc_names.specs.declared.selection.Seen.TheVariants.{Element}
-use Rattle.legal_history.specs.Base.Rows.{Base, size, only_where}
-use Rattle.legal_history.specs.Base.Catalogs.{Catalog}
-use Rattle.legal_history.specs.Base.Changes.{tree}
+use Rattle.base_model.specs.Rows.{Base, size, only_where}
+use Rattle.base_model.specs.Catalogs.{Catalog}
+use Rattle.base_model.specs.Changes.{tree}
 use Rattle.legal_history.specs.Queries.ListingTexts.{path_in, catalog_or_none}
-use Rattle.legal_history.specs.Base.Seen.{at, entries_of}
+use Rattle.base_model.specs.Seen.{at, entries_of}
 use Rattle.legal_history.specs.Queries.VersionNames.{line, version_name, at_version}
-use Rattle.legal_history.specs.Base.Views.{Checkout, out}
+use Rattle.base_model.specs.Views.{Checkout, out}
 
 -- whether one version is the successor of another on its branch
 abbrev pub is_successor : Base → ℕ → ℕ → Bool

@@ -8,9 +8,9 @@ use Rattle.cc_names.specs.declared.refusals.Refusal.TheVariants as refusals
 use Rattle.cc_names.specs.declared.selection.Picked.{Picked}
 use Rattle.cc_names.specs.declared.selection.Seen.{Seen}
 use Rattle.cc_names.specs.declared.selection.Seen.TheVariants.{Element, Unselected, Nothing}
-use Rattle.legal_history.specs.Base.Rows.{Base}
-use Rattle.legal_history.specs.Base.Changes.{held}
-use Rattle.legal_history.specs.Base.Conditions.{is_branch_type}
+use Rattle.base_model.specs.Rows.{Base}
+use Rattle.base_model.specs.Changes.{held}
+use Rattle.base_model.specs.Conditions.{is_branch_type}
 use Rattle.legal_history.specs.Commands.Decisions.{Decision, past, answers}
 use Rattle.legal_history.specs.Queries.ElementTexts.{describe_text, lsvtree_text}
 use Rattle.legal_history.specs.Commands.Found.{for_selected, for_object}
@@ -18,11 +18,12 @@ use Rattle.legal_history.specs.Queries.HistoryTexts.{lshistory_text}
 use Rattle.legal_history.specs.Commands.LabelLines.{version_named}
 use Rattle.legal_history.specs.Queries.ListingTexts.{ls_text, lsdo_text}
 use Rattle.legal_history.specs.Queries.Merges.{findmerge_text}
-use Rattle.legal_history.specs.Queries.RecordTexts.{catcr_text, diffcr_text, covers_text, uncovered}
-use Rattle.legal_history.specs.Base.Seen.{at, file_at}
+use Rattle.legal_history.specs.Queries.RecordTexts.{catcr_text, diffcr_text, covers_text}
+use Rattle.base_model.specs.Objects.{uncovered}
+use Rattle.base_model.specs.Seen.{at, file_at}
 use Rattle.legal_history.specs.Commands.Tests.{refused_where, refused_unless, needs_view, needs_selected, needs_directory, needs_no_directory, needs_element}
-use Rattle.legal_history.specs.Base.Texts.{text}
-use Rattle.legal_history.specs.Base.Views.{spec_text}
+use Rattle.base_model.specs.Texts.{text}
+use Rattle.base_model.specs.Views.{spec_text}
 
 -- `catcs V`: the view's config spec as it was set; a view that exists has one
 abbrev pub catcs : Base → List ℕ → Result Decision Refusal

@@ -1,7 +1,6 @@
 -- The texts of records: what an object was made from, how two records differ, and whether a view covers one.
-use Rattle.std.specs.Prelude.{ℕ, zero, suc, Bool, true, false, not, Option, Some, None, List, [], ◌∷◌, ◌++◌, codes, map, find, option_map, bytes_eq}
+use Rattle.std.specs.Prelude.{ℕ, zero, suc, Bool, true, false, not, Option, Some, None, List, [], ◌∷◌, ◌++◌, codes, map, bytes_eq}
 use Rattle.std.specs.List.{concat}
-use Rattle.std.specs.Option.{option_or}
 use Rattle.std.specs.Ordering.{nat_cmp}
 use Rattle.std.specs.Cmp.Lexicographic.{slice_cmp}
 use Rattle.std.specs.FinMap.Entries.{put}
@@ -10,16 +9,10 @@ use Rattle.cc_names.specs.Versions.{is_number}
 use Rattle.cc_names.specs.declared.rows.Deed.{Deed}
 use Rattle.cc_names.specs.declared.rows.Deed.TheVariants as deeds
 use Rattle.cc_names.specs.declared.rows.ReadOf.{ReadOf}
-use Rattle.legal_history.specs.Base.Rows.{Base, deed_at, only_where}
-use Rattle.legal_history.specs.Base.Changes.{targets_of}
-use Rattle.legal_history.specs.Base.Closures.{Inputs, closure, entries_of_deed}
-use Rattle.legal_history.specs.Builds.Reuse.{agrees, are_same_paths}
-use Rattle.legal_history.specs.Base.Seen.{file_at}
+use Rattle.base_model.specs.Rows.{Base, deed_at}
+use Rattle.base_model.specs.Changes.{targets_of}
+use Rattle.base_model.specs.Objects.{are_same_paths, record_of, row_in}
 use Rattle.legal_history.specs.Queries.VersionNames.{line, row_name}
-
--- the entries of an object's record
-abbrev pub record_of : Base → ℕ → List ReadOf
-record_of b id = entries_of_deed (deed_at b id)
 
 -- the script of an object's record; no other row is asked for one
 abbrev pub script_of_deed : Option Deed → List ℕ
@@ -41,10 +34,6 @@ catcr_text b id =
     concat (map (λ target. line (codes "target " ++ target)) (targets_of b id))
     ++ concat (map (λ text. line (codes "script " ++ text)) (lines_of (recorded_script b id)))
     ++ concat (map (λ entry. read_line b entry.path entry.row) (record_of b id))
-
--- the row of a path in a record
-abbrev pub row_in : List ReadOf → List ℕ → Option ℕ
-row_in entries path = option_map (λ entry. entry.row) (find (λ entry. bytes_eq entry.path path) entries)
 
 -- paths in byte order, each with itself
 abbrev pub Paths : Type 0
@@ -88,17 +77,6 @@ diffcr_text b one two =
     unless_same (are_same_paths (targets_of b one) (targets_of b two)) (line (codes "targets differ"))
     ++ unless_same (bytes_eq (recorded_script b one) (recorded_script b two)) (line (codes "script differs"))
     ++ concat (map (λ path. path_lines b (record_of b one) (record_of b two) path.0) (with_paths (record_of b one) (with_paths (record_of b two) [])))
-
--- the first path among inputs that the view sees with another row; row 0 stands for none
-abbrev pub uncovered_among : Base → List ℕ → Inputs → Option (List ℕ)
-uncovered_among b v [] = None
-uncovered_among b v (input ∷ inputs) =
-    option_or (only_where (not (agrees input.1 (file_at b v input.0.0))) (Some input.0.0)) (uncovered_among b v inputs)
-
--- The first path of an object's closure whose row is not the one that the view sees there. Where there is none, what the
--- view sees covers the record.
-abbrev pub uncovered : Base → List ℕ → ℕ → Option (List ℕ)
-uncovered b v id = uncovered_among b v (closure b id)
 
 -- `covers`: whether what a view sees covers a record
 abbrev pub covers_text : Option (List ℕ) → List ℕ

@@ -6,8 +6,8 @@ use Rattle.cc_names.specs.Versions.{version_id}
 use Rattle.cc_names.specs.declared.changes.VersionId.{VersionId}
 use Rattle.cc_names.specs.declared.rows.Deed.{Deed}
 use Rattle.cc_names.specs.declared.rows.Deed.TheVariants as deeds
-use Rattle.legal_history.specs.Base.Rows.{Base, deed_at}
-use Rattle.legal_history.specs.Base.Changes.{tree}
+use Rattle.base_model.specs.Rows.{Base, deed_at}
+use Rattle.base_model.specs.Changes.{tree}
 
 -- a line of a text, with its newline
 abbrev pub line : List ℕ → List ℕ

@@ -4,7 +4,7 @@ use Rattle.cc_names.specs.Commands.{lane_at}
 use Rattle.cc_names.specs.declared.commands.Command.{Command}
 use Rattle.cc_names.specs.declared.commands.Command.TheVariants as commands
 use Rattle.cc_names.specs.declared.commands.Macro.{Macro}
-use Rattle.legal_history.specs.Base.Rows.{first_rows}
+use Rattle.base_model.specs.Rows.{first_rows}
 use Rattle.legal_history.specs.Builds.Active.{Build}
 use Rattle.legal_history.specs.Builds.Fresh.{all_finished, fresh}
 use Rattle.legal_history.specs.Stories.States.{State, command_behind, done_of, next_tag}

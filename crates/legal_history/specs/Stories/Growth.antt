@@ -1,13 +1,7 @@
 -- What later steps of a story leave of earlier ones.
-use Rattle.std.specs.Prelude.{◌≡◌, ℕ, ◌≤◌, Option, Some, None, is_some, true, ◌++◌}
-use Rattle.legal_history.specs.Base.Rows.{Base}
+use Rattle.std.specs.Prelude.{◌≡◌, ℕ, ◌≤◌, Option, Some, None, is_some, true}
 use Rattle.legal_history.specs.Builds.Active.{Build, build_of, came_to, is_outcome}
 use Rattle.legal_history.specs.Stories.States.{State, done_of}
-
--- one base is another with more rows, none or some
-pub record Extends (old new : Base) : Type 0 where
-  pub more : Base
-  pub is : new ≡ more ++ old
 
 -- a build goes on: it is the same build, what a unit has come to in the end stays so, and a unit that has come to anything
 -- has come to something still

@@ -9,12 +9,12 @@ use Rattle.cc_names.specs.declared.steps.Step.TheVariants as steps
 use Rattle.cc_names.specs.declared.steps.StoryStep.{StoryStep}
 use Rattle.cc_names.specs.declared.steps.StoryStep.TheVariants as story_steps
 use Rattle.cc_names.specs.declared.units.Unit.{Unit}
-use Rattle.legal_history.specs.Base.Rows.{size}
+use Rattle.base_model.specs.Rows.{size}
 use Rattle.legal_history.specs.Builds.Active.{Build}
 use Rattle.cc_names.specs.Counts.{rises}
 use Rattle.legal_history.specs.Stories.Committing.{FaultsAt, MayCommit}
 use Rattle.legal_history.specs.Commands.Decisions.{Answers, Begins}
-use Rattle.legal_history.specs.Base.Fits.{is_base}
+use Rattle.base_model.specs.Fits.{is_base}
 use Rattle.legal_history.specs.Stories.States.{State, decided, build_by, all_done, ticks_of, start}
 use Rattle.legal_history.specs.Stories.Steps.{after}
 use Rattle.legal_history.specs.Builds.Turns.{is_complete}

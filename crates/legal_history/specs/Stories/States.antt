@@ -10,7 +10,7 @@ use Rattle.cc_names.specs.declared.commands.Phase.{Phase}
 use Rattle.cc_names.specs.declared.refusals.Refusal.{Refusal}
 use Rattle.cc_names.specs.declared.rows.Tag.{Tag}
 use Rattle.cc_names.specs.declared.steps.Counts.{Counts}
-use Rattle.legal_history.specs.Base.Rows.{Base, only_where}
+use Rattle.base_model.specs.Rows.{Base, only_where}
 use Rattle.legal_history.specs.Builds.Active.{Active, Build, build_of}
 use Rattle.legal_history.specs.Commands.Decisions.{Scene, Decision}
 use Rattle.legal_history.specs.Commands.Lines.{decision}

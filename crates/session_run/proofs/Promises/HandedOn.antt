@@ -4,7 +4,7 @@ use Rattle.std.proofs.lemmas.List.{reverse-reverse}
 use Rattle.cc_names.specs.declared.steps.StoryStep.{StoryStep}
 use Rattle.disk_model.specs.Devices.{Device, MayLeave, bytes_of}
 use Rattle.disk_model.specs.Told.{Sight, IfTold}
-use Rattle.legal_history.specs.Base.Values.{IsSound}
+use Rattle.legal_history.specs.Builds.Values.{IsSound}
 use Rattle.legal_history.specs.Stories.States.{Opening}
 use Rattle.legal_history.specs.Stories.Steps.{state_of}
 use Rattle.vob_journal.specs.Frames.{frames}

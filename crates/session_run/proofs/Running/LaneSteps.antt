@@ -20,7 +20,7 @@ use Rattle.base_core.specs.Calls.Acting.{Acts, IsStepOf}
 use Rattle.legal_history.specs.Stories.Commanded.{command_of}
 use Rattle.clearmake.specs.Going.{SamePhase, Finishes}
 use Rattle.clearmake.specs.Nexts.{next_of, next_by}
-use Rattle.legal_history.specs.Base.Rows.{Base, only_where}
+use Rattle.base_model.specs.Rows.{Base, only_where}
 use Rattle.legal_history.specs.Commands.Decisions.{Scene, Decision, Makes, Answers, Begins}
 use Rattle.legal_history.specs.Commands.Lines.{change_decision, decision, query_decision}
 use Rattle.legal_history.proofs.Decisions.Handed.{IfDecided}

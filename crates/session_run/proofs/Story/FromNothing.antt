@@ -11,7 +11,7 @@ use Rattle.story_log.proofs.Story.Growing.{state_from-more}
 use Rattle.legal_history.proofs.Stories.Fronts.{rest_is_legal}
 use Rattle.base_core.specs.Story.Replying.{in_lane, reply_to_end, no_replies, replies_after}
 use Rattle.legal_history.specs.Builds.Replied.{reply_of, reply_from_nothing}
-use Rattle.legal_history.specs.Base.Rows.{only_where}
+use Rattle.base_model.specs.Rows.{only_where}
 use Rattle.legal_history.specs.Builds.Active.{Build, build_of}
 use Rattle.legal_history.specs.Stories.States.{State, start, same_tag, build_if, build_by}
 use Rattle.legal_history.specs.Stories.Steps.{after, state_of}

@@ -26,7 +26,7 @@ use Rattle.disk_model.specs.Told.{Sight}
 use Rattle.story_log.specs.Bases.Opening.{IsBaseOn}
 use Rattle.story_log.specs.Story.Handed.{Handed}
 use Rattle.view_lookup.specs.Order.{oldest_first}
-use Rattle.legal_history.specs.Base.Rows.{Base}
+use Rattle.base_model.specs.Rows.{Base}
 use Rattle.legal_history.specs.Stories.Commanded.{IsOfCommand}
 use Rattle.legal_history.specs.Builds.Replied.{reply_of, reply_from_nothing}
 use Rattle.legal_history.specs.Builds.Active.{Build}

@@ -5,7 +5,7 @@ use Rattle.cc_names.specs.References.{held_at}
 use Rattle.cc_names.specs.declared.rows.Deed.TheVariants as deeds
 use Rattle.cc_names.specs.declared.steps.StoryStep.{StoryStep}
 use Rattle.cc_names.specs.declared.steps.StoryStep.TheVariants as story_steps
-use Rattle.legal_history.specs.Base.Changes.{held, live}
+use Rattle.base_model.specs.Changes.{held, live}
 use Rattle.legal_history.specs.Laws.Dues.{AreDue}
 use Rattle.legal_history.specs.Stories.Steps.{state_of}
 

@@ -10,9 +10,9 @@ use Rattle.cc_names.specs.declared.steps.StoryStep.{StoryStep}
 use Rattle.cc_names.specs.declared.steps.StoryStep.TheVariants as story_steps
 use Rattle.cc_names.specs.declared.steps.UnitEnd.TheVariants as ends
 use Rattle.cc_names.specs.declared.units.Unit.{Unit}
-use Rattle.legal_history.specs.Base.Changes.{live}
-use Rattle.legal_history.specs.Base.Rows.{deed_at}
-use Rattle.legal_history.specs.Base.Values.{IsSound}
+use Rattle.base_model.specs.Changes.{live}
+use Rattle.base_model.specs.Rows.{deed_at}
+use Rattle.legal_history.specs.Builds.Values.{IsSound}
 use Rattle.legal_history.specs.Builds.Active.{Build, unit_at, unit_with_first}
 use Rattle.legal_history.specs.Builds.Reuse.{matches}
 use Rattle.legal_history.specs.Laws.FromNothing.{EndsAsFromNothing}

@@ -3,8 +3,8 @@ use Rattle.std.proofs.Common.{◌≡◌, ℕ, ◌⊎◌, inl, inr, true, List, [
 use Rattle.cc_names.specs.Formed.{IsFormed, Plain}
 use Rattle.disk_model.specs.Devices.{bytes_of}
 use Rattle.disk_model.specs.Told.{Sight, IfTold}
-use Rattle.legal_history.specs.Base.Rows.{Base, size}
-use Rattle.legal_history.specs.Base.Fits.{fits, is_base}
+use Rattle.base_model.specs.Rows.{Base, size}
+use Rattle.base_model.specs.Fits.{fits, is_base}
 use Rattle.row_form.specs.Spelled.{spelled}
 use Rattle.row_form.proofs.ExactRow.{one_spelling}
 use Rattle.vob_journal.specs.Frames.{frames}

@@ -5,7 +5,7 @@ use Rattle.cc_names.specs.declared.steps.StoryStep.TheVariants as story_steps
 use Rattle.disk_model.specs.Devices.{Device, Failed, Leaves, LeavesNow, MayLeave, Measures, Idles, bytes_of, file_of}
 use Rattle.disk_model.specs.Files.{IsImage, stable}
 use Rattle.disk_model.specs.Told.{Sight, IfTold, Both, IsCounted}
-use Rattle.legal_history.specs.Base.Rows.{Base}
+use Rattle.base_model.specs.Rows.{Base}
 use Rattle.legal_history.specs.Stories.States.{Opening}
 use Rattle.cc_names.specs.Counts.{rises}
 use Rattle.legal_history.specs.Stories.Steps.{state_of}

@@ -5,8 +5,8 @@ use Rattle.cc_names.specs.Formed.{Plain}
 use Rattle.disk_model.specs.Counting.{next_count}
 use Rattle.disk_model.specs.Devices.{Device, LeavesNow}
 use Rattle.disk_model.specs.Told.{Sight, IfTold, Both, IsCounted}
-use Rattle.legal_history.specs.Base.Rows.{Base}
-use Rattle.legal_history.specs.Base.Fits.{fits, is_base}
+use Rattle.base_model.specs.Rows.{Base}
+use Rattle.base_model.specs.Fits.{fits, is_base}
 use Rattle.cc_names.specs.Counts.{rises}
 use Rattle.row_form.specs.Spelled.{spelled}
 use Rattle.vob_journal.specs.Added.{Adds, may_read}

@@ -1,8 +1,8 @@
 -- Payloads that spell no row that may come next.
 use Rattle.std.proofs.Common.{◌≡◌, true, false, List, ℕ, sym, ap, ◌∙◌}
 use Rattle.cc_names.specs.Formed.{Plain, IsFormed}
-use Rattle.legal_history.specs.Base.Rows.{Base}
-use Rattle.legal_history.specs.Base.Fits.{fits}
+use Rattle.base_model.specs.Rows.{Base}
+use Rattle.base_model.specs.Fits.{fits}
 use Rattle.row_form.specs.Spelled.{spelled}
 use Rattle.row_form.proofs.ExactRow.{one_spelling}
 use Rattle.story_log.specs.Bases.Opening.{IsUnfit}

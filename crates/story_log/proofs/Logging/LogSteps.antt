@@ -7,7 +7,7 @@ use Rattle.cc_names.specs.declared.rows.Tag.{Tag}
 use Rattle.cc_names.specs.declared.steps.Step.{Step}
 use Rattle.cc_names.specs.declared.steps.Step.TheVariants as steps
 use Rattle.disk_model.specs.Told.{Sight}
-use Rattle.legal_history.specs.Base.Rows.{Base}
+use Rattle.base_model.specs.Rows.{Base}
 use Rattle.story_log.specs.Logging.Logs.{Logged, with_phase, with_row, with_step, with_step_on}
 use Rattle.story_log.specs.Story.Telling.{story_of, AreTold, stands_alone}
 use Rattle.view_lookup.specs.Order.{oldest_first}

@@ -7,7 +7,7 @@ use Rattle.cc_names.specs.declared.steps.Step.{Step}
 use Rattle.cc_names.specs.declared.steps.Step.TheVariants as steps
 use Rattle.cc_names.specs.declared.steps.StoryStep.TheVariants as story_steps
 use Rattle.disk_model.specs.Told.{Sight, IfTold, Both, IsCounted}
-use Rattle.legal_history.specs.Base.Rows.{Base}
+use Rattle.base_model.specs.Rows.{Base}
 use Rattle.legal_history.specs.Stories.States.{State, start}
 use Rattle.legal_history.specs.Stories.Steps.{after, state_of}
 use Rattle.row_form.specs.Spelled.{spelled}

@@ -5,7 +5,7 @@ use Rattle.std.specs.Prelude.{is_some}
 use Rattle.cc_names.specs.Formed.{Plain}
 use Rattle.disk_model.specs.Devices.{Device, Event, Stopped, Leaves}
 use Rattle.disk_model.specs.Told.{IfTold, Both}
-use Rattle.legal_history.specs.Base.Rows.{Base}
+use Rattle.base_model.specs.Rows.{Base}
 use Rattle.legal_history.specs.Stories.States.{Opening, End, Committed, Faulted, ticks_of, hanging}
 use Rattle.row_form.specs.Spelled.{spelled}
 use Rattle.vob_journal.specs.Frames.{frames}

@@ -1,7 +1,6 @@
 -- Whatever a stop may find of a legal story is a base, whose rows are of the kind of those that the story names, and which is
 -- sound where the base was sound as it was opened.
-use Rattle.std.proofs.Common.{◌≡◌, ℕ, ◌<◌, ◌⊎◌, inl, inr, true, false, Option, Some, None, List, [], ◌∷◌, ◌++◌, refl, ap, sym, subst, ◌∙◌}
-use Rattle.std.proofs.Common.{append_assoc}
+use Rattle.std.proofs.Common.{◌≡◌, ℕ, ◌<◌, ◌⊎◌, inl, inr, true, false, Option, Some, None, List, [], ◌∷◌, ◌++◌, refl, ap, sym, subst, ◌∙◌, append_assoc}
 use Rattle.std.proofs.lemmas.List.{append-nil}
 use Rattle.std.specs.List.{AllByRecursion}
 use Rattle.std.specs.Prelude.{IfSome, is_some, reverse}
@@ -13,9 +12,9 @@ use Rattle.cc_names.specs.declared.steps.StoryStep.TheVariants as story_steps
 use Rattle.disk_model.specs.Devices.{Device, bytes_of}
 use Rattle.disk_model.specs.Told.{Sight, IfTold}
 use Rattle.vob_journal.specs.Frames.{frames}
-use Rattle.legal_history.specs.Base.Rows.{Base}
-use Rattle.legal_history.specs.Base.Fits.{is_base}
-use Rattle.legal_history.specs.Base.Values.{IsSound}
+use Rattle.base_model.specs.Rows.{Base}
+use Rattle.base_model.specs.Fits.{is_base}
+use Rattle.legal_history.specs.Builds.Values.{IsSound}
 use Rattle.legal_history.specs.Laws.StopLaws.{StopLeavesABase, StopLeavesABaseSound}
 use Rattle.legal_history.specs.Laws.Stops.{IsLeftByStop, WithRowInFlight, WithRowLeft}
 use Rattle.legal_history.specs.Stories.States.{State, Opening, End, Committed, Faulted, start, ticks_of}

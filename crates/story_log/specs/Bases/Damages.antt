@@ -1,7 +1,7 @@
 -- What holds of the journals of bases of formed rows. Each law is promised by a function of `laws`.
 use Rattle.std.specs.Prelude.{◌≡◌, ℕ, true, List}
-use Rattle.legal_history.specs.Base.Rows.{Base}
-use Rattle.legal_history.specs.Base.Fits.{is_base}
+use Rattle.base_model.specs.Rows.{Base}
+use Rattle.base_model.specs.Fits.{is_base}
 use Rattle.story_log.specs.Bases.Opening.{IsDamaged, IsUndamaged}
 use Rattle.story_log.specs.Story.Formed.{AreFormed}
 use Rattle.story_log.specs.Stopping.Standing.{payloads}

@@ -4,8 +4,8 @@ use Rattle.cc_names.specs.Formed.{IsFormed, Plain}
 use Rattle.cc_names.specs.declared.rows.Deed.{Deed}
 use Rattle.disk_model.specs.Devices.{LeavesNow}
 use Rattle.disk_model.specs.Told.{Sight, IfTold, Both}
-use Rattle.legal_history.specs.Base.Rows.{Base, size}
-use Rattle.legal_history.specs.Base.Fits.{fits, is_base}
+use Rattle.base_model.specs.Rows.{Base, size}
+use Rattle.base_model.specs.Fits.{fits, is_base}
 use Rattle.cc_names.specs.Counts.{rises}
 use Rattle.row_form.specs.Spelled.{spelled}
 use Rattle.vob_journal.specs.Added.{Adds, may_read}

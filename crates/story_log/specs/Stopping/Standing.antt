@@ -1,7 +1,7 @@
 -- What a journal stands for, and what a stop may leave of a history.
 use Rattle.std.specs.Prelude.{◌≡◌, ℕ, ◌<◌, ◌≤◌, ◌⊎◌, Option, Some, None, List, [], ◌∷◌, ◌++◌}
 use Rattle.cc_names.specs.Formed.{Plain}
-use Rattle.legal_history.specs.Base.Rows.{Base}
+use Rattle.base_model.specs.Rows.{Base}
 use Rattle.legal_history.specs.Stories.States.{Opening, End, Committed, Faulted, ticks_of}
 use Rattle.row_form.specs.Spelled.{spelled}
 

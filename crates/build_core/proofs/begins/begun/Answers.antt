@@ -1,7 +1,7 @@
 -- The units that a makefile gives are formed.
 use Rattle.std.proofs.Common.{◌≡◌, length, ap, arith}
 use Rattle.std.specs.Prelude.{option_copied}
-use Rattle.legal_history.specs.Builds.Fresh.{texts}
+use Rattle.base_model.specs.Texts.{texts}
 use Rattle.legal_history.proofs.Builds.OrderedUnits.{units_in_order}
 use Rattle.build_core.proofs.RunsUnits.{units_formed}
 use Rattle.build_core.proofs.begins.begun.Goals as goal

@@ -3,7 +3,7 @@ use Rattle.std.proofs.Common.{◌≡◌, ℕ, ◌+◌, List, sym, ap, ap₂, ◌
 use Rattle.std.specs.Prelude.{is_some}
 use Rattle.cc_names.specs.declared.replies.UnitLine.{UnitLine}
 use Rattle.cc_names.specs.declared.units.Unit.{Unit}
-use Rattle.legal_history.specs.Base.Rows.{Base}
+use Rattle.base_model.specs.Rows.{Base}
 use Rattle.legal_history.specs.Builds.Active.{Build, came_to, object_of}
 use Rattle.legal_history.specs.Builds.Replied.{lines_from, lines_of, told_targets, word_of_came}
 use Rattle.build_core.proofs.replies.lines_of_units.Goals as goal

@@ -1,8 +1,8 @@
 -- The object of a unit that is needed, else the file.
 use Rattle.std.proofs.Common.{◌≡◌, Some, None, ap, sym, ◌∙◌}
 use Rattle.std.specs.Option.{option_or}
-use Rattle.legal_history.specs.Base.Rows.{first_rows}
-use Rattle.legal_history.specs.Base.Seen.{file_at}
+use Rattle.base_model.specs.Rows.{first_rows}
+use Rattle.base_model.specs.Seen.{file_at}
 use Rattle.build_core.proofs.NeededUnits.{seen_object}
 use Rattle.build_core.specs.Sights.{object_before}
 use Rattle.build_core.proofs.sights.visible.Goals as goal

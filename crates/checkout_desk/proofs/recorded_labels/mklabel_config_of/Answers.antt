@@ -1,7 +1,8 @@
 -- The tests decide; past them there is nothing to label, or the row has what the record lists.
 use Rattle.std.proofs.Common.{◌≡◌, false, ◌==◌, length, ap, sym, ◌∙◌, arith}
 use Rattle.std.proofs.lemmas.Grind.{common_steps}
-use Rattle.legal_history.specs.Commands.LabelLines.{mklabel_config_tests, placed_by}
+use Rattle.legal_history.specs.Commands.LabelLines.{mklabel_config_tests}
+use Rattle.base_model.specs.Closures.{placed_by}
 use Rattle.checkout_desk.proofs.RecordedLabels.{labels_made, labels_refused}
 use Rattle.checkout_desk.proofs.recorded_labels.mklabel_config_of.Goals as goal
 

@@ -3,7 +3,7 @@ use Rattle.std.proofs.Common.{ℕ, List, ap, sym, subst, ◌∙◌, arith}
 use Rattle.std.specs.List.Sorted.{IsStrictlySortedBy}
 use Rattle.std.specs.Ordering.{nat_cmp}
 use Rattle.cc_names.specs.Formed.{IsListOf, IsLong}
-use Rattle.legal_history.specs.Base.Rows.{row_at}
+use Rattle.base_model.specs.Rows.{row_at}
 use Rattle.checkout_desk.proofs.DueRows.{all_read, due_formed, numbered_row}
 use Rattle.checkout_desk.proofs.scrubs.due.Goals as goal
 

@@ -6,8 +6,8 @@ use Rattle.std.specs.Cmp.Lexicographic.{slice_cmp}
 use Rattle.std.specs.List.{list_any}
 use Rattle.std.specs.Ordering.{nat_cmp}
 use Rattle.cc_names.specs.declared.selection.Seen.{Seen}
-use Rattle.legal_history.specs.Base.Catalogs.{named}
-use Rattle.legal_history.specs.Base.Closures.{is_among}
+use Rattle.base_model.specs.Catalogs.{named}
+use Rattle.base_model.specs.Closures.{is_among}
 use Rattle.cleartool.specs.ElementsBelow.{is_element, lies_below, seen_where}
 use Rattle.cleartool.proofs.CatalogsGiven.{names_given}
 use Rattle.cleartool.proofs.ElementsBelow.{all_put_in, catalog_at, lies_named, one_put_in, put_in}

@@ -2,7 +2,7 @@
 use Rattle.std.proofs.Common.{ℕ, true, List, [], ◌∷◌, ◌++◌, Option, ap, ap₂, sym, ◌∙◌}
 use Rattle.std.specs.Prelude.{codes, decimal}
 use Rattle.std.specs.Option.{option_map_or}
-use Rattle.legal_history.specs.Base.Changes.{held}
+use Rattle.base_model.specs.Changes.{held}
 use Rattle.legal_history.specs.Queries.ListingTexts.{held_line}
 use Rattle.legal_history.specs.Queries.VersionNames.{at_version}
 use Rattle.cleartool.proofs.Behind.{four_behind}

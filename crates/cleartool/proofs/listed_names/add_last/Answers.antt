@@ -1,6 +1,6 @@
 -- The last name is among the names then.
 use Rattle.std.proofs.Common.{ℕ, List, ◌||◌, Option, ap, sym, ◌∙◌}
-use Rattle.legal_history.specs.Base.Closures.{is_among}
+use Rattle.base_model.specs.Closures.{is_among}
 use Rattle.cleartool.specs.Owned.{is_name}
 use Rattle.cleartool.proofs.PathSets.{one_inserted}
 use Rattle.cleartool.proofs.listed_names.add_last.Goals as goal

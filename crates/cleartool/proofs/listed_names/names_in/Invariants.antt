@@ -1,5 +1,5 @@
 use Rattle.std.proofs.Common.{◌≡◌, ℕ, true, false, List}
-use Rattle.legal_history.specs.Base.Closures.{is_among}
+use Rattle.base_model.specs.Closures.{is_among}
 use Rattle.cleartool.specs.Owned.{was_named}
 use Rattle.cleartool.specs.Listed.{lies_in}
 use Rattle.cleartool.proofs.listed_names.names_in.Given as goal

@@ -1,7 +1,7 @@
 -- The name, the version from which and the rule are written one behind the other.
 use Rattle.std.proofs.Common.{ℕ, Bool, List, [], ◌∷◌, ◌++◌, append_assoc, ap, sym, ◌∙◌}
 use Rattle.std.specs.Prelude.{codes}
-use Rattle.legal_history.specs.Base.Views.{out}
+use Rattle.base_model.specs.Views.{out}
 use Rattle.legal_history.specs.Queries.ListingTexts.{by_rule, origin_name, picked_line}
 use Rattle.legal_history.specs.Queries.VersionNames.{line}
 use Rattle.cleartool.proofs.Behind.{five_behind}

@@ -2,7 +2,7 @@
 use Rattle.std.proofs.Common.{ℕ, ◌+◌, ◌||◌, List, drop, ap, sym, ◌∙◌, bytes_eq}
 use Rattle.std.proofs.lemmas.List.{at_drop_all, at_drop_more}
 use Rattle.cc_names.specs.declared.rows.ReadOf.{ReadOf}
-use Rattle.legal_history.specs.Base.Closures.{is_among}
+use Rattle.base_model.specs.Closures.{is_among}
 use Rattle.cleartool.proofs.PathSets.{moved_over, one_inserted}
 use Rattle.cleartool.specs.Differences.{is_read}
 use Rattle.cleartool.proofs.record_differences.add_paths.Goals as goal

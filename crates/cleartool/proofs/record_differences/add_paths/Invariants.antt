@@ -1,5 +1,5 @@
 use Rattle.std.proofs.Common.{◌≡◌, ◌||◌, ℕ, List, drop}
-use Rattle.legal_history.specs.Base.Closures.{is_among}
+use Rattle.base_model.specs.Closures.{is_among}
 use Rattle.cleartool.specs.Differences.{is_read}
 use Rattle.cleartool.proofs.record_differences.add_paths.Given as goal
 

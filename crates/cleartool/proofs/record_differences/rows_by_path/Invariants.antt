@@ -2,7 +2,7 @@ use Rattle.std.proofs.Common.{◌≡◌, ℕ, List, drop}
 use Rattle.std.specs.BTreeMap.{get}
 use Rattle.std.specs.Cmp.Lexicographic.{slice_cmp}
 use Rattle.std.specs.Ordering.{nat_cmp}
-use Rattle.legal_history.specs.Queries.RecordTexts.{row_in}
+use Rattle.base_model.specs.Objects.{row_in}
 use Rattle.cleartool.proofs.record_differences.rows_by_path.Given as goal
 
 -- the rows of the entries from a place on

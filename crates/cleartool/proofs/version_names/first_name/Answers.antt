@@ -3,7 +3,7 @@ use Rattle.std.proofs.Common.{◌≡◌, ℕ, List, [], ◌∷◌, ◌++◌, cod
 use Rattle.std.specs.Prelude.{IfOk}
 use Rattle.cc_names.specs.Branches.{branch_of_version}
 use Rattle.cleartool.specs.Naming.{names_above}
-use Rattle.legal_history.specs.Base.Changes.{tree}
+use Rattle.base_model.specs.Changes.{tree}
 use Rattle.legal_history.specs.Queries.VersionNames.{behind_slashes}
 use Rattle.cleartool.proofs.NextNames.{slashes_more}
 use Rattle.cleartool.proofs.version_names.first_name.Goals as goal

@@ -1,8 +1,8 @@
 -- A branch leaves the branch of its origin, among the rows below it.
 use Rattle.std.proofs.Common.{List, ℕ, [], ◌∷◌, ◌++◌, Option, ap₂, sym, ◌∙◌}
 use Rattle.cleartool.specs.Naming.{names_above}
-use Rattle.legal_history.specs.Base.Changes.{tree}
-use Rattle.legal_history.specs.Base.Rows.{first_rows}
+use Rattle.base_model.specs.Changes.{tree}
+use Rattle.base_model.specs.Rows.{first_rows}
 use Rattle.cleartool.proofs.BranchNames.{branch_leaves, unnamed}
 use Rattle.cleartool.proofs.version_names.leaving.Goals as goal
 

@@ -4,8 +4,8 @@ use Rattle.std.specs.Prelude.{IfOk, option_and_then}
 use Rattle.cc_names.specs.Versions.{element_of_branch, latest, version_id, versions_on}
 use Rattle.cc_names.specs.declared.changes.VersionId.{VersionId}
 use Rattle.cleartool.specs.Naming.{name_on}
-use Rattle.legal_history.specs.Base.Changes.{tree}
-use Rattle.legal_history.specs.Base.Rows.{Base}
+use Rattle.base_model.specs.Changes.{tree}
+use Rattle.base_model.specs.Rows.{Base}
 use Rattle.cleartool.proofs.NextNames.{Newest, Stands, Alone, few_on, newest_of}
 use Rattle.cleartool.proofs.version_names.name_on.Goals as goal
 

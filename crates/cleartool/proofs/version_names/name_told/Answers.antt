@@ -4,8 +4,8 @@ use Rattle.cc_names.specs.declared.changes.TreeChange.TheVariants.{BranchMade}
 use Rattle.cc_names.specs.declared.rows.Deed.{Deed}
 use Rattle.cc_names.specs.declared.rows.Deed.TheVariants as deeds
 use Rattle.cleartool.specs.Naming.{name_told}
-use Rattle.legal_history.specs.Base.Changes.{tree, tree_after}
-use Rattle.legal_history.specs.Base.Rows.{size}
+use Rattle.base_model.specs.Changes.{tree, tree_after}
+use Rattle.base_model.specs.Rows.{size}
 use Rattle.cleartool.proofs.NextNames.{version_first}
 use Rattle.cleartool.proofs.version_names.name_told.Goals as goal
 

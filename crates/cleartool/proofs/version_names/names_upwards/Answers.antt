@@ -1,9 +1,9 @@
 -- Each branch on the way up leaves the next one, among fewer rows.
 use Rattle.std.proofs.Common.{◌≡◌, ℕ, zero, suc, ◌<◌, ◌≤◌, List, [], ◌∷◌, ◌++◌, Option, length, map, reverse, append-nil, append_assoc, ap, ap₂, sym, subst, ◌∙◌, arith, Bor}
 use Rattle.cleartool.specs.Naming.{names_above}
-use Rattle.legal_history.specs.Base.Changes.{tree}
-use Rattle.legal_history.specs.Base.Rows.{Base, first_rows, size}
-use Rattle.legal_history.proofs.Bases.Stay.{all_rows}
+use Rattle.base_model.specs.Changes.{tree}
+use Rattle.base_model.specs.Rows.{Base, first_rows, size}
+use Rattle.base_model.proofs.Stay.{all_rows}
 use Rattle.view_lookup.proofs.Fronts.{size_of_first}
 use Rattle.cleartool.proofs.NamesBack.{one_more}
 use Rattle.cleartool.proofs.version_names.names_upwards.Goals as goal

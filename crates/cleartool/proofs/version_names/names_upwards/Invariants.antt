@@ -1,6 +1,6 @@
 use Rattle.std.proofs.Common.{◌≡◌, ◌++◌, length, map, reverse}
 use Rattle.cleartool.specs.Naming.{names_above}
-use Rattle.legal_history.specs.Base.Changes.{tree}
+use Rattle.base_model.specs.Changes.{tree}
 use Rattle.cleartool.proofs.version_names.names_upwards.Given as goal
 
 -- the names that are found lead from what is left to the branch

@@ -4,7 +4,7 @@ use Rattle.std.specs.Prelude.{slice_get}
 use Rattle.std.specs.List.{concat}
 use Rattle.std.proofs.lemmas.List.{length-map, length-reverse}
 use Rattle.cc_names.specs.Versions.{row_of_version, versions_on}
-use Rattle.legal_history.specs.Base.Changes.{tree}
+use Rattle.base_model.specs.Changes.{tree}
 use Rattle.legal_history.specs.Queries.ElementTexts.{branch_lines, branches_leaving, in_brackets, labels_on}
 use Rattle.legal_history.specs.Queries.VersionNames.{at_version, line, version_name}
 use Rattle.view_lookup.proofs.AtIndex.{drop_at, drop_past, within_at}

@@ -1,5 +1,5 @@
 use Rattle.std.proofs.Common.{◌≡◌, drop}
-use Rattle.legal_history.specs.Builds.Reuse.{are_same_paths}
+use Rattle.base_model.specs.Objects.{are_same_paths}
 use Rattle.object_check.proofs.checks.are_same.Given as goal
 
 abbrev pub invariant-loop-index : goal.invariant-loop-index

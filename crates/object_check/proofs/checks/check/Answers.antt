@@ -3,8 +3,8 @@ use Rattle.std.proofs.Common.{◌≡◌, Some, nat_eq, ap, sym}
 use Rattle.std.specs.BTreeSet.{contains}
 use Rattle.std.specs.HashMap.{get}
 use Rattle.std.specs.Ordering.{nat_cmp}
-use Rattle.legal_history.specs.Base.Rows.{deed_at, deed_of}
-use Rattle.legal_history.specs.Base.Values.{run_of_deed}
+use Rattle.base_model.specs.Rows.{deed_at, deed_of}
+use Rattle.legal_history.specs.Builds.Values.{run_of_deed}
 use Rattle.object_check.specs.Kept.{texts_kept}
 use Rattle.object_check.proofs.Checking.{checked_kept, checked_true}
 use Rattle.object_check.proofs.Keeping.{kept_next}

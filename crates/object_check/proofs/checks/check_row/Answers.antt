@@ -11,9 +11,9 @@ use Rattle.cc_names.specs.declared.rows.ReadOf.{ReadOf}
 use Rattle.script_grammar.specs.Run.{run}
 use Rattle.script_grammar.specs.Standings.{texts}
 use Rattle.build_script.specs.Ended.{ran_of}
-use Rattle.legal_history.specs.Base.Rows.{only_where}
-use Rattle.legal_history.specs.Base.Values.{are_stored, outputs_of_result, run_of_deed}
-use Rattle.legal_history.specs.Queries.RecordTexts.{row_in}
+use Rattle.base_model.specs.Rows.{only_where}
+use Rattle.legal_history.specs.Builds.Values.{are_stored, outputs_of_result, run_of_deed}
+use Rattle.base_model.specs.Objects.{row_in}
 use Rattle.object_check.specs.Checks.{IsChecked}
 use Rattle.object_check.specs.Kept.{stands_kept, texts_kept}
 use Rattle.object_check.proofs.Checking.{publish_checked}

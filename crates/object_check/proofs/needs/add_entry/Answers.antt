@@ -3,7 +3,7 @@ use Rattle.std.proofs.Common.{◌==◌, Bool, true, cond, ap, sym, ◌∙◌}
 use Rattle.std.specs.BTreeSet.{contains}
 use Rattle.std.specs.Cmp.{unsigned_tied}
 use Rattle.std.specs.Ordering.{nat_cmp}
-use Rattle.legal_history.specs.Base.Closures.{is_publish}
+use Rattle.base_model.specs.Closures.{is_publish}
 use Rattle.object_check.proofs.Needing.{entry_passed, entry_put}
 use Rattle.object_check.proofs.needs.add_entry.Goals as goal
 

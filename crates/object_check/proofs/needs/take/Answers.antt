@@ -5,7 +5,7 @@ use Rattle.std.specs.BTreeSet.{contains}
 use Rattle.std.specs.Ordering.{nat_cmp}
 use Rattle.std.specs.Prelude.{is_some}
 use Rattle.cc_names.specs.declared.rows.ReadOf.{ReadOf}
-use Rattle.legal_history.specs.Base.Changes.{live}
+use Rattle.base_model.specs.Changes.{live}
 use Rattle.object_check.specs.Needed.{name_object}
 use Rattle.object_check.proofs.Needing.{needs_more, needs_same}
 use Rattle.object_check.proofs.needs.take.Goals as goal

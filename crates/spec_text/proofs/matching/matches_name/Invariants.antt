@@ -1,6 +1,6 @@
 use Rattle.std.proofs.Common.{◌+◌, ◌*◌, length}
-use Rattle.spec_text.specs.WildCards.{cards_match}
-use Rattle.spec_text.specs.Patterns.{is_star, fits_byte}
+use Rattle.base_model.specs.ConfigSpecs.WildCards.{cards_match}
+use Rattle.base_model.specs.ConfigSpecs.Patterns.{is_star, fits_byte}
 use Rattle.spec_text.proofs.Trying.{Searches, held_by, tries}
 use Rattle.spec_text.proofs.matching.matches_name.Given as goal
 

@@ -1,6 +1,6 @@
 use Rattle.std.proofs.Common.{◌+◌, ◌*◌, length}
 use Rattle.std.specs.Option.{option_copied}
-use Rattle.spec_text.specs.Patterns.{is_dots, fits_name, matches_where}
+use Rattle.base_model.specs.ConfigSpecs.Patterns.{is_dots, fits_name, matches_where}
 use Rattle.spec_text.specs.Parts.{parts_left}
 use Rattle.spec_text.proofs.Trying.{Searches, names_held_by, tries}
 use Rattle.spec_text.proofs.matching.matches_where.Given as goal

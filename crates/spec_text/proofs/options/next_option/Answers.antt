@@ -1,5 +1,5 @@
 use Rattle.std.proofs.Common.{sym}
-use Rattle.spec_text.specs.Lines.{plain_options}
+use Rattle.spec_text.specs.OptionSteps.{plain_options}
 use Rattle.spec_text.proofs.GoingOn.{nocheckout_goes, time_goes, mkbranch_goes}
 use Rattle.spec_text.proofs.options.next_option.Goals as goal
 

@@ -1,5 +1,6 @@
 use Rattle.std.proofs.Common.{◌≡◌, length}
-use Rattle.spec_text.specs.Lines.{plain_options, no_options, options_from}
+use Rattle.spec_text.specs.OptionSteps.{plain_options}
+use Rattle.base_model.specs.ConfigSpecs.Lines.{no_options, options_from}
 use Rattle.spec_text.proofs.options.read_options.Given as goal
 
 -- the options so far are those that were read before what is left

@@ -1,7 +1,7 @@
 use Rattle.std.proofs.Common.{◌≡◌, ◌++◌, length, map}
 use Rattle.std.specs.List.{list_all}
 use Rattle.std.specs.Option.{option_copied}
-use Rattle.spec_text.specs.Patterns.{is_segment, segment_of}
+use Rattle.base_model.specs.ConfigSpecs.Patterns.{is_segment, segment_of}
 use Rattle.spec_text.specs.Parts.{parts_left}
 use Rattle.spec_text.proofs.patterns.read_segments.Given as goal
 

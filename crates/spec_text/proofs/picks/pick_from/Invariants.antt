@@ -1,6 +1,6 @@
 use Rattle.std.proofs.Common.{◌≡◌, drop}
 use Rattle.cc_names.specs.Paths.{names_of}
-use Rattle.spec_text.specs.Rules.{pick}
+use Rattle.base_model.specs.ConfigSpecs.Rules.{pick}
 use Rattle.spec_text.proofs.picks.pick_from.Given as goal
 
 -- what is picked is what the rules that are left pick

@@ -1,6 +1,6 @@
 use Rattle.std.proofs.Common.{◌≡◌, [], length}
 use Rattle.std.specs.Option.{option_copied}
-use Rattle.spec_text.specs.Selectors.{behind_main}
+use Rattle.base_model.specs.ConfigSpecs.Selectors.{behind_main}
 use Rattle.spec_text.specs.Parts.{parts_left}
 use Rattle.spec_text.proofs.selectors.behind_main.Given as goal
 

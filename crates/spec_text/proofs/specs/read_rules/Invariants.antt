@@ -1,5 +1,5 @@
 use Rattle.std.proofs.Common.{◌≡◌, ◌+◌, ◌≤◌, length}
-use Rattle.spec_text.specs.Specs.{rules_of}
+use Rattle.base_model.specs.ConfigSpecs.Specs.{rules_of}
 use Rattle.spec_text.proofs.Rest.{rest_of}
 use Rattle.spec_text.proofs.specs.read_rules.Given as goal
 

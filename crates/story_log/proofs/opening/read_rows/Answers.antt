@@ -3,8 +3,8 @@ use Rattle.std.proofs.Common.{◌≡◌, ◌<◌, ◌&&◌, ◌∷◌, Bool, tru
 use Rattle.std.proofs.lemmas.Bool.{ltb-true}
 use Rattle.std.specs.Prelude.{is_err, OnOk}
 use Rattle.cc_names.specs.declared.rows.Deed.{Deed}
-use Rattle.legal_history.specs.Base.Rows.{Base, size}
-use Rattle.legal_history.specs.Base.Fits.{deed_fits, fits, row_limit}
+use Rattle.base_model.specs.Rows.{Base, size}
+use Rattle.base_model.specs.Fits.{deed_fits, fits, row_limit}
 use Rattle.story_log.specs.Bases.Reading.{IsReadSoFar, ReadsOn}
 use Rattle.story_log.proofs.Bases.ReadRows.{reads_then, row_fits, stops_behind}
 use Rattle.story_log.proofs.opening.read_rows.Goals as goal

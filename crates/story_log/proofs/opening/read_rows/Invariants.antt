@@ -1,5 +1,5 @@
 use Rattle.std.proofs.Common.{◌≡◌, ◌-◌, length}
-use Rattle.legal_history.specs.Base.Fits.{row_limit}
+use Rattle.base_model.specs.Fits.{row_limit}
 use Rattle.story_log.specs.Bases.Reading.{OnlyReads, IsReadSoFar}
 use Rattle.story_log.proofs.opening.read_rows.Given as goal
 

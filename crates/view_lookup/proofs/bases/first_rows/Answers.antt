@@ -1,7 +1,7 @@
 -- The first rows of a front are a front.
 use Rattle.std.proofs.Common.{◌≡◌, ◌-◌, suc, min, ap, ◌∙◌, arith}
-use Rattle.legal_history.specs.Base.Fits.{is_base}
-use Rattle.legal_history.specs.Base.Rows.{Base, first_rows}
+use Rattle.base_model.specs.Fits.{is_base}
+use Rattle.base_model.specs.Rows.{Base, first_rows}
 use Rattle.view_lookup.proofs.Fronts.{first_of_front, fitting_first}
 use Rattle.view_lookup.proofs.bases.first_rows.Goals as goal
 

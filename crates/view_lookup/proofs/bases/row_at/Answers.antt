@@ -6,7 +6,7 @@ use Rattle.std.proofs.lemmas.Option.{slice_get_past, slice_get_read}
 use Rattle.std.specs.List.{slice_get}
 use Rattle.std.specs.Option.{option_copied}
 use Rattle.std.specs.Prelude.{is_some, nat_lt}
-use Rattle.legal_history.specs.Base.Rows.{Base, row_at}
+use Rattle.base_model.specs.Rows.{Base, row_at}
 use Rattle.view_lookup.proofs.RowTexts.{row_numbered, no_row}
 use Rattle.view_lookup.proofs.bases.row_at.Goals as goal
 

@@ -1,7 +1,7 @@
 -- The keys of one row after the other are added.
 use Rattle.std.proofs.Common.{ℕ, ◌+◌, List, ◌++◌, drop, get_or, append-nil, append_assoc, ap, sym, ◌∙◌}
 use Rattle.std.proofs.lemmas.List.{at_drop_all, at_drop_more}
-use Rattle.legal_history.specs.Base.Rows.{deed_at}
+use Rattle.base_model.specs.Rows.{deed_at}
 use Rattle.view_lookup.specs.Changed.{names_by, names_of_deed}
 use Rattle.view_lookup.proofs.KeysAdded.{keys_of_names, names_parted}
 use Rattle.view_lookup.proofs.catalog_keys.push_altered.Goals as goal

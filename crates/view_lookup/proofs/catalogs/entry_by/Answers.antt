@@ -1,8 +1,8 @@
 -- The row that bears on a name says what it is.
 use Rattle.std.proofs.Common.{◌≡◌, Bool, true, false, ◌||◌, Some, None, refl, sym, ap, ◌∙◌, bytes_eq}
 use Rattle.std.specs.Option.{option_copied}
-use Rattle.legal_history.specs.Base.Catalogs.{Same, BeginsEmpty, BeginsAs, Adds, Removes, Renames, edit_of, named, own_of}
-use Rattle.legal_history.specs.Base.Rows.{deed_of, deed_at, first_rows}
+use Rattle.base_model.specs.Catalogs.{Same, BeginsEmpty, BeginsAs, Adds, Removes, Renames, edit_of, named, own_of}
+use Rattle.base_model.specs.Rows.{deed_of, deed_at, first_rows}
 use Rattle.view_lookup.specs.Entries.{plain_edit}
 use Rattle.view_lookup.proofs.EntryEdits.{added, removed, moved_away, moved_here}
 use Rattle.view_lookup.proofs.EntryMoves.{fewer_below, fits_below, has_first_name}

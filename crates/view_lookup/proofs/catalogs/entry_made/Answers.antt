@@ -1,8 +1,8 @@
 -- The row that made a version says where its catalog comes from.
 use Rattle.std.proofs.Common.{◌≡◌, Some, sym, ap, ◌∙◌}
 use Rattle.std.specs.Option.{option_copied}
-use Rattle.legal_history.specs.Base.Catalogs.{catalog_source, named}
-use Rattle.legal_history.specs.Base.Rows.{deed_of, deed_at, first_rows}
+use Rattle.base_model.specs.Catalogs.{catalog_source, named}
+use Rattle.base_model.specs.Rows.{deed_of, deed_at, first_rows}
 use Rattle.view_lookup.proofs.EntryMoves.{fewer_below}
 use Rattle.view_lookup.proofs.EntryRows.{catalog_by_row, catalog_made, from_source, no_source}
 use Rattle.view_lookup.proofs.catalogs.entry_made.Goals as goal

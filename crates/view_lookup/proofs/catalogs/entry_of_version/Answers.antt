@@ -1,7 +1,7 @@
 -- The name is there as in the catalog of the row that tells of it.
 use Rattle.std.proofs.Common.{◌≡◌, List, ℕ, sym, ap, ◌∙◌}
-use Rattle.legal_history.specs.Base.Catalogs.{Catalog, catalog_of, named}
-use Rattle.legal_history.specs.Base.Rows.{Base}
+use Rattle.base_model.specs.Catalogs.{Catalog, catalog_of, named}
+use Rattle.base_model.specs.Rows.{Base}
 use Rattle.view_lookup.specs.Entries.{Resolves}
 use Rattle.view_lookup.specs.declared.catalogs.Resolution.{Resolution}
 use Rattle.view_lookup.specs.declared.catalogs.Resolution.TheVariants.{Is, As}

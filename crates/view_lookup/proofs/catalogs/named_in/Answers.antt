@@ -1,8 +1,8 @@
 -- A name stands for another one in a catalog of fewer rows, until a row tells its element.
 use Rattle.std.proofs.Common.{ℕ, ◌<◌, ◌≤◌, length, sym, ap, subst, ◌∙◌, arith}
-use Rattle.legal_history.specs.Base.Catalogs.{named}
-use Rattle.legal_history.specs.Base.Rows.{Base, first_rows, size}
-use Rattle.legal_history.proofs.Bases.Stay.{all_rows}
+use Rattle.base_model.specs.Catalogs.{named}
+use Rattle.base_model.specs.Rows.{Base, first_rows, size}
+use Rattle.base_model.proofs.Stay.{all_rows}
 use Rattle.view_lookup.specs.Entries.{catalog_in}
 use Rattle.view_lookup.proofs.catalogs.named_in.Goals as goal
 

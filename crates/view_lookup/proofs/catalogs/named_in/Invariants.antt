@@ -1,5 +1,5 @@
 use Rattle.std.proofs.Common.{◌≡◌, length}
-use Rattle.legal_history.specs.Base.Catalogs.{named}
+use Rattle.base_model.specs.Catalogs.{named}
 use Rattle.view_lookup.specs.Entries.{catalog_in}
 use Rattle.view_lookup.proofs.catalogs.named_in.Given as goal
 

@@ -1,9 +1,9 @@
 -- The rows up to the version, and the newest of them that alters the name.
 use Rattle.std.proofs.Common.{◌≡◌, ℕ, suc, ◌+◌, ◌≤◌, min, nat_lt, Bool, true, false, Option, List, refl, sym, ap, ◌∙◌, arith}
 use Rattle.std.proofs.lemmas.Bool.Decides.{nat_tests}
-use Rattle.legal_history.specs.Base.Closures.{greater_of}
-use Rattle.legal_history.specs.Base.Rows.{Base, first_rows, size}
-use Rattle.legal_history.proofs.Bases.Stay.{all_rows}
+use Rattle.base_model.specs.Closures.{greater_of}
+use Rattle.base_model.specs.Rows.{Base, first_rows, size}
+use Rattle.base_model.proofs.Stay.{all_rows}
 use Rattle.view_lookup.specs.ChangeBearings.{altered_effect}
 use Rattle.view_lookup.specs.LookUps.{last_of}
 use Rattle.view_lookup.specs.ToldOn.{altered_by}

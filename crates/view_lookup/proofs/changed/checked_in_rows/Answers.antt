@@ -2,7 +2,7 @@
 use Rattle.std.proofs.Common.{◌≡◌, ℕ, List, Some, IfOk, sym, ap, subst, ◌∙◌}
 use Rattle.cc_names.specs.declared.rows.Deed.{Deed}
 use Rattle.cc_names.specs.declared.rows.Deed.TheVariants as deeds
-use Rattle.legal_history.specs.Base.Rows.{Base}
+use Rattle.base_model.specs.Rows.{Base}
 use Rattle.view_lookup.specs.ChangeBearings.{changing_effect}
 use Rattle.view_lookup.specs.Changed.{begun, changing_rows_of, checked_in_rows}
 use Rattle.view_lookup.specs.Walks.{all_told}

@@ -1,8 +1,8 @@
 -- The newest row of the checkout, unless the view's life began or ended behind it.
 use Rattle.std.proofs.Common.{sym, ap, ◌∙◌}
 use Rattle.std.specs.Prelude.{option_map}
-use Rattle.legal_history.specs.Base.Rows.{size}
-use Rattle.legal_history.specs.Base.Views.{out_effect}
+use Rattle.base_model.specs.Rows.{size}
+use Rattle.base_model.specs.Views.{out_effect}
 use Rattle.view_lookup.specs.Effects.{end_effect, taken_effect, kept_checkout, plain_checkout}
 use Rattle.view_lookup.specs.Lifetimes.{within}
 use Rattle.view_lookup.specs.LookUps.{newest}

@@ -1,8 +1,8 @@
 -- The later of the newest save and of the newest row of the checkout, unless the view's life began or ended behind it.
 use Rattle.std.proofs.Common.{◌≡◌, refl, sym, ap, ap₂, ◌∙◌}
 use Rattle.std.specs.Prelude.{option_map}
-use Rattle.legal_history.specs.Base.Rows.{size}
-use Rattle.legal_history.specs.Base.Views.{making_effect}
+use Rattle.base_model.specs.Rows.{size}
+use Rattle.base_model.specs.Views.{making_effect}
 use Rattle.view_lookup.specs.Effects.{end_effect, desk_effect, saved_effect, map_effect, map_update, row_of_kept}
 use Rattle.view_lookup.specs.Lifetimes.{within, later}
 use Rattle.view_lookup.specs.LookUps.{newest}

@@ -1,6 +1,6 @@
 -- Any other deed makes the text of an element or none.
 use Rattle.std.proofs.Common.{ap, ◌∙◌}
-use Rattle.legal_history.specs.Base.Conditions.{is_some_file}
+use Rattle.base_model.specs.Conditions.{is_some_file}
 use Rattle.view_lookup.proofs.RowsFit.{text_of_element}
 use Rattle.view_lookup.proofs.fitting.makes_text.Goals as goal
 

@@ -1,6 +1,6 @@
 -- A new name fits whatever is named so.
 use Rattle.std.proofs.Common.{sym, ap, ◌∙◌}
-use Rattle.legal_history.specs.Base.Fits.{deed_fits}
+use Rattle.base_model.specs.Fits.{deed_fits}
 use Rattle.view_lookup.proofs.fitting_elements.catalog_deed_fits.Goals as goal
 
 pub returns-in-Mkelem : goal.returns-in-Mkelem

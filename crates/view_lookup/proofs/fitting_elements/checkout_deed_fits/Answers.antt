@@ -1,6 +1,6 @@
 -- A new branch fits whether it is taken out or not.
 use Rattle.std.proofs.Common.{sym, ap, ◌∙◌}
-use Rattle.legal_history.specs.Base.Fits.{deed_fits}
+use Rattle.base_model.specs.Fits.{deed_fits}
 use Rattle.view_lookup.proofs.fitting_elements.checkout_deed_fits.Goals as goal
 
 pub returns-in-Branch : goal.returns-in-Branch

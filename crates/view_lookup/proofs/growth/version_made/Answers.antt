@@ -1,6 +1,6 @@
 -- A version stands on a branch that there is.
 use Rattle.std.proofs.Common.{sym, ◌∙◌}
-use Rattle.legal_history.specs.Base.Changes.{tree}
+use Rattle.base_model.specs.Changes.{tree}
 use Rattle.view_lookup.proofs.Growths.{rooted}
 use Rattle.view_lookup.proofs.growth.version_made.Goals as goal
 

@@ -2,7 +2,7 @@
 use Rattle.std.proofs.Common.{◌<◌, get_or, refl, arith}
 use Rattle.cc_names.specs.declared.changes.LabelChange.TheVariants.{Put}
 use Rattle.cc_names.specs.declared.rows.Placed.{Placed}
-use Rattle.legal_history.specs.Base.Changes.{all_placed}
+use Rattle.base_model.specs.Changes.{all_placed}
 use Rattle.view_lookup.proofs.Labellings.{another, next_placed, one_put, other_rows}
 use Rattle.view_lookup.proofs.labels.attach_all.Goals as goal
 

@@ -3,7 +3,7 @@ use Rattle.std.specs.Prelude.{slice_index_or}
 use Rattle.cc_names.specs.Falling.{IsAbove}
 use Rattle.cc_names.specs.declared.rows.Placed.{Placed}
 use Rattle.label_book.specs.Marks.{has_room, rows_of_pair}
-use Rattle.legal_history.specs.Base.Changes.{all_placed}
+use Rattle.base_model.specs.Changes.{all_placed}
 use Rattle.view_lookup.specs.Labelling.{AreLabels}
 use Rattle.view_lookup.proofs.labels.attach_all.Given as goal
 

@@ -6,7 +6,7 @@ use Rattle.std.specs.FinMap.Entries.{find}
 use Rattle.std.specs.Map.{lookup}
 use Rattle.std.specs.Ordering.{nat_cmp}
 use Rattle.cc_names.specs.declared.rows.ReadOf.{ReadOf}
-use Rattle.legal_history.specs.Base.Closures.{closure, listing_of, inputs_of}
+use Rattle.base_model.specs.Closures.{closure, listing_of, inputs_of}
 use Rattle.view_lookup.specs.Listings.{greater}
 use Rattle.view_lookup.proofs.JoinedListings.{entry_put, greater_none}
 use Rattle.view_lookup.proofs.listings.listing_of.Goals as goal

@@ -2,7 +2,7 @@ use Rattle.std.proofs.Common.{◌≡◌, ℕ, drop}
 use Rattle.std.specs.BTreeMap.{get}
 use Rattle.std.specs.FinMap.Entries.{find}
 use Rattle.std.specs.Ordering.{nat_cmp}
-use Rattle.legal_history.specs.Base.Closures.{closure, listing_of, inputs_of}
+use Rattle.base_model.specs.Closures.{closure, listing_of, inputs_of}
 use Rattle.view_lookup.specs.Listings.{greater}
 use Rattle.view_lookup.proofs.listings.listing_of.Given as goal
 

@@ -5,9 +5,8 @@ use Rattle.std.specs.List.Sorted.{IsStrictlySortedBy}
 use Rattle.std.specs.Ordering.{nat_cmp}
 use Rattle.cc_names.specs.Formed.{IsListOf, IsPlaced, element_of}
 use Rattle.cc_names.specs.declared.rows.Placed.{Placed}
-use Rattle.legal_history.specs.Base.Closures.{Listing}
-use Rattle.legal_history.specs.Base.Rows.{size}
-use Rattle.legal_history.specs.Commands.LabelLines.{as_placed, placed_by}
+use Rattle.base_model.specs.Closures.{Listing, as_placed, placed_by}
+use Rattle.base_model.specs.Rows.{size}
 use Rattle.view_lookup.proofs.KeptListings.{kept_listing, nothing_listed}
 use Rattle.view_lookup.proofs.PlacedForms.{placed_formed}
 use Rattle.view_lookup.proofs.listings.placed_by.Goals as goal

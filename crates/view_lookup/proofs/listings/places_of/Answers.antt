@@ -1,7 +1,7 @@
 -- One version after the other is placed.
 use Rattle.std.proofs.Common.{List, ℕ, ◌∷◌, [], ◌++◌, append-nil, append_assoc, map, ap, sym, ◌∙◌}
 use Rattle.cc_names.specs.declared.rows.Placed.{Placed}
-use Rattle.legal_history.specs.Commands.LabelLines.{as_placed}
+use Rattle.base_model.specs.Closures.{as_placed}
 use Rattle.view_lookup.proofs.listings.places_of.Goals as goal
 
 pub loop-element-init : goal.loop-element-init

@@ -1,5 +1,5 @@
 use Rattle.std.proofs.Common.{◌≡◌, ◌++◌, map}
-use Rattle.legal_history.specs.Commands.LabelLines.{as_placed}
+use Rattle.base_model.specs.Closures.{as_placed}
 use Rattle.view_lookup.proofs.listings.places_of.Given as goal
 
 abbrev pub invariant-loop-element : goal.invariant-loop-element

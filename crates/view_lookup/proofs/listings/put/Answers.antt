@@ -2,7 +2,7 @@
 use Rattle.std.proofs.Common.{◌≡◌, Some, cond, ap, ◌∙◌}
 use Rattle.std.specs.BTreeMap.{get}
 use Rattle.std.specs.Ordering.{is_eq, nat_cmp}
-use Rattle.legal_history.specs.Base.Closures.{greater_of}
+use Rattle.base_model.specs.Closures.{greater_of}
 use Rattle.view_lookup.proofs.JoinedListings.{one_put_in}
 use Rattle.view_lookup.proofs.listings.put.Goals as goal
 

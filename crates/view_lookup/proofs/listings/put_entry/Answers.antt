@@ -3,7 +3,7 @@ use Rattle.std.proofs.Common.{◌≡◌, ℕ, OnOk, subst, sym, ◌∙◌}
 use Rattle.std.specs.BTreeMap.{get}
 use Rattle.std.specs.FinMap.Entries.{find}
 use Rattle.std.specs.Ordering.{nat_cmp}
-use Rattle.legal_history.specs.Base.Closures.{closure, listing_of, inputs_of_entry}
+use Rattle.base_model.specs.Closures.{closure, listing_of, inputs_of_entry}
 use Rattle.view_lookup.specs.Listings.{greater}
 use Rattle.view_lookup.proofs.listings.put_entry.Goals as goal
 

@@ -3,7 +3,7 @@ use Rattle.std.proofs.Common.{◌+◌, ◌∷◌, ap, sym, ◌∙◌, drop}
 use Rattle.std.specs.Prelude.{option_and_then}
 use Rattle.std.proofs.lemmas.List.{at_drop_more}
 use Rattle.cc_names.specs.Branches.{branch_from}
-use Rattle.legal_history.specs.Base.Changes.{tree}
+use Rattle.base_model.specs.Changes.{tree}
 use Rattle.view_lookup.proofs.named_versions.branch_behind.Goals as goal
 
 pub returns-in_err-branch : goal.returns-in_err-branch

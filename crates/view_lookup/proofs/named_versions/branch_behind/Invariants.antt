@@ -1,6 +1,6 @@
 use Rattle.std.proofs.Common.{◌≡◌, drop}
 use Rattle.cc_names.specs.Branches.{branch_behind, branch_from}
-use Rattle.legal_history.specs.Base.Changes.{tree}
+use Rattle.base_model.specs.Changes.{tree}
 use Rattle.view_lookup.proofs.named_versions.branch_behind.Given as goal
 
 -- the names that are left lead on from the branch that was found

@@ -1,8 +1,8 @@
 -- The rules are the view's, and what they are asked over is what the view selects from.
 use Rattle.std.proofs.Common.{ap, ap₂, ◌∙◌}
 use Rattle.cc_names.specs.Paths.{names_of}
-use Rattle.spec_text.specs.Rules.{pick}
-use Rattle.legal_history.specs.Base.Seen.{sources}
+use Rattle.base_model.specs.ConfigSpecs.Rules.{pick}
+use Rattle.base_model.specs.Seen.{sources}
 use Rattle.view_lookup.specs.Picking.{selectables}
 use Rattle.view_lookup.proofs.picks.pick.Goals as goal
 

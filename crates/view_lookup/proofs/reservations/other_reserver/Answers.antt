@@ -1,7 +1,7 @@
 -- The view that reserves the branch, where it is another one.
 use Rattle.std.proofs.Common.{Some, not, ap, sym, ◌∙◌}
 use Rattle.std.specs.Option.{option_copied}
-use Rattle.legal_history.specs.Base.Rows.{only_where}
+use Rattle.base_model.specs.Rows.{only_where}
 use Rattle.view_lookup.proofs.ReservedOnce.{other_is, other_view}
 use Rattle.view_lookup.proofs.reservations.other_reserver.Goals as goal
 

@@ -2,7 +2,7 @@
 use Rattle.std.proofs.Common.{ap, ◌∙◌}
 use Rattle.std.specs.Option.{option_copied}
 use Rattle.std.specs.Prelude.{option_map}
-use Rattle.legal_history.specs.Base.Checkouts.{view_of}
+use Rattle.base_model.specs.Checkouts.{view_of}
 use Rattle.view_lookup.proofs.reservations.reserver.Goals as goal
 
 pub returns-in_err-reserving : goal.returns-in_err-reserving

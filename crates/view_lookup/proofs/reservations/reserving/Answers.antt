@@ -1,7 +1,7 @@
 -- The newest reserved checkout that was made on the branch, where it stands.
 use Rattle.std.proofs.Common.{Some, ap, sym, ◌∙◌}
 use Rattle.std.specs.Prelude.{option_map}
-use Rattle.legal_history.specs.Base.Rows.{only_where}
+use Rattle.base_model.specs.Rows.{only_where}
 use Rattle.view_lookup.specs.Effects.{plain_taken}
 use Rattle.view_lookup.proofs.ReservedOnce.{if_standing, reserving_is}
 use Rattle.view_lookup.proofs.reservations.reserving.Goals as goal

@@ -6,8 +6,8 @@ use Rattle.cc_names.proofs.PathParts.{names_of-below}
 use Rattle.cc_names.proofs.Splits.{each-fails}
 use Rattle.cc_names.specs.Paths.{is_root, is_slash, names_of, IsPath}
 use Rattle.cc_names.specs.declared.selection.Seen.{Seen}
-use Rattle.legal_history.specs.Base.Rows.{Base}
-use Rattle.legal_history.specs.Base.Seen.{at, at_names, below, entries_of}
+use Rattle.base_model.specs.Rows.{Base}
+use Rattle.base_model.specs.Seen.{at, at_names, below, entries_of}
 use Rattle.view_lookup.proofs.PathFronts.{BeginsName, FirstSlash, IsUncut, begins_behind, first_slash, names_before, names_of_front, split_front, split_whole}
 use Rattle.view_lookup.proofs.seen.at.Goals as goal
 

@@ -1,5 +1,5 @@
 use Rattle.std.proofs.Common.{◌≡◌, ◌-◌, ◌≤◌, length, reverse}
-use Rattle.legal_history.specs.Base.Seen.{at_names}
+use Rattle.base_model.specs.Seen.{at_names}
 use Rattle.view_lookup.proofs.PathFronts.{BeginsName, names_before}
 use Rattle.view_lookup.proofs.seen.at.Given as goal
 

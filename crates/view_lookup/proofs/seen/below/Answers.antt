@@ -5,10 +5,10 @@ use Rattle.std.proofs.lemmas.Bool.{le-leb}
 use Rattle.cc_names.specs.Paths.{names_of}
 use Rattle.cc_names.proofs.PathParts.{joined-names_of}
 use Rattle.cc_names.specs.declared.selection.Seen.TheVariants.{Nothing}
-use Rattle.legal_history.specs.Base.Catalogs.{Catalog, named}
-use Rattle.legal_history.specs.Base.Rows.{Base}
-use Rattle.legal_history.specs.Base.Seen.{below, element_at, path_limit, private_or, unless_long}
-use Rattle.legal_history.specs.Base.Views.{private}
+use Rattle.base_model.specs.Catalogs.{Catalog, named}
+use Rattle.base_model.specs.Rows.{Base}
+use Rattle.base_model.specs.Seen.{below, element_at, path_limit, private_or, unless_long}
+use Rattle.base_model.specs.Views.{private}
 use Rattle.view_lookup.proofs.seen.below.Goals as goal
 
 below_short : (b : Base) (v path name : List ℕ) (entries : Catalog) → length path ≤ path_limit → below b v (names_of path) name (Some entries) ≡ private_or (private b v path) (element_at b v (names_of path) (named name entries))

@@ -1,10 +1,9 @@
 -- The rows from where a link skips to are the last ones of those from the link on.
-use Rattle.std.proofs.Common.{get_or, length, reverse, None}
+use Rattle.std.proofs.Common.{get_or, length, reverse, None, refl}
 use Rattle.view_lookup.specs.Marked.{LeadsOn, rows_from}
 use Rattle.view_lookup.specs.declared.marks.Link.{Link}
 use Rattle.view_lookup.proofs.FurtherBack.{end_of, link_in, next_end, sooner}
 use Rattle.view_lookup.proofs.skips.skip_at.Goals as goal
-use Rattle.std.proofs.Common.{refl}
 
 pub returns : goal.returns
 returns c =

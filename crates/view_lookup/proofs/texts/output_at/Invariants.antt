@@ -1,5 +1,5 @@
 use Rattle.std.proofs.Common.{◌≡◌, drop}
-use Rattle.legal_history.specs.Base.Texts.{output_at}
+use Rattle.base_model.specs.Texts.{output_at}
 use Rattle.view_lookup.proofs.texts.output_at.Given as goal
 
 abbrev pub invariant-loop-index : goal.invariant-loop-index

@@ -1,9 +1,9 @@
 -- The row that the number names, where there is one, has the text, or an older row has.
 use Rattle.std.proofs.Common.{◌≡◌, None, sym, ap, ◌∙◌, arith, rules}
 use Rattle.std.specs.Option.{option_copied}
-use Rattle.legal_history.specs.Base.Rows.{Base, first_rows, row_at, size}
-use Rattle.legal_history.specs.Base.Texts.{source_of, text}
-use Rattle.legal_history.proofs.Bases.Stay.{all_rows}
+use Rattle.base_model.specs.Rows.{Base, first_rows, row_at, size}
+use Rattle.base_model.specs.Texts.{source_of, text}
+use Rattle.base_model.proofs.Stay.{all_rows}
 use Rattle.view_lookup.specs.Made.{plain_source}
 use Rattle.view_lookup.proofs.TextRows.{below_shorter, text_by, text_of_row, text_told}
 use Rattle.view_lookup.proofs.texts.text_of.Goals as goal

@@ -1,5 +1,5 @@
 use Rattle.std.proofs.Common.{◌≡◌, length}
-use Rattle.legal_history.specs.Base.Texts.{text}
+use Rattle.base_model.specs.Texts.{text}
 use Rattle.view_lookup.proofs.texts.text_of.Given as goal
 
 -- the text is that of a row among fewer rows

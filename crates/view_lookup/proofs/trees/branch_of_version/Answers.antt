@@ -3,7 +3,7 @@ use Rattle.std.proofs.Common.{◌<◌, ◌≤◌, sym, ap, ◌∙◌, arith}
 use Rattle.std.specs.Prelude.{option_map}
 use Rattle.cc_names.specs.Branches.{branch_of_version}
 use Rattle.cc_names.specs.Versions.{branch_of_change}
-use Rattle.legal_history.specs.Base.Rows.{size}
+use Rattle.base_model.specs.Rows.{size}
 use Rattle.view_lookup.proofs.FirstTrees.{change_of_first, none_behind}
 use Rattle.view_lookup.proofs.trees.branch_of_version.Goals as goal
 

@@ -2,7 +2,7 @@
 use Rattle.std.proofs.Common.{◌<◌, ◌≤◌, sym, ap, ◌∙◌, arith}
 use Rattle.std.specs.Prelude.{option_and_then}
 use Rattle.cc_names.specs.Branches.{origin_by, origin_of}
-use Rattle.legal_history.specs.Base.Rows.{size}
+use Rattle.base_model.specs.Rows.{size}
 use Rattle.view_lookup.proofs.FirstTrees.{change_of_first, none_behind}
 use Rattle.view_lookup.proofs.trees.origin_of.Goals as goal
 

@@ -1,7 +1,7 @@
 -- The rules that the row gave by which the view has its config spec.
 use Rattle.std.proofs.Common.{ap, ◌∙◌}
 use Rattle.std.specs.Option.{option_and_then, option_copied}
-use Rattle.legal_history.specs.Base.Rows.{deed_at}
+use Rattle.base_model.specs.Rows.{deed_at}
 use Rattle.view_lookup.specs.SetSpecs.{or_no_rules, rules_set}
 use Rattle.view_lookup.proofs.SpecsSet.{view_rules}
 use Rattle.view_lookup.proofs.view_specs.rules.Goals as goal

@@ -2,7 +2,7 @@
 use Rattle.std.proofs.Common.{sym, ap, ◌∙◌}
 use Rattle.std.specs.Option.{option_copied}
 use Rattle.std.specs.Prelude.{option_and_then}
-use Rattle.legal_history.specs.Base.Rows.{deed_of}
+use Rattle.base_model.specs.Rows.{deed_of}
 use Rattle.view_lookup.specs.Made.{spec_made}
 use Rattle.view_lookup.proofs.SpecRows.{spec_at, text_by_row}
 use Rattle.view_lookup.proofs.view_specs.spec_text.Goals as goal

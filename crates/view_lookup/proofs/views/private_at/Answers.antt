@@ -1,7 +1,7 @@
 -- The newest row of the file, unless the view's life began or ended behind it.
 use Rattle.std.proofs.Common.{sym, ap, ◌∙◌}
-use Rattle.legal_history.specs.Base.Rows.{size}
-use Rattle.legal_history.specs.Base.Views.{private_effect}
+use Rattle.base_model.specs.Rows.{size}
+use Rattle.base_model.specs.Views.{private_effect}
 use Rattle.view_lookup.specs.Effects.{end_effect, file_effect}
 use Rattle.view_lookup.specs.Lifetimes.{within}
 use Rattle.view_lookup.specs.LookUps.{newest}

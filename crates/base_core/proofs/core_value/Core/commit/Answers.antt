@@ -6,7 +6,7 @@ use Rattle.cc_names.specs.declared.replies.Reply.TheVariants as replies
 use Rattle.cc_names.specs.declared.steps.Step.TheVariants as steps
 use Rattle.cc_names.specs.declared.steps.StoryStep.{StoryStep}
 use Rattle.cc_names.specs.declared.steps.StoryStep.TheVariants as story_steps
-use Rattle.legal_history.specs.Base.Fits.{fits}
+use Rattle.base_model.specs.Fits.{fits}
 use Rattle.legal_history.specs.Commands.Decisions.{Makes}
 use Rattle.legal_history.specs.Stories.States.{decided}
 use Rattle.legal_history.specs.Stories.Steps.{state_of}

@@ -1,6 +1,6 @@
 -- what a unit's run gave is published
 use Rattle.std.proofs.Common.{ap, ◌∙◌}
-use Rattle.legal_history.specs.Base.Rows.{size}
+use Rattle.base_model.specs.Rows.{size}
 use Rattle.base_core.specs.Calls.BuildCalls.{Published}
 use Rattle.base_core.proofs.core_value.Core.publish.Goals as goal
 

@@ -1,7 +1,7 @@
 -- One name more is among those of the set.
 use Rattle.std.proofs.Common.{ℕ, List, ◌||◌, Option, ap, sym, ◌∙◌, bytes_eq, Bor}
 use Rattle.std.specs.Option.{option_copied}
-use Rattle.legal_history.specs.Base.Closures.{is_among}
+use Rattle.base_model.specs.Closures.{is_among}
 use Rattle.cleartool.specs.Owned.{is_name}
 use Rattle.cleartool.proofs.PathSets.{one_inserted}
 use Rattle.cleartool.proofs.sets.given_names.add_name.Goals as goal

@@ -1,7 +1,7 @@
 -- One path after the other is added.
 use Rattle.std.proofs.Common.{ℕ, ◌+◌, ◌||◌, List, drop, ap, sym, ◌∙◌, bytes_eq}
 use Rattle.std.proofs.lemmas.List.{at_drop_all, at_drop_more}
-use Rattle.legal_history.specs.Base.Closures.{is_among}
+use Rattle.base_model.specs.Closures.{is_among}
 use Rattle.cleartool.proofs.PathSets.{moved_over, one_inserted}
 use Rattle.cleartool.proofs.sets.owned_paths.add_all.Goals as goal
 

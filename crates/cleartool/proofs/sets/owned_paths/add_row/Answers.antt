@@ -1,7 +1,7 @@
 -- Each path of the row lies below the root.
 use Rattle.std.proofs.Common.{ap, ◌∙◌}
 use Rattle.cc_names.specs.Formed.{IsBelowRoot}
-use Rattle.legal_history.specs.Base.Closures.{is_among}
+use Rattle.base_model.specs.Closures.{is_among}
 use Rattle.cleartool.proofs.PathSets.{all_among}
 use Rattle.cleartool.proofs.sets.owned_paths.add_row.Goals as goal
 

@@ -1,7 +1,7 @@
 use Rattle.std.proofs.Common.{◌≡◌, ◌||◌, ℕ, true, false, List, drop}
 use Rattle.std.specs.List.{list_any}
 use Rattle.cc_names.specs.Formed.{IsBelowRoot}
-use Rattle.legal_history.specs.Base.Closures.{is_among}
+use Rattle.base_model.specs.Closures.{is_among}
 use Rattle.cleartool.specs.Owned.{is_given_by}
 use Rattle.cleartool.proofs.sets.owned_paths.paths_owned.Given as goal
 

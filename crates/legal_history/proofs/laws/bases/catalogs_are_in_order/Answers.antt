@@ -1,5 +1,5 @@
 use Rattle.legal_history.proofs.laws.bases.catalogs_are_in_order.Goals as goal
-use Rattle.legal_history.proofs.Bases.CatalogsInOrder.{version_in_order, checkout_in_order}
+use Rattle.base_model.proofs.CatalogsInOrder.{version_in_order, checkout_in_order}
 
 pub returns-clause-versions : goal.returns-clause-versions
 returns-clause-versions c = version_in_order

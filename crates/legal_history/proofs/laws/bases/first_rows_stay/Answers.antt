@@ -1,5 +1,5 @@
 use Rattle.legal_history.proofs.laws.bases.first_rows_stay.Goals as goal
-use Rattle.legal_history.proofs.Bases.Stay.{first_rows_stay_all, row_stays_all, text_stays_all, catalog_stays_all}
+use Rattle.base_model.proofs.Stay.{first_rows_stay_all, row_stays_all, text_stays_all, catalog_stays_all}
 
 pub returns-clause-rows : goal.returns-clause-rows
 returns-clause-rows c = first_rows_stay_all

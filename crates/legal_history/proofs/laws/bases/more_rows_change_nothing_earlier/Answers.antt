@@ -1,5 +1,5 @@
 use Rattle.legal_history.proofs.laws.bases.more_rows_change_nothing_earlier.Goals as goal
-use Rattle.legal_history.proofs.Bases.FirstRowsStay.{say_the_same}
+use Rattle.base_model.proofs.FirstRowsStay.{say_the_same}
 
 pub returns : goal.returns
 returns c = say_the_same

@@ -1,6 +1,6 @@
 use Rattle.legal_history.proofs.laws.bases.references_are_counted_by_views.Goals as goal
-use Rattle.legal_history.proofs.Bases.CountedViews.{among_holding, counted_by_views, views_once}
-use Rattle.legal_history.proofs.Bases.HeldObjects.{held_in_order, none_counted, zero_counted}
+use Rattle.base_model.proofs.CountedViews.{among_holding, counted_by_views, views_once}
+use Rattle.base_model.proofs.HeldObjects.{held_in_order, none_counted, zero_counted}
 
 pub returns-clause-order : goal.returns-clause-order
 returns-clause-order c = held_in_order

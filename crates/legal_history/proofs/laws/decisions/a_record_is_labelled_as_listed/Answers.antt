@@ -1,5 +1,5 @@
 use Rattle.legal_history.proofs.laws.decisions.a_record_is_labelled_as_listed.Goals as goal
-use Rattle.legal_history.proofs.Bases.RecordLabels.{labels_exactly, labels_in_order, labels_selected, labels_versions}
+use Rattle.legal_history.proofs.Decisions.RecordLabels.{labels_exactly, labels_in_order, labels_selected, labels_versions}
 
 pub returns-clause-exactly : goal.returns-clause-exactly
 returns-clause-exactly c = labels_exactly

@@ -3,7 +3,7 @@ use Rattle.std.proofs.Common.{◌≡◌, true, ◌∷◌, [], ◌++◌, length, 
 use Rattle.std.specs.Option.{option_to_list}
 use Rattle.cc_names.specs.declared.steps.Step.TheVariants as steps
 use Rattle.disk_model.specs.Told.{IfTold}
-use Rattle.legal_history.specs.Base.Fits.{fits}
+use Rattle.base_model.specs.Fits.{fits}
 use Rattle.vob_journal.specs.Lefts.{loose_after}
 use Rattle.story_log.specs.Logging.Appending.{IsCommitted, IsFaulted}
 use Rattle.story_log.specs.Logging.Leaving.{left_in, LeftSo}

@@ -2,7 +2,7 @@
 use Rattle.std.proofs.Common.{◌≡◌, [], ◌∷◌, ◌++◌, List, ap, ◌∙◌, rules}
 use Rattle.cc_names.specs.declared.steps.Step.{Step}
 use Rattle.cc_names.specs.declared.steps.Step.TheVariants as steps
-use Rattle.legal_history.specs.Base.Rows.{size}
+use Rattle.base_model.specs.Rows.{size}
 use Rattle.story_log.specs.Story.Handed.{handed_in}
 use Rattle.story_log.proofs.Bases.OpeningStep.{opened_logged, opened_shown}
 use Rattle.story_log.proofs.logs.Log.open.Goals as goal

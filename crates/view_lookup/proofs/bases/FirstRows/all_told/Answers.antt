@@ -2,7 +2,7 @@
 use Rattle.std.proofs.Common.{◌≡◌, ℕ, suc, ◌<◌, ◌++◌, nat_eq, List, append-nil, length, get_or, min, take, reverse, Option, None, IfSome, sym, ap, ap₂, subst, ◌∙◌, arith, rules}
 use Rattle.std.specs.HashMap.{get}
 use Rattle.std.proofs.lemmas.List.{length-take-le}
-use Rattle.legal_history.specs.Base.Rows.{Base, first_rows, size}
+use Rattle.base_model.specs.Rows.{Base, first_rows, size}
 use Rattle.view_lookup.specs.LookUps.{told_at}
 use Rattle.view_lookup.specs.Marked.{rows_from, marked}
 use Rattle.view_lookup.specs.Shown.{Shown}

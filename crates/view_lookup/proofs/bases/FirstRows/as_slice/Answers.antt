@@ -1,7 +1,7 @@
 -- The first rows stand first in the list of all.
 use Rattle.std.proofs.Common.{suc, reverse, take, ap, sym, ◌∙◌}
 use Rattle.std.proofs.lemmas.List.{reverse-reverse}
-use Rattle.legal_history.specs.Base.Rows.{Base, first_rows}
+use Rattle.base_model.specs.Rows.{Base, first_rows}
 use Rattle.view_lookup.specs.Shown.{Shown}
 use Rattle.view_lookup.proofs.Fronts.{first_of_slice}
 use Rattle.view_lookup.proofs.bases.FirstRows.as_slice.Goals as goal

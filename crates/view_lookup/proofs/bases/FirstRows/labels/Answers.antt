@@ -2,9 +2,9 @@
 use Rattle.std.proofs.Common.{◌≡◌, suc, List, reverse, ap, sym, ◌∙◌}
 use Rattle.cc_names.specs.Labels.{holder, labels_of_first_rows}
 use Rattle.cc_names.specs.declared.changes.LabelChange.{LabelChange}
-use Rattle.legal_history.specs.Base.Changes.{labels}
-use Rattle.legal_history.specs.Base.Rows.{Base, first_rows, size}
-use Rattle.legal_history.proofs.Bases.TreesStay.{labels_of_first}
+use Rattle.base_model.specs.Changes.{labels}
+use Rattle.base_model.specs.Rows.{Base, first_rows, size}
+use Rattle.base_model.proofs.TreesStay.{labels_of_first}
 use Rattle.view_lookup.specs.Shown.{Shown}
 use Rattle.view_lookup.proofs.Fronts.{size_of_first}
 use Rattle.view_lookup.proofs.Labellings.{holder_kept}

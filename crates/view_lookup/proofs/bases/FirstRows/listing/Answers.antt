@@ -2,8 +2,8 @@
 use Rattle.std.proofs.Common.{◌≡◌, ◌<◌, ◌≤◌, suc, reverse, ap, sym, ◌∙◌, arith}
 use Rattle.std.specs.FinMap.Entries.{find}
 use Rattle.std.specs.Ordering.{nat_cmp}
-use Rattle.legal_history.specs.Base.Closures.{listing}
-use Rattle.legal_history.specs.Base.Rows.{Base, first_rows, size}
+use Rattle.base_model.specs.Closures.{listing}
+use Rattle.base_model.specs.Rows.{Base, first_rows, size}
 use Rattle.view_lookup.specs.Listings.{version_in, versions_of}
 use Rattle.view_lookup.specs.Shown.{Shown}
 use Rattle.view_lookup.proofs.Fronts.{size_of_first}

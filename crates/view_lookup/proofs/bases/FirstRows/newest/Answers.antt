@@ -3,7 +3,7 @@ use Rattle.std.proofs.Common.{◌≡◌, ℕ, suc, ◌<◌, ◌≤◌, nat_eq, L
 use Rattle.std.specs.HashMap.{get}
 use Rattle.std.specs.Option.{option_or}
 use Rattle.std.proofs.lemmas.List.{length-take-le}
-use Rattle.legal_history.specs.Base.Rows.{Base, first_rows}
+use Rattle.base_model.specs.Rows.{Base, first_rows}
 use Rattle.view_lookup.specs.LookUps.{told_at, first_told, newest}
 use Rattle.view_lookup.specs.Indexed.{IsIndexed}
 use Rattle.view_lookup.specs.Marked.{AreLinked, Sink, rows_from, marked}

@@ -1,6 +1,6 @@
 -- What is kept of as many rows is of these.
 use Rattle.std.proofs.Common.{◌≡◌, suc, reverse, ap, sym, ◌∙◌}
-use Rattle.legal_history.specs.Base.Rows.{Base, first_rows, size}
+use Rattle.base_model.specs.Rows.{Base, first_rows, size}
 use Rattle.view_lookup.specs.Shown.{Shown}
 use Rattle.view_lookup.proofs.FilesSeen.{row_seen}
 use Rattle.view_lookup.proofs.Fronts.{size_of_first}

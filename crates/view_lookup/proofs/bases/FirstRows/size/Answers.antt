@@ -1,7 +1,7 @@
 -- There are fewer than the limit of rows.
 use Rattle.std.proofs.Common.{◌≡◌, ◌+◌, ◌<◌, suc, length, ap, sym, ◌∙◌, arith}
-use Rattle.legal_history.specs.Base.Rows.{Base, first_rows, size}
-use Rattle.legal_history.specs.Base.Fits.{row_limit}
+use Rattle.base_model.specs.Rows.{Base, first_rows, size}
+use Rattle.base_model.specs.Fits.{row_limit}
 use Rattle.view_lookup.proofs.Fronts.{base_short, size_of_first}
 use Rattle.view_lookup.proofs.bases.FirstRows.size.Goals as goal
 

@@ -2,7 +2,7 @@
 use Rattle.std.proofs.Common.{◌≡◌, ◌<◌, ◌≤◌, suc, List, map, reverse, ap, sym, subst, ◌∙◌, arith}
 use Rattle.std.specs.Option.{option_and_then}
 use Rattle.cc_names.specs.Falling.{Falls}
-use Rattle.legal_history.specs.Base.Rows.{Base, deed_at, deed_of, first_rows, size}
+use Rattle.base_model.specs.Rows.{Base, deed_at, deed_of, first_rows, size}
 use Rattle.view_lookup.specs.SetSpecs.{row_of_parsed, rules_at, rules_set, specs_set}
 use Rattle.view_lookup.specs.Shown.{Shown}
 use Rattle.view_lookup.specs.declared.view_specs.Parsed.{Parsed}

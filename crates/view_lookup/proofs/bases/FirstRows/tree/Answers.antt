@@ -1,9 +1,9 @@
 -- The changes of all rows are kept, and those of the first ones are theirs.
 use Rattle.std.proofs.Common.{◌≡◌, suc, reverse, ap, sym, ◌∙◌, arith}
 use Rattle.cc_names.specs.Versions.{of_first_rows}
-use Rattle.legal_history.specs.Base.Changes.{tree}
-use Rattle.legal_history.specs.Base.Rows.{Base, first_rows, size}
-use Rattle.legal_history.proofs.Bases.TreesStay.{tree_of_first_rows}
+use Rattle.base_model.specs.Changes.{tree}
+use Rattle.base_model.specs.Rows.{Base, first_rows, size}
+use Rattle.base_model.proofs.TreesStay.{tree_of_first_rows}
 use Rattle.view_lookup.specs.Shown.{Shown}
 use Rattle.view_lookup.proofs.Fronts.{size_of_first}
 use Rattle.view_lookup.proofs.bases.FirstRows.tree.Goals as goal

@@ -1,8 +1,8 @@
 -- Where a version of the first rows stands it stands among all; a row behind them made none of theirs.
 use Rattle.std.proofs.Common.{◌≡◌, ◌<◌, ◌≤◌, suc, reverse, ap, sym, ◌∙◌, arith}
 use Rattle.cc_names.specs.Versions.{version_id}
-use Rattle.legal_history.specs.Base.Changes.{tree}
-use Rattle.legal_history.specs.Base.Rows.{Base, first_rows, size}
+use Rattle.base_model.specs.Changes.{tree}
+use Rattle.base_model.specs.Rows.{Base, first_rows, size}
 use Rattle.view_lookup.specs.Shown.{Shown}
 use Rattle.view_lookup.proofs.Fronts.{size_of_first}
 use Rattle.view_lookup.proofs.ListingsStay.{no_version_id, version_id_of_first}

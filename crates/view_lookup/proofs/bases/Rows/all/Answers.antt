@@ -2,8 +2,8 @@
 use Rattle.std.proofs.Common.{◌≡◌, suc, true, length, reverse, ap, subst, sym, arith}
 use Rattle.std.proofs.lemmas.Grind.{common_steps}
 use Rattle.std.proofs.lemmas.List.{length-reverse}
-use Rattle.legal_history.specs.Base.Fits.{is_base}
-use Rattle.legal_history.proofs.Bases.Stay.{all_rows}
+use Rattle.base_model.specs.Fits.{is_base}
+use Rattle.base_model.proofs.Stay.{all_rows}
 use Rattle.view_lookup.specs.Front.{IsFront}
 use Rattle.view_lookup.specs.Shown.{Shown}
 use Rattle.view_lookup.proofs.Fronts.{all_front}

@@ -5,7 +5,7 @@ use Rattle.std.specs.Map.{lookup}
 use Rattle.std.specs.Str.{bytes_eq}
 use Rattle.std.specs.Ordering.{nat_cmp}
 use Rattle.cc_names.specs.Formed.{Plain}
-use Rattle.legal_history.specs.Base.Closures.{listing}
+use Rattle.base_model.specs.Closures.{listing}
 use Rattle.view_lookup.specs.Listings.{version_in, versions_of}
 use Rattle.view_lookup.proofs.bases.Rows.new.Goals as goal
 

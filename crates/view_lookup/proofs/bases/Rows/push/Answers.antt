@@ -10,9 +10,9 @@ use Rattle.cc_names.specs.declared.changes.LabelChange.{LabelChange}
 use Rattle.cc_names.specs.declared.changes.TreeChange.{TreeChange}
 use Rattle.cc_names.specs.declared.rows.Deed.{Deed}
 use Rattle.label_book.specs.Marks.{rows_of_pair}
-use Rattle.legal_history.specs.Base.Changes.{labels, labels_after, tree}
-use Rattle.legal_history.specs.Base.Fits.{deed_fits, fits, is_base, row_limit}
-use Rattle.legal_history.specs.Base.Rows.{Base, size}
+use Rattle.base_model.specs.Changes.{labels, labels_after, tree}
+use Rattle.base_model.specs.Fits.{deed_fits, fits, is_base, row_limit}
+use Rattle.base_model.specs.Rows.{Base, size}
 use Rattle.view_lookup.specs.Growing.{HasPlace, change_of, tree_change, with_change}
 use Rattle.view_lookup.specs.Labelling.{AreLabels, HasLabelRoom}
 use Rattle.view_lookup.specs.Listings.{AreListings, HasListing, Versions, listing_made, version_in, versions_of, with_listing}
@@ -21,7 +21,7 @@ use Rattle.view_lookup.specs.SeenFiles.{AreSeenByViews}
 use Rattle.view_lookup.specs.SetSpecs.{rules_set, specs_set, with_spec}
 use Rattle.view_lookup.specs.Shown.{Shown}
 use Rattle.view_lookup.specs.Subjects.{keys_of}
-use Rattle.legal_history.proofs.Bases.Owned.{and_second}
+use Rattle.base_model.proofs.Owned.{and_second}
 use Rattle.view_lookup.proofs.FilesSeen.{seen_more}
 use Rattle.view_lookup.proofs.Growths.{above_tree, tree_by_change}
 use Rattle.view_lookup.proofs.Labellings.{above_labels, after_same, same_twice}

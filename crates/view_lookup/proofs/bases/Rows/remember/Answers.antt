@@ -1,7 +1,7 @@
 -- What is kept of the view, before and behind, is what it sees in the first rows.
 use Rattle.std.proofs.Common.{◌≡◌, reverse, ap, sym, subst, ◌∙◌}
 use Rattle.std.specs.Prelude.{IfSome}
-use Rattle.legal_history.specs.Base.Rows.{Base, first_rows}
+use Rattle.base_model.specs.Rows.{Base, first_rows}
 use Rattle.view_lookup.specs.SeenFiles.{IsSeenIn}
 use Rattle.view_lookup.proofs.FilesSeen.{made_in, seen_in_each}
 use Rattle.view_lookup.proofs.bases.Rows.remember.Goals as goal

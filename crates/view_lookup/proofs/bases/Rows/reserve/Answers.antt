@@ -2,7 +2,7 @@
 use Rattle.std.proofs.Common.{◌≡◌, ◌≤◌, subst, sym, ◌∙◌}
 use Rattle.cc_names.specs.declared.rows.Deed.{Deed}
 use Rattle.label_book.specs.Marks.{Marks}
-use Rattle.legal_history.specs.Base.Rows.{Base}
+use Rattle.base_model.specs.Rows.{Base}
 use Rattle.view_lookup.specs.Growing.{HasPlace, tree_change}
 use Rattle.view_lookup.specs.Labelling.{HasLabelRoom}
 use Rattle.view_lookup.specs.Shown.{HasTreeRoom, Shown}

@@ -2,8 +2,8 @@
 use Rattle.std.proofs.Common.{◌≡◌, ℕ, List, refl, sym, ap, ◌∙◌}
 use Rattle.cc_names.specs.declared.rows.Deed.{Deed}
 use Rattle.cc_names.specs.declared.rows.Deed.TheVariants as deeds
-use Rattle.legal_history.specs.Base.Rows.{Base, size}
-use Rattle.legal_history.specs.Base.Views.{made_out, set_by}
+use Rattle.base_model.specs.Rows.{Base, size}
+use Rattle.base_model.specs.Views.{made_out, set_by}
 use Rattle.view_lookup.specs.Effects.{kept_checkout, map_effect, taken_effect}
 use Rattle.view_lookup.proofs.desks.TakenOfLookUp.effect.Goals as goal
 

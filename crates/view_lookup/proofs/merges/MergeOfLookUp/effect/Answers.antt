@@ -3,8 +3,8 @@ use Rattle.std.proofs.Common.{◌≡◌, ℕ, false, sym, refl, ap}
 use Rattle.cc_names.specs.Last.{Sets, only_if}
 use Rattle.cc_names.specs.declared.rows.Deed.{Deed}
 use Rattle.cc_names.specs.declared.rows.Deed.TheVariants as deeds
-use Rattle.legal_history.specs.Base.Conditions.{is_arrow}
-use Rattle.legal_history.specs.Base.Rows.{size}
+use Rattle.base_model.specs.Conditions.{is_arrow}
+use Rattle.base_model.specs.Rows.{size}
 use Rattle.view_lookup.proofs.merges.MergeOfLookUp.effect.Goals as goal
 
 no_arrow : (e tail head : ℕ) (deed : Deed) → ((f one two : ℕ) → deed ≡ deeds.Arrow f one two → ⊥) → is_arrow e tail head deed ≡ false
