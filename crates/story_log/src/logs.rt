@@ -18,7 +18,7 @@ use row_form::spell;
 use session_text::PhaseText;
 use std::alloc::Global;
 use std::marker::Model;
-use view_lookup::{FirstRows, Rows};
+use view_lookup::{FirstRows, Rows, prepare};
 use vob_journal::{Frame, Journal, Left};
 
 /// What became of a row that was to be committed.
@@ -204,14 +204,15 @@ impl<D: Disk> Log<D> {
     {
         let frame = frame_of(alloc, &row)?;
         let earlier = copy_left(alloc, self.steps.as_slice())?;
-        self.rows.reserve(row.deed())?;
+        let prepared = prepare(alloc, &self.rows, row.deed())?;
+        self.rows.reserve(row.deed(), &prepared)?;
         self.steps.reserve(2)?;
         let tag = row.tag();
         let number = self.rows.all().size();
         let before = self.journal.counts().faults;
         if let Ok(tick) = self.journal.append(&frame) {
             self.steps.push_reserved(Step::Commit { tag, number, tick });
-            self.rows.push(row);
+            self.rows.push(row, prepared);
             return Ok(Appended::Committed);
         }
         let counts = self.journal.counts();

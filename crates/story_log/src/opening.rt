@@ -16,7 +16,7 @@ use disk_model::Disk;
 use row_form::read;
 use std::alloc::Global;
 use std::hash::RandomState;
-use view_lookup::{FirstRows, Rows, fits};
+use view_lookup::{FirstRows, Rows, fits, prepare};
 use vob_journal::Journal;
 
 /// Why a base cannot be opened.
@@ -113,12 +113,13 @@ fn read_row<D: Disk>(
 }
 
 /// Adds a row that fits. Fails only where memory runs out.
-fn add_row(rows: &mut Rows, row: Row) -> Result<(), NoMemory>
+fn add_row(alloc: Global, rows: &mut Rows, row: Row) -> Result<(), NoMemory>
     requires { fits rows.old.base row.deed ≡ true }
     ensures { OnOk result (rows.new.base ≡ row ∷ rows.old.base) }
 {
-    rows.reserve(row.deed())?;
-    rows.push(row);
+    let prepared = prepare(alloc, rows, row.deed())?;
+    rows.reserve(row.deed(), &prepared)?;
+    rows.push(row, prepared);
     Ok(())
 }
 
@@ -144,7 +145,7 @@ fn read_rows<D: Disk>(
     'frames: loop {
         match read_row(alloc, hashing, journal, &rows.all()) {
             Ok(Some(row)) => {
-                if add_row(&mut rows, row).is_err() {
+                if add_row(alloc, &mut rows, row).is_err() {
                     return Err(OpenCause::NoMemory);
                 }
             }

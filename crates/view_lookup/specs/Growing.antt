@@ -34,7 +34,7 @@ with_change (Some change) changes = change ∷ changes
 abbrev pub change_of : ℕ → ℕ → Growth → Option TreeChange
 change_of n moment Same = None
 change_of n moment (Element kind) = Some (ElementMade n moment kind)
-change_of n moment (Branch e origin name) = Some (BranchMade n moment e origin name.now)
+change_of n moment (Branch e origin name) = Some (BranchMade n moment e origin name)
 change_of n moment (Version branch) = Some (VersionMade n moment branch)
 
 -- a version is made on a branch that there is
@@ -42,9 +42,9 @@ abbrev pub IsRooted : List TreeChange → Growth → Type 0
 IsRooted changes (Version branch) = IsSome (latest changes branch None)
 IsRooted changes growth = Unit {0}
 
--- There is room for a change: the name of a branch is kept, and the branch of a version has room for it.
-abbrev pub HasPlace : Forest → Option (List ℕ) → Option TreeChange → Type 0
-HasPlace trees name None = Unit {0}
-HasPlace trees name (Some (ElementMade n moment kind)) = 0 < trees.room
-HasPlace trees name (Some (BranchMade n moment e origin own)) = (0 < trees.room) × (name ≡ Some own)
-HasPlace trees name (Some (VersionMade n moment branch)) = (0 < trees.room) × IsTrue (has_room trees branch)
+-- There is room for what a row adds: the branch of a version has room for it.
+abbrev pub HasPlace : Forest → Growth → Type 0
+HasPlace trees Same = Unit {0}
+HasPlace trees (Element kind) = 0 < trees.room
+HasPlace trees (Branch e origin name) = 0 < trees.room
+HasPlace trees (Version branch) = (0 < trees.room) × IsTrue (has_room trees branch)

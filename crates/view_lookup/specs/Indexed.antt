@@ -18,14 +18,10 @@ shown_of inside = record {
   base = reverse inside.rows.items;
   room = min (vec_capacity inside.rows - vec_len inside.rows) (min (vec_capacity inside.links - vec_len inside.links) (spare inside.newest));
   trees = inside.tree;
-  name = inside.name;
   labels = inside.labels;
-  spec = inside.spec;
   spec_room = vec_capacity inside.specs - vec_len inside.specs;
-  listing = versions_of inside.listing;
   listing_room = spare inside.listings;
   hashing = inside.hashing;
-  keys = inside.keys.items;
 }
 
 -- The rows are a base, the links with the newest row of each key are its marks, the changes of the

@@ -23,6 +23,7 @@ pub mod Picking
 pub mod Reservations
 pub mod SeenFiles
 pub mod Pool
+pub mod Preparing
 pub mod SetSpecs
 pub mod Shown
 pub mod Subjects

@@ -10,24 +10,23 @@ ghost use Rattle.base_model.specs.Closures.{listing};
 ghost use Rattle.base_model.specs.Rows.{deed_at, first_rows, row_at, size};
 ghost use Rattle.base_model.specs.Seen.{file_at};
 ghost use Rattle.base_model.specs.Fits.{fits, is_base, row_limit};
-ghost use Rattle.view_lookup.specs.Labelling.{HasLabelRoom};
-ghost use Rattle.view_lookup.specs.Listings.{HasListing, listing_made, versions_of};
+ghost use Rattle.view_lookup.specs.Listings.{HasListing, versions_of};
 ghost use Rattle.view_lookup.specs.LookUps.{last_of, newest, oldest};
 ghost use Rattle.view_lookup.specs.Order.{oldest_first};
-ghost use Rattle.view_lookup.specs.SetSpecs.{rules_set, rules_set_if_short};
-ghost use Rattle.view_lookup.specs.Shown.{HasRoom, HasTreeRoom};
-ghost use Rattle.view_lookup.specs.Subjects.{borne, keys_of};
+ghost use Rattle.view_lookup.specs.Preparing.{IsPrepared};
+ghost use Rattle.view_lookup.specs.SetSpecs.{rules_set};
+ghost use Rattle.view_lookup.specs.Shown.{HasRoom};
 ghost use Rattle.view_lookup.specs.Walks.{all_told};
 
-use crate::growth::{grow, growth_of, reserve_growth};
+use crate::growth::{grow, reserve_growth};
 use crate::labels::{relabel, reserve_labels};
-use crate::listings::{Versions, keep_listing, listing_made};
+use crate::listings::{Versions, keep_listing};
 use crate::look_ups::{LookUp, left_by, set_at, told_at};
-use crate::marks::{Link, mark_keys};
-use crate::row_keys::keys_of;
+use crate::marks::{Link, mark_keys, reserve_marks};
+use crate::prepared::Prepared;
 use crate::seen_files::{Views, put_seen, see_ahead, take_seen};
 use crate::skips::first_below;
-use crate::view_specs::{Parsed, keep_spec, read_given, spec_of};
+use crate::view_specs::{Parsed, keep_spec, spec_of};
 use crate::walks::add_told;
 use cc_names::changes::VersionId;
 use cc_names::memory::NoMemory;
@@ -53,16 +52,8 @@ pub struct Rows {
     newest: HashMap<u64, usize>,
     tree: Tree,
     labels: Book,
-    // The name of a branch, copied before the branch is made.
-    name: Option<Name>,
     specs: Vec<Parsed>,
-    // A config spec, read before the row is added that gives it to its view.
-    spec: Option<Rules>,
     listings: HashMap<u64, Versions>,
-    // What the record of an object lists, before its row is added.
-    listing: Option<Versions>,
-    // The keys for which a row is marked, before it is added.
-    keys: Vec<u64>,
     // Files that views were seen to have in some first rows.
     seen: Views,
 }
@@ -94,133 +85,56 @@ impl Rows {
             newest: HashMap::new(alloc),
             tree,
             labels,
-            name: None,
             specs: Vec::new(alloc),
-            spec: None,
             listings: HashMap::new(alloc),
-            listing: None,
-            keys: Vec::new(alloc),
             seen: HashMap::with_hasher(alloc, hashing),
         })
     }
 
-    /// Makes room for one more row of this deed. Takes time linear in what the deed names, for each label that it changes on an
-    /// element the time to find the label there and, where it is new there, to copy its name, for a config spec the time to read
-    /// it, for each entry of a record time linear in what it stands for, times logarithmic in what the record lists, for each row
-    /// that changed names in a checkout that ends the time of some look-ups, and time logarithmic in the branches; a list that is
-    /// full is doubled, in time linear in it.
-    pub fn reserve(&mut self, deed: &Deed) -> Result<(), NoMemory>
-        ensures same { self.new.base ≡ self.old.base }
-        ensures room { OnOk result (HasRoom self.new deed.now) }
+    /// By which hashing names are found. Takes constant time.
+    pub fn hashing(&self) -> RandomState
+        ensures { result ≡ self.now.hashing }
     {
-        self.reserve_trees(deed)?;
-        self.reserve_labels(deed)?;
-        self.reserve_spec(deed)?;
-        self.reserve_listing(deed)?;
-        self.reserve_marks(deed)?;
-        Ok(())
+        self.hashing
     }
 
-    // Makes room for what the row adds to the trees.
-    fn reserve_trees(&mut self, deed: &Deed) -> Result<(), NoMemory>
+    /// Makes room for one more row of this deed, for which this is at hand. Takes for each label that it changes on an element the
+    /// time to find the label there and, where it is new there, to copy its name, and time logarithmic in the branches; a list
+    /// that is full is doubled, in time linear in it.
+    pub fn reserve(&mut self, deed: &Deed, prepared: &Prepared) -> Result<(), NoMemory>
+        requires { IsPrepared prepared.now self.old.hashing self.old.base deed.now }
         ensures same { self.new.base ≡ self.old.base }
-        ensures trees { OnOk result (HasTreeRoom self.new deed.now) }
+        ensures room { OnOk result (HasRoom self.new deed.now prepared.now) }
     {
-        let growth = growth_of(&self.all(), deed);
-        self.name = reserve_growth(self.alloc, &mut self.tree, growth)?;
-        Ok(())
-    }
-
-    // Makes room for what the row changes of labels.
-    fn reserve_labels(&mut self, deed: &Deed) -> Result<(), NoMemory>
-        ensures same { self.new.base ≡ self.old.base }
-        ensures trees { self.new.trees ≡ self.old.trees }
-        ensures name { self.new.name ≡ self.old.name }
-        ensures labels { OnOk result (HasLabelRoom self.new.labels deed.now) }
-    {
-        reserve_labels(self.alloc, &mut self.labels, deed)
-    }
-
-    // Reads the config spec that the row gives to its view, and makes room for it.
-    fn reserve_spec(&mut self, deed: &Deed) -> Result<(), NoMemory>
-        ensures same { self.new.base ≡ self.old.base }
-        ensures trees { self.new.trees ≡ self.old.trees }
-        ensures name { self.new.name ≡ self.old.name }
-        ensures labels { self.new.labels ≡ self.old.labels }
-        ensures spec { OnOk result (self.new.spec ≡ rules_set_if_short deed.now) }
-        ensures room { OnOk result (1 ≤ self.new.spec_room) }
-    {
-        self.specs.reserve(1)?;
-        self.spec = read_given(self.alloc, deed)?;
-        Ok(())
-    }
-
-    // Makes what the record of the row lists, and room for it.
-    fn reserve_listing(&mut self, deed: &Deed) -> Result<(), NoMemory>
-        ensures same { self.new.base ≡ self.old.base }
-        ensures trees { self.new.trees ≡ self.old.trees }
-        ensures name { self.new.name ≡ self.old.name }
-        ensures labels { self.new.labels ≡ self.old.labels }
-        ensures spec { self.new.spec ≡ self.old.spec }
-        ensures spec_room { self.new.spec_room ≡ self.old.spec_room }
-        ensures listing { OnOk result
-            (HasListing self.new.listing (listing_made self.new.base deed.now)) }
-        ensures room { OnOk result (1 ≤ self.new.listing_room) }
-    {
-        self.listings.reserve(1)?;
-        self.listing = listing_made(self.alloc, &self.all(), deed)?;
-        Ok(())
-    }
-
-    // Makes room for the row and for its marks.
-    fn reserve_marks(&mut self, deed: &Deed) -> Result<(), NoMemory>
-        ensures same { self.new.base ≡ self.old.base }
-        ensures trees { self.new.trees ≡ self.old.trees }
-        ensures name { self.new.name ≡ self.old.name }
-        ensures labels { self.new.labels ≡ self.old.labels }
-        ensures spec { self.new.spec ≡ self.old.spec }
-        ensures spec_room { self.new.spec_room ≡ self.old.spec_room }
-        ensures listing { self.new.listing ≡ self.old.listing }
-        ensures listing_room { self.new.listing_room ≡ self.old.listing_room }
-        ensures row { OnOk result (1 ≤ self.new.room) }
-        ensures marks { OnOk result (length (borne self.new.base deed.now) ≤ self.new.room) }
-        ensures keys { OnOk result
-            (self.new.keys ≡ keys_of self.new.hashing self.new.base deed.now) }
-    {
-        let keys = keys_of(self.alloc, self.hashing, &self.all(), deed)?;
-        let count = keys.len().max(1);
+        let count = prepared.keys.len().max(1);
         self.rows.reserve(count)?;
-        self.links.reserve(count)?;
-        self.newest.reserve(count)?;
-        self.keys = keys;
+        reserve_marks(&mut self.links, &mut self.newest, count)?;
+        reserve_growth(&mut self.tree, &prepared.growth)?;
+        reserve_labels(self.alloc, &mut self.labels, deed)?;
+        self.specs.reserve(1)?;
+        self.listings.reserve(1)?;
         Ok(())
     }
 
-    /// Adds a row that fits. Takes time linear in the names that its deed has, for each label that it changes on an element the
-    /// time to find the label there, and time logarithmic in the branches; no memory.
-    pub fn push(&mut self, row: Row)
+    /// Adds a row that fits and is made ready. Takes time linear in its keys, for each label that it changes on an element the time
+    /// to find the label there, and time logarithmic in the branches; no memory.
+    pub fn push(&mut self, row: Row, prepared: Prepared)
         requires fits { fits self.old.base row.deed ≡ true }
-        requires room { HasRoom self.old row.deed }
+        requires room { HasRoom self.old row.deed prepared }
         ensures { self.new.base ≡ row ∷ self.old.base }
     {
-        let growth = growth_of(&self.all(), row.deed());
-        let number = self.rows.len() as u64 + 1;
-        grow(
-            &mut self.tree,
-            number,
-            row.moment(),
+        let Prepared {
+            keys,
             growth,
-            self.name.take(),
-        );
-        mark_keys(
-            &mut self.links,
-            &mut self.newest,
-            number,
-            self.keys.as_slice(),
-        );
+            rules,
+            listing,
+        } = prepared;
+        let number = self.rows.len() as u64 + 1;
+        grow(&mut self.tree, number, row.moment(), growth);
+        mark_keys(&mut self.links, &mut self.newest, number, keys.as_slice());
         relabel(&mut self.labels, number, row.deed());
-        keep_spec(&mut self.specs, number, self.spec.take());
-        keep_listing(&mut self.listings, number, self.listing.take());
+        keep_spec(&mut self.specs, number, rules);
+        keep_listing(&mut self.listings, number, listing);
         self.rows.push_reserved(row);
     }
 
@@ -273,12 +187,8 @@ impl Rows {
             newest: _,
             tree: _,
             labels: _,
-            name: _,
             specs: _,
-            spec: _,
             listings: _,
-            listing: _,
-            keys: _,
             seen: _,
         } = self;
         rows

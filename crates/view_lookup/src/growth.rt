@@ -20,8 +20,8 @@ use std::alloc::Global;
 use version_tree::Tree;
 
 /// What a row adds to the trees of versions.
-#[derive(Clone, Copy)]
-pub(crate) enum Growth<'a> {
+#[derive(Drop)]
+pub(crate) enum Growth {
     /// Nothing.
     Same,
     /// An element of this kind.
@@ -30,14 +30,14 @@ pub(crate) enum Growth<'a> {
     Branch {
         element: u64,
         origin: u64,
-        name: &'a Name,
+        name: Name,
     },
     /// The next version on a branch.
     Version(u64),
 }
 
 /// The version that a checkin of a checkout makes.
-fn version_made(rows: &FirstRows<'_>, checkout: Option<Checkout>) -> Growth<'static>
+fn version_made(rows: &FirstRows<'_>, checkout: Option<Checkout>) -> Growth
     ensures change { (n : ℕ) (moment : ℕ) → change_of n moment result
         ≡ version_made n moment (tree rows.now) (option_map plain_checkout checkout) }
     ensures rooted { IsRooted (tree rows.now) result }
@@ -51,64 +51,56 @@ fn version_made(rows: &FirstRows<'_>, checkout: Option<Checkout>) -> Growth<'sta
     }
 }
 
-/// What the next row adds to the trees, where it is of this deed. Takes the time of `checked_out`, and time logarithmic in the
-/// changes.
-pub(crate) fn growth_of<'a>(rows: &FirstRows<'_>, deed: &'a Deed) -> Growth<'a>
-    ensures change { (moment : ℕ) → change_of (size rows.now) moment result
-        ≡ tree_change rows.now moment deed.now }
-    ensures rooted { IsRooted (tree rows.now) result }
+/// What the next row adds to the trees, where it is of this deed. Takes the time of `checked_out`, time logarithmic in the
+/// changes, and for a branch time linear in its name.
+pub(crate) fn growth_of(
+    alloc: Global,
+    rows: &FirstRows<'_>,
+    deed: &Deed,
+) -> Result<Growth, NoMemory>
+    ensures change { IfOk result
+        (λ growth. (moment : ℕ) → change_of (size rows.now) moment growth
+        ≡ tree_change rows.now moment deed.now) }
+    ensures rooted { IfOk result (λ growth. IsRooted (tree rows.now) growth) }
 {
     match deed {
-        Deed::Mkelem { kind, .. } => Growth::Element(*kind),
+        Deed::Mkelem { kind, .. } => Ok(Growth::Element(*kind)),
         Deed::Branch {
             element,
             origin,
             name,
             ..
-        } => Growth::Branch {
+        } => Ok(Growth::Branch {
             element: *element,
             origin: *origin,
-            name,
-        },
-        Deed::Checkin { view, element } => { version_made(rows, checked_out(rows, view, *element)) }
-        _ => Growth::Same,
+            name: name.copy(alloc)?,
+        }),
+        Deed::Checkin { view, element } => {
+            Ok(version_made(rows, checked_out(rows, view, *element)))
+        }
+        _ => Ok(Growth::Same),
     }
 }
 
-/// Makes room for what a row adds to the trees, and hands back a copy of a branch's name. Takes time linear in the name and
-/// logarithmic in the branches; a list that is full is doubled, in time linear in it.
-pub(crate) fn reserve_growth(
-    alloc: Global,
-    tree: &mut Tree,
-    growth: Growth<'_>,
-) -> Result<Option<Name>, NoMemory>
-    requires rooted { IsRooted tree.old.changes growth }
+/// Makes room for what a row adds to the trees. Takes time logarithmic in the branches; a list that is full is doubled, in time
+/// linear in it.
+pub(crate) fn reserve_growth(tree: &mut Tree, growth: &Growth) -> Result<(), NoMemory>
+    requires rooted { IsRooted tree.old.changes growth.now }
     ensures kept { KeepsAll tree.old tree.new }
-    ensures room { IfOk result
-        (λ name. (n : ℕ) (moment : ℕ) → HasPlace tree.new name (change_of n moment growth.entry)) }
+    ensures room { OnOk result (HasPlace tree.new growth.now) }
 {
     match growth {
-        Growth::Same => Ok(None),
-        Growth::Element(_) => {
-            tree.reserve(None)?;
-            Ok(None)
-        }
-        Growth::Branch { name, .. } => {
-            tree.reserve(None)?;
-            Ok(Some(name.copy(alloc)?))
-        }
-        Growth::Version(branch) => {
-            tree.reserve(Some(branch))?;
-            Ok(None)
-        }
+        Growth::Same => Ok(()),
+        Growth::Element(_) | Growth::Branch { .. } => tree.reserve(None),
+        Growth::Version(branch) => tree.reserve(Some(*branch)),
     }
 }
 
 /// Adds to the trees what a row adds, whose number is above all so far. Takes time logarithmic in the branches; no memory.
-pub(crate) fn grow(tree: &mut Tree, row: u64, moment: u64, growth: Growth<'_>, name: Option<Name>)
+pub(crate) fn grow(tree: &mut Tree, row: u64, moment: u64, growth: Growth)
     requires above { IsAbove row (map row_of_change tree.old.changes) }
-    requires place { HasPlace tree.old name (change_of row moment growth) }
-    ensures { tree.new.changes ≡ with_change (change_of row moment growth.entry) tree.old.changes }
+    requires place { HasPlace tree.old growth }
+    ensures { tree.new.changes ≡ with_change (change_of row moment growth) tree.old.changes }
 {
     match growth {
         Growth::Same => {}
@@ -116,11 +108,8 @@ pub(crate) fn grow(tree: &mut Tree, row: u64, moment: u64, growth: Growth<'_>, n
         Growth::Branch {
             element,
             origin,
-            name: _,
-        } => match name {
-            Some(own) => tree.add_branch(row, moment, element, origin, own),
-            None => unreachable!(),
-        },
+            name,
+        } => tree.add_branch(row, moment, element, origin, name),
         Growth::Version(branch) => tree.add_version(row, moment, branch),
     }
 }

@@ -1,12 +1,13 @@
 //! The marks that rows leave for the keys of what they bear on: links, each of which names the next older one of its key, and one
 //! further back.
 
-ghost use Rattle.std.specs.Prelude.{◌≡◌, ◌+◌, ◌<◌, ◌≤◌, nat_eq, length, vec_len, vec_capacity};
+ghost use Rattle.std.specs.Prelude.{◌≡◌, ◌+◌, ◌-◌, ◌<◌, ◌≤◌, OnOk, nat_eq, length, vec_len, vec_capacity};
 ghost use Rattle.std.specs.HashMap.{get, spare};
 ghost use Rattle.view_lookup.specs.MarkSteps.{Marks, MarksAll};
 ghost use Rattle.view_lookup.specs.Marked.{IsChained};
 
 use crate::skips::link_to;
+use cc_names::memory::NoMemory;
 use std::collections::HashMap;
 
 /// A row that bears on something with a key, the place of the next older one of the key, that of one to which it skips, and how
@@ -17,6 +18,22 @@ pub(crate) struct Link {
     pub(crate) older: Option<usize>,
     pub(crate) skip: Option<usize>,
     pub(crate) depth: u64,
+}
+
+/// Makes room for so many marks. A list that is full is doubled, in time linear in it.
+pub(crate) fn reserve_marks(
+    links: &mut Vec<Link>,
+    newest: &mut HashMap<u64, usize>,
+    count: usize,
+) -> Result<(), NoMemory>
+    ensures links { links.new.items ≡ links.old.items }
+    ensures newest { get nat_eq newest.new ≡ get nat_eq newest.old }
+    ensures room { OnOk result (count ≤ vec_capacity links.new - vec_len links.new) }
+    ensures spare { OnOk result (count ≤ spare newest.new) }
+{
+    links.reserve(count)?;
+    newest.reserve(count)?;
+    Ok(())
 }
 
 /// Marks a row for a key. Takes constant time and no memory.

@@ -1,6 +1,6 @@
 //! The config specs of views.
 
-ghost use Rattle.std.specs.Prelude.{◌≡◌, ◌<◌, IfOk, map, vec_len, vec_capacity};
+ghost use Rattle.std.specs.Prelude.{◌≡◌, ◌<◌, map, vec_len, vec_capacity};
 ghost use Rattle.std.specs.Option.{option_copied};
 ghost use Rattle.cc_names.specs.Falling.{Falls};
 ghost use Rattle.base_model.specs.Seen.{rules};
@@ -9,19 +9,16 @@ ghost use Rattle.view_lookup.specs.Effects.{spec_row_effect};
 ghost use Rattle.view_lookup.specs.LookUps.{last_of};
 ghost use Rattle.view_lookup.specs.Made.{spec_made};
 ghost use Rattle.view_lookup.specs.Order.{newest_first};
-ghost use Rattle.view_lookup.specs.SetSpecs.{or_no_rules, parsed_if_short, row_of_parsed, rules_at, rules_set_if_short, with_spec};
+ghost use Rattle.view_lookup.specs.SetSpecs.{or_no_rules, row_of_parsed, rules_at, with_spec};
 
 use crate::bases::{FirstRows, row_at};
 use crate::look_ups::{Does, LookUp, later, left_by, only_if};
 use crate::subjects::Subject;
 use crate::views::{LifeOf, same_name};
 use cc_names::by_row::{ByRow, item_of};
-use cc_names::memory::{NoMemory, Or};
 use cc_names::names::Name;
 use cc_names::rows::Deed;
 use cc_names::selection::Rules;
-use spec_text::read_rules;
-use std::alloc::Global;
 
 /// The config spec with which a view begins.
 const DEFAULT_SPEC: &[u8] = b"element * CHECKEDOUT\nelement * /main/LATEST\n";
@@ -67,7 +64,7 @@ fn spec_row(rows: &FirstRows<'_>, view: &Name) -> Option<u64>
 }
 
 /// The config spec that a row gives to its view.
-fn spec_made(deed: &Deed) -> Option<&[u8]>
+pub(crate) fn spec_made(deed: &Deed) -> Option<&[u8]>
     ensures { option_copied result ≡ spec_made deed.now }
 {
     match deed {
@@ -99,30 +96,6 @@ impl ByRow for Parsed {
 
     fn row(&self) -> u64 {
         self.row
-    }
-}
-
-/// The rules of a text of fewer than 2^32 bytes, where it can be read. Takes time linear in it.
-fn read_short(alloc: Global, text: &[u8]) -> Result<Option<Rules>, NoMemory>
-    ensures { IfOk result (λ spec. spec ≡ parsed_if_short text.now) }
-{
-    if text.len() > u32::MAX as usize {
-        return Ok(None);
-    }
-    match read_rules(alloc, text) {
-        Ok(spec) => Ok(Some(spec)),
-        Err(Or::NoMemory) => Err(NoMemory),
-        Err(Or::Is(_)) => Ok(None),
-    }
-}
-
-/// The rules that a row of this deed gives to its view, where it gives any. Takes time linear in the config spec.
-pub(crate) fn read_given(alloc: Global, deed: &Deed) -> Result<Option<Rules>, NoMemory>
-    ensures { IfOk result (λ spec. spec ≡ rules_set_if_short deed.now) }
-{
-    match spec_made(deed) {
-        Some(text) => read_short(alloc, text),
-        None => Ok(None),
     }
 }
 

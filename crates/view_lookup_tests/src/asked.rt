@@ -2,7 +2,7 @@
 //!
 //! A line of a table is how many rows are asked, row 0 included, a row as a line of `spelled_rows`, ` => ` and whether it fits.
 
-ghost use Rattle.std.specs.Prelude.{◌≡◌, true, OnOk};
+ghost use Rattle.std.specs.Prelude.{◌≡◌, true, IfOk, OnOk};
 ghost use Rattle.base_model.specs.Fits.{fits};
 ghost use Rattle.view_lookup.specs.Shown.{HasRoom};
 
@@ -13,7 +13,7 @@ use std::hash::RandomState;
 use std::process::Abort;
 use std::random::RandomSource;
 use std::test::Fail;
-use view_lookup::{FirstRows, Rows, first_rows, fits};
+use view_lookup::{FirstRows, Prepared, Rows, first_rows, fits, prepare};
 
 fn require_fit(alloc: Global, base: &Rows, row: &Row) -> Result<(), Fail>
     ensures fits { OnOk result (fits base.now.base row.now.deed ≡ true) }
@@ -25,22 +25,23 @@ fn require_fit(alloc: Global, base: &Rows, row: &Row) -> Result<(), Fail>
     }
 }
 
-/// Makes room for a row, where it fits.
-fn make_room(alloc: Global, base: &mut Rows, row: &Row) -> Result<(), Fail>
+/// Makes ready a row, where it fits.
+fn make_ready(alloc: Global, base: &mut Rows, row: &Row) -> Result<Prepared, Fail>
     ensures fits { OnOk result (fits base.new.base row.now.deed ≡ true) }
-    ensures room { OnOk result (HasRoom base.new row.now.deed) }
+    ensures room { IfOk result (λ prepared. HasRoom base.new row.now.deed prepared) }
 {
     require_fit(alloc, base, row)?;
-    base.reserve(row.deed())?;
-    Ok(())
+    let prepared = prepare(alloc, base, row.deed())?;
+    base.reserve(row.deed(), &prepared)?;
+    Ok(prepared)
 }
 
 fn let_go(_row: Row) {}
 
 fn add(alloc: Global, base: &mut Rows, row: Row) -> Result<(), Fail> {
-    match make_room(alloc, base, &row) {
-        Ok(()) => {
-            base.push(row);
+    match make_ready(alloc, base, &row) {
+        Ok(prepared) => {
+            base.push(row, prepared);
             Ok(())
         }
         Err(fault) => {

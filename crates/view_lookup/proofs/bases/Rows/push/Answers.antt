@@ -17,6 +17,7 @@ use Rattle.view_lookup.specs.Growing.{HasPlace, change_of, tree_change, with_cha
 use Rattle.view_lookup.specs.Labelling.{AreLabels, HasLabelRoom}
 use Rattle.view_lookup.specs.Listings.{AreListings, HasListing, Versions, listing_made, version_in, versions_of, with_listing}
 use Rattle.view_lookup.specs.Marked.{IsMarked, rows_by, with_marks}
+use Rattle.view_lookup.specs.Preparing.{IsPrepared}
 use Rattle.view_lookup.specs.SeenFiles.{AreSeenByViews}
 use Rattle.view_lookup.specs.SetSpecs.{rules_set, specs_set, with_spec}
 use Rattle.view_lookup.specs.Shown.{Shown}
@@ -38,20 +39,7 @@ grow-requires-clause-above c =
     (subst (λ (changes : List TreeChange). IsAbove (size older) (map row_of_change changes)) (sym c.self.invariant.trees) (above_tree older))
 
 pub grow-requires-clause-place : goal.grow-requires-clause-place
-grow-requires-clause-place c =
-    let older : Base = reverse c.self.inside.rows.items in
-    let growth = c.growth_of-growth.result in
-    let moment = c.moment.result in
-    let base_is : older ≡ c.args.self.now.base = ap (λ (shown : Shown). shown.base) c.self.view_is in
-    let len : c.len.result ≡ length older = grind (arith, common_steps, length-reverse c.self.inside.rows.items) in
-    let number : c.len.result + 1 ≡ size older = omega arith in
-    let change : change_of (c.len.result + 1) moment growth ≡ tree_change c.args.self.now.base moment c.args.row.deed =
-    ap (λ n. change_of n moment growth) (number ∙ ap (λ (b : Base). size b) (base_is ∙ sym c.all.ensures))
-    ∙ c.growth_of-growth.ensures.change moment
-    ∙ ap₂ (λ (b : Base) deed. tree_change b moment deed) c.all.ensures c.deed.ensures.deed in
-    let kept = subst (λ (shown : Shown). HasPlace shown.trees shown.name (tree_change c.args.self.now.base moment c.args.row.deed)) (sym c.self.view_is) (c.requires.room.trees moment) in
-    subst (λ added. HasPlace c.self.inside.tree c.take.result added) (sym change)
-    (subst (λ name. HasPlace c.self.inside.tree name (tree_change c.args.self.now.base moment c.args.row.deed)) (sym c.take.ensures.value) kept)
+grow-requires-clause-place c = subst (λ (shown : Shown). HasPlace shown.trees c.args.prepared.growth) (sym c.self.view_is) c.requires.room.place
 
 pub relabel-requires-clause-above : goal.relabel-requires-clause-above
 relabel-requires-clause-above c = λ l e.
@@ -64,10 +52,10 @@ relabel-requires-clause-above c = λ l e.
 pub relabel-requires-clause-room : goal.relabel-requires-clause-room
 relabel-requires-clause-room c =
     let kept = subst (λ (shown : Shown). HasLabelRoom shown.labels c.args.row.deed) (sym c.self.view_is) c.requires.room.labels in
-    subst (λ (deed : Deed). HasLabelRoom c.self.inside.labels deed) (sym c.deed-2.ensures.deed) kept
+    subst (λ (deed : Deed). HasLabelRoom c.self.inside.labels deed) (sym c.deed.ensures.deed) kept
 
 pub relabel-requires-clause-formed : goal.relabel-requires-clause-formed
-relabel-requires-clause-formed c = subst IsDeedFormed (sym c.deed-2.ensures.deed) c.deed-2.ensures.formed.deed
+relabel-requires-clause-formed c = subst IsDeedFormed (sym c.deed.ensures.deed) c.deed.ensures.formed.deed
 
 pub keep_spec-requires : goal.keep_spec-requires
 keep_spec-requires c =
@@ -84,7 +72,7 @@ invariant_of-self c =
     let row : Plain = c.args.row in
     let older : Base = reverse c.self.inside.rows.items in
     let hashing = c.self.inside.hashing in
-    let growth = c.growth_of-growth.result in
+    let growth = c.args.prepared.growth in
     let moment = c.moment.result in
     let base_is : older ≡ c.args.self.now.base = ap (λ (shown : Shown). shown.base) c.self.view_is in
     let len : c.len.result ≡ length older = grind (arith, common_steps, length-reverse c.self.inside.rows.items) in
@@ -92,13 +80,11 @@ invariant_of-self c =
     let back : reverse c.push_reserved.new.self.items ≡ row ∷ older = ap reverse c.push_reserved.ensures.items ∙ reverse-append c.self.inside.rows.items (row ∷ []) in
     let fitting : fits older row.deed ≡ true = subst (λ (b : Base). fits b row.deed ≡ true) (sym base_is) c.requires.fits in
     let based : is_base (row ∷ older) ≡ true = ap₂ (λ one two. one && two) fitting c.self.invariant.fitting in
+    let ready : IsPrepared c.args.prepared hashing older row.deed =
+    subst (λ (shown : Shown). IsPrepared c.args.prepared shown.hashing shown.base row.deed) (sym c.self.view_is) c.requires.room.prepared in
     let change : change_of (c.len.result + 1) moment growth ≡ tree_change older row.moment row.deed =
-    ap (λ n. change_of n moment growth) (number ∙ ap (λ (b : Base). size b) (base_is ∙ sym c.all.ensures))
-    ∙ c.growth_of-growth.ensures.change moment
-    ∙ ap₂ (λ (b : Base) deed. tree_change b moment deed) (c.all.ensures ∙ sym base_is) c.deed.ensures.deed
-    ∙ ap (λ at. tree_change older at row.deed) c.moment.ensures in
-    let keys : c.as_slice.result.now ≡ keys_of hashing older row.deed =
-    c.as_slice.ensures.value ∙ subst (λ (shown : Shown). shown.keys ≡ keys_of shown.hashing shown.base row.deed) (sym c.self.view_is) c.requires.room.keys in
+    ap (λ n. change_of n moment growth) number ∙ ready.change moment ∙ ap (λ at. tree_change older at row.deed) c.moment.ensures in
+    let keys : c.as_slice.result.now ≡ keys_of hashing older row.deed = c.as_slice.ensures.value ∙ ready.keys in
     let marks : IsMarked hashing c.mark_keys.new.links.items (get nat_eq c.mark_keys.new.newest) (row ∷ older) = record {
       chained = c.mark_keys.ensures.marks.chained c.self.invariant.marks.chained;
       rows = λ q.
@@ -107,18 +93,15 @@ invariant_of-self c =
           ∙ ap (with_marks (size older) q (keys_of hashing older row.deed)) (c.self.invariant.marks.rows q);
     } in
     let kept = c.self.inside.labels.changes in
-    let at_number : labels_after (c.len.result + 1) c.deed-2.result.now (labels older) ≡ labels (row ∷ older) =
-    ap₂ (λ n deed. labels_after n deed (labels older)) number c.deed-2.ensures.deed in
-    let labelled : AreLabels c.relabel.new.book.changes (labels_after (c.len.result + 1) c.deed-2.result.now (labels older)) =
-    same_twice c.relabel.new.book.changes (labels_after (c.len.result + 1) c.deed-2.result.now kept) (labels_after (c.len.result + 1) c.deed-2.result.now (labels older))
-    c.relabel.ensures (after_same (c.len.result + 1) c.deed-2.result.now kept (labels older) c.self.invariant.labelled) in
-    let given : c.take-2.result ≡ rules_set row.deed =
-    c.take-2.ensures.value ∙ ap (λ (shown : Shown). shown.spec) c.self.view_is ∙ c.requires.room.spec ∙ set_short row.deed c.deed-2.ensures.formed.deed in
-    let made = versions_of c.take-3.result in
+    let at_number : labels_after (c.len.result + 1) c.deed.result.now (labels older) ≡ labels (row ∷ older) =
+    ap₂ (λ n deed. labels_after n deed (labels older)) number c.deed.ensures.deed in
+    let labelled : AreLabels c.relabel.new.book.changes (labels_after (c.len.result + 1) c.deed.result.now (labels older)) =
+    same_twice c.relabel.new.book.changes (labels_after (c.len.result + 1) c.deed.result.now kept) (labels_after (c.len.result + 1) c.deed.result.now (labels older))
+    c.relabel.ensures (after_same (c.len.result + 1) c.deed.result.now kept (labels older) c.self.invariant.labelled) in
+    let given : c.args.prepared.rules ≡ rules_set row.deed = ready.rules ∙ set_short row.deed c.deed.ensures.formed.deed in
+    let made = versions_of c.args.prepared.listing in
     let listings : ℕ → Option Versions = λ id. versions_of (get nat_eq c.self.inside.listings id) in
-    let own : HasListing made (listing_made older row.deed) =
-    subst (λ map. HasListing (versions_of map) (listing_made older row.deed)) (sym c.take-3.ensures.value)
-    (subst (λ (shown : Shown). HasListing shown.listing (listing_made shown.base row.deed)) (sym c.self.view_is) c.requires.room.listing) in
+    let own : HasListing made (listing_made older row.deed) = ready.listing in
     record {
       fitting = ap is_base back ∙ based;
       marks = subst (λ (b : Base). IsMarked hashing c.mark_keys.new.links.items (get nat_eq c.mark_keys.new.newest) b) (sym back) marks;
