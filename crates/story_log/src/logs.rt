@@ -18,7 +18,7 @@ use row_form::spell;
 use session_text::PhaseText;
 use std::alloc::Global;
 use std::marker::Model;
-use view_lookup::{FirstRows, Rows, prepare};
+use view_lookup::{FirstRows, Rows, prepare, remember};
 use vob_journal::{Frame, Journal, Left};
 
 /// What became of a row that was to be committed.
@@ -278,11 +278,11 @@ impl<D: Disk> Log<D> {
         self.rows.all()
     }
 
-    /// Has at hand what a view sees in the first rows where a unit of these targets is likely to ask, as `Rows::remember` does.
+    /// Has at hand what a view sees in the first rows where a unit of these targets is likely to ask, as `remember` of `view_lookup` does.
     pub fn remember(&mut self, view: &Name, count: u64, targets: &[Path])
         ensures { self.new ≡ self.old }
     {
-        self.rows.remember(view, count, targets);
+        remember(&mut self.rows, view, count, targets);
     }
 
     /// The phases that began.

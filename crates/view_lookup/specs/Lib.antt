@@ -31,3 +31,5 @@ pub mod ToldOn
 pub mod Walks
 pub mod Histories
 pub mod Giving
+pub mod Resolving
+pub mod Sources

@@ -1,13 +1,10 @@
--- What rows of a deed make by themselves, and what the text of a row comes from.
+-- What rows of a deed make by themselves.
 use Rattle.std.specs.Prelude.{ℕ, Bool, Option, Some, None, List, bytes_eq}
 use Rattle.std.specs.List.{list_any}
 use Rattle.cc_names.specs.declared.rows.Deed.{Deed}
 use Rattle.cc_names.specs.declared.rows.Deed.TheVariants as deeds
 use Rattle.cc_names.specs.declared.rows.Kind.{Kind}
-use Rattle.base_model.specs.Texts.{TextSource, Bytes, OfRow, NoText}
 use Rattle.base_model.specs.Views.{default_spec}
-use Rattle.view_lookup.specs.declared.texts.TextSource as code
-use Rattle.view_lookup.specs.declared.texts.TextSource.TheVariants as codes
 
 -- whether a path is one of these targets
 abbrev pub is_target : List ℕ → List (List ℕ) → Bool
@@ -17,12 +14,6 @@ is_target path targets = list_any (λ target. bytes_eq target path) targets
 abbrev pub kind_made : Deed → Option Kind
 kind_made (deeds.Mkelem v directory name kind out) = Some kind
 kind_made deed = None
-
--- where code finds the text of a row
-abbrev pub plain_source : code.TextSource → TextSource
-plain_source (codes.Bytes bytes) = Bytes bytes.now
-plain_source (codes.OfRow row) = OfRow row
-plain_source codes.NoText = NoText
 
 -- the config spec that a row of this deed gives to its view
 abbrev pub spec_made : Deed → Option (List ℕ)

@@ -14,6 +14,7 @@ ghost use Rattle.view_lookup.specs.Listings.{HasListing, versions_of};
 ghost use Rattle.view_lookup.specs.LookUps.{last_of, newest, oldest};
 ghost use Rattle.view_lookup.specs.Order.{oldest_first};
 ghost use Rattle.view_lookup.specs.Preparing.{IsPrepared};
+ghost use Rattle.view_lookup.specs.SeenFiles.{AreSeen, IsSeenAs};
 ghost use Rattle.view_lookup.specs.SetSpecs.{rules_set};
 ghost use Rattle.view_lookup.specs.Shown.{HasRoom};
 ghost use Rattle.view_lookup.specs.Walks.{all_told};
@@ -24,7 +25,7 @@ use crate::listings::{Versions, keep_listing};
 use crate::look_ups::{LookUp, left_by, set_at, told_at};
 use crate::marks::{Link, mark_keys, reserve_marks};
 use crate::prepared::Prepared;
-use crate::seen_files::{Views, put_seen, see_ahead, take_seen};
+use crate::seen_files::{SeenFiles, Views, put_seen, take_seen};
 use crate::skips::first_below;
 use crate::view_specs::{Parsed, keep_spec, spec_of};
 use crate::walks::add_told;
@@ -91,6 +92,11 @@ impl Rows {
         })
     }
 
+    /// The allocator of its lists. Takes constant time.
+    pub fn alloc(&self) -> Global {
+        self.alloc
+    }
+
     /// By which hashing names are found. Takes constant time.
     pub fn hashing(&self) -> RandomState
         ensures { result ≡ self.now.hashing }
@@ -138,23 +144,19 @@ impl Rows {
         self.rows.push_reserved(row);
     }
 
-    /// Has at hand the files of a view in the first rows, `count` of them with row 0, for which a build is likely to ask as it
-    /// tries a unit of these targets: those at the paths of the record of the newest live object with the targets, else of the
-    /// newest row. No answer changes; where memory runs out, fewer are at hand. Takes the time of `newest_object`, for each of
-    /// the paths time linear in it, and that of `file_at` where it is not at hand yet.
-    pub fn remember(&mut self, view: &Name, count: u64, targets: &[Path])
+    /// Takes out what is kept of the files that a view was seen to have, so that more can be kept beside it. No answer changes.
+    pub fn take_seen(&mut self, view: &Name) -> Option<(Name, SeenFiles)>
+        ensures same { self.new ≡ self.old }
+        ensures kept { IfSome result (λ it. IsSeenAs self.old.base view.now it) }
+    {
+        take_seen(&mut self.seen, view)
+    }
+
+    /// Keeps files that a view sees in some first rows, where there is memory for it. No answer changes.
+    pub fn keep_seen(&mut self, seen: (Name, SeenFiles))
+        requires { AreSeen self.old.base seen.0 seen.1 }
         ensures { self.new ≡ self.old }
     {
-        let kept = take_seen(&mut self.seen, view);
-        let seen = see_ahead(
-            self.alloc,
-            self.hashing,
-            &self.all(),
-            &first_rows(&self.all(), count),
-            view,
-            targets,
-            kept,
-        );
         put_seen(&mut self.seen, seen);
     }
 

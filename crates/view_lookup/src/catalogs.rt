@@ -4,7 +4,8 @@ ghost use Rattle.std.specs.Prelude.{◌≡◌, Some, suc};
 ghost use Rattle.base_model.specs.Catalogs.{catalog_of, named, own_of};
 ghost use Rattle.base_model.specs.Closures.{greater_of};
 ghost use Rattle.base_model.specs.Rows.{first_rows};
-ghost use Rattle.view_lookup.specs.Entries.{Resolves, catalog_in, entry_effect};
+ghost use Rattle.view_lookup.specs.Resolving.{Resolves, catalog_in};
+ghost use Rattle.view_lookup.specs.Entries.{entry_effect};
 ghost use Rattle.view_lookup.specs.LookUps.{last_of};
 ghost use Rattle.view_lookup.specs.ToldOn.{altered_by};
 

@@ -8,7 +8,7 @@ ghost use Rattle.base_model.specs.Changes.{tree};
 ghost use Rattle.base_model.specs.Rows.{Base};
 ghost use Rattle.base_model.specs.Seen.{as_seen, at, below, directory_at, element_at, entries_by, entries_of, file_at, path_limit, private_or, selected};
 ghost use Rattle.base_model.specs.Views.{private};
-ghost use Rattle.view_lookup.specs.Entries.{catalog_in};
+ghost use Rattle.view_lookup.specs.Resolving.{catalog_in};
 ghost use Rattle.view_lookup.specs.Made.{kind_made};
 
 use crate::bases::{FirstRows, row_at};

@@ -1,36 +1,25 @@
 //! Files that views were seen to have, kept so that none of them is looked for again among the same rows.
 
-ghost use Rattle.std.specs.Prelude.{◌≡◌, ℕ, ◌≤◌, List, IfOk, IfSome, OnOk};
-ghost use Rattle.std.specs.HashMap.{get};
-ghost use Rattle.std.specs.Str.{bytes_eq};
-ghost use Rattle.base_model.specs.Rows.{Base, size};
-ghost use Rattle.view_lookup.specs.SeenFiles.{AreFiles, AreSeen, AreSeenByViews, IsSeenAs, IsSeenIn, IsSeenOnce};
+ghost use Rattle.std.specs.Prelude.{IfSome};
+ghost use Rattle.base_model.specs.Rows.{Base};
+ghost use Rattle.view_lookup.specs.SeenFiles.{AreSeen, AreSeenByViews, IsSeenAs, IsSeenOnce};
 
-use crate::bases::FirstRows;
-use crate::closures::record_of;
-use crate::pool::{RecordTest, newest_object};
-use crate::seen::find_file;
-use cc_names::memory::NoMemory;
 use cc_names::names::Name;
 use cc_names::paths::Path;
-use cc_names::rows::ReadOf;
-use std::alloc::Global;
 use std::collections::HashMap;
 use std::hash::RandomState;
 
-/// Of how many views files are kept at most, and how many of each.
+/// Of how many views files are kept at most.
 const MOST_VIEWS: usize = 64;
 
-const MOST_FILES: usize = 65_536;
-
 /// By path the row of the file that is there, or that there is none.
-pub(crate) type FileRows = HashMap<Path, Option<u64>, RandomState>;
+pub type FileRows = HashMap<Path, Option<u64>, RandomState>;
 
 /// Files that a view sees in some first rows of a base, with how many rows these are.
 #[derive(Drop)]
-pub(crate) struct SeenFiles {
-    count: u64,
-    files: FileRows,
+pub struct SeenFiles {
+    pub count: u64,
+    pub files: FileRows,
 }
 
 impl SeenFiles {
@@ -64,115 +53,15 @@ pub(crate) fn take_seen(seen: &mut Views, view: &Name) -> Option<(Name, SeenFile
 }
 
 /// Keeps what was seen of a view, where there is memory for it.
-pub(crate) fn put_seen(seen: &mut Views, made: Result<(Name, SeenFiles), NoMemory>)
+pub(crate) fn put_seen(seen: &mut Views, made: (Name, SeenFiles))
     ensures { (b : Base)
         → AreSeenByViews b seen.old
-        → IfOk made (λ it. AreSeen b it.0 it.1)
+        → AreSeen b made.0 made.1
         → AreSeenByViews b seen.new }
 {
-    match made {
-        Ok((view, files)) => match seen.insert(view, files) {
-            Ok(_) => {}
-            Err(_) => {}
-        },
-        Err(NoMemory) => {}
+    let (view, files) = made;
+    match seen.insert(view, files) {
+        Ok(_) => {}
+        Err(_) => {}
     }
-}
-
-/// Any record.
-struct AnyRecord;
-
-impl RecordTest for AnyRecord {
-    ghost use Rattle.std.specs.Prelude.{true};
-
-    ghost passes = { λ it script entries. true };
-
-    fn passes(&self, _script: &[u8], _entries: &[ReadOf]) -> bool {
-        true
-    }
-}
-
-/// The entries that a build is likely to ask for next as it tries a unit of these targets: those of the newest live object with
-/// the targets, else those of the newest row.
-fn entries_ahead<'a>(rows: &FirstRows<'a>, targets: &[Path]) -> &'a [ReadOf] {
-    let newest = rows.size().saturating_sub(1);
-    let number = newest_object(rows, targets, &AnyRecord).unwrap_or(newest);
-    record_of(rows, number)
-}
-
-/// Keeps the file that a view sees at a path, where that is not kept yet.
-fn see(
-    alloc: Global,
-    rows: &FirstRows<'_>,
-    view: &Name,
-    files: &mut FileRows,
-    path: &Path,
-) -> Result<(), NoMemory>
-    requires { AreFiles rows.now view.now files.old }
-    ensures { OnOk result (AreFiles rows.now view.now files.new) }
-{
-    if MOST_FILES <= files.len() || files.contains_key(path) {
-        return Ok(());
-    }
-    let row = find_file(rows, view, path);
-    files.insert(path.copy(alloc)?, row)?;
-    Ok(())
-}
-
-/// Keeps the files that a view sees at the paths of these entries.
-fn see_each(
-    alloc: Global,
-    rows: &FirstRows<'_>,
-    view: &Name,
-    files: &mut FileRows,
-    entries: &[ReadOf],
-) -> Result<(), NoMemory>
-    requires { AreFiles rows.now view.now files.old }
-    ensures { OnOk result (AreFiles rows.now view.now files.new) }
-{
-    for entry in entries {
-        see(alloc, rows, view, files, &entry.path)?;
-    }
-    Ok(())
-}
-
-/// What is kept of a view in these rows: what was kept before, where that is of as many rows, else nothing yet.
-fn begin(
-    alloc: Global,
-    hashing: RandomState,
-    rows: &FirstRows<'_>,
-    view: &Name,
-    kept: Option<(Name, SeenFiles)>,
-) -> Result<(Name, FileRows), NoMemory>
-    requires { IfSome kept (λ it. IsSeenIn rows.now view.now it) }
-    ensures name { IfOk result (λ it. it.0 ≡ view.now) }
-    ensures files { IfOk result (λ it. AreFiles rows.now view.now it.1) }
-{
-    match kept {
-        Some((name, seen)) if seen.count == rows.size() => Ok((name, seen.files)),
-        _ => Ok((view.copy(alloc)?, HashMap::with_hasher(alloc, hashing))),
-    }
-}
-
-/// The files that a view sees in the first rows at paths that a build is likely to ask for next as it tries a unit of these
-/// targets, beside what was kept before. Takes the time of `newest_object` and, for each path that is not kept yet, that of
-/// `find_file`.
-pub(crate) fn see_ahead(
-    alloc: Global,
-    hashing: RandomState,
-    all: &FirstRows<'_>,
-    rows: &FirstRows<'_>,
-    view: &Name,
-    targets: &[Path],
-    kept: Option<(Name, SeenFiles)>,
-) -> Result<(Name, SeenFiles), NoMemory>
-    requires { IfSome kept (λ it. IsSeenIn rows.now view.now it) }
-    ensures name { IfOk result (λ it. it.0 ≡ view.now) }
-    ensures count { IfOk result (λ it. it.1.count ≡ size rows.now) }
-    ensures files { IfOk result (λ it. AreFiles rows.now view.now it.1.files) }
-{
-    let (name, mut files) = begin(alloc, hashing, rows, view, kept)?;
-    see_each(alloc, rows, view, &mut files, entries_ahead(all, targets))?;
-    let count = rows.size();
-    Ok((name, SeenFiles { count, files }))
 }

@@ -3,7 +3,7 @@
 ghost use Rattle.std.specs.Prelude.{◌≡◌};
 ghost use Rattle.std.specs.Option.{option_copied};
 ghost use Rattle.base_model.specs.Texts.{texts, of_making, of_output, output_at, source_of, text};
-ghost use Rattle.view_lookup.specs.Made.{plain_source};
+ghost use Rattle.view_lookup.specs.Sources.{plain_source};
 
 use crate::bases::{FirstRows, first_rows, row_at};
 use crate::desks::making;

@@ -2,7 +2,7 @@
 use Rattle.std.proofs.Common.{◌≡◌, List, ℕ, sym, ap, ◌∙◌}
 use Rattle.base_model.specs.Catalogs.{Catalog, catalog_of, named}
 use Rattle.base_model.specs.Rows.{Base}
-use Rattle.view_lookup.specs.Entries.{Resolves}
+use Rattle.view_lookup.specs.Resolving.{Resolves}
 use Rattle.view_lookup.specs.declared.catalogs.Resolution.{Resolution}
 use Rattle.view_lookup.specs.declared.catalogs.Resolution.TheVariants.{Is, As}
 use Rattle.view_lookup.proofs.ChangedNames.{version_told}

@@ -3,7 +3,7 @@ use Rattle.std.proofs.Common.{ℕ, ◌<◌, ◌≤◌, length, sym, ap, subst, �
 use Rattle.base_model.specs.Catalogs.{named}
 use Rattle.base_model.specs.Rows.{Base, first_rows, size}
 use Rattle.base_model.proofs.Stay.{all_rows}
-use Rattle.view_lookup.specs.Entries.{catalog_in}
+use Rattle.view_lookup.specs.Resolving.{catalog_in}
 use Rattle.view_lookup.proofs.catalogs.named_in.Goals as goal
 
 at_most_itself : (n : ℕ) → n ≤ n

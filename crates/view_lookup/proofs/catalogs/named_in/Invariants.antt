@@ -1,6 +1,6 @@
 use Rattle.std.proofs.Common.{◌≡◌, length}
 use Rattle.base_model.specs.Catalogs.{named}
-use Rattle.view_lookup.specs.Entries.{catalog_in}
+use Rattle.view_lookup.specs.Resolving.{catalog_in}
 use Rattle.view_lookup.proofs.catalogs.named_in.Given as goal
 
 -- the name that is looked for stands for what the first one did

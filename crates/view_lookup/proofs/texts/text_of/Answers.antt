@@ -4,7 +4,7 @@ use Rattle.std.specs.Option.{option_copied}
 use Rattle.base_model.specs.Rows.{Base, first_rows, row_at, size}
 use Rattle.base_model.specs.Texts.{source_of, text}
 use Rattle.base_model.proofs.Stay.{all_rows}
-use Rattle.view_lookup.specs.Made.{plain_source}
+use Rattle.view_lookup.specs.Sources.{plain_source}
 use Rattle.view_lookup.proofs.TextRows.{below_shorter, text_by, text_of_row, text_told}
 use Rattle.view_lookup.proofs.texts.text_of.Goals as goal
 

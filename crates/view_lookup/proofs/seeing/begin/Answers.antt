@@ -2,7 +2,7 @@
 use Rattle.std.proofs.Common.{subst, ◌∙◌}
 use Rattle.std.specs.Prelude.{IfSome}
 use Rattle.view_lookup.specs.SeenFiles.{IsSeenIn}
-use Rattle.view_lookup.proofs.seen_files.begin.Goals as goal
+use Rattle.view_lookup.proofs.seeing.begin.Goals as goal
 
 pub returns-in-Some-clause-files : goal.returns-in-Some-clause-files
 returns-in-Some-clause-files c =

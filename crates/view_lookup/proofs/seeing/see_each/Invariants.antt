@@ -1,5 +1,5 @@
 use Rattle.view_lookup.specs.SeenFiles.{AreFiles}
-use Rattle.view_lookup.proofs.seen_files.see_each.Given as goal
+use Rattle.view_lookup.proofs.seeing.see_each.Given as goal
 
 abbrev pub invariant-loop-entry : goal.invariant-loop-entry
 invariant-loop-entry l = AreFiles l.rows l.view l.files

@@ -4,7 +4,7 @@ use Rattle.std.specs.HashMap.{get}
 use Rattle.std.specs.Str.{bytes_eq}
 use Rattle.base_model.specs.Seen.{file_at}
 use Rattle.view_lookup.proofs.FilesSeen.{file_put}
-use Rattle.view_lookup.proofs.seen_files.see.Goals as goal
+use Rattle.view_lookup.proofs.seeing.see.Goals as goal
 
 pub returns : goal.returns
 returns c = λ path row given.
