@@ -16,7 +16,7 @@ use Rattle.legal_history.specs.Builds.Fresh.{script_text}
 use Rattle.base_model.specs.Objects.{are_same_paths}
 use Rattle.legal_history.specs.Builds.Reuse.{entry_agrees, matches, newest_match, record_matches}
 use Rattle.base_model.proofs.Stay.{row_stays}
-use Rattle.view_lookup.specs.Pool.{newest_object, newest_passing, publishes}
+use Rattle.base_rows.specs.Pool.{newest_object, newest_passing, publishes}
 use Rattle.build_core.specs.Reusing.{agrees_with}
 
 all_of_three : (a b c : Bool) → ((a && b) && c) ≡ (a && (b && c))

@@ -9,7 +9,7 @@ use Rattle.legal_history.specs.Builds.Choices.{visible}
 use Rattle.legal_history.specs.Builds.Fresh.{script_text}
 use Rattle.legal_history.specs.Builds.Reuse.{entry_agrees, reusable}
 use Rattle.base_model.specs.Objects.{held_at_all}
-use Rattle.view_lookup.specs.Pool.{Test}
+use Rattle.base_rows.specs.Pool.{Test}
 use Rattle.build_core.specs.declared.reuse.Chosen.{Chosen}
 use Rattle.build_core.specs.declared.reuse.Chosen.TheVariants.{Nothing, Held, Other}
 

@@ -21,8 +21,8 @@ use Rattle.base_model.specs.Rows.{Base, size, row_at}
 use Rattle.legal_history.specs.Commands.ObjectLines.{due, due_among, is_due}
 use Rattle.legal_history.proofs.Reuse.SoundRows.{live_below}
 use Rattle.base_model.proofs.Tables.{same_number}
-use Rattle.view_lookup.specs.Order.{oldest_first}
-use Rattle.view_lookup.proofs.RowTexts.{row_numbered}
+use Rattle.base_rows.specs.Order.{oldest_first}
+use Rattle.base_rows.proofs.RowTexts.{row_numbered}
 use Rattle.checkout_desk.specs.Dues.{due_from}
 
 -- one more row at the end

@@ -4,7 +4,7 @@ ghost use Rattle.std.specs.Prelude.{ℕ, option_map};
 ghost use Rattle.legal_history.specs.Commands.CheckoutLines.{changes_unless, checkin, checkin_of, uncheckout, uncheckout_of};
 ghost use Rattle.legal_history.specs.Commands.CheckoutTests.{needs_change};
 ghost use Rattle.legal_history.specs.Commands.Decisions.{Scene, first_refusal};
-ghost use Rattle.view_lookup.specs.Effects.{plain_checkout};
+ghost use Rattle.base_rows.specs.Effects.{plain_checkout};
 ghost use Rattle.checkout_desk.specs.Deciding.{Sees, Decides, Tests};
 
 use crate::checkout_needs::{needs_change, needs_latest_origin, needs_no_other, needs_out};

@@ -6,7 +6,7 @@ ghost use Rattle.base_model.specs.Texts.{text_of_row};
 ghost use Rattle.base_model.specs.Views.{making};
 ghost use Rattle.legal_history.specs.Commands.CheckoutTests.{is_same_text, needs_change, needs_checkout_rule, needs_latest, needs_latest_origin, needs_no_other, needs_not_out, needs_out, needs_unreserved};
 ghost use Rattle.legal_history.specs.Commands.LabelLines.{needs_version_picked};
-ghost use Rattle.view_lookup.specs.Effects.{plain_checkout};
+ghost use Rattle.base_rows.specs.Effects.{plain_checkout};
 ghost use Rattle.checkout_desk.specs.Deciding.{Tests};
 
 use cc_names::memory::Or;

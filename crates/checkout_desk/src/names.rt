@@ -6,7 +6,7 @@ ghost use Rattle.cc_names.specs.Names.{IsName};
 ghost use Rattle.base_model.specs.Catalogs.{named, own_of};
 ghost use Rattle.base_model.specs.Views.{out};
 ghost use Rattle.legal_history.specs.Commands.FileLines.{last_name};
-ghost use Rattle.view_lookup.specs.Effects.{plain_checkout};
+ghost use Rattle.base_rows.specs.Effects.{plain_checkout};
 ghost use Rattle.legal_history.specs.Commands.Decisions.{Scene, first_refusal, needs_room};
 ghost use Rattle.legal_history.specs.Commands.DirectoryLines.{mv, mv_in, mv_tests, renamed, rmname, rmname_in};
 ghost use Rattle.cc_names.specs.declared.rows.Tag.{Tag};

@@ -8,9 +8,9 @@ use Rattle.cc_names.specs.declared.rows.Deed.{Deed}
 use Rattle.cc_names.specs.declared.rows.Deed.TheVariants as deeds
 use Rattle.base_model.specs.Rows.{Base, size}
 use Rattle.legal_history.specs.Queries.Merges.{is_arrow_between, leads}
-use Rattle.view_lookup.specs.Effects.{merged_effect}
-use Rattle.view_lookup.specs.LookUps.{told}
-use Rattle.view_lookup.specs.Walks.{all_told}
+use Rattle.base_rows.specs.Effects.{merged_effect}
+use Rattle.base_rows.specs.LookUps.{told}
+use Rattle.base_rows.specs.Walks.{all_told}
 use Rattle.cleartool.specs.Reached.{tail_at, tail_of}
 use Rattle.cleartool.proofs.GivenRows.{AreDeeds, any_put, deed_newest, deeds_below, told_where}
 

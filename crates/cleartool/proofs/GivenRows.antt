@@ -8,10 +8,10 @@ use Rattle.cc_names.specs.Last.{Sets, only_if}
 use Rattle.cc_names.specs.Versions.{put_if}
 use Rattle.base_model.specs.Closures.{is_among}
 use Rattle.base_model.specs.Rows.{Base, size, deed_at, deed_of, row_at}
-use Rattle.view_lookup.specs.Giving.{gives_in, gives_view, naming_effect, own_effect}
-use Rattle.view_lookup.specs.LookUps.{told}
+use Rattle.base_rows.specs.Giving.{gives_in, gives_view, naming_effect, own_effect}
+use Rattle.base_rows.specs.LookUps.{told}
 use Rattle.cleartool.specs.Owned.{is_given_by, is_name, name_at, name_given, paths_by, was_given, was_named}
-use Rattle.view_lookup.specs.Walks.{all_told}
+use Rattle.base_rows.specs.Walks.{all_told}
 
 -- whether one of some numbers passes, with one more where a test holds
 pub any_put : (p : ℕ → Bool) (test : Bool) (n : ℕ) (ns : List ℕ) → list_any p (put_if test n ns) ≡ ((test && p n) || list_any p ns)

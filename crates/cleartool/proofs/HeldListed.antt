@@ -24,14 +24,14 @@ use Rattle.cc_names.specs.declared.rows.ReadOf.{ReadOf}
 use Rattle.base_model.specs.Rows.{Base, size, deed_of}
 use Rattle.legal_history.specs.Queries.ListingTexts.{held_line, held_lines, lsdo_text}
 use Rattle.base_model.proofs.HeldObjects.{held_in_order}
-use Rattle.view_lookup.specs.Made.{is_target}
-use Rattle.view_lookup.specs.LookUps.{last_of}
-use Rattle.view_lookup.specs.Giving.{gives_view}
+use Rattle.base_rows.specs.Made.{is_target}
+use Rattle.base_rows.specs.LookUps.{last_of}
+use Rattle.base_rows.specs.Giving.{gives_view}
 use Rattle.cleartool.specs.Owned.{paths_given, was_given}
-use Rattle.view_lookup.specs.Lifetimes.{ended_or}
+use Rattle.base_rows.specs.Lifetimes.{ended_or}
 use Rattle.cleartool.proofs.GivenRows.{AreDeeds, deeds_below}
-use Rattle.view_lookup.proofs.Holdings.{held_by_last, held_effect, same_view_path}
-use Rattle.view_lookup.proofs.Newest.{no_later}
+use Rattle.base_rows.proofs.Holdings.{held_by_last, held_effect, same_view_path}
+use Rattle.base_rows.proofs.Newest.{no_later}
 use Rattle.cleartool.specs.HeldObjects.{line_at}
 use Rattle.cleartool.proofs.ByKeys.{by_keys, told, told_of}
 

@@ -14,8 +14,8 @@ use Rattle.base_model.specs.Rows.{Base, size, row_at}
 use Rattle.legal_history.specs.Queries.HistoryTexts.{dated, line_where, placed_lines, history_line, history_lines, lshistory_text}
 use Rattle.legal_history.specs.Queries.VersionNames.{branch_name, version_name}
 use Rattle.cleartool.specs.Histories.{row_lines}
-use Rattle.view_lookup.specs.Histories.{is_placed_on, tells_of, history_of}
-use Rattle.view_lookup.specs.LookUps.{told}
+use Rattle.base_rows.specs.Histories.{is_placed_on, tells_of, history_of}
+use Rattle.base_rows.specs.LookUps.{told}
 
 -- a label that is put on no version of the element has no lines
 no_placed : (b : Base) (e moment : ℕ) (label : List ℕ) (placed : List Placed) → list_any (is_placed_on e) placed ≡ false → placed_lines b e moment label placed ≡ []

@@ -27,15 +27,15 @@ use Rattle.base_model.specs.Rows.{Base, size, deed_at, only_where}
 use Rattle.base_model.specs.Counts.{AreOnce, holding_views}
 use Rattle.base_model.proofs.CountedViews.{among_holding, counted_by_views, views_once}
 use Rattle.base_model.proofs.HeldObjects.{held_in_order}
-use Rattle.view_lookup.specs.Effects.{holds_one, winked_effect}
-use Rattle.view_lookup.specs.Lifetimes.{ended_or}
-use Rattle.view_lookup.specs.LookUps.{last_of, told}
-use Rattle.view_lookup.specs.Made.{is_target}
+use Rattle.base_rows.specs.Effects.{holds_one, winked_effect}
+use Rattle.base_rows.specs.Lifetimes.{ended_or}
+use Rattle.base_rows.specs.LookUps.{last_of, told}
+use Rattle.base_rows.specs.Made.{is_target}
 use Rattle.cleartool.specs.Owned.{is_name, maker_by, winker, winker_at}
-use Rattle.view_lookup.specs.Walks.{all_told}
+use Rattle.base_rows.specs.Walks.{all_told}
 use Rattle.cleartool.proofs.GivenRows.{AreDeeds, any_put, deed_newest, deeds_below}
 use Rattle.view_lookup.proofs.HeldSomewhere.{holds_target, number_of}
-use Rattle.view_lookup.proofs.Holdings.{held_by_last, held_effect, view_paths_total, same_view_path}
+use Rattle.base_rows.proofs.Holdings.{held_by_last, held_effect, view_paths_total, same_view_path}
 
 and_both : (a b : Bool) → (a && b) ≡ true → (a ≡ true) × (b ≡ true)
 and_both true b h = (refl, h)

@@ -29,9 +29,9 @@ use Rattle.base_model.specs.Conditions.{is_label_type, is_label_kind}
 use Rattle.base_model.specs.Fits.{is_base, deed_fits}
 use Rattle.legal_history.specs.Queries.ElementTexts.{NameSet, first_of, label_types, labels_on, with_label_type}
 use Rattle.base_model.proofs.Owned.{row_fits, rows_below, and_first, and_second}
-use Rattle.view_lookup.specs.Histories.{history_of, is_placed_on, tells_of}
+use Rattle.base_rows.specs.Histories.{history_of, is_placed_on, tells_of}
 use Rattle.cleartool.specs.LabelSets.{label_put, label_at, stands_on, with_name_if, with_label, labels_among}
-use Rattle.view_lookup.specs.LookUps.{told}
+use Rattle.base_rows.specs.LookUps.{told}
 use Rattle.view_lookup.proofs.EntryEdits.{flipped}
 
 -- ---- sets of names

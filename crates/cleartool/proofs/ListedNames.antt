@@ -38,9 +38,9 @@ use Rattle.legal_history.specs.Commands.FileLines.{last_name, parent}
 use Rattle.legal_history.specs.Queries.ListingTexts.{Names, catalog_names, catalog_or_none, is_something, ls_text, names_in, object_names, path_in, private_names, with_name_if, with_private}
 use Rattle.base_model.proofs.Makings.{seen_element}
 use Rattle.base_model.proofs.Picks.{picked_is}
-use Rattle.view_lookup.specs.Giving.{gives_view}
+use Rattle.base_rows.specs.Giving.{gives_view}
 use Rattle.cleartool.specs.Owned.{is_name, paths_given, was_given}
-use Rattle.view_lookup.proofs.Holdings.{same_view_path}
+use Rattle.base_rows.proofs.Holdings.{same_view_path}
 use Rattle.cleartool.specs.Listed.{HasNames, SeesDirectory, lies_in, line_at, line_of, line_where}
 use Rattle.cleartool.proofs.ByKeys.{by_keys, told_of}
 use Rattle.cleartool.proofs.HeldListed.{held_given}

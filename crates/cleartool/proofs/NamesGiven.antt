@@ -15,7 +15,7 @@ use Rattle.base_model.proofs.NewVersions.{branch_makes, checkin_makes}
 use Rattle.base_model.proofs.Owned.{row_fits, rows_below, third_of}
 use Rattle.base_model.proofs.VersionsStay.{version_stays}
 use Rattle.base_model.proofs.Tables.{same_number}
-use Rattle.view_lookup.specs.Giving.{gives_in}
+use Rattle.base_rows.specs.Giving.{gives_in}
 use Rattle.cleartool.specs.Owned.{is_name, name_given, was_named}
 use Rattle.view_lookup.proofs.EntryEdits.{found_with, found_without}
 

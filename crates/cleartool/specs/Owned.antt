@@ -5,8 +5,8 @@ use Rattle.cc_names.specs.declared.rows.Deed.TheVariants as deeds
 use Rattle.base_model.specs.Changes.{targets_of}
 use Rattle.base_model.specs.Closures.{is_among}
 use Rattle.base_model.specs.Rows.{Base, deed_at, only_where}
-use Rattle.view_lookup.specs.Effects.{holds_one}
-use Rattle.view_lookup.specs.Giving.{gives_in, gives_view}
+use Rattle.base_rows.specs.Effects.{holds_one}
+use Rattle.base_rows.specs.Giving.{gives_in, gives_view}
 
 -- the paths at which a deed gives its view a private file or an object
 abbrev pub paths_given : Base → Deed → List (List ℕ)

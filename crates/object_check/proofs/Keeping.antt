@@ -4,7 +4,7 @@ use Rattle.std.proofs.lemmas.Bool.Decides.{nat_tests}
 use Rattle.base_model.specs.Rows.{Base, only_where, row_at, deed_of}
 use Rattle.legal_history.specs.Builds.Values.{is_true, is_true_deed, rerun}
 use Rattle.object_check.specs.Kept.{KeepsBelow, Values, kept, kept_of}
-use Rattle.view_lookup.proofs.RowTexts.{no_row}
+use Rattle.base_rows.proofs.RowTexts.{no_row}
 
 -- the next value was put where it is needed, and nothing else changed
 pub keeps_next : (id : ℕ) (needed : ℕ → Bool) (b : Base) (old new : Values) → KeepsBelow id needed b old → new id ≡ only_where (needed id) (kept b id) →

@@ -45,7 +45,7 @@ impl<D: Disk> Model for Log<D> {
     ghost use Rattle.story_log.specs.Story.Handed.{handed_in};
     ghost use Rattle.story_log.specs.Logging.Logs.{Logged, IsLogged};
     ghost use Rattle.story_log.specs.Story.Telling.{story_of};
-    ghost use Rattle.view_lookup.specs.Order.{oldest_first};
+    ghost use Rattle.base_rows.specs.Order.{oldest_first};
 
     ghost Value = { Logged };
 
@@ -133,7 +133,7 @@ impl<D: Disk> Log<D> {
     ghost use Rattle.story_log.specs.Story.Faults.{is_fault};
     ghost use Rattle.story_log.specs.Logging.Logs.{opened_log, with_phase, with_step, with_sight};
     ghost use Rattle.story_log.specs.Story.Telling.{stands_alone};
-    ghost use Rattle.view_lookup.specs.Order.{oldest_first};
+    ghost use Rattle.base_rows.specs.Order.{oldest_first};
     ghost use Rattle.base_model.specs.Fits.{fits};
     ghost use Rattle.vob_journal.specs.Added.{WritesOn};
 

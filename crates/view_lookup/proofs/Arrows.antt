@@ -4,8 +4,8 @@ use Rattle.std.specs.Option.{option_or}
 use Rattle.cc_names.specs.Last.{Sets, only_if, left}
 use Rattle.base_model.specs.Conditions.{arrow_row, is_arrow}
 use Rattle.base_model.specs.Rows.{Base, only_where, size}
-use Rattle.view_lookup.specs.Effects.{merge_effect}
-use Rattle.view_lookup.specs.LookUps.{last_of}
+use Rattle.base_rows.specs.Effects.{merge_effect}
+use Rattle.base_rows.specs.LookUps.{last_of}
 
 by_test : (is : Bool) (n : ℕ) (before : Option ℕ) → option_or (only_where is (Some n)) before ≡ left (only_if is (Sets n)) before
 by_test true n before = refl

@@ -11,8 +11,8 @@ use Rattle.cc_names.specs.declared.rows.Deed.TheVariants as deeds
 use Rattle.base_model.specs.Changes.{tree, tree_after, with_checkin, with_version}
 use Rattle.base_model.specs.Rows.{Base, size}
 use Rattle.base_model.specs.Views.{Checkout, out}
-use Rattle.view_lookup.specs.Effects.{branch_named_effect}
-use Rattle.view_lookup.specs.LookUps.{last_of}
+use Rattle.base_rows.specs.Effects.{branch_named_effect}
+use Rattle.base_rows.specs.LookUps.{last_of}
 
 -- a branch that is made is found, or what was found before
 one_more : (is : Bool) (made : TreeChange) (before : Option ℕ) (older : Option TreeChange) → before ≡ option_map row_of_change older

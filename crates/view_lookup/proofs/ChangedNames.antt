@@ -28,17 +28,17 @@ use Rattle.base_model.proofs.Owned.{and_first, and_second, row_fits, rows_below,
 use Rattle.base_model.proofs.Stay.{catalog_stays, first_rows_stay, row_stays}
 use Rattle.base_model.proofs.TreesStay.{tree_of_first_rows}
 use Rattle.base_model.proofs.VersionsStay.{of_element, parts_of}
-use Rattle.view_lookup.specs.Changed.{alters, begins, begun, changed, changes, checked_in_on, is_since}
-use Rattle.view_lookup.specs.Lifetimes.{later}
-use Rattle.view_lookup.specs.Entries.{begun_effect, changed_effect, entry_effect}
-use Rattle.view_lookup.specs.Growing.{tree_change, with_change}
-use Rattle.view_lookup.specs.LookUps.{Deeds, Update, last_of, left_by, newest, told}
+use Rattle.base_rows.specs.Changed.{alters, begins, begun, changed, changes, checked_in_on, is_since}
+use Rattle.base_rows.specs.Lifetimes.{later}
+use Rattle.base_rows.specs.Entries.{begun_effect, changed_effect, entry_effect}
+use Rattle.base_rows.specs.Growing.{tree_change, with_change}
+use Rattle.base_rows.specs.LookUps.{Deeds, Update, last_of, left_by, newest, told}
 use Rattle.view_lookup.specs.ToldOn.{altered_by}
-use Rattle.view_lookup.proofs.Endings.{newest_of_two}
+use Rattle.base_rows.proofs.Endings.{newest_of_two}
 use Rattle.view_lookup.proofs.EntryRows.{below_newest, edit_at, edit_by, entry_by, entry_by_row}
-use Rattle.view_lookup.proofs.FirstTrees.{change_of_first}
-use Rattle.view_lookup.proofs.Growths.{tree_by_change}
-use Rattle.view_lookup.proofs.Newest.{first_shorter, last_by_newest}
+use Rattle.base_rows.proofs.FirstTrees.{change_of_first}
+use Rattle.base_rows.proofs.Growths.{tree_by_change}
+use Rattle.base_rows.proofs.Newest.{first_shorter, last_by_newest}
 
 told_more : (branch : ℕ) (name : List ℕ) (row : Plain) (older : Base) → altered_by branch name (row ∷ older) ≡ elim (alters branch name older row.deed) [ true ↦ Some (size older) | false ↦ altered_by branch name older ]
 told_more branch name row older = by (alters branch name older row.deed)

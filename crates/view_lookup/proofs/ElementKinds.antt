@@ -14,8 +14,8 @@ use Rattle.cc_names.specs.declared.rows.Kind.TheVariants.{Directory}
 use Rattle.base_model.specs.Changes.{tree, tree_after, with_checkin, with_version}
 use Rattle.base_model.specs.Rows.{Base, size, row_at, deed_at, deed_of}
 use Rattle.base_model.specs.Views.{Checkout, out}
-use Rattle.view_lookup.specs.Made.{kind_made}
-use Rattle.view_lookup.proofs.Newest.{no_later}
+use Rattle.base_rows.specs.Made.{kind_made}
+use Rattle.base_rows.proofs.Newest.{no_later}
 
 -- a row adds a change of its own number and kind, or none, and then makes no element
 data Adds (n : ℕ) (made : Option Kind) (before after : List TreeChange) : Type 0 where

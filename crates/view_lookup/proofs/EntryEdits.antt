@@ -9,7 +9,7 @@ use Rattle.std.proofs.lemmas.Cmp.{nat_list_cmp_total}
 use Rattle.std.proofs.lemmas.Map.Text.{is_eq-slice_cmp}
 use Rattle.std.proofs.lemmas.Slice.Eq.{bytes_eq-Decides}
 use Rattle.base_model.specs.Catalogs.{Catalog, Edit, Same, BeginsEmpty, BeginsAs, Adds, Removes, Renames, named, with_name, without_name, with_new_name, edited}
-use Rattle.view_lookup.specs.Changed.{begins, changes}
+use Rattle.base_rows.specs.Changed.{begins, changes}
 
 flipped_true : (a b : List ℕ) → bytes_eq a b ≡ true → bytes_eq b a ≡ true
 flipped_true a b is = subst (λ c. bytes_eq b c ≡ true) (sym ((bytes_eq-Decides a b).0 is)) ((bytes_eq-Decides b b).1 refl)

@@ -10,10 +10,10 @@ use Rattle.base_model.specs.Catalogs.{Catalog, CatalogSource, Empty, OfVersion, 
 use Rattle.base_model.specs.Rows.{Base, size, first_rows, row_at, deed_of, deed_at}
 use Rattle.base_model.proofs.Deeds.{deed_below}
 use Rattle.base_model.proofs.Stay.{all_rows, first_rows_stay}
-use Rattle.view_lookup.specs.Changed.{begins, changes}
-use Rattle.view_lookup.specs.Entries.{entry_effect}
-use Rattle.view_lookup.specs.Lifetimes.{or_else}
-use Rattle.view_lookup.specs.LookUps.{last_of}
+use Rattle.base_rows.specs.Changed.{begins, changes}
+use Rattle.base_rows.specs.Entries.{entry_effect}
+use Rattle.base_rows.specs.Lifetimes.{or_else}
+use Rattle.base_rows.specs.LookUps.{last_of}
 use Rattle.view_lookup.proofs.EntryEdits.{left_alone}
 
 -- the edit of a row, where there is one

@@ -3,8 +3,8 @@ use Rattle.std.proofs.Common.{◌≡◌, ℕ, true, Option, Some, List, ap, sym,
 use Rattle.cc_names.specs.declared.rows.Deed.{Deed}
 use Rattle.base_model.specs.Catalogs.{Edit, edited, named, catalog_of, own_of}
 use Rattle.base_model.specs.Rows.{Base, deed_at, first_rows}
-use Rattle.view_lookup.specs.Entries.{entry_effect}
-use Rattle.view_lookup.specs.LookUps.{last_of}
+use Rattle.base_rows.specs.Entries.{entry_effect}
+use Rattle.base_rows.specs.LookUps.{last_of}
 use Rattle.view_lookup.proofs.EntryRows.{edit_by, edit_at, entry_by, entry_by_row, bears_on, row_bears}
 
 -- the newest row that bears on a name, with its deed and its edit

@@ -18,12 +18,12 @@ use Rattle.cc_names.specs.declared.rows.ReadOf.{ReadOf}
 use Rattle.base_model.specs.Changes.{held, targets_of}
 use Rattle.base_model.specs.Rows.{Base, size, deed_at, deed_of, row_at}
 use Rattle.base_model.proofs.HeldObjects.{held_in_order, is_held_there, view_paths_total}
-use Rattle.view_lookup.specs.Effects.{held_by_maker, holds_one, winked_effect}
-use Rattle.view_lookup.specs.Lifetimes.{ended_or}
-use Rattle.view_lookup.specs.LookUps.{last_of}
-use Rattle.view_lookup.specs.Made.{is_target}
-use Rattle.view_lookup.proofs.Holdings.{held_by_last, held_effect}
-use Rattle.view_lookup.proofs.Newest.{no_later}
+use Rattle.base_rows.specs.Effects.{held_by_maker, holds_one, winked_effect}
+use Rattle.base_rows.specs.Lifetimes.{ended_or}
+use Rattle.base_rows.specs.LookUps.{last_of}
+use Rattle.base_rows.specs.Made.{is_target}
+use Rattle.base_rows.proofs.Holdings.{held_by_last, held_effect}
+use Rattle.base_rows.proofs.Newest.{no_later}
 
 first : (a b : Bool) → T (a && b) → T a
 first true b h = tt

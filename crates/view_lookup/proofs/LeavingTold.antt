@@ -10,9 +10,9 @@ use Rattle.base_model.specs.Changes.{tree, tree_after, with_checkin, with_versio
 use Rattle.base_model.specs.Rows.{Base, size, only_where}
 use Rattle.base_model.specs.Views.{Checkout, out}
 use Rattle.legal_history.specs.Queries.ElementTexts.{branches_leaving, with_some}
-use Rattle.view_lookup.specs.Effects.{leaving_effect}
-use Rattle.view_lookup.specs.LookUps.{told}
-use Rattle.view_lookup.specs.Walks.{all_told}
+use Rattle.base_rows.specs.Effects.{leaving_effect}
+use Rattle.base_rows.specs.LookUps.{told}
+use Rattle.base_rows.specs.Walks.{all_told}
 
 -- a row that makes a branch is told where it leaves the version
 one_told : (test : Bool) (n : ℕ) (rest : List ℕ) → put_if (is_some (told n (only_if test (Sets n)))) n rest ≡ with_some (only_where test (Some n)) rest

@@ -6,9 +6,9 @@ use Rattle.cc_names.specs.Versions.{put_if}
 use Rattle.base_model.specs.Checkouts.{oldest_of, oldest_out, standing_among, with_standing}
 use Rattle.base_model.specs.Rows.{Base, size, only_where}
 use Rattle.base_model.specs.Views.{TakenOut, made_out}
-use Rattle.view_lookup.specs.Effects.{standing_effect, standing_of, stands}
-use Rattle.view_lookup.specs.LookUps.{left_by, oldest, told}
-use Rattle.view_lookup.proofs.Oldest.{or_none}
+use Rattle.base_rows.specs.Effects.{standing_effect, standing_of, stands}
+use Rattle.base_rows.specs.LookUps.{left_by, oldest, told}
+use Rattle.base_rows.proofs.Oldest.{or_none}
 
 one_more : (v : List ℕ) (n : ℕ) (taken : TakenOut) (rest : List TakenOut) (before : Option ℕ) (is stand : Bool) → bytes_eq taken.view v ≡ is → oldest_of v rest ≡ before
     → oldest_of v (put_if stand taken rest) ≡ option_or before (left_by (told n (only_if (is && stand) (Sets taken.checkout.row))))

@@ -4,9 +4,9 @@ use Rattle.std.specs.Prelude.{is_some}
 use Rattle.cc_names.specs.Last.{Sets, only_if, left}
 use Rattle.base_model.specs.Changes.{live}
 use Rattle.base_model.specs.Rows.{Base, size}
-use Rattle.view_lookup.specs.Effects.{pool_effect}
-use Rattle.view_lookup.specs.LookUps.{last_of}
-use Rattle.view_lookup.specs.Pool.{Test, newest_passing, publishes}
+use Rattle.base_rows.specs.Effects.{pool_effect}
+use Rattle.base_rows.specs.LookUps.{last_of}
+use Rattle.base_rows.specs.Pool.{Test, newest_passing, publishes}
 
 by_test : (is : Bool) (n : ℕ) (one two : Option ℕ) → one ≡ two → elim is as (λ _. Option ℕ) [ true ↦ Some n | false ↦ one ] ≡ left (only_if is (Sets n)) two
 by_test true n one two h = refl

@@ -26,10 +26,10 @@ use Rattle.base_model.proofs.Stay.{row_stays}
 use Rattle.base_model.proofs.TreesStay.{Adds, Nothing, One, adds_row}
 use Rattle.base_model.proofs.VersionRows.{newest_deed}
 use Rattle.base_model.proofs.VersionsStay.{apart_below, of_element, parts_of}
-use Rattle.view_lookup.specs.Effects.{reserving_effect, stands}
-use Rattle.view_lookup.specs.LookUps.{last_of}
+use Rattle.base_rows.specs.Effects.{reserving_effect, stands}
+use Rattle.base_rows.specs.LookUps.{last_of}
 use Rattle.view_lookup.specs.Reservations.{newest_reserving, reserving, taken_at}
-use Rattle.view_lookup.specs.Subjects.{reserved_branch}
+use Rattle.base_rows.specs.Subjects.{reserved_branch}
 
 -- The branch of a version is the same in a longer base.
 branch_before : (row : Plain) (b : Base) (r : ℕ) → r < size b → branch_of_version (tree (row ∷ b)) r ≡ branch_of_version (tree b) r

@@ -5,7 +5,7 @@ use Rattle.cc_names.specs.Formed.{Plain}
 use Rattle.base_model.specs.Rows.{Base, size, first_rows, row_at}
 use Rattle.base_model.specs.Texts.{TextSource, Bytes, OfRow, NoText, source_of, text}
 use Rattle.base_model.proofs.Stay.{all_rows}
-use Rattle.view_lookup.proofs.Newest.{no_later}
+use Rattle.base_rows.proofs.Newest.{no_later}
 
 -- the text of a source, where an earlier row has this one
 abbrev pub text_by : Base → List ℕ → TextSource → Option (List ℕ)

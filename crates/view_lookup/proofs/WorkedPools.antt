@@ -5,7 +5,7 @@ use Rattle.cc_names.specs.declared.rows.Deed.{Deed}
 use Rattle.cc_names.specs.declared.rows.Deed.TheVariants as deeds
 use Rattle.base_model.specs.Rows.{Base, first_rows}
 use Rattle.legal_history.specs.Worked.{base_of}
-use Rattle.view_lookup.specs.Pool.{Test, newest_object}
+use Rattle.base_rows.specs.Pool.{Test, newest_object}
 
 abbrev targets : List (List ℕ)
 targets = codes "out" ∷ codes "map" ∷ []

@@ -3,8 +3,8 @@ use Rattle.std.specs.Prelude.{ℕ, Option, find, option_and_then}
 use Rattle.base_model.specs.Checkouts.{checkouts, reserves}
 use Rattle.base_model.specs.Rows.{Base, deed_at}
 use Rattle.base_model.specs.Views.{TakenOut, made_out}
-use Rattle.view_lookup.specs.Effects.{reserving_effect}
-use Rattle.view_lookup.specs.LookUps.{last_of}
+use Rattle.base_rows.specs.Effects.{reserving_effect}
+use Rattle.base_rows.specs.LookUps.{last_of}
 
 -- the checkout that the row of a number made
 abbrev pub taken_at : Base → ℕ → Option TakenOut

@@ -2,7 +2,7 @@
 use Rattle.std.specs.Prelude.{ℕ, Option, List}
 use Rattle.cc_names.specs.Last.{Sets, only_if, last}
 use Rattle.base_model.specs.Rows.{Base, size}
-use Rattle.view_lookup.specs.Changed.{alters}
+use Rattle.base_rows.specs.Changed.{alters}
 
 -- the newest version of the branch that alters the name
 abbrev pub altered_by : ℕ → List ℕ → Base → Option ℕ

@@ -5,10 +5,10 @@ ghost use Rattle.cc_names.specs.Branches.{branch_named};
 ghost use Rattle.base_model.specs.Changes.{tree};
 ghost use Rattle.base_model.specs.Conditions.{has_branch};
 
-use crate::bases::FirstRows;
-use crate::look_ups::{Does, LookUp, only_if};
-use crate::subjects::Subject;
-use crate::views::same_name;
+use base_rows::bases::FirstRows;
+use base_rows::look_ups::{Does, LookUp, only_if};
+use base_rows::subjects::Subject;
+use base_rows::views::same_name;
 use cc_names::names::Name;
 use cc_names::rows::Deed;
 
@@ -22,9 +22,9 @@ struct BranchOf<'a> {
 impl LookUp for BranchOf<'_> {
     type Item = u64;
 
-    ghost use Rattle.view_lookup.specs.Bearings.{branch_named_bears};
-    ghost use Rattle.view_lookup.specs.Effects.{branch_named_effect};
-    ghost use Rattle.view_lookup.specs.Subjects as model;
+    ghost use Rattle.base_rows.specs.Bearings.{branch_named_bears};
+    ghost use Rattle.base_rows.specs.Effects.{branch_named_effect};
+    ghost use Rattle.base_rows.specs.Subjects as model;
 
     ghost effect = { λ it. branch_named_effect it.element it.name.now };
 

@@ -5,15 +5,15 @@ ghost use Rattle.base_model.specs.Catalogs.{catalog_of, named, own_of};
 ghost use Rattle.base_model.specs.Closures.{greater_of};
 ghost use Rattle.base_model.specs.Rows.{first_rows};
 ghost use Rattle.view_lookup.specs.Resolving.{Resolves, catalog_in};
-ghost use Rattle.view_lookup.specs.Entries.{entry_effect};
-ghost use Rattle.view_lookup.specs.LookUps.{last_of};
+ghost use Rattle.base_rows.specs.Entries.{entry_effect};
+ghost use Rattle.base_rows.specs.LookUps.{last_of};
 ghost use Rattle.view_lookup.specs.ToldOn.{altered_by};
 
-use crate::bases::{FirstRows, first_rows, row_at};
-use crate::changed::AlteredOn;
-use crate::edits::{BegunOf, ChangedOf, Edit, edit_of, is_name};
-use crate::look_ups::{later, left_by};
-use crate::trees::branch_of_version;
+use base_rows::bases::{FirstRows, first_rows, row_at};
+use base_rows::changed::AlteredOn;
+use base_rows::edits::{BegunOf, ChangedOf, Edit, edit_of, is_name};
+use base_rows::look_ups::{later, left_by};
+use base_rows::trees::branch_of_version;
 use cc_names::names::Name;
 use cc_names::rows::Deed;
 

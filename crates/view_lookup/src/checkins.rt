@@ -7,12 +7,12 @@ ghost use Rattle.base_model.specs.Changes.{tree};
 ghost use Rattle.base_model.specs.Checkouts.{branch_of, other_reserver, reserver};
 ghost use Rattle.base_model.specs.Conditions.{is_unreserved, may_check_in};
 ghost use Rattle.base_model.specs.Fits.{may_reserve};
-ghost use Rattle.view_lookup.specs.Effects.{plain_checkout};
+ghost use Rattle.base_rows.specs.Effects.{plain_checkout};
 
-use crate::bases::FirstRows;
-use crate::desks::Checkout;
 use crate::reservations::{other_reserver, reserver};
-use crate::trees::{branch_of_version, is_latest};
+use base_rows::bases::FirstRows;
+use base_rows::desks::Checkout;
+use base_rows::trees::{branch_of_version, is_latest};
 use cc_names::names::Name;
 
 /// The branch of a checkout: that of its origin. Takes time logarithmic in the changes.

@@ -6,8 +6,8 @@ ghost use Rattle.base_model.specs.Objects.{record_of};
 ghost use Rattle.view_lookup.specs.FirstInputs.{first_input};
 ghost use Rattle.view_lookup.specs.LeastInputs.{above, above_entries, least_of_all, least_of_entries, least_of_entry, lesser};
 
-use crate::bases::{FirstRows, row_at};
-use crate::listings::is_publish;
+use base_rows::bases::{FirstRows, row_at};
+use base_rows::listings::is_publish;
 use cc_names::memory::NoMemory;
 use cc_names::paths::Path;
 use cc_names::rows::{Deed, ReadOf};

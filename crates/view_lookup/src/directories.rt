@@ -3,10 +3,10 @@
 ghost use Rattle.std.specs.Prelude.{◌≡◌};
 ghost use Rattle.base_model.specs.Conditions.{has_name, has_out_by_name, is_directory, is_file};
 
-use crate::bases::FirstRows;
 use crate::catalogs::named_by_checkout;
-use crate::desks::has_out;
 use crate::seen::kind_of;
+use base_rows::bases::FirstRows;
+use base_rows::desks::has_out;
 use cc_names::names::Name;
 use cc_names::rows::Kind;
 

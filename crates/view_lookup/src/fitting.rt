@@ -11,13 +11,13 @@ ghost use Rattle.base_model.specs.Rows.{Base};
 ghost use Rattle.base_model.specs.Fits.{deed_fits, fits};
 ghost use Rattle.view_lookup.specs.Grouped.{sets_spec};
 
-use crate::bases::{FirstRows, row_at};
 use crate::fitting_elements::{catalog_deed_fits, checkout_deed_fits, version_deed_fits};
-use crate::objects::{held, is_target, live};
 use crate::scrubs::may_be_scrubbed;
 use crate::seen::kind_of;
 use crate::types::is_type_taken;
-use crate::views::{private, view_row};
+use base_rows::bases::{FirstRows, row_at};
+use base_rows::objects::{held, is_target, live};
+use base_rows::views::{private, view_row};
 use cc_names::memory::{NoMemory, Or};
 use cc_names::names::Name;
 use cc_names::paths::Path;

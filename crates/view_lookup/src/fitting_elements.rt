@@ -9,16 +9,16 @@ ghost use Rattle.base_model.specs.Conditions.{is_placed};
 ghost use Rattle.base_model.specs.Fits.{deed_fits};
 ghost use Rattle.view_lookup.specs.Grouped.{is_of_catalog, is_of_checkout, is_of_version};
 
-use crate::bases::FirstRows;
 use crate::branch_names::has_branch;
 use crate::checkins::{may_check_in, may_reserve};
-use crate::desks::{checked_out, has_out};
 use crate::directories::{has_name, has_out_by_name, is_directory_element, is_file_element};
-use crate::labels::has_label;
 use crate::merges::arrow_row;
-use crate::trees::{is_latest, is_version_of};
 use crate::types::{is_branch_type, is_label_type};
-use crate::views::view_row;
+use base_rows::bases::FirstRows;
+use base_rows::desks::{checked_out, has_out};
+use base_rows::labels::has_label;
+use base_rows::trees::{is_latest, is_version_of};
+use base_rows::views::view_row;
 use cc_names::names::Name;
 use cc_names::rows::{Deed, Placed};
 

@@ -1,12 +1,12 @@
 //! The rows that gave names in a directory.
 
 ghost use Rattle.std.specs.Prelude.{◌≡◌, IfOk};
-ghost use Rattle.view_lookup.specs.Giving.{gives_in, naming_effect};
-ghost use Rattle.view_lookup.specs.Walks.{all_told};
+ghost use Rattle.base_rows.specs.Giving.{gives_in, naming_effect};
+ghost use Rattle.base_rows.specs.Walks.{all_told};
 
-use crate::bases::FirstRows;
-use crate::look_ups::{Does, LookUp, only_if};
-use crate::subjects::Subject;
+use base_rows::bases::FirstRows;
+use base_rows::look_ups::{Does, LookUp, only_if};
+use base_rows::subjects::Subject;
 use cc_names::memory::NoMemory;
 use cc_names::rows::Deed;
 use std::alloc::Global;
@@ -20,9 +20,9 @@ struct NamingIn {
 impl LookUp for NamingIn {
     type Item = u64;
 
-    ghost use Rattle.view_lookup.specs.Bearings.{naming_bears};
-    ghost use Rattle.view_lookup.specs.Giving.{naming_effect};
-    ghost use Rattle.view_lookup.specs.Subjects as model;
+    ghost use Rattle.base_rows.specs.Bearings.{naming_bears};
+    ghost use Rattle.base_rows.specs.Giving.{naming_effect};
+    ghost use Rattle.base_rows.specs.Subjects as model;
 
     ghost effect = { λ it. naming_effect it.directory };
 

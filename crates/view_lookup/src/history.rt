@@ -2,11 +2,11 @@
 
 ghost use Rattle.std.specs.Prelude.{◌≡◌, IfOk};
 ghost use Rattle.std.specs.List.{list_any};
-ghost use Rattle.view_lookup.specs.Histories.{history_of, is_placed_on};
+ghost use Rattle.base_rows.specs.Histories.{history_of, is_placed_on};
 
-use crate::bases::FirstRows;
-use crate::look_ups::{Does, LookUp, only_if};
-use crate::subjects::Subject;
+use base_rows::bases::FirstRows;
+use base_rows::look_ups::{Does, LookUp, only_if};
+use base_rows::subjects::Subject;
 use cc_names::memory::NoMemory;
 use cc_names::rows::{Deed, Placed};
 use std::alloc::Global;
@@ -20,9 +20,9 @@ struct HistoryOf {
 impl LookUp for HistoryOf {
     type Item = u64;
 
-    ghost use Rattle.view_lookup.specs.Bearings.{history_bears};
-    ghost use Rattle.view_lookup.specs.Histories.{history_effect};
-    ghost use Rattle.view_lookup.specs.Subjects as model;
+    ghost use Rattle.base_rows.specs.Bearings.{history_bears};
+    ghost use Rattle.base_rows.specs.Histories.{history_effect};
+    ghost use Rattle.base_rows.specs.Subjects as model;
 
     ghost effect = { λ it. history_effect it.element };
 

@@ -4,9 +4,9 @@ ghost use Rattle.std.specs.Prelude.{◌≡◌, IfOk};
 ghost use Rattle.base_model.specs.Changes.{tree};
 ghost use Rattle.legal_history.specs.Queries.ElementTexts.{branches_leaving};
 
-use crate::bases::FirstRows;
-use crate::look_ups::{Does, LookUp, only_if};
-use crate::subjects::Subject;
+use base_rows::bases::FirstRows;
+use base_rows::look_ups::{Does, LookUp, only_if};
+use base_rows::subjects::Subject;
 use cc_names::memory::NoMemory;
 use cc_names::rows::Deed;
 use std::alloc::Global;
@@ -20,9 +20,9 @@ struct LeavingOf {
 impl LookUp for LeavingOf {
     type Item = u64;
 
-    ghost use Rattle.view_lookup.specs.Bearings.{leaving_bears};
-    ghost use Rattle.view_lookup.specs.Effects.{leaving_effect};
-    ghost use Rattle.view_lookup.specs.Subjects as model;
+    ghost use Rattle.base_rows.specs.Bearings.{leaving_bears};
+    ghost use Rattle.base_rows.specs.Effects.{leaving_effect};
+    ghost use Rattle.base_rows.specs.Subjects as model;
 
     ghost effect = { λ it. leaving_effect it.version };
 

@@ -1,12 +1,12 @@
 //! The merges into a version.
 
 ghost use Rattle.std.specs.Prelude.{◌≡◌, IfOk};
-ghost use Rattle.view_lookup.specs.Effects.{merged_effect};
-ghost use Rattle.view_lookup.specs.Walks.{all_told};
+ghost use Rattle.base_rows.specs.Effects.{merged_effect};
+ghost use Rattle.base_rows.specs.Walks.{all_told};
 
-use crate::bases::FirstRows;
-use crate::look_ups::{Does, LookUp, only_if};
-use crate::subjects::Subject;
+use base_rows::bases::FirstRows;
+use base_rows::look_ups::{Does, LookUp, only_if};
+use base_rows::subjects::Subject;
 use cc_names::memory::NoMemory;
 use cc_names::rows::Deed;
 use std::alloc::Global;
@@ -20,9 +20,9 @@ struct MergedInto {
 impl LookUp for MergedInto {
     type Item = u64;
 
-    ghost use Rattle.view_lookup.specs.Bearings.{merged_bears};
-    ghost use Rattle.view_lookup.specs.Effects.{merged_effect};
-    ghost use Rattle.view_lookup.specs.Subjects as model;
+    ghost use Rattle.base_rows.specs.Bearings.{merged_bears};
+    ghost use Rattle.base_rows.specs.Effects.{merged_effect};
+    ghost use Rattle.base_rows.specs.Subjects as model;
 
     ghost effect = { λ it. merged_effect it.head };
 

@@ -3,9 +3,9 @@
 ghost use Rattle.std.specs.Prelude.{◌≡◌};
 ghost use Rattle.base_model.specs.Conditions.{arrow_row};
 
-use crate::bases::FirstRows;
-use crate::look_ups::{Does, LookUp, only_if};
-use crate::subjects::Subject;
+use base_rows::bases::FirstRows;
+use base_rows::look_ups::{Does, LookUp, only_if};
+use base_rows::subjects::Subject;
 use cc_names::rows::Deed;
 
 /// A merge of one version of an element into another.
@@ -19,9 +19,9 @@ struct MergeOf {
 impl LookUp for MergeOf {
     type Item = u64;
 
-    ghost use Rattle.view_lookup.specs.Bearings.{merge_bears};
-    ghost use Rattle.view_lookup.specs.Effects.{merge_effect};
-    ghost use Rattle.view_lookup.specs.Subjects as model;
+    ghost use Rattle.base_rows.specs.Bearings.{merge_bears};
+    ghost use Rattle.base_rows.specs.Effects.{merge_effect};
+    ghost use Rattle.base_rows.specs.Subjects as model;
 
     ghost effect = { λ it. merge_effect it.element it.tail it.head };
 

@@ -5,9 +5,9 @@ ghost use Rattle.cc_names.specs.Branches.{branch_above, branch_behind, branch_na
 ghost use Rattle.base_model.specs.Changes.{tree};
 ghost use Rattle.legal_history.specs.Commands.LabelLines.{version_named};
 
-use crate::bases::FirstRows;
 use crate::branch_names::branch_named;
-use crate::trees::{branch_of_version, is_number, origin_of, version_numbered};
+use base_rows::bases::FirstRows;
+use base_rows::trees::{branch_of_version, is_number, origin_of, version_numbered};
 use cc_names::commands::VersionName;
 use cc_names::names::Name;
 

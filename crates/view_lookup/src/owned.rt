@@ -1,13 +1,13 @@
 //! The rows that gave a view something: a private file, or an object.
 
 ghost use Rattle.std.specs.Prelude.{◌≡◌, IfOk};
-ghost use Rattle.view_lookup.specs.Giving.{gives_view, own_effect};
-ghost use Rattle.view_lookup.specs.Walks.{all_told};
+ghost use Rattle.base_rows.specs.Giving.{gives_view, own_effect};
+ghost use Rattle.base_rows.specs.Walks.{all_told};
 
-use crate::bases::FirstRows;
-use crate::look_ups::{Does, LookUp, only_if};
-use crate::subjects::Subject;
-use crate::views::same_name;
+use base_rows::bases::FirstRows;
+use base_rows::look_ups::{Does, LookUp, only_if};
+use base_rows::subjects::Subject;
+use base_rows::views::same_name;
 use cc_names::memory::NoMemory;
 use cc_names::names::Name;
 use cc_names::rows::Deed;
@@ -22,9 +22,9 @@ struct OwnOf<'a> {
 impl LookUp for OwnOf<'_> {
     type Item = u64;
 
-    ghost use Rattle.view_lookup.specs.Bearings.{own_bears};
-    ghost use Rattle.view_lookup.specs.Giving.{own_effect};
-    ghost use Rattle.view_lookup.specs.Subjects as model;
+    ghost use Rattle.base_rows.specs.Bearings.{own_bears};
+    ghost use Rattle.base_rows.specs.Giving.{own_effect};
+    ghost use Rattle.base_rows.specs.Subjects as model;
 
     ghost effect = { λ it. own_effect it.view.now };
 

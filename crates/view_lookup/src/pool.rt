@@ -2,19 +2,19 @@
 
 ghost use Rattle.std.specs.Prelude.{◌≡◌};
 ghost use Rattle.base_model.specs.Objects.{are_same_paths};
-ghost use Rattle.view_lookup.specs.Pool.{newest_object, publishes};
+ghost use Rattle.base_rows.specs.Pool.{newest_object, publishes};
 
-use crate::bases::FirstRows;
-use crate::look_ups::{Does, LookUp, only_if};
-use crate::objects::live;
-use crate::subjects::Subject;
+use base_rows::bases::FirstRows;
+use base_rows::look_ups::{Does, LookUp, only_if};
+use base_rows::objects::live;
+use base_rows::subjects::Subject;
 use cc_names::paths::Path;
 use cc_names::rows::{Deed, ReadOf};
 
 /// A test of the records of objects.
 pub trait RecordTest {
     ghost use Rattle.std.specs.Prelude.{◌≡◌};
-    ghost use Rattle.view_lookup.specs.Pool.{Test};
+    ghost use Rattle.base_rows.specs.Pool.{Test};
 
     ghost passes: { Self → Test };
 
@@ -60,9 +60,9 @@ struct PoolOf<'a, T> {
 impl<T: RecordTest> LookUp for PoolOf<'_, T> {
     type Item = u64;
 
-    ghost use Rattle.view_lookup.specs.Bearings.{pool_bears};
-    ghost use Rattle.view_lookup.specs.Effects.{pool_effect};
-    ghost use Rattle.view_lookup.specs.Subjects as model;
+    ghost use Rattle.base_rows.specs.Bearings.{pool_bears};
+    ghost use Rattle.base_rows.specs.Effects.{pool_effect};
+    ghost use Rattle.base_rows.specs.Subjects as model;
 
     ghost effect = { λ it. pool_effect it.rows.now it.targets.now (T.passes it.test.now) };
 

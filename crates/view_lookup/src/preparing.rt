@@ -1,12 +1,12 @@
 //! The next row made ready: the config spec that it gives to its view is read, and the rest is made from the rows.
 
 ghost use Rattle.std.specs.Prelude.{◌≡◌, IfOk};
-ghost use Rattle.view_lookup.specs.Preparing.{IsPrepared};
-ghost use Rattle.view_lookup.specs.SetSpecs.{parsed_if_short, rules_set_if_short};
+ghost use Rattle.base_rows.specs.Preparing.{IsPrepared};
+ghost use Rattle.base_rows.specs.SetSpecs.{parsed_if_short, rules_set_if_short};
 
-use crate::bases::Rows;
-use crate::prepared::{Prepared, prepare_with};
-use crate::view_specs::spec_made;
+use base_rows::bases::Rows;
+use base_rows::prepared::{Prepared, prepare_with};
+use base_rows::view_specs::spec_made;
 use cc_names::memory::{NoMemory, Or};
 use cc_names::rows::Deed;
 use cc_names::selection::Rules;

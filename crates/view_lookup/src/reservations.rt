@@ -3,15 +3,15 @@
 ghost use Rattle.std.specs.Prelude.{◌≡◌, option_map};
 ghost use Rattle.std.specs.Option.{option_copied};
 ghost use Rattle.base_model.specs.Checkouts.{other_reserver, reserver};
-ghost use Rattle.view_lookup.specs.Effects.{plain_taken};
+ghost use Rattle.base_rows.specs.Effects.{plain_taken};
 ghost use Rattle.view_lookup.specs.Reservations.{newest_reserving, reserving};
 
-use crate::bases::{FirstRows, row_at};
-use crate::desks::{Taken, made_out};
-use crate::look_ups::{Does, LookUp, only_if};
 use crate::standings::stands;
-use crate::subjects::{Subject, reserved_branch};
-use crate::views::same_name;
+use base_rows::bases::{FirstRows, row_at};
+use base_rows::desks::{Taken, made_out};
+use base_rows::look_ups::{Does, LookUp, only_if};
+use base_rows::subjects::{Subject, reserved_branch};
+use base_rows::views::same_name;
 use cc_names::names::Name;
 use cc_names::rows::Deed;
 
@@ -24,9 +24,9 @@ struct ReservingOf {
 impl LookUp for ReservingOf {
     type Item = u64;
 
-    ghost use Rattle.view_lookup.specs.Bearings.{reserving_bears};
-    ghost use Rattle.view_lookup.specs.Effects.{reserving_effect};
-    ghost use Rattle.view_lookup.specs.Subjects as subjects;
+    ghost use Rattle.base_rows.specs.Bearings.{reserving_bears};
+    ghost use Rattle.base_rows.specs.Effects.{reserving_effect};
+    ghost use Rattle.base_rows.specs.Subjects as subjects;
 
     ghost effect = { λ it. reserving_effect it.branch };
 

@@ -5,14 +5,14 @@ ghost use Rattle.cc_names.specs.References.{is_held};
 ghost use Rattle.base_model.specs.Changes.{held};
 ghost use Rattle.base_model.specs.Conditions.{may_be_scrubbed};
 ghost use Rattle.base_model.specs.Rows.{deed_at};
-ghost use Rattle.view_lookup.specs.Effects.{held_by_maker, holds_one, winked_effect};
-ghost use Rattle.view_lookup.specs.Walks.{all_told};
+ghost use Rattle.base_rows.specs.Effects.{held_by_maker, holds_one, winked_effect};
+ghost use Rattle.base_rows.specs.Walks.{all_told};
 
-use crate::bases::{FirstRows, row_at};
-use crate::look_ups::{Does, LookUp, only_if};
-use crate::objects::{held, live, targets_of};
-use crate::subjects::Subject;
-use crate::trees::is_number;
+use base_rows::bases::{FirstRows, row_at};
+use base_rows::look_ups::{Does, LookUp, only_if};
+use base_rows::objects::{held, live, targets_of};
+use base_rows::subjects::Subject;
+use base_rows::trees::is_number;
 use cc_names::memory::NoMemory;
 use cc_names::names::Name;
 use cc_names::paths::Path;
@@ -38,9 +38,9 @@ struct WinkedOf<'a> {
 impl LookUp for WinkedOf<'_> {
     type Item = u64;
 
-    ghost use Rattle.view_lookup.specs.Bearings.{winked_bears};
-    ghost use Rattle.view_lookup.specs.Effects.{winked_effect};
-    ghost use Rattle.view_lookup.specs.Subjects as subjects;
+    ghost use Rattle.base_rows.specs.Bearings.{winked_bears};
+    ghost use Rattle.base_rows.specs.Effects.{winked_effect};
+    ghost use Rattle.base_rows.specs.Subjects as subjects;
 
     ghost effect = { λ it. winked_effect it.rows.now it.object };
 

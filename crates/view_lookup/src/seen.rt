@@ -9,12 +9,12 @@ ghost use Rattle.base_model.specs.Rows.{Base};
 ghost use Rattle.base_model.specs.Seen.{as_seen, at, below, directory_at, element_at, entries_by, entries_of, file_at, path_limit, private_or, selected};
 ghost use Rattle.base_model.specs.Views.{private};
 ghost use Rattle.view_lookup.specs.Resolving.{catalog_in};
-ghost use Rattle.view_lookup.specs.Made.{kind_made};
+ghost use Rattle.base_rows.specs.Made.{kind_made};
 
-use crate::bases::{FirstRows, row_at};
 use crate::catalogs::{Catalog, named_in};
 use crate::picks::pick;
-use crate::views::private_at;
+use base_rows::bases::{FirstRows, row_at};
+use base_rows::views::private_at;
 use cc_names::names::Name;
 use cc_names::paths::{Path, first_slash};
 use cc_names::rows::{Deed, Kind};

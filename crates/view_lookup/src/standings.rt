@@ -2,13 +2,13 @@
 
 ghost use Rattle.std.specs.Prelude.{◌≡◌};
 ghost use Rattle.base_model.specs.Checkouts.{oldest_out};
-ghost use Rattle.view_lookup.specs.Effects.{plain_taken, stands};
+ghost use Rattle.base_rows.specs.Effects.{plain_taken, stands};
 
-use crate::bases::FirstRows;
-use crate::desks::{Taken, checked_out, made_out};
-use crate::look_ups::{Does, LookUp, only_if};
-use crate::subjects::Subject;
-use crate::views::same_name;
+use base_rows::bases::FirstRows;
+use base_rows::desks::{Taken, checked_out, made_out};
+use base_rows::look_ups::{Does, LookUp, only_if};
+use base_rows::subjects::Subject;
+use base_rows::views::same_name;
 use cc_names::names::Name;
 use cc_names::rows::Deed;
 
@@ -32,9 +32,9 @@ struct StandingOf<'a> {
 impl LookUp for StandingOf<'_> {
     type Item = u64;
 
-    ghost use Rattle.view_lookup.specs.Bearings.{standing_bears};
-    ghost use Rattle.view_lookup.specs.Effects.{standing_effect};
-    ghost use Rattle.view_lookup.specs.Subjects as subjects;
+    ghost use Rattle.base_rows.specs.Bearings.{standing_bears};
+    ghost use Rattle.base_rows.specs.Effects.{standing_effect};
+    ghost use Rattle.base_rows.specs.Subjects as subjects;
 
     ghost effect = { λ it. standing_effect it.rows.now it.view.now };
 

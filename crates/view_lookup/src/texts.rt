@@ -5,9 +5,9 @@ ghost use Rattle.std.specs.Option.{option_copied};
 ghost use Rattle.base_model.specs.Texts.{texts, of_making, of_output, output_at, source_of, text};
 ghost use Rattle.view_lookup.specs.Sources.{plain_source};
 
-use crate::bases::{FirstRows, first_rows, row_at};
-use crate::desks::making;
 use crate::seen::file_at;
+use base_rows::bases::{FirstRows, first_rows, row_at};
+use base_rows::desks::making;
 use cc_names::names::Name;
 use cc_names::paths::Path;
 use cc_names::rows::Deed;

@@ -4,10 +4,10 @@ ghost use Rattle.std.specs.Prelude.{◌≡◌};
 ghost use Rattle.base_model.specs.Changes.{kind_of_type};
 ghost use Rattle.base_model.specs.Conditions.{is_branch_type, is_label_type, is_reserved_name, is_type_taken};
 
-use crate::bases::FirstRows;
-use crate::look_ups::{Does, LookUp, only_if};
-use crate::subjects::Subject;
-use crate::views::same_name;
+use base_rows::bases::FirstRows;
+use base_rows::look_ups::{Does, LookUp, only_if};
+use base_rows::subjects::Subject;
+use base_rows::views::same_name;
 use cc_names::names::Name;
 use cc_names::rows::{Deed, TypeKind};
 
@@ -20,9 +20,9 @@ struct NamedOf<'a> {
 impl LookUp for NamedOf<'_> {
     type Item = TypeKind;
 
-    ghost use Rattle.view_lookup.specs.Bearings.{named_bears};
-    ghost use Rattle.view_lookup.specs.Effects.{named_effect};
-    ghost use Rattle.view_lookup.specs.Subjects as model;
+    ghost use Rattle.base_rows.specs.Bearings.{named_bears};
+    ghost use Rattle.base_rows.specs.Effects.{named_effect};
+    ghost use Rattle.base_rows.specs.Subjects as model;
 
     ghost effect = { λ it. named_effect it.name.now };
 

@@ -4,7 +4,7 @@
 
 ghost use Rattle.std.specs.Prelude.{◌≡◌, true, IfOk, OnOk};
 ghost use Rattle.base_model.specs.Fits.{fits};
-ghost use Rattle.view_lookup.specs.Shown.{HasRoom};
+ghost use Rattle.base_rows.specs.Shown.{HasRoom};
 
 use crate::spelled_rows::{number_of, row_of};
 use row_form::Row;

@@ -21,7 +21,7 @@ use Rattle.vob_journal.proofs.Staying.{told_stay}
 use Rattle.story_log.specs.Stopping.Backed.{IsAccounted, IsSettled}
 use Rattle.story_log.specs.Stopping.Founds.{OpensAgain}
 use Rattle.story_log.specs.Stopping.Standing.{MayBeFound}
-use Rattle.view_lookup.specs.Order.{oldest_first}
+use Rattle.base_rows.specs.Order.{oldest_first}
 use Rattle.story_log.proofs.Stopping.Backing.{left_within_calls}
 use Rattle.story_log.proofs.Cases.{some_same}
 use Rattle.session_run.specs.Faults.Stopped.{AllOpenAgain, AreApart, IsHandedIn, IsMended, IsStopped, KeepsFrames, rises_of}

@@ -9,7 +9,7 @@ use Rattle.legal_history.specs.Stories.States.{Opening}
 use Rattle.legal_history.specs.Stories.Steps.{state_of}
 use Rattle.vob_journal.specs.Frames.{frames}
 use Rattle.story_log.specs.Stopping.Founds.{FoundBaseIsSound, OpensAgain}
-use Rattle.view_lookup.specs.Order.{oldest_first}
+use Rattle.base_rows.specs.Order.{oldest_first}
 use Rattle.story_log.proofs.Cases.{some_same}
 use Rattle.session_run.specs.Faults.Stopped.{KeepsPrefix}
 use Rattle.session_run.specs.Promises.HandedOn.{SoundnessIsHandedOn}

@@ -20,7 +20,7 @@ use Rattle.story_log.specs.Stopping.Backed.{IsAccounted, may_be_open}
 use Rattle.base_core.specs.Story.Counted.{KeepsCount}
 use Rattle.story_log.specs.Bases.Opening.{FailsToOpen, OpensCore, StopsBy}
 use Rattle.base_core.specs.Story.Shown.{Shown}
-use Rattle.view_lookup.specs.Order.{oldest_first}
+use Rattle.base_rows.specs.Order.{oldest_first}
 use Rattle.story_log.specs.declared.opening.OpenCause.{OpenCause}
 use Rattle.story_log.specs.declared.opening.OpenCause.TheVariants as opens
 use Rattle.legal_history.specs.Stories.Steps.{state_of}

@@ -25,7 +25,7 @@ use Rattle.cc_outside.specs.Sights.{ClockSight}
 use Rattle.disk_model.specs.Told.{Sight}
 use Rattle.story_log.specs.Bases.Opening.{IsBaseOn}
 use Rattle.story_log.specs.Story.Handed.{Handed}
-use Rattle.view_lookup.specs.Order.{oldest_first}
+use Rattle.base_rows.specs.Order.{oldest_first}
 use Rattle.base_model.specs.Rows.{Base}
 use Rattle.legal_history.specs.Stories.Commanded.{IsOfCommand}
 use Rattle.legal_history.specs.Builds.Replied.{reply_of, reply_from_nothing}

@@ -26,7 +26,7 @@ use Rattle.story_log.specs.Logging.Logs.{Logged, opened_log}
 use Rattle.story_log.specs.Bases.Opening.{IsBaseOn, IsOpened, IsDamaged, StopsBy, FailsToOpen}
 use Rattle.story_log.specs.Bases.Reading.{OnlyReads, IsReadThrough}
 use Rattle.story_log.specs.Stopping.Standing.{payloads}
-use Rattle.view_lookup.specs.Order.{oldest_first}
+use Rattle.base_rows.specs.Order.{oldest_first}
 use Rattle.story_log.specs.Story.Handed.{Handed}
 use Rattle.story_log.specs.declared.opening.OpenCause.{OpenCause}
 use Rattle.story_log.specs.declared.opening.OpenCause.TheVariants as causes

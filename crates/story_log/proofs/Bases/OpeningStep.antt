@@ -14,7 +14,7 @@ use Rattle.vob_journal.specs.declared.left.Left.{Left}
 use Rattle.story_log.specs.Stopping.Backed.{IsBacked}
 use Rattle.story_log.specs.Logging.Logs.{IsLogged, Logged, opened_log}
 use Rattle.story_log.specs.Story.Telling.{story_of, AreTold}
-use Rattle.view_lookup.specs.Order.{oldest_first}
+use Rattle.base_rows.specs.Order.{oldest_first}
 use Rattle.story_log.specs.Story.Handed.{Handed}
 
 -- the story of the opening alone

@@ -25,7 +25,7 @@ use Rattle.story_log.specs.Logging.Appending.{CommitsRow, IsQuiet, MayLeaveRow, 
 use Rattle.story_log.specs.Logging.Leaving.{left_in, LeftSo}
 use Rattle.story_log.specs.Logging.Logs.{IsLogged, with_step_on}
 use Rattle.story_log.specs.Story.Telling.{story_of, AreTold}
-use Rattle.view_lookup.specs.Order.{oldest_first}
+use Rattle.base_rows.specs.Order.{oldest_first}
 use Rattle.story_log.specs.Story.Handed.{Handed}
 use Rattle.vob_journal.proofs.Adding.{adds_none}
 use Rattle.story_log.proofs.Logging.Leavings.{hanging_is}

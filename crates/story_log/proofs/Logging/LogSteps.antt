@@ -10,7 +10,7 @@ use Rattle.disk_model.specs.Told.{Sight}
 use Rattle.base_model.specs.Rows.{Base}
 use Rattle.story_log.specs.Logging.Logs.{Logged, with_phase, with_row, with_step, with_step_on}
 use Rattle.story_log.specs.Story.Telling.{story_of, AreTold, stands_alone}
-use Rattle.view_lookup.specs.Order.{oldest_first}
+use Rattle.base_rows.specs.Order.{oldest_first}
 use Rattle.story_log.specs.Story.Handed.{Handed}
 use Rattle.story_log.proofs.Story.Stories.{story_of-phase, told_beginning, story_of-commit, told_commit, story_of-step, told_step}
 

@@ -20,7 +20,7 @@ use Rattle.story_log.specs.Story.Faults.{is_fault}
 use Rattle.story_log.specs.Logging.Leaving.{left_in, LeftSo}
 use Rattle.story_log.specs.Logging.Logs.{IsLogged}
 use Rattle.story_log.specs.Story.Telling.{story_of, AreTold, stands_alone}
-use Rattle.view_lookup.specs.Order.{oldest_first}
+use Rattle.base_rows.specs.Order.{oldest_first}
 use Rattle.story_log.specs.Story.Handed.{Handed}
 use Rattle.story_log.proofs.Story.Growing.{state_from-more}
 use Rattle.story_log.proofs.Logging.Leavings.{hanging_is}

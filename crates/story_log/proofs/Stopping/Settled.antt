@@ -19,7 +19,7 @@ use Rattle.story_log.specs.Stopping.Backed.{IsMirrored, IsBacked, IsSettled, IsA
 use Rattle.story_log.specs.Logging.Logs.{IsLogged}
 use Rattle.story_log.specs.Stopping.Standing.{payloads, base_by, StandsFor, MayBeFound}
 use Rattle.story_log.specs.Story.Telling.{story_of}
-use Rattle.view_lookup.specs.Order.{oldest_first}
+use Rattle.base_rows.specs.Order.{oldest_first}
 use Rattle.story_log.specs.Story.Handed.{Handed}
 use Rattle.story_log.proofs.Stopping.Backing.{after_all, settle_covered, stands_so, still_told}
 use Rattle.story_log.proofs.Logging.Logging.{if_told, ticks_told}

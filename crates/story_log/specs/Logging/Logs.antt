@@ -12,7 +12,7 @@ use Rattle.vob_journal.specs.declared.left.Left.{Left}
 use Rattle.story_log.specs.Stopping.Backed.{IsBacked}
 use Rattle.story_log.specs.Story.Handed.{Handed}
 use Rattle.story_log.specs.Story.Telling.{story_of, AreTold}
-use Rattle.view_lookup.specs.Order.{oldest_first}
+use Rattle.base_rows.specs.Order.{oldest_first}
 
 -- a story, oldest step first, with the base to which it has led and all phases, in their order, and what contracts see of the
 -- disk

@@ -1,6 +1,6 @@
 -- The newest of the unit's targets that is of its script and of what it sees.
 use Rattle.std.proofs.Common.{sym, ap, ◌∙◌}
-use Rattle.view_lookup.specs.Pool.{newest_object}
+use Rattle.base_rows.specs.Pool.{newest_object}
 use Rattle.build_core.specs.Reusing.{agrees_with}
 use Rattle.build_core.proofs.ReusedObjects.{newest_matched}
 use Rattle.build_core.proofs.reuse.newest_match.Goals as goal

@@ -9,8 +9,8 @@ use Rattle.cc_names.specs.declared.rows.Deed.TheVariants as deeds
 use Rattle.base_model.specs.Changes.{tree, tree_after, with_checkin, with_version}
 use Rattle.base_model.specs.Rows.{Base, size}
 use Rattle.base_model.specs.Views.{Checkout, out}
-use Rattle.view_lookup.proofs.Growths.{rooted}
-use Rattle.view_lookup.specs.Effects.{plain_checkout}
+use Rattle.base_rows.proofs.Growths.{rooted}
+use Rattle.base_rows.specs.Effects.{plain_checkout}
 use Rattle.cleartool.proofs.NextNames.{branch_below, no_version, version_next}
 use Rattle.cleartool.proofs.version_names.next_name.Goals as goal
 

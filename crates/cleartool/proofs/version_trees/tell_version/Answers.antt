@@ -7,7 +7,7 @@ use Rattle.cc_names.specs.Versions.{row_of_version, versions_on}
 use Rattle.base_model.specs.Changes.{tree}
 use Rattle.legal_history.specs.Queries.ElementTexts.{branch_lines, branches_leaving, in_brackets, labels_on}
 use Rattle.legal_history.specs.Queries.VersionNames.{at_version, line, version_name}
-use Rattle.view_lookup.proofs.AtIndex.{drop_at, drop_past, within_at}
+use Rattle.base_rows.proofs.AtIndex.{drop_at, drop_past, within_at}
 use Rattle.cleartool.specs.VersionTrees.{left_lines, row_lines, rows_on, steps_left, steps_of}
 use Rattle.cleartool.specs.declared.version_trees.Part.{Part}
 use Rattle.cleartool.specs.declared.version_trees.Part.TheVariants.{Branch, Versions}

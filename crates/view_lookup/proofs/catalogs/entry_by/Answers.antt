@@ -3,7 +3,7 @@ use Rattle.std.proofs.Common.{◌≡◌, Bool, true, false, ◌||◌, Some, None
 use Rattle.std.specs.Option.{option_copied}
 use Rattle.base_model.specs.Catalogs.{Same, BeginsEmpty, BeginsAs, Adds, Removes, Renames, edit_of, named, own_of}
 use Rattle.base_model.specs.Rows.{deed_of, deed_at, first_rows}
-use Rattle.view_lookup.specs.Entries.{plain_edit}
+use Rattle.base_rows.specs.Entries.{plain_edit}
 use Rattle.view_lookup.proofs.EntryEdits.{added, removed, moved_away, moved_here}
 use Rattle.view_lookup.proofs.EntryMoves.{fewer_below, fits_below, has_first_name}
 use Rattle.view_lookup.proofs.EntryTold.{IsTold, told_edit, told_bears}

@@ -1,11 +1,11 @@
 -- The later of the row that began the checkout and of the row that changed the name in it.
 use Rattle.std.proofs.Common.{refl, sym, ap, ap₂, ◌∙◌}
-use Rattle.view_lookup.specs.Lifetimes.{later}
-use Rattle.view_lookup.specs.Entries.{begun_effect, changed_effect, entry_effect}
-use Rattle.view_lookup.specs.LookUps.{left_by}
-use Rattle.view_lookup.proofs.Endings.{newest_of_two}
+use Rattle.base_rows.specs.Lifetimes.{later}
+use Rattle.base_rows.specs.Entries.{begun_effect, changed_effect, entry_effect}
+use Rattle.base_rows.specs.LookUps.{left_by}
+use Rattle.base_rows.proofs.Endings.{newest_of_two}
 use Rattle.view_lookup.proofs.EntryRows.{entry_by, entry_by_row}
-use Rattle.view_lookup.proofs.Newest.{last_by_newest}
+use Rattle.base_rows.proofs.Newest.{last_by_newest}
 use Rattle.view_lookup.proofs.catalogs.entry_of_checkout.Goals as goal
 
 pub entry_by-requires : goal.entry_by-requires

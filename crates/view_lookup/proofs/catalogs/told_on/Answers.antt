@@ -4,8 +4,8 @@ use Rattle.std.proofs.lemmas.Bool.Decides.{nat_tests}
 use Rattle.base_model.specs.Closures.{greater_of}
 use Rattle.base_model.specs.Rows.{Base, first_rows, size}
 use Rattle.base_model.proofs.Stay.{all_rows}
-use Rattle.view_lookup.specs.ChangeBearings.{altered_effect}
-use Rattle.view_lookup.specs.LookUps.{last_of}
+use Rattle.base_rows.specs.ChangeBearings.{altered_effect}
+use Rattle.base_rows.specs.LookUps.{last_of}
 use Rattle.view_lookup.specs.ToldOn.{altered_by}
 use Rattle.view_lookup.proofs.catalogs.told_on.Goals as goal
 

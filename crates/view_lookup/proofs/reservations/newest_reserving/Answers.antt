@@ -3,7 +3,7 @@ use Rattle.std.proofs.Common.{ap, ◌∙◌}
 use Rattle.std.specs.Prelude.{option_and_then, option_map}
 use Rattle.base_model.specs.Rows.{deed_of}
 use Rattle.base_model.specs.Views.{made_out}
-use Rattle.view_lookup.specs.Effects.{plain_taken}
+use Rattle.base_rows.specs.Effects.{plain_taken}
 use Rattle.view_lookup.specs.Reservations.{taken_at}
 use Rattle.view_lookup.proofs.reservations.newest_reserving.Goals as goal
 

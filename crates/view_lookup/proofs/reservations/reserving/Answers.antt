@@ -2,7 +2,7 @@
 use Rattle.std.proofs.Common.{Some, ap, sym, ◌∙◌}
 use Rattle.std.specs.Prelude.{option_map}
 use Rattle.base_model.specs.Rows.{only_where}
-use Rattle.view_lookup.specs.Effects.{plain_taken}
+use Rattle.base_rows.specs.Effects.{plain_taken}
 use Rattle.view_lookup.proofs.ReservedOnce.{if_standing, reserving_is}
 use Rattle.view_lookup.proofs.reservations.reserving.Goals as goal
 

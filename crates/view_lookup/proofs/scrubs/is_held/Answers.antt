@@ -1,8 +1,8 @@
 -- The maker's view and the winks tell whether some view holds an object.
 use Rattle.std.proofs.Common.{◌||◌, sym, ap, ◌∙◌}
 use Rattle.std.specs.Prelude.{is_some}
-use Rattle.view_lookup.specs.Effects.{winked_effect}
-use Rattle.view_lookup.specs.LookUps.{last_of}
+use Rattle.base_rows.specs.Effects.{winked_effect}
+use Rattle.base_rows.specs.LookUps.{last_of}
 use Rattle.view_lookup.proofs.HeldSomewhere.{held_somewhere}
 use Rattle.view_lookup.proofs.scrubs.is_held.Goals as goal
 

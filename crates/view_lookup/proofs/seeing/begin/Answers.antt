@@ -1,7 +1,7 @@
 -- What was kept of as many rows is of these.
 use Rattle.std.proofs.Common.{subst, ◌∙◌}
 use Rattle.std.specs.Prelude.{IfSome}
-use Rattle.view_lookup.specs.SeenFiles.{IsSeenIn}
+use Rattle.base_rows.specs.SeenFiles.{IsSeenIn}
 use Rattle.view_lookup.proofs.seeing.begin.Goals as goal
 
 pub returns-in-Some-clause-files : goal.returns-in-Some-clause-files

@@ -2,8 +2,8 @@
 use Rattle.std.proofs.Common.{◌≡◌, ap, sym, subst, ◌∙◌}
 use Rattle.std.specs.Prelude.{IfSome}
 use Rattle.base_model.specs.Rows.{Base, first_rows}
-use Rattle.view_lookup.specs.SeenFiles.{IsSeenIn}
-use Rattle.view_lookup.proofs.FilesSeen.{made_in, seen_in_each}
+use Rattle.base_rows.specs.SeenFiles.{IsSeenIn}
+use Rattle.base_rows.proofs.FilesSeen.{made_in, seen_in_each}
 use Rattle.view_lookup.proofs.seeing.remember.Goals as goal
 
 pub see_ahead-seen-requires : goal.see_ahead-seen-requires

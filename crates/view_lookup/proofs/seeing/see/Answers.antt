@@ -3,7 +3,7 @@ use Rattle.std.proofs.Common.{ap, sym, ◌∙◌}
 use Rattle.std.specs.HashMap.{get}
 use Rattle.std.specs.Str.{bytes_eq}
 use Rattle.base_model.specs.Seen.{file_at}
-use Rattle.view_lookup.proofs.FilesSeen.{file_put}
+use Rattle.base_rows.proofs.FilesSeen.{file_put}
 use Rattle.view_lookup.proofs.seeing.see.Goals as goal
 
 pub returns : goal.returns

@@ -1,4 +1,4 @@
-use Rattle.view_lookup.specs.SeenFiles.{AreFiles}
+use Rattle.base_rows.specs.SeenFiles.{AreFiles}
 use Rattle.view_lookup.proofs.seeing.see_each.Given as goal
 
 abbrev pub invariant-loop-entry : goal.invariant-loop-entry

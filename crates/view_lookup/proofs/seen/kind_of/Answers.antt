@@ -4,7 +4,7 @@ use Rattle.std.specs.Prelude.{option_and_then}
 use Rattle.std.proofs.lemmas.Bool.Decides.{nat_tests}
 use Rattle.cc_names.specs.declared.rows.Kind.TheVariants.{Directory}
 use Rattle.base_model.specs.Rows.{deed_of}
-use Rattle.view_lookup.specs.Made.{kind_made}
+use Rattle.base_rows.specs.Made.{kind_made}
 use Rattle.view_lookup.proofs.ElementKinds.{kind_at, kind_told}
 use Rattle.view_lookup.proofs.seen.kind_of.Goals as goal
 

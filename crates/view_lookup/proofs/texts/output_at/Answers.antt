@@ -1,6 +1,6 @@
 -- The next target is another path.
 use Rattle.std.proofs.Common.{bytes_eq, sym, ap₂, ◌∙◌}
-use Rattle.view_lookup.proofs.RowTexts.{output_later}
+use Rattle.base_rows.proofs.RowTexts.{output_later}
 use Rattle.view_lookup.proofs.texts.output_at.Goals as goal
 
 pub loop-index-preserved : goal.loop-index-preserved

@@ -1,0 +1,7 @@
+-- what is told of is left where it lies behind the last end
+use Rattle.std.proofs.Common.{ap, ◌∙◌}
+use Rattle.base_rows.specs.Lifetimes.{within}
+use Rattle.base_rows.proofs.views.in_life.Goals as goal
+
+pub returns-in-Some : goal.returns-in-Some
+returns-in-Some g c = c.within.ensures ∙ ap (λ ended. within ended c.args.told) c.last_end.ensures
