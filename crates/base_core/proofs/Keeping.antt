@@ -2,9 +2,9 @@
 pub mod Beginning
 pub mod Freshly
 pub mod Idle
-pub mod KeptBuilds
-pub mod KeptReplies
-pub mod KeptSteps
+pub mod PreservedBuilds
+pub mod PreservedReplies
+pub mod PreservedSteps
 pub mod LaneCounts
 pub mod LaneSets
 pub mod LaneSlots

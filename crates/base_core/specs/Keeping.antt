@@ -1,3 +1,3 @@
 -- What a core keeps at every moment.
-pub mod Kept
+pub mod CoreInvariants
 pub mod Lanes

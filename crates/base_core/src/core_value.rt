@@ -30,13 +30,13 @@ pub struct Core<D: Disk> {
 
 impl<D: Disk> Model for Core<D> {
     ghost use Rattle.base_core.specs.Story.Shown.{Shown};
-    ghost use Rattle.base_core.specs.Keeping.Kept.{IsCoreKept};
+    ghost use Rattle.base_core.specs.Keeping.CoreInvariants.{CoreInvariant};
 
     ghost Value = { Shown };
 
-    ghost view = { λ c. record { story = c.log.story; sight = c.log.sight } };
+    ghost view = { λ c. record { story = c.log.story; ghost_state = c.log.ghost_state } };
 
-    ghost invariant = { λ c. IsCoreKept c.log c.lanes c.moment };
+    ghost invariant = { λ c. CoreInvariant c.log c.lanes c.moment };
 }
 
 impl<D: Disk> Core<D> {
@@ -47,7 +47,7 @@ impl<D: Disk> Core<D> {
     ghost use Rattle.legal_history.specs.Stories.Steps.{state_of};
     ghost use Rattle.cc_names.specs.Counts.{rises};
     ghost use Rattle.legal_history.specs.Stories.Lawful.{last_moment, Legal};
-    ghost use Rattle.base_core.specs.Keeping.Kept.{command_limit};
+    ghost use Rattle.base_core.specs.Keeping.CoreInvariants.{command_limit};
     ghost use Rattle.base_core.specs.Story.Replying.{replies_of};
     ghost use Rattle.story_log.specs.Stopping.Backed.{IsSettled, IsAccounted, may_be_open};
     ghost use Rattle.base_core.specs.Story.Counted.{KeepsCount};
@@ -57,17 +57,17 @@ impl<D: Disk> Core<D> {
     ghost use Rattle.disk_model.specs.Counting.{next_count};
     ghost use Rattle.disk_model.specs.Devices.{file_of, bytes_of};
     ghost use Rattle.disk_model.specs.Files.{stable};
-    ghost use Rattle.disk_model.specs.Told.{IfTold, Both};
+    ghost use Rattle.disk_model.specs.DiskStates.{IfModeled, Both};
     ghost use Rattle.vob_journal.specs.Added.{WritesOn};
 
     /// Opens the base that a disk stands for. Reads its journal once, in time linear in its bytes and for each row that of
     /// `fits`, and writes nothing. Names are found by hashing them so. A disk whose base cannot be opened comes back with the
     /// cause.
     pub fn open(alloc: Global, hashing: RandomState, disk: D) -> Result<Core<D>, OpenFault<D>>
-        requires { IfTold (D.sight disk).told (λ d. file_of 0 d ≡ stable (bytes_of 0 d)) }
-        ensures ok { IfOk result (λ core. OpensCore (D.sight disk) core.story core.sight) }
+        requires { IfModeled (D.ghost_state disk).modeled (λ d. file_of 0 d ≡ stable (bytes_of 0 d)) }
+        ensures ok { IfOk result (λ core. OpensCore (D.ghost_state disk) core.story core.ghost_state) }
         ensures err { IfErr result
-            (λ fault. FailsToOpen (D.sight disk) fault.cause (D.sight fault.disk)) }
+            (λ fault. FailsToOpen (D.ghost_state disk) fault.cause (D.ghost_state fault.disk)) }
     {
         match open_log(alloc, hashing, disk) {
             Ok(log) => Ok(Core {
@@ -130,8 +130,8 @@ impl<D: Disk> Core<D> {
 
     /// The disk's counts.
     pub fn counts(&self) -> Counts
-        ensures ticks { result.ticks ≡ self.now.sight.ticks }
-        ensures faults { result.faults ≡ self.now.sight.faults }
+        ensures ticks { result.ticks ≡ self.now.ghost_state.ticks }
+        ensures faults { result.faults ≡ self.now.ghost_state.faults }
     {
         self.log.counts()
     }
@@ -142,14 +142,14 @@ impl<D: Disk> Core<D> {
     /// faults has passed that of each fault of the story.
     pub fn finish(&mut self) -> Result<(), DiskFault>
         ensures same { self.new.story ≡ self.old.story }
-        ensures ok { OnOk result (IsSettled (state_of self.new.story) self.new.sight) }
+        ensures ok { OnOk result (IsSettled (state_of self.new.story) self.new.ghost_state) }
         ensures err { OnErr result
             (rises (faults_of (state_of self.new.story).opened (state_of self.new.story).ends)
-            self.new.sight.faults ≡ true) }
-        ensures faults { MatchResult result (λ _. self.new.sight.faults ≡ self.old.sight.faults)
-            (λ _. self.new.sight.faults ≡ next_count self.old.sight.faults) }
-        ensures few { self.new.sight.ticks ≤ self.old.sight.ticks + 2 }
-        ensures writes { Both WritesOn self.old.sight.told self.new.sight.told }
+            self.new.ghost_state.faults ≡ true) }
+        ensures faults { MatchResult result (λ _. self.new.ghost_state.faults ≡ self.old.ghost_state.faults)
+            (λ _. self.new.ghost_state.faults ≡ next_count self.old.ghost_state.faults) }
+        ensures few { self.new.ghost_state.ticks ≤ self.old.ghost_state.ticks + 2 }
+        ensures writes { Both WritesOn self.old.ghost_state.modeled self.new.ghost_state.modeled }
         ensures rests { may_be_open (state_of self.old.story).ends ≡ false → self.new ≡ self.old }
     {
         self.log.settle()
@@ -157,11 +157,11 @@ impl<D: Disk> Core<D> {
 
     /// The disk, and the history of the story so far. Takes no memory.
     pub fn into_parts(self) -> (D, History<D>)
-        ensures disk { D.sight result.0 ≡ self.sight }
+        ensures disk { D.ghost_state result.0 ≡ self.ghost_state }
         ensures history { result.1 ≡ self.story }
         ensures legal { Legal self.story }
         ensures formed { TellsOnly IsFormed self.story }
-        ensures stopped { IsAccounted (state_of self.story) self.sight }
+        ensures stopped { IsAccounted (state_of self.story) self.ghost_state }
     {
         let Core {
             log,

@@ -2,9 +2,9 @@
 //! builds.
 
 ghost use Rattle.std.specs.Prelude.{◌≡◌, ◌≤◌, IfOk};
-ghost use Rattle.build_core.specs.Slots.{numbered};
+ghost use Rattle.build_core.specs.Slots.{numbered_slots};
 ghost use Rattle.base_model.specs.Fits.{row_limit};
-ghost use Rattle.legal_history.specs.Builds.Active.{building, reserved};
+ghost use Rattle.legal_history.specs.Builds.Active.{building, rows_reserved};
 ghost use Rattle.base_core.specs.Keeping.Lanes.{builds_in};
 
 use build_core::{ActiveBuild, Came};
@@ -26,10 +26,10 @@ struct Lane {
 }
 
 impl Model for Lane {
-    ghost use Rattle.base_core.specs.Keeping.Lanes.{LaneKept};
+    ghost use Rattle.base_core.specs.Keeping.Lanes.{LaneState};
     ghost use Rattle.std.specs.Vec.{vec_capacity};
 
-    ghost Value = { LaneKept };
+    ghost Value = { LaneState };
 
     ghost view = { λ lane. record {
       commands = lane.commands;
@@ -106,9 +106,9 @@ pub(crate) struct Lanes {
 
 impl Model for Lanes {
     ghost use Rattle.std.specs.Prelude.{List};
-    ghost use Rattle.base_core.specs.Keeping.Lanes.{LaneKept};
+    ghost use Rattle.base_core.specs.Keeping.Lanes.{LaneState};
 
-    ghost Value = { List LaneKept };
+    ghost Value = { List LaneState };
 
     ghost view = { λ lanes. lanes.lanes.items };
 }
@@ -116,9 +116,9 @@ impl Model for Lanes {
 impl Lanes {
     ghost use Rattle.std.specs.Prelude.{◌≡◌, ◌≤◌, ◌<◌, [], length, None, Some, IfOk, IsSome, option_copied};
     ghost use Rattle.build_core.specs.Comes.{came_of};
-    ghost use Rattle.build_core.specs.Slots.{numbered};
+    ghost use Rattle.build_core.specs.Slots.{numbered_slots};
     ghost use Rattle.base_model.specs.Fits.{row_limit};
-    ghost use Rattle.legal_history.specs.Builds.Active.{Build, build_of, building, reserved};
+    ghost use Rattle.legal_history.specs.Builds.Active.{Build, build_of, building, rows_reserved};
     ghost use Rattle.legal_history.specs.Stories.Steps.{with_came};
     ghost use Rattle.session_text.specs.Ahead.{ahead_of};
     ghost use Rattle.base_core.specs.Keeping.Lanes.{
@@ -201,7 +201,7 @@ impl Lanes {
     }
 
     /// How many commands a lane has finished: one for each reply.
-    pub(crate) fn finished(&self, lane: u32) -> usize
+    pub(crate) fn finished_count(&self, lane: u32) -> usize
         ensures { result ≡ length (replies_at self.now lane) }
     {
         match self.lanes.get((lane as usize).saturating_sub(1)) {
@@ -212,7 +212,7 @@ impl Lanes {
 
     /// The active build of a lane.
     pub(crate) fn build(&self, lane: u32) -> Option<&ActiveBuild>
-        ensures { option_copied result ≡ build_of (numbered 1 (builds_in self.now)) lane }
+        ensures { option_copied result ≡ build_of (numbered_slots 1 (builds_in self.now)) lane }
     {
         if lane == 0 || lane as usize > self.lanes.len() {
             return None;
@@ -222,23 +222,23 @@ impl Lanes {
 
     /// The active build of a lane that builds.
     pub(crate) fn build_at(&self, lane: u32) -> &ActiveBuild
-        requires { IsSome (build_of (numbered 1 (builds_in self.now)) lane) }
-        ensures { Some result.now ≡ build_of (numbered 1 (builds_in self.now)) lane }
+        requires { IsSome (build_of (numbered_slots 1 (builds_in self.now)) lane) }
+        ensures { Some result.now ≡ build_of (numbered_slots 1 (builds_in self.now)) lane }
     {
         self.build(lane).unwrap()
     }
 
     /// The tag of the command that builds in the view, if one does. Takes time linear in the lanes.
     pub(crate) fn building(&self, view: &[u8]) -> Option<Tag>
-        ensures { result ≡ building (numbered 1 (builds_in self.now)) view.now }
+        ensures { result ≡ building (numbered_slots 1 (builds_in self.now)) view.now }
     {
         building_in(self.lanes.as_slice(), view)
     }
 
     /// How many rows the active builds reserve: one for each of their units. Takes time linear in the lanes.
-    pub(crate) fn reserved(&self) -> u64
-        requires { reserved (numbered 1 (builds_in self.now)) ≤ row_limit }
-        ensures { result ≡ reserved (numbered 1 (builds_in self.now)) }
+    pub(crate) fn rows_reserved(&self) -> u64
+        requires { rows_reserved (numbered_slots 1 (builds_in self.now)) ≤ row_limit }
+        ensures { result ≡ rows_reserved (numbered_slots 1 (builds_in self.now)) }
     {
         reserved_in(self.lanes.as_slice())
     }
@@ -292,7 +292,7 @@ impl Lanes {
 
 /// The tag of the first build among some lanes that is in the view.
 fn building_in(lanes: &[Lane], view: &[u8]) -> Option<Tag>
-    ensures { result ≡ building (numbered 1 (builds_in lanes.now)) view.now }
+    ensures { result ≡ building (numbered_slots 1 (builds_in lanes.now)) view.now }
 {
     let mut rest = lanes;
     while let Some((lane, more)) = rest.split_first() {
@@ -308,8 +308,8 @@ fn building_in(lanes: &[Lane], view: &[u8]) -> Option<Tag>
 
 /// How many rows the builds of some lanes reserve.
 fn reserved_in(lanes: &[Lane]) -> u64
-    requires { reserved (numbered 1 (builds_in lanes.now)) ≤ row_limit }
-    ensures { result ≡ reserved (numbered 1 (builds_in lanes.now)) }
+    requires { rows_reserved (numbered_slots 1 (builds_in lanes.now)) ≤ row_limit }
+    ensures { result ≡ rows_reserved (numbered_slots 1 (builds_in lanes.now)) }
 {
     let mut rest = lanes;
     let mut rows = 0u64;

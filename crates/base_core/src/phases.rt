@@ -1,7 +1,7 @@
 //! The phase that began last.
 
 ghost use Rattle.std.specs.Prelude.{◌≡◌, ◌<◌, length};
-ghost use Rattle.base_core.specs.Keeping.Kept.{last_phase};
+ghost use Rattle.base_core.specs.Keeping.CoreInvariants.{last_phase};
 
 use session_text::PhaseText;
 

@@ -2,7 +2,7 @@
 use Rattle.std.proofs.Common.{◌≡◌, refl, ap, subst, ◌∙◌, ℕ, suc, ◌<◌, Bool, true, false, cond, ◌==◌, Option, Some, None, List, [], ◌∷◌, arith}
 use Rattle.std.proofs.lemmas.Bool.Decides.{nat_tests}
 use Rattle.std.specs.Prelude.{option_map}
-use Rattle.cc_names.specs.Last.{Effect, Keeps, Ends, Sets, left, last}
+use Rattle.cc_names.specs.Last.{Effect, Keeps, Ends, Sets, value_after, last}
 use Rattle.cc_names.specs.Branches.{branch_of_version}
 use Rattle.cc_names.specs.Versions.{row_of_change, branch_of_change, change_at}
 use Rattle.cc_names.specs.declared.rows.Kind.TheVariants.{Directory}
@@ -22,7 +22,7 @@ pub last_holds : {X A : Type 0} (P : List X → A → Type 0) (effect : List X �
 last_holds P effect stays sets [] a e = absurd (cc)
 last_holds {X} {A} P effect stays sets (x ∷ older) a e = by (effect older x) refl (last_holds P effect stays sets older a) e
   where
-    by : (f : Effect A) → effect older x ≡ f → (last effect older ≡ Some a → P older a) → left f (last effect older) ≡ Some a → P (x ∷ older) a
+    by : (f : Effect A) → effect older x ≡ f → (last effect older ≡ Some a → P older a) → value_after f (last effect older) ≡ Some a → P (x ∷ older) a
     by Keeps is before e = stays x older a (before e)
     by Ends is before e = absurd (cc)
     by (Sets b) is before e = let same : b ≡ a = cc in sets x older a (is ∙ ap Sets same)

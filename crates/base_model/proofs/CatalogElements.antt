@@ -14,7 +14,7 @@ use Rattle.cc_names.specs.declared.rows.Deed.{Deed}
 use Rattle.cc_names.specs.declared.rows.Deed.TheVariants as deeds
 use Rattle.cc_names.specs.declared.rows.Kind.{Kind}
 use Rattle.base_model.specs.Rows.{Base, size}
-use Rattle.base_model.specs.Catalogs.{Catalog, Edit, Same, BeginsEmpty, BeginsAs, Adds, Removes, Renames, CatalogSource, Empty, OfVersion, OfCheckout, named, with_name, without_name, with_new_name, edited, edit_of, edit_where, first_edit, is_out, catalog_source, made_or_older, catalog_of, own_of}
+use Rattle.base_model.specs.Catalogs.{Catalog, Edit, Same, BeginsEmpty, BeginsAs, Adds, Removes, Renames, CatalogSource, Empty, OfVersion, OfCheckout, element_named, with_name, without_name, with_new_name, catalog_after, edit_of, edit_where, first_edit, is_out, catalog_source, made_or_older, catalog_of, own_of}
 use Rattle.base_model.specs.Changes.{tree}
 use Rattle.base_model.proofs.Owned.{same_is_same}
 use Rattle.base_model.proofs.VersionsStay.{kind_stays}
@@ -57,11 +57,11 @@ all_without : (b : Base) (name : List ℕ) (catalog : Catalog) → AllElements b
 all_without b name [] h = tt
 all_without b name (entry ∷ catalog) h = filtered b (not (bytes_eq entry.0 name)) entry (without_name name catalog) h.0 (all_without b name catalog h.1)
 
-pub named_element : (b : Base) (name : List ℕ) (catalog : Catalog) (e : ℕ) → AllElements b catalog → named name catalog ≡ Some e → IsElement b e
+pub named_element : (b : Base) (name : List ℕ) (catalog : Catalog) (e : ℕ) → AllElements b catalog → element_named name catalog ≡ Some e → IsElement b e
 named_element b name [] e h is = absurd (cc)
 named_element b name (entry ∷ catalog) e h is = by (eq_by_cmp (slice_cmp nat_cmp) name entry.0) is (named_element b name catalog e h.1)
   where
-    by : (x : Bool) → cond x (Some entry.1) (named name catalog) ≡ Some e → (named name catalog ≡ Some e → IsElement b e) → IsElement b e
+    by : (x : Bool) → cond x (Some entry.1) (element_named name catalog) ≡ Some e → (element_named name catalog ≡ Some e → IsElement b e) → IsElement b e
     by true is rest = let same : entry.1 ≡ e = cc in subst (IsElement b) same h.0
     by false is rest = rest is
 
@@ -74,14 +74,14 @@ abbrev AddsElement : Base → Edit → Type 0
 AddsElement b (Adds name e) = IsElement b e
 AddsElement b edit = ⊤
 
-edited_all : (b : Base) (edit : Edit) (of_version : ℕ → Catalog) (own : Catalog) → AddsElement b edit → ((r : ℕ) → AllElements b (of_version r)) → AllElements b own → AllElements b (edited edit of_version own)
+edited_all : (b : Base) (edit : Edit) (of_version : ℕ → Catalog) (own : Catalog) → AddsElement b edit → ((r : ℕ) → AllElements b (of_version r)) → AllElements b own → AllElements b (catalog_after edit of_version own)
 edited_all b Same of_version own adds h g = g
 edited_all b BeginsEmpty of_version own adds h g = tt
 edited_all b (BeginsAs origin) of_version own adds h g = h origin
 edited_all b (Adds name e) of_version own adds h g = all_put b name e own adds g
 edited_all b (Removes name) of_version own adds h g = all_without b name own g
 edited_all b (Renames from_name to_name) of_version own adds h g =
-    renamed_all b to_name (named from_name own) (without_name from_name own) (λ e is. named_element b from_name own e g is) (all_without b from_name own g)
+    renamed_all b to_name (element_named from_name own) (without_name from_name own) (λ e is. named_element b from_name own e g is) (all_without b from_name own g)
 
 edit_if : (b : Base) (test : Bool) (edit : Edit) → AddsElement b edit → AddsElement b (edit_where test edit)
 edit_if b true edit h = h

@@ -6,7 +6,7 @@ use Rattle.std.specs.FinMap.Entries.{is_sorted, is_sorted-put, is_sorted-where_k
 use Rattle.std.specs.Ordering.{nat_cmp}
 use Rattle.std.specs.Prelude.{T, bytes_eq}
 use Rattle.base_model.specs.Rows.{Base, size}
-use Rattle.base_model.specs.Catalogs.{Catalog, Edit, Same, BeginsEmpty, BeginsAs, Adds, Removes, Renames, CatalogSource, Empty, OfVersion, OfCheckout, named, without_name, with_new_name, edited, edit_of, catalog_source, made_or_older, catalog_of, own_of}
+use Rattle.base_model.specs.Catalogs.{Catalog, Edit, Same, BeginsEmpty, BeginsAs, Adds, Removes, Renames, CatalogSource, Empty, OfVersion, OfCheckout, element_named, without_name, with_new_name, catalog_after, edit_of, catalog_source, made_or_older, catalog_of, own_of}
 use Rattle.base_model.proofs.HeldObjects.{true_by}
 
 abbrev InOrder : Catalog → Type 0
@@ -19,13 +19,13 @@ renamed name (Some e) catalog h = is_sorted-put (slice_cmp nat_cmp) nat_list_cmp
 without : (name : List ℕ) (catalog : Catalog) → InOrder catalog → InOrder (without_name name catalog)
 without name catalog h = is_sorted-where_key (slice_cmp nat_cmp) (λ key. not (bytes_eq key name)) catalog h
 
-after_edit : (edit : Edit) (of_version : ℕ → Catalog) (own : Catalog) → ((r : ℕ) → InOrder (of_version r)) → InOrder own → InOrder (edited edit of_version own)
+after_edit : (edit : Edit) (of_version : ℕ → Catalog) (own : Catalog) → ((r : ℕ) → InOrder (of_version r)) → InOrder own → InOrder (catalog_after edit of_version own)
 after_edit Same of_version own h g = g
 after_edit BeginsEmpty of_version own h g = tt
 after_edit (BeginsAs origin) of_version own h g = h origin
 after_edit (Adds name e) of_version own h g = is_sorted-put (slice_cmp nat_cmp) nat_list_cmp_total name e own g
 after_edit (Removes name) of_version own h g = without name own g
-after_edit (Renames from_name to_name) of_version own h g = renamed to_name (named from_name own) (without_name from_name own) (without from_name own g)
+after_edit (Renames from_name to_name) of_version own h g = renamed to_name (element_named from_name own) (without_name from_name own) (without from_name own g)
 
 of_row : (test : Bool) (source : CatalogSource) (of_version : ℕ → Catalog) (of_checkout : List ℕ → ℕ → Catalog) (r : ℕ) → ((r : ℕ) → InOrder (of_version r)) → ((v : List ℕ) (d : ℕ) → InOrder (of_checkout v d)) →
     InOrder (made_or_older test source of_version of_checkout r)

@@ -146,8 +146,8 @@ pub own_input : (path : List ℕ) (row : ℕ) → is_some (find input_cmp (path,
 own_input path row = ap (λ o. is_some (cond (is_eq o) (Some row) None)) (tied_itself inputs_total (path, row))
 
 -- the first input of a list is found, and so is each that is found behind it
-pub front_found : (input : Input × ℕ) (rest : Inputs) → is_some (find input_cmp input.0 (input ∷ rest)) ≡ true
-front_found input rest = ap (λ o. is_some (cond (is_eq o) (Some input.1) (find input_cmp input.0 rest))) (tied_itself inputs_total input.0)
+pub prefix_found : (input : Input × ℕ) (rest : Inputs) → is_some (find input_cmp input.0 (input ∷ rest)) ≡ true
+prefix_found input rest = ap (λ o. is_some (cond (is_eq o) (Some input.1) (find input_cmp input.0 rest))) (tied_itself inputs_total input.0)
 
 pub later_found : (q : Input) (input : Input × ℕ) (rest : Inputs) → is_some (find input_cmp q rest) ≡ true → is_some (find input_cmp q (input ∷ rest)) ≡ true
 later_found q input rest h = by (eq_by_cmp input_cmp q input.0)

@@ -2,7 +2,7 @@
 use Rattle.std.proofs.Common.{◌≡◌, refl, ap, subst, ◌∙◌, ℕ, ◌<◌, Bool, true, false, ◌||◌, Option, Some, None, List, [], ◌∷◌, ◌++◌, arith}
 use Rattle.std.specs.Prelude.{reverse}
 use Rattle.cc_names.specs.Formed.{Plain}
-use Rattle.cc_names.specs.Paths.{names_of, joined}
+use Rattle.cc_names.specs.Paths.{names_of, path_of_names}
 use Rattle.cc_names.specs.Versions.{kind_of}
 use Rattle.cc_names.specs.declared.rows.Deed.{Deed}
 use Rattle.cc_names.specs.declared.rows.Kind.{Kind}
@@ -55,7 +55,7 @@ file_is_text b v path r base h above = by (at b v path) refl h
     by : (seen : Seen) → at b v path ≡ seen → file_seen b seen ≡ Some r → FileText b r
     by (Private row) is h =
         let same : row ≡ r = cc in
-        subst (FileText b) same (put_is_file b row (private_put b v (joined (reverse (reverse (names_of path)))) row (private_at b v (reverse (names_of path)) row is)))
+        subst (FileText b) same (put_is_file b row (private_put b v (path_of_names (reverse (reverse (names_of path)))) row (private_at b v (reverse (names_of path)) row is)))
     by (Element e picked) is h =
         let seen = seen_element b v (reverse (names_of path)) e picked is in
         of_kind e picked (kind_of (tree b) e) refl (picked_is b v e (reverse (reverse (names_of path))) picked base seen.element seen.picks) h

@@ -3,7 +3,7 @@ use Rattle.std.proofs.Common.{◌≡◌, refl, ap, sym, subst, ◌∙◌, ℕ, �
 use Rattle.std.specs.Prelude.{option_and_then, bytes_eq, reverse}
 use Rattle.cc_names.specs.Formed.{Plain}
 use Rattle.cc_names.specs.Last.{Effect, Keeps, Ends, Sets, only_if}
-use Rattle.cc_names.specs.Paths.{names_of, joined}
+use Rattle.cc_names.specs.Paths.{names_of, path_of_names}
 use Rattle.cc_names.specs.Versions.{kind_of}
 use Rattle.cc_names.specs.declared.rows.Deed.{Deed}
 use Rattle.cc_names.specs.declared.rows.Deed.TheVariants as deeds
@@ -111,7 +111,7 @@ file_is_below b v path r base h = by (at b v path) refl h
     of_kind picked (Some Directory) h = absurd (cc)
 
     by : (seen : Seen) → at b v path ≡ seen → file_seen b seen ≡ Some r → r < size b
-    by (Private row) is h = let same : row ≡ r = cc in subst (λ r. r < size b) same (private_is_below b v (joined (reverse (reverse (names_of path)))) row (private_at b v (reverse (names_of path)) row is))
+    by (Private row) is h = let same : row ≡ r = cc in subst (λ r. r < size b) same (private_is_below b v (path_of_names (reverse (reverse (names_of path)))) row (private_at b v (reverse (names_of path)) row is))
     by (Element e picked) is h =
         let seen = seen_element b v (reverse (names_of path)) e picked is in
         let same : picked.row ≡ r = of_kind picked (kind_of (tree b) e) h in

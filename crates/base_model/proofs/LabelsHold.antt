@@ -7,7 +7,7 @@ use Rattle.std.specs.Ordering.{nat_cmp}
 use Rattle.std.specs.FinMap.Entries.{find}
 use Rattle.cc_names.specs.Formed.{Plain}
 use Rattle.cc_names.specs.Labels.{holder}
-use Rattle.cc_names.specs.Last.{Ends, Sets, only_if, left}
+use Rattle.cc_names.specs.Last.{Ends, Sets, only_if, value_after}
 use Rattle.cc_names.specs.Versions.{version_id}
 use Rattle.cc_names.specs.declared.changes.LabelChange.{LabelChange}
 use Rattle.cc_names.specs.declared.changes.LabelChange.TheVariants.{Put, Taken}
@@ -31,7 +31,7 @@ pub record AllHeld (b : Base) (changes : List LabelChange) : Type 0 where
 one_put : (b : Base) (n : ℕ) (label : List ℕ) (f version : ℕ) (changes : List LabelChange) → is_version_of b f version ≡ true → AllHeld b changes → AllHeld b (Put n label f version ∷ changes)
 one_put b n label f version changes is h = record { holds = λ name e r held. by name e r (bytes_eq name label && (e == f)) refl held }
   where
-    by : (name : List ℕ) (e r : ℕ) (x : Bool) → (bytes_eq name label && (e == f)) ≡ x → left (only_if x (Sets version)) (holder changes name e) ≡ Some r → is_version_of b e r ≡ true
+    by : (name : List ℕ) (e r : ℕ) (x : Bool) → (bytes_eq name label && (e == f)) ≡ x → value_after (only_if x (Sets version)) (holder changes name e) ≡ Some r → is_version_of b e r ≡ true
     by name e r true test held =
         let number : e ≡ f = same_number e f (and_second (bytes_eq name label) (e == f) test) in
         let same : version ≡ r = cc in
@@ -41,7 +41,7 @@ one_put b n label f version changes is h = record { holds = λ name e r held. by
 one_taken : (b : Base) (n : ℕ) (label : List ℕ) (f : ℕ) (changes : List LabelChange) → AllHeld b changes → AllHeld b (Taken n label f ∷ changes)
 one_taken b n label f changes h = record { holds = λ name e r held. by name e r (bytes_eq name label && (e == f)) held }
   where
-    by : (name : List ℕ) (e r : ℕ) (x : Bool) → left (only_if x Ends) (holder changes name e) ≡ Some r → is_version_of b e r ≡ true
+    by : (name : List ℕ) (e r : ℕ) (x : Bool) → value_after (only_if x Ends) (holder changes name e) ≡ Some r → is_version_of b e r ≡ true
     by name e r true held = absurd (cc)
     by name e r false held = h.holds name e r held
 

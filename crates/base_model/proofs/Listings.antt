@@ -21,8 +21,8 @@ one_of x z xs h = by h.0 h.1 h.2
     by zero low is = inl is
     by (suc k) low is = inr (k, omega arith, is)
 
-pub in_front : {A : Type 0} (x z : A) (xs : List A) → x ≡ z → Contains (x ∷ xs) z
-in_front x z xs same = (0, omega arith, same)
+pub at_head : {A : Type 0} (x z : A) (xs : List A) → x ≡ z → Contains (x ∷ xs) z
+at_head x z xs same = (0, omega arith, same)
 
 pub behind : {A : Type 0} (x z : A) (xs : List A) → Contains xs z → Contains (x ∷ xs) z
 behind x z xs h = (suc h.0, let low = h.1 in omega arith, h.2)
@@ -66,7 +66,7 @@ passed_over b input inputs e o apart h = by o h
 counted : (b : Base) (input : Input × ℕ) (inputs : Inputs) (e : ℕ) (o : Option ℕ) → 0 < input.1 → is_version_of b e input.1 ≡ true → SaysOf b inputs e o →
     IsListed b (input ∷ inputs) e (greater_of input.1 o)
 counted b input inputs e None there is h = record {
-  rests = record { input = input; among = in_front input input inputs refl; row = refl; there = there; is = is };
+  rests = record { input = input; among = at_head input input inputs refl; row = refl; there = there; is = is };
   greatest = λ other rests. of other (rests_on_one b input inputs e other rests);
 }
   where
@@ -79,7 +79,7 @@ counted b input inputs e (Some version) there is h = record {
 }
   where
     own : RestsOn b (input ∷ inputs) e input.1
-    own = record { input = input; among = in_front input input inputs refl; row = refl; there = there; is = is }
+    own = record { input = input; among = at_head input input inputs refl; row = refl; there = there; is = is }
 
     max_is : (m n : ℕ) → (max m n ≡ m) ⊎ (max m n ≡ n)
     max_is m n = grind arith

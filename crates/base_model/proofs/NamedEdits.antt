@@ -11,7 +11,7 @@ use Rattle.cc_names.specs.declared.rows.Deed.TheVariants as deeds
 use Rattle.cc_names.specs.declared.rows.Kind.{Kind}
 use Rattle.cc_names.specs.declared.rows.Tag.{Tag}
 use Rattle.base_model.specs.Rows.{Base, size, row_at, deed_of, deed_at}
-use Rattle.base_model.specs.Catalogs.{Catalog, Edit, Same, BeginsEmpty, BeginsAs, Adds, Removes, Renames, named, without_name, with_new_name, edited, edit_of, edit_where, first_edit, is_out, catalog_of}
+use Rattle.base_model.specs.Catalogs.{Catalog, Edit, Same, BeginsEmpty, BeginsAs, Adds, Removes, Renames, element_named, without_name, with_new_name, catalog_after, edit_of, edit_where, first_edit, is_out, catalog_of}
 use Rattle.base_model.specs.Checkouts.{is_latest}
 use Rattle.base_model.specs.Closures.{is_version_of}
 use Rattle.base_model.specs.Conditions.{exists, has_out, is_branch_type, has_branch}
@@ -79,10 +79,10 @@ without : (b : Base) (d : ℕ) (name : List ℕ) (catalog : Catalog) → AllValu
 without b d name catalog h = all_where (MadeIn b d) (slice_cmp nat_cmp) (λ key. not (bytes_eq key name)) catalog h
 
 pub after_edit : (row : Plain) (older : Base) (d : ℕ) (edit : Edit) (own : Catalog) → Keeps older d edit → AddsOwn (row ∷ older) d edit → ((r : ℕ) → AllValues (OfItsVersion older r) (catalog_of older r)) → AllValues (MadeIn older d) own →
-    AllValues (MadeIn (row ∷ older) d) (edited edit (catalog_of older) own)
+    AllValues (MadeIn (row ∷ older) d) (catalog_after edit (catalog_of older) own)
 after_edit row older d edit own keeps adds h g = by edit keeps adds (all_as (MadeIn older d) (MadeIn (row ∷ older) d) own (λ e made. made_stays row older d e made) g)
   where
-    by : (edit : Edit) → Keeps older d edit → AddsOwn (row ∷ older) d edit → AllValues (MadeIn (row ∷ older) d) own → AllValues (MadeIn (row ∷ older) d) (edited edit (catalog_of older) own)
+    by : (edit : Edit) → Keeps older d edit → AddsOwn (row ∷ older) d edit → AllValues (MadeIn (row ∷ older) d) own → AllValues (MadeIn (row ∷ older) d) (catalog_after edit (catalog_of older) own)
     by Same keeps adds stays = stays
     by BeginsEmpty keeps adds stays = tt
     by (BeginsAs origin) keeps adds stays =
@@ -90,7 +90,7 @@ after_edit row older d edit own keeps adds h g = by edit keeps adds (all_as (Mad
     by (Adds name e) keeps adds stays = all_put (MadeIn (row ∷ older) d) (slice_cmp nat_cmp) name e own adds stays
     by (Removes name) keeps adds stays = without (row ∷ older) d name own stays
     by (Renames from_name to_name) keeps adds stays =
-        renamed (row ∷ older) d to_name (named from_name own) (without_name from_name own)
+        renamed (row ∷ older) d to_name (element_named from_name own) (without_name from_name own)
         (λ e is. all_found (MadeIn (row ∷ older) d) (slice_cmp nat_cmp) from_name own e stays is) (without (row ∷ older) d from_name own stays)
 
 keeps_where : (older : Base) (d : ℕ) (test : Bool) (edit : Edit) → (test ≡ true → Keeps older d edit) → Keeps older d (edit_where test edit)

@@ -7,7 +7,7 @@ use Rattle.cc_names.specs.declared.rows.Deed.{Deed}
 use Rattle.cc_names.specs.declared.rows.Deed.TheVariants as deeds
 use Rattle.cc_names.specs.declared.rows.Tag.{Tag}
 use Rattle.base_model.specs.Rows.{Base, size}
-use Rattle.base_model.specs.Catalogs.{named, edit_of, catalog_source, made_or_older, catalog_of, own_of}
+use Rattle.base_model.specs.Catalogs.{element_named, edit_of, catalog_source, made_or_older, catalog_of, own_of}
 use Rattle.base_model.specs.Closures.{is_version_of}
 use Rattle.base_model.specs.Conditions.{exists, has_out, is_branch_type, has_branch}
 use Rattle.base_model.specs.Fits.{deed_fits, is_base}
@@ -53,9 +53,9 @@ all_named (row ∷ older) base =
         (newest_catalog row.tag row.moment row.deed older (rows_below row older base) (row_fits row older base) before)
 
 -- The laws.
-pub named_by_version : (b : Base) (d r : ℕ) (name : List ℕ) (e : ℕ) → is_base b ≡ true → is_version_of b d r ≡ true → named name (catalog_of b r) ≡ Some e → directory_of b e ≡ Some d
+pub named_by_version : (b : Base) (d r : ℕ) (name : List ℕ) (e : ℕ) → is_base b ≡ true → is_version_of b d r ≡ true → element_named name (catalog_of b r) ≡ Some e → directory_of b e ≡ Some d
 named_by_version b d r name e base version is =
     all_found (MadeIn b d) (slice_cmp nat_cmp) name (catalog_of b r) e (of_directory b d r (catalog_of b r) version ((all_named b base).versions r)) is
 
-pub named_by_checkout : (b : Base) (v : List ℕ) (d : ℕ) (name : List ℕ) (e : ℕ) → is_base b ≡ true → named name (own_of b v d) ≡ Some e → directory_of b e ≡ Some d
+pub named_by_checkout : (b : Base) (v : List ℕ) (d : ℕ) (name : List ℕ) (e : ℕ) → is_base b ≡ true → element_named name (own_of b v d) ≡ Some e → directory_of b e ≡ Some d
 named_by_checkout b v d name e base is = all_found (MadeIn b d) (slice_cmp nat_cmp) name (own_of b v d) e ((all_named b base).checkouts v d) is

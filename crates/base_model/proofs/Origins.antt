@@ -52,33 +52,33 @@ own_version change before e n number branch owner =
     subst (λ o. is_of_element e o ≡ true) (sym (version_id_by (change ∷ before) n _ (own_parts change before e n number branch owner))) (same_is_same e)
 
 -- a checkout that a row makes is of an element of which its origin is a version, once the row is there
-abbrev Sound : Base → TakenOut → Type 0
-Sound b taken = is_version_of b taken.element taken.checkout.origin ≡ true
+abbrev HasItsOrigin : Base → TakenOut → Type 0
+HasItsOrigin b taken = is_version_of b taken.element taken.checkout.origin ≡ true
 
-sound_element : (older : Base) (row : Plain) (v : List ℕ) (out_too : Bool) (taken : TakenOut) → is_version_of (row ∷ older) (size older) (size older) ≡ true →
-    taken_out v (size older) (checkout_of_element out_too (size older)) ≡ Some taken → Sound (row ∷ older) taken
-sound_element older row v true taken h e = subst (Sound (row ∷ older)) (some_same e) h
-sound_element older row v false taken h e = absurd (cc)
+origin_of_element : (older : Base) (row : Plain) (v : List ℕ) (out_too : Bool) (taken : TakenOut) → is_version_of (row ∷ older) (size older) (size older) ≡ true →
+    taken_out v (size older) (checkout_of_element out_too (size older)) ≡ Some taken → HasItsOrigin (row ∷ older) taken
+origin_of_element older row v true taken h e = subst (HasItsOrigin (row ∷ older)) (some_same e) h
+origin_of_element older row v false taken h e = absurd (cc)
 
-sound_branch : (older : Base) (row : Plain) (v : List ℕ) (f : ℕ) (how : Out) (taken : TakenOut) → is_version_of (row ∷ older) f (size older) ≡ true →
-    taken_out v f (checkout_of_branch how (size older)) ≡ Some taken → Sound (row ∷ older) taken
-sound_branch older row v f outs.No taken h e = absurd (cc)
-sound_branch older row v f outs.Reserved taken h e = subst (Sound (row ∷ older)) (some_same e) h
-sound_branch older row v f outs.Unreserved taken h e = subst (Sound (row ∷ older)) (some_same e) h
+origin_of_branch : (older : Base) (row : Plain) (v : List ℕ) (f : ℕ) (how : Out) (taken : TakenOut) → is_version_of (row ∷ older) f (size older) ≡ true →
+    taken_out v f (checkout_of_branch how (size older)) ≡ Some taken → HasItsOrigin (row ∷ older) taken
+origin_of_branch older row v f outs.No taken h e = absurd (cc)
+origin_of_branch older row v f outs.Reserved taken h e = subst (HasItsOrigin (row ∷ older)) (some_same e) h
+origin_of_branch older row v f outs.Unreserved taken h e = subst (HasItsOrigin (row ∷ older)) (some_same e) h
 
-made_sound : (older : Base) (tag : Tag) (moment : ℕ) (deed : Deed) (taken : TakenOut) → deed_fits older deed ≡ true →
-    made_out (size older) deed ≡ Some taken → Sound (record { tag = tag; moment = moment; deed = deed } ∷ older) taken
-made_sound older tag moment (deeds.Mkelem v directory name kind out_too) taken fit e =
-    sound_element older (record { tag = tag; moment = moment; deed = deeds.Mkelem v directory name kind out_too }) v out_too taken
+origin_of_made : (older : Base) (tag : Tag) (moment : ℕ) (deed : Deed) (taken : TakenOut) → deed_fits older deed ≡ true →
+    made_out (size older) deed ≡ Some taken → HasItsOrigin (record { tag = tag; moment = moment; deed = deed } ∷ older) taken
+origin_of_made older tag moment (deeds.Mkelem v directory name kind out_too) taken fit e =
+    origin_of_element older (record { tag = tag; moment = moment; deed = deeds.Mkelem v directory name kind out_too }) v out_too taken
     (own_version (ElementMade (size older) moment kind) (tree older) (size older) (size older) (same_is_same (size older)) refl refl) e
-made_sound older tag moment (deeds.Checkout v f origin reserved) taken fit e =
-    subst (Sound (record { tag = tag; moment = moment; deed = deeds.Checkout v f origin reserved } ∷ older)) (some_same e)
+origin_of_made older tag moment (deeds.Checkout v f origin reserved) taken fit e =
+    subst (HasItsOrigin (record { tag = tag; moment = moment; deed = deeds.Checkout v f origin reserved } ∷ older)) (some_same e)
     (version_stays (record { tag = tag; moment = moment; deed = deeds.Checkout v f origin reserved }) older f origin
     (third_of (exists older v) (not (has_out older v f)) (is_version_of older f origin) (is_latest older origin) (may_reserve older origin reserved) fit))
-made_sound older tag moment (deeds.Branch v f origin name how) taken fit e =
-    sound_branch older (record { tag = tag; moment = moment; deed = deeds.Branch v f origin name how }) v f how taken
+origin_of_made older tag moment (deeds.Branch v f origin name how) taken fit e =
+    origin_of_branch older (record { tag = tag; moment = moment; deed = deeds.Branch v f origin name how }) v f how taken
     (own_version (BranchMade (size older) moment f origin name) (tree older) f (size older) (same_is_same (size older)) refl refl) e
-made_sound older tag moment deed taken fit e = absurd (cc)
+origin_of_made older tag moment deed taken fit e = absurd (cc)
 
 -- what a made checkout sets is its own
 pub set_is : (v : List ℕ) (e : ℕ) (made : Option TakenOut) (checkout : Checkout) → set_by v e made ≡ Sets checkout → (taken : TakenOut) × (made ≡ Some taken) × (taken.element ≡ e) × (taken.checkout ≡ checkout)
@@ -107,7 +107,7 @@ out_is_version b v e checkout h is =
     (λ row older checkout before h. version_stays row older e checkout.origin (before (rows_below row older h)))
     (λ row older checkout effect h.
     let set = set_is v e (made_out (size older) row.deed) checkout (out_sets v e (size older) row.deed checkout effect) in
-    let sound = made_sound older row.tag row.moment row.deed set.0 (row_fits row older h) set.1 in
+    let sound = origin_of_made older row.tag row.moment row.deed set.0 (row_fits row older h) set.1 in
     subst (λ c. is_version_of (row ∷ older) e c.origin ≡ true) set.3
     (subst (λ e. is_version_of (row ∷ older) e set.0.checkout.origin ≡ true) set.2 sound))
     b checkout is h

@@ -4,7 +4,7 @@ use Rattle.std.specs.Prelude.{is_some, option_and_then, option_map, find, bytes_
 use Rattle.std.specs.Ordering.{nat_cmp}
 use Rattle.std.specs.FinMap.Entries.{find as find_key}
 use Rattle.cc_names.specs.Branches.{makes_branch, branch_named, branch_behind, branch_from, if_above, branch_above}
-use Rattle.cc_names.specs.Versions.{row_of_change, change_at, kind_by, element_by, element_of_branch, latest, numbered, is_before, is_number}
+use Rattle.cc_names.specs.Versions.{row_of_change, change_at, kind_by, element_by, element_of_branch, latest, version_of_number, is_before, is_number}
 use Rattle.cc_names.specs.declared.changes.TreeChange.{TreeChange}
 use Rattle.cc_names.specs.declared.changes.TreeChange.TheVariants.{ElementMade, BranchMade, VersionMade}
 use Rattle.cc_names.specs.declared.rows.Kind.TheVariants.{Directory}
@@ -15,9 +15,9 @@ use Rattle.cc_names.specs.declared.selection.Selector.TheVariants as selectors
 use Rattle.base_model.specs.ConfigSpecs.Rules.{finds, found_by, is_checkout, deciding, picked_by, branch_of_type}
 use Rattle.base_model.specs.Rows.{Base, size, only_where}
 use Rattle.base_model.specs.Changes.{tree, targets_of}
-use Rattle.base_model.specs.Closures.{is_version_of, listed, listing, closure, is_among}
+use Rattle.base_model.specs.Closures.{is_version_of, recorded_version, listing, closure, is_among}
 use Rattle.base_model.specs.Fits.{is_base}
-use Rattle.base_model.specs.Seen.{sources, selected, rules}
+use Rattle.base_model.specs.Seen.{sources, selection_at, rules}
 use Rattle.base_model.specs.Views.{making}
 use Rattle.base_model.proofs.Below.{Within, within, older_change, found_change}
 use Rattle.base_model.proofs.CatalogElements.{IsElement}
@@ -126,7 +126,7 @@ by_type_of b v e name m h is = by (bytes_eq name (codes "main")) is
     by true is = let same : e ≡ m = cc in subst (OfElement b e) same (main_of b e h)
     by false is = named_of b e name m is
 
-listed_version : (b : Base) (id : ℕ) (target : List ℕ) (e r : ℕ) → listed b id target e ≡ Some r → is_version_of b e r ≡ true
+listed_version : (b : Base) (id : ℕ) (target : List ℕ) (e r : ℕ) → recorded_version b id target e ≡ Some r → is_version_of b e r ≡ true
 listed_version b id target e r is = by (is_among target (targets_of b id)) is
   where
     by : (t : Bool) → only_where t (find_key nat_cmp e (listing b id)) ≡ Some r → is_version_of b e r ≡ true
@@ -145,7 +145,7 @@ found_version b v e before (selectors.Wherever name) r base h other is =
     on_found b e r (branch_of_type (sources b v e) e name) (λ m. latest (tree b) m before)
     (λ m of_m found. version_found b e m (λ w. is_before before w.moment) r (by_type_of b v e name m h of_m) found) is
 found_version b v e before (selectors.Numbered names number) r base h other is =
-    on_found b e r (branch_behind (tree b) e names) (λ m. numbered (tree b) m number)
+    on_found b e r (branch_behind (tree b) e names) (λ m. version_of_number (tree b) m number)
     (λ m of_m found. version_found b e m (λ w. w.number == number) r (behind_of b e e names m (main_of b e h) of_m) found) is
 found_version b v e before (selectors.Config target object) r base h other is = listed_version b object target e r is
 found_version b v e before selectors.Nothing r base h other is = absurd (cc)
@@ -176,7 +176,7 @@ picked_found b v e rule picked base h is = by (found_by (sources b v e) e rule) 
           version = λ other. found_version b v e rule.before rule.selector r base h other found;
         })
 
-pub picked_is : (b : Base) (v : List ℕ) (e : ℕ) (names : List (List ℕ)) (picked : Picked) → is_base b ≡ true → IsElement b e → selected b v e names ≡ Some picked → IsPick b v e picked
+pub picked_is : (b : Base) (v : List ℕ) (e : ℕ) (names : List (List ℕ)) (picked : Picked) → is_base b ≡ true → IsElement b e → selection_at b v e names ≡ Some picked → IsPick b v e picked
 picked_is b v e names picked base h is = by (deciding (sources b v e) e names (rules b v)) is
   where
     by : (o : Option Rule) → option_and_then (picked_by (sources b v e) e) o ≡ Some picked → IsPick b v e picked

@@ -4,7 +4,7 @@ use Rattle.cc_names.specs.Formed.{Plain}
 use Rattle.cc_names.specs.declared.rows.Deed.{Deed}
 use Rattle.cc_names.specs.declared.rows.Deed.TheVariants as deeds
 use Rattle.base_model.specs.Rows.{Base, size, deed_at}
-use Rattle.base_model.specs.Changes.{live}
+use Rattle.base_model.specs.Changes.{live_row}
 
 -- outputs without their bytes
 abbrev pub blank_outputs : List (List ℕ) → List (List ℕ)
@@ -35,7 +35,7 @@ blanked b = blanked_but (λ id. false) b
 
 -- A base with each output of each scrubbed object emptied.
 abbrev pub emptied : Base → Base
-emptied b = blanked_but (λ id. is_some (live b id)) b
+emptied b = blanked_but (λ id. is_some (live_row b id)) b
 
 -- Two bases have the same rows but for what their publishes have as outputs.
 abbrev pub AreSameButForOutputs : Base → Base → Type 0
@@ -44,4 +44,4 @@ AreSameButForOutputs one two = blanked one ≡ blanked two
 -- They differ in outputs of scrubbed objects alone: those of each live object are the same.
 pub record AreSameButForScrubbedOutputs (one two : Base) : Type 0 where
   pub rows : AreSameButForOutputs one two
-  pub kept : (id : ℕ) → is_some (live one id) ≡ true → deed_at two id ≡ deed_at one id
+  pub kept : (id : ℕ) → is_some (live_row one id) ≡ true → deed_at two id ≡ deed_at one id

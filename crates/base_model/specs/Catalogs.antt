@@ -14,8 +14,8 @@ abbrev pub Catalog : Type 0
 Catalog = List (List ℕ × ℕ)
 
 -- the element that the catalog names so
-abbrev pub named : List ℕ → Catalog → Option ℕ
-named name catalog = find (slice_cmp nat_cmp) name catalog
+abbrev pub element_named : List ℕ → Catalog → Option ℕ
+element_named name catalog = find (slice_cmp nat_cmp) name catalog
 
 -- the catalog with one more name
 abbrev pub with_name : List ℕ → ℕ → Catalog → Catalog
@@ -78,13 +78,13 @@ edit_of v d n (deeds.Mv w f from_name to_name) = edit_where (bytes_eq w v && (f 
 edit_of v d n deed = Same
 
 -- the checkout's catalog after an edit, where versions have these catalogs
-abbrev pub edited : Edit → (ℕ → Catalog) → Catalog → Catalog
-edited Same of_version own = own
-edited BeginsEmpty of_version own = []
-edited (BeginsAs origin) of_version own = of_version origin
-edited (Adds name e) of_version own = with_name name e own
-edited (Removes name) of_version own = without_name name own
-edited (Renames from_name to_name) of_version own = with_new_name to_name (named from_name own) (without_name from_name own)
+abbrev pub catalog_after : Edit → (ℕ → Catalog) → Catalog → Catalog
+catalog_after Same of_version own = own
+catalog_after BeginsEmpty of_version own = []
+catalog_after (BeginsAs origin) of_version own = of_version origin
+catalog_after (Adds name e) of_version own = with_name name e own
+catalog_after (Removes name) of_version own = without_name name own
+catalog_after (Renames from_name to_name) of_version own = with_new_name to_name (element_named from_name own) (without_name from_name own)
 
 -- the catalog of row r: that of the newest row where it is this one, else an older one
 abbrev pub made_or_older : Bool → CatalogSource → (ℕ → Catalog) → (List ℕ → ℕ → Catalog) → ℕ → Catalog
@@ -102,4 +102,4 @@ abbrev mutual
   -- the catalog of the view's checkout of directory d
   pub own_of : Base → List ℕ → ℕ → Catalog
   own_of [] v d = []
-  own_of (row ∷ older) v d = edited (edit_of v d (size older) row.deed) (catalog_of older) (own_of older v d)
+  own_of (row ∷ older) v d = catalog_after (edit_of v d (size older) row.deed) (catalog_of older) (own_of older v d)

@@ -80,8 +80,8 @@ holdings [] = []
 holdings (row ∷ older) = holdings_after older row.deed (holdings older)
 
 -- the objects that views hold
-abbrev pub held : Base → Held
-held b = references (holdings b)
+abbrev pub objects_held : Base → Held
+objects_held b = references (holdings b)
 
 -- an object lives from its publish until a scrub takes it
 abbrev pub live_effect : ℕ → ℕ → Deed → Effect ℕ
@@ -90,8 +90,8 @@ live_effect id n (deeds.Scrub objects) = only_if (list_any (λ object. object ==
 live_effect id n deed = Keeps
 
 -- the object's row, where it is live
-abbrev pub live : Base → ℕ → Option ℕ
-live b id = last (λ older row. live_effect id (size older) row.deed) b
+abbrev pub live_row : Base → ℕ → Option ℕ
+live_row b id = last (λ older row. live_effect id (size older) row.deed) b
 
 -- a type of labels or of branches is made once
 abbrev pub type_effect : List ℕ → Deed → Effect TypeKind

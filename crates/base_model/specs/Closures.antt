@@ -104,8 +104,8 @@ abbrev pub is_among : List ℕ → List (List ℕ) → Bool
 is_among path paths = list_any (bytes_eq path) paths
 
 -- the version of the element that the record of the object lists, where the object has this target
-abbrev pub listed : Base → ℕ → List ℕ → ℕ → Option ℕ
-listed b id target e = only_where (is_among target (targets_of b id)) (find nat_cmp e (listing b id))
+abbrev pub recorded_version : Base → ℕ → List ℕ → ℕ → Option ℕ
+recorded_version b id target e = only_where (is_among target (targets_of b id)) (find nat_cmp e (listing b id))
 
 -- an element with its version, as a place of a label
 abbrev pub as_placed : ℕ × ℕ → Placed

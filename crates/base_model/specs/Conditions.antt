@@ -14,8 +14,8 @@ use Rattle.cc_names.specs.declared.rows.ReadOf.{ReadOf}
 use Rattle.cc_names.specs.declared.rows.Deed.{Deed}
 use Rattle.cc_names.specs.declared.rows.Deed.TheVariants as deeds
 use Rattle.base_model.specs.Rows.{Base, size, deed_at, only_where}
-use Rattle.base_model.specs.Catalogs.{named, own_of}
-use Rattle.base_model.specs.Changes.{tree, labels, held, live, kind_of_type, targets_of}
+use Rattle.base_model.specs.Catalogs.{element_named, own_of}
+use Rattle.base_model.specs.Changes.{tree, labels, objects_held, live_row, kind_of_type, targets_of}
 use Rattle.base_model.specs.Checkouts.{reserver, other_reserver, branch_of, is_latest}
 use Rattle.base_model.specs.Closures.{is_among, is_version_of}
 use Rattle.base_model.specs.Views.{Checkout, view_row, out}
@@ -48,11 +48,11 @@ is_directory b e = is_directory_kind (kind_of (tree b) e)
 
 -- whether the catalog of the view's checkout of a directory has the name
 abbrev pub has_name : Base → List ℕ → ℕ → List ℕ → Bool
-has_name b v d name = is_some (named name (own_of b v d))
+has_name b v d name = is_some (element_named name (own_of b v d))
 
 -- whether the view has out the element that the catalog of its checkout of a directory names so
 abbrev pub has_out_by_name : Base → List ℕ → ℕ → List ℕ → Bool
-has_out_by_name b v d name = is_some (option_and_then (out b v) (named name (own_of b v d)))
+has_out_by_name b v d name = is_some (option_and_then (out b v) (element_named name (own_of b v d)))
 
 -- whether nobody holds a reserved checkout on the branch of a version
 abbrev pub is_unreserved : Base → ℕ → Bool
@@ -129,7 +129,7 @@ is_entry b entry =
 
 -- whether an object is live and no view holds it
 abbrev pub may_be_scrubbed : Base → ℕ → Bool
-may_be_scrubbed b id = is_some (live b id) && not (is_held (held b) id)
+may_be_scrubbed b id = is_some (live_row b id) && not (is_held (objects_held b) id)
 
 -- whether a label is placed on a version of its element
 abbrev pub is_placed : Base → Placed → Bool

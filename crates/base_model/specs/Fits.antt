@@ -6,7 +6,7 @@ use Rattle.cc_names.specs.declared.rows.Deed.{Deed}
 use Rattle.cc_names.specs.declared.rows.Deed.TheVariants as deeds
 use Rattle.base_model.specs.ConfigSpecs.Specs.{rules_of}
 use Rattle.base_model.specs.Rows.{Base, size}
-use Rattle.base_model.specs.Changes.{held, live}
+use Rattle.base_model.specs.Changes.{objects_held, live_row}
 use Rattle.base_model.specs.Checkouts.{is_latest}
 use Rattle.base_model.specs.Closures.{is_version_of}
 use Rattle.base_model.specs.Conditions.{exists, has_out, is_file, is_directory, has_name, has_out_by_name, is_unreserved, may_check_in, is_label_type, is_branch_type, is_type_taken, has_branch, has_label, is_entry, may_be_scrubbed, is_placed, arrow_row}
@@ -39,8 +39,8 @@ deed_fits b (deeds.Mktype kind name) = not (is_type_taken b name)
 deed_fits b (deeds.Label label e version) = is_label_type b label && is_version_of b e version
 deed_fits b (deeds.Unlabel label e) = has_label b label e
 deed_fits b (deeds.Publish v targets script entries outputs) = exists b v && list_all (is_entry b) entries
-deed_fits b (deeds.Wink v id) = exists b v && is_some (live b id)
-deed_fits b (deeds.Drop v path) = is_some (held_at (held b) v path)
+deed_fits b (deeds.Wink v id) = exists b v && is_some (live_row b id)
+deed_fits b (deeds.Drop v path) = is_some (held_at (objects_held b) v path)
 deed_fits b (deeds.Scrub objects) = list_all (may_be_scrubbed b) objects
 deed_fits b (deeds.Labels label placed) = is_label_type b label && list_all (is_placed b) placed
 deed_fits b (deeds.Arrow e tail head) =

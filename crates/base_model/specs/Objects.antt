@@ -6,7 +6,7 @@ use Rattle.cc_names.specs.References.{held_at}
 use Rattle.cc_names.specs.Versions.{is_number}
 use Rattle.cc_names.specs.declared.rows.ReadOf.{ReadOf}
 use Rattle.base_model.specs.Rows.{Base, deed_at, only_where}
-use Rattle.base_model.specs.Changes.{held}
+use Rattle.base_model.specs.Changes.{objects_held}
 use Rattle.base_model.specs.Closures.{Inputs, closure, entries_of_deed}
 use Rattle.base_model.specs.Seen.{file_at}
 
@@ -23,7 +23,7 @@ agrees (suc row) found = is_number (suc row) found
 
 -- an object where it is held at each of some paths
 abbrev pub held_at_each : Base → List ℕ → List (List ℕ) → ℕ → Bool
-held_at_each b v paths id = list_all (λ path. is_number id (held_at (held b) v path)) paths
+held_at_each b v paths id = list_all (λ path. is_number id (held_at (objects_held b) v path)) paths
 
 -- the object that is held at one target, where it is held at the others too
 abbrev pub held_at_others : Base → List ℕ → List (List ℕ) → Option ℕ → Option ℕ
@@ -33,7 +33,7 @@ held_at_others b v paths (Some id) = only_where (held_at_each b v paths id) (Som
 -- the object that the view holds at every target
 abbrev pub held_at_all : Base → List ℕ → List (List ℕ) → Option ℕ
 held_at_all b v [] = None
-held_at_all b v (target ∷ targets) = held_at_others b v targets (held_at (held b) v target)
+held_at_all b v (target ∷ targets) = held_at_others b v targets (held_at (objects_held b) v target)
 
 -- the entries of an object's record
 abbrev pub record_of : Base → ℕ → List ReadOf
@@ -51,5 +51,5 @@ uncovered_among b v (input ∷ inputs) =
 
 -- The first path of an object's closure whose row is not the one that the view sees there. Where there is none, what the
 -- view sees covers the record.
-abbrev pub uncovered : Base → List ℕ → ℕ → Option (List ℕ)
-uncovered b v id = uncovered_among b v (closure b id)
+abbrev pub uncovered_path : Base → List ℕ → ℕ → Option (List ℕ)
+uncovered_path b v id = uncovered_among b v (closure b id)

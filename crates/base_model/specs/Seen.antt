@@ -1,6 +1,6 @@
 -- What stands at a path in a view.
 use Rattle.std.specs.Prelude.{ℕ, Bool, true, false, nat_le, Option, Some, None, Result, Ok, Err, List, [], ◌∷◌, length, reverse, if◌then◌else◌}
-use Rattle.cc_names.specs.Paths.{names_of, joined}
+use Rattle.cc_names.specs.Paths.{names_of, path_of_names}
 use Rattle.cc_names.specs.Versions.{kind_of}
 use Rattle.cc_names.specs.declared.rows.Kind.{Kind}
 use Rattle.cc_names.specs.declared.rows.Kind.TheVariants.{File, Directory}
@@ -12,9 +12,9 @@ use Rattle.cc_names.specs.declared.selection.Seen.TheVariants.{Private, Element,
 use Rattle.base_model.specs.ConfigSpecs.Rules.{Selectables, pick}
 use Rattle.base_model.specs.ConfigSpecs.Specs.{rules_of}
 use Rattle.base_model.specs.Rows.{Base}
-use Rattle.base_model.specs.Catalogs.{Catalog, catalog_of, own_of, named}
+use Rattle.base_model.specs.Catalogs.{Catalog, catalog_of, own_of, element_named}
 use Rattle.base_model.specs.Changes.{tree, labels}
-use Rattle.base_model.specs.Closures.{listed}
+use Rattle.base_model.specs.Closures.{recorded_version}
 use Rattle.base_model.specs.Views.{making, private, spec_text}
 
 -- the rules that were read, or none
@@ -33,11 +33,11 @@ rules b v = rules_of_spec (spec_text b v)
 
 -- what the view selects an element's version from
 abbrev pub sources : Base → List ℕ → ℕ → Selectables
-sources b v e = record { tree = tree b; labels = labels b; listed = listed b; out = making b v e }
+sources b v e = record { tree = tree b; labels = labels b; listed = recorded_version b; out = making b v e }
 
 -- what the view's first rule that decides picks of the element at the path of these names
-abbrev pub selected : Base → List ℕ → ℕ → List (List ℕ) → Option Picked
-selected b v e names = pick (sources b v e) e names (rules b v)
+abbrev pub selection_at : Base → List ℕ → ℕ → List (List ℕ) → Option Picked
+selection_at b v e names = pick (sources b v e) e names (rules b v)
 
 -- an element with what was picked of it
 abbrev pub as_seen : ℕ → Option Picked → Seen
@@ -62,7 +62,7 @@ entries_of b v _ = None
 -- an element that a catalog names, at the path of these names
 abbrev pub element_at : Base → List ℕ → List (List ℕ) → Option ℕ → Seen
 element_at b v names None = Nothing
-element_at b v names (Some e) = as_seen e (selected b v e names)
+element_at b v names (Some e) = as_seen e (selection_at b v e names)
 
 -- a private file hides an element of the same name
 abbrev pub private_or : Option ℕ → Seen → Seen
@@ -81,11 +81,11 @@ unless_long path seen = if nat_le (length path) path_limit then seen else Nothin
 abbrev pub below : Base → List ℕ → List (List ℕ) → List ℕ → Option Catalog → Seen
 below b v names name None = Nothing
 below b v names name (Some entries) =
-    unless_long (joined names) (private_or (private b v (joined names)) (element_at b v names (named name entries)))
+    unless_long (path_of_names names) (private_or (private b v (path_of_names names)) (element_at b v names (element_named name entries)))
 
 -- what stands at the path of these names, the last name first; the root is element 0
 abbrev pub at_names : Base → List ℕ → List (List ℕ) → Seen
-at_names b v [] = as_seen 0 (selected b v 0 [])
+at_names b v [] = as_seen 0 (selection_at b v 0 [])
 at_names b v (name ∷ above) = below b v (reverse (name ∷ above)) name (entries_of b v (at_names b v above))
 
 -- what stands at a path

@@ -20,10 +20,10 @@ pub record IsLinkAt (links : List Link) (p : ℕ) (link : Link) : Type 0 where
   pub linked : AreLinked (reverse links) → AreLinked (reverse (take p links))
 
 -- the same for the list as it is, newest first
-record IsNewestAt (links front : List Link) (p : ℕ) (link : Link) : Type 0 where
-  rows : rows_from links (Some p) ≡ link.row ∷ rows_from (reverse front) link.older
+record IsNewestAt (links prefix : List Link) (p : ℕ) (link : Link) : Type 0 where
+  rows : rows_from links (Some p) ≡ link.row ∷ rows_from (reverse prefix) link.older
   older : AreLinked links → IfSome link.older (λ place. place < p)
-  linked : AreLinked links → AreLinked (reverse front)
+  linked : AreLinked links → AreLinked (reverse prefix)
 
 link_in : (links : List Link) (p : ℕ) (d : Link) → p < length links → IsNewestAt links (take p (reverse links)) p (get_or (reverse links) p d)
 link_in [] p d within = absurd (omega arith)
@@ -31,21 +31,21 @@ link_in (link ∷ older) p d within =
     rw (reverse-append (link ∷ []) older) (elim (p == length older) as (λ is. (p == length older) ≡ is → IsNewestAt (link ∷ older) (take p (reverse older ++ link ∷ [])) p (get_or (reverse older ++ link ∷ []) p d)) [
       | true ↦ λ e.
           let at_end : p ≡ length (reverse older) = grind (arith, nat_tests, length-reverse older) in
-          let front : reverse (take p (reverse older ++ link ∷ [])) ≡ older = rw at_end (rw (take-append_seam (reverse older) (link ∷ [])) (reverse-reverse older)) in
+          let prefix : reverse (take p (reverse older ++ link ∷ [])) ≡ older = rw at_end (rw (take-append_seam (reverse older) (link ∷ [])) (reverse-reverse older)) in
           let there : get_or (reverse older ++ link ∷ []) p d ≡ link = rw at_end (get_or-append_seam (reverse older) link [] d) in
           let place : p ≡ length older = grind (arith, nat_tests) in
           rw there (record {
-            rows = rw (rows_from, e, front) refl;
+            rows = rw (rows_from, e, prefix) refl;
             older = λ linked. subst (λ n. IfSome link.older (λ q. q < n)) (sym place) linked.0.next;
-            linked = λ linked. rw front linked.1;
+            linked = λ linked. rw prefix linked.1;
           })
       | false ↦ λ e.
           let inside : p < length older = grind (arith, nat_tests) in
           let inside' : p < length (reverse older) = omega (arith, length-reverse older) in
-          let front : take p (reverse older ++ link ∷ []) ≡ take p (reverse older) = take-append-le p (reverse older) (link ∷ []) (omega arith) in
+          let prefix : take p (reverse older ++ link ∷ []) ≡ take p (reverse older) = take-append-le p (reverse older) (link ∷ []) (omega arith) in
           let there : get_or (reverse older ++ link ∷ []) p d ≡ get_or (reverse older) p d = get_or-append (reverse older) (link ∷ []) d p inside' in
           let behind = link_in older p d inside in
-          rw (front, there) (record {
+          rw (prefix, there) (record {
             rows = rw (rows_from, e) behind.rows;
             older = λ linked. behind.older linked.1;
             linked = λ linked. behind.linked linked.1;

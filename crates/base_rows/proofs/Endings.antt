@@ -3,12 +3,12 @@ use Rattle.std.proofs.Common.{◌≡◌, ℕ, ◌<◌, ◌≤◌, Bool, true, fa
 use Rattle.std.specs.Prelude.{option_map}
 use Rattle.std.specs.Option.{option_or}
 use Rattle.std.proofs.lemmas.Bool.Decides.{nat_tests}
-use Rattle.cc_names.specs.Last.{Effect, Keeps, Ends, Sets, left}
+use Rattle.cc_names.specs.Last.{Effect, Keeps, Ends, Sets, value_after}
 use Rattle.cc_names.specs.declared.rows.Deed.{Deed}
 use Rattle.base_model.specs.Rows.{Base, size, only_where}
 use Rattle.base_rows.specs.Effects.{map_effect, map_update}
 use Rattle.base_rows.specs.Lifetimes.{number_of, ended_or, is_behind, within, later, or_else}
-use Rattle.base_rows.specs.LookUps.{Deeds, Update, told, newest, last_of}
+use Rattle.base_rows.specs.LookUps.{Deeds, Update, update_by_row, newest, last_of}
 use Rattle.base_rows.proofs.Newest.{newest_below}
 
 behind_bound : (ended : Option ℕ) (n : ℕ) → IfSome ended (λ m. m < n) → is_behind ended n ≡ true
@@ -32,10 +32,10 @@ at_most : {A : Type 0} (row : Option (Update A)) (n : ℕ) → IfSome row (λ r.
 at_most None n h = tt
 at_most (Some row) n h = omega arith
 
-told_here : {A : Type 0} (n : ℕ) (is : Effect A) (rows : Option (Update A)) → IfSome rows (λ r. r.0 < n) → IfSome (option_or (told n is) rows) (λ r. r.0 ≤ n)
-told_here n Keeps rows h = at_most rows n h
-told_here n Ends rows h = omega arith
-told_here n (Sets a) rows h = omega arith
+update_here : {A : Type 0} (n : ℕ) (is : Effect A) (rows : Option (Update A)) → IfSome rows (λ r. r.0 < n) → IfSome (option_or (update_by_row n is) rows) (λ r. r.0 ≤ n)
+update_here n Keeps rows h = at_most rows n h
+update_here n Ends rows h = omega arith
+update_here n (Sets a) rows h = omega arith
 
 -- the last end of a life
 abbrev pub ended_by : Option (Update ℕ) → Option ℕ
@@ -46,9 +46,9 @@ ended_below None n h = tt
 ended_below (Some row) n h = h
 
 step : {A : Type 0} (n : ℕ) (one : Effect ℕ) (two : Effect A) (before : Option A) (ends : Option (Update ℕ)) (rows : Option (Update A)) → IfSome ends (λ r. r.0 < n) → IfSome rows (λ r. r.0 < n)
-    → before ≡ within (ended_by ends) rows → left (ended_or one two) before ≡ within (ended_by (option_or (told n one) ends)) (option_or (told n two) rows)
-step n Ends two before ends rows h j same = gone n (option_or (told n two) rows) (told_here n two rows j)
-step n (Sets m) two before ends rows h j same = gone n (option_or (told n two) rows) (told_here n two rows j)
+    → before ≡ within (ended_by ends) rows → value_after (ended_or one two) before ≡ within (ended_by (option_or (update_by_row n one) ends)) (option_or (update_by_row n two) rows)
+step n Ends two before ends rows h j same = gone n (option_or (update_by_row n two) rows) (update_here n two rows j)
+step n (Sets m) two before ends rows h j same = gone n (option_or (update_by_row n two) rows) (update_here n two rows j)
 step n Keeps Keeps before ends rows h j same = same
 step n Keeps Ends before ends rows h j same = none_where (is_behind (ended_by ends) n) None refl
 step n Keeps (Sets a) before ends rows h j same =
@@ -59,7 +59,7 @@ pub last_within : {A : Type 0} (all : Deeds A) (one : Deeds ℕ) (two : Deeds A)
     → last_of all b ≡ within (ended_by (newest one b)) (newest two b)
 last_within all one two parts [] = refl
 last_within all one two parts (row ∷ older) =
-    ap (λ is. left is (last_of all older)) (parts older row.deed)
+    ap (λ is. value_after is (last_of all older)) (parts older row.deed)
     ∙ step (size older) (one older row.deed) (two older row.deed) (last_of all older) (newest one older) (newest two older) (newest_below one older) (newest_below two older) (last_within all one two parts older)
 
 later_two : {A : Type 0} (ones : Option (Update A)) (row : Update A) → IfSome ones (λ r. r.0 < row.0) → Some row ≡ later ones (Some row)
@@ -73,23 +73,23 @@ later_one row None h = refl
 later_one row (Some two) h = sym (ap (λ is. cond is (Some two) (Some row)) (not_behind row.0 two.0 h))
 
 later_step : {A : Type 0} (n : ℕ) (one two : Effect A) (ones twos : Option (Update A)) → IfSome ones (λ r. r.0 < n) → IfSome twos (λ r. r.0 < n)
-    → option_or (told n (or_else one two)) (later ones twos) ≡ later (option_or (told n one) ones) (option_or (told n two) twos)
+    → option_or (update_by_row n (or_else one two)) (later ones twos) ≡ later (option_or (update_by_row n one) ones) (option_or (update_by_row n two) twos)
 later_step n Keeps Keeps ones twos h j = refl
 later_step n Keeps Ends ones twos h j = later_two ones (n, None) h
 later_step n Keeps (Sets a) ones twos h j = later_two ones (n, Some a) h
-later_step n Ends two ones twos h j = later_one (n, None) (option_or (told n two) twos) (told_here n two twos j)
-later_step n (Sets a) two ones twos h j = later_one (n, Some a) (option_or (told n two) twos) (told_here n two twos j)
+later_step n Ends two ones twos h j = later_one (n, None) (option_or (update_by_row n two) twos) (update_here n two twos j)
+later_step n (Sets a) two ones twos h j = later_one (n, Some a) (option_or (update_by_row n two) twos) (update_here n two twos j)
 
 -- Of a thing to which two kinds of rows do something, the later row tells.
 pub newest_of_two : {A : Type 0} (all one two : Deeds A) → ((older : Base) (deed : Deed) → all older deed ≡ or_else (one older deed) (two older deed)) → (b : Base)
     → newest all b ≡ later (newest one b) (newest two b)
 newest_of_two all one two parts [] = refl
 newest_of_two all one two parts (row ∷ older) =
-    ap (λ is. option_or (told (size older) is) (newest all older)) (parts older row.deed)
-    ∙ ap (option_or (told (size older) (or_else (one older row.deed) (two older row.deed)))) (newest_of_two all one two parts older)
+    ap (λ is. option_or (update_by_row (size older) is) (newest all older)) (parts older row.deed)
+    ∙ ap (option_or (update_by_row (size older) (or_else (one older row.deed) (two older row.deed)))) (newest_of_two all one two parts older)
     ∙ later_step (size older) (one older row.deed) (two older row.deed) (newest one older) (newest two older) (newest_below one older) (newest_below two older)
 
-map_step : {A B : Type 0} (f : A → B) (n : ℕ) (effect : Effect A) (rows : Option (Update A)) (mapped : Option (Update B)) → mapped ≡ option_map (map_update f) rows → option_or (told n (map_effect f effect)) mapped ≡ option_map (map_update f) (option_or (told n effect) rows)
+map_step : {A B : Type 0} (f : A → B) (n : ℕ) (effect : Effect A) (rows : Option (Update A)) (mapped : Option (Update B)) → mapped ≡ option_map (map_update f) rows → option_or (update_by_row n (map_effect f effect)) mapped ≡ option_map (map_update f) (option_or (update_by_row n effect) rows)
 map_step f n Keeps rows mapped h = h
 map_step f n Ends rows mapped h = refl
 map_step f n (Sets a) rows mapped h = refl

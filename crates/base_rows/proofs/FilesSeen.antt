@@ -34,8 +34,8 @@ pub seen_in : (b : Base) (t : ℕ) (v : List ℕ) (it : List ℕ × SeenFiles) �
 seen_in b t v it seen = (seen.0, λ count. subst (λ rows. AreFiles rows v it.1.files) (ap (λ n. first_rows n b) count ∙ first_again b t) seen.1.files)
 
 -- what is seen in the first rows may be kept
-pub kept_in : (b : Base) (t : ℕ) (v : List ℕ) (it : List ℕ × SeenFiles) → it.0 ≡ v → it.1.count ≡ size (first_rows t b) → AreFiles (first_rows t b) v it.1.files → AreSeen b it.0 it.1
-kept_in b t v it name count files = record {
+pub stored_in : (b : Base) (t : ℕ) (v : List ℕ) (it : List ℕ × SeenFiles) → it.0 ≡ v → it.1.count ≡ size (first_rows t b) → AreFiles (first_rows t b) v it.1.files → AreSeen b it.0 it.1
+stored_in b t v it name count files = record {
   within = let few = first_within b t in omega arith;
   files = subst (λ w. AreFiles (first_rows it.1.count b) w it.1.files) (sym name)
       (subst (λ rows. AreFiles rows v it.1.files) (sym (ap (λ n. first_rows n b) count ∙ first_again b t)) files);
@@ -90,7 +90,7 @@ seen_in_each b t v (Some one) seen = seen_in b t v one seen
 -- what was made of the first rows may be kept
 pub made_in : {E : Type 0} → (b rows : Base) (t : ℕ) (v : List ℕ) (made : Result (List ℕ × SeenFiles) E) → rows ≡ first_rows t b → IfOk made (λ it. it.0 ≡ v) → IfOk made (λ it. it.1.count ≡ size rows) →
     IfOk made (λ it. AreFiles rows v it.1.files) → IfOk made (λ it. AreSeen b it.0 it.1)
-made_in b rows t v (Ok it) is name count files = kept_in b t v it name (count ∙ ap (λ (all : Base). size all) is) (subst (λ all. AreFiles all v it.1.files) is files)
+made_in b rows t v (Ok it) is name count files = stored_in b t v it name (count ∙ ap (λ (all : Base). size all) is) (subst (λ all. AreFiles all v it.1.files) is files)
 made_in b rows t v (Err fault) is name count files = tt
 
 -- what is kept of as many first rows is what these show

@@ -73,8 +73,8 @@ above_labels b kept same l e =
     subst (λ (changes : List LabelChange). IsAbove (size b) (map row_of_label_change changes)) (sym (same.pairs l e)) (above_some (size b) (is_about l e) (labels b) (labels_under b))
 
 -- what the first rows did to labels that are kept
-pub holder_kept : (t : ℕ) (kept changes : List LabelChange) → AreLabels kept changes → (l : List ℕ) (e : ℕ) → holder (labels_of_first_rows t kept) l e ≡ holder (labels_of_first_rows t changes) l e
-holder_kept t kept changes same l e = same_holder kept changes t l e (same.pairs l e)
+pub holder_stored : (t : ℕ) (kept changes : List LabelChange) → AreLabels kept changes → (l : List ℕ) (e : ℕ) → holder (labels_of_first_rows t kept) l e ≡ holder (labels_of_first_rows t changes) l e
+holder_stored t kept changes same l e = same_holder kept changes t l e (same.pairs l e)
 
 -- the rows of a pair are those of before where a change is of another one
 pub other_rows : (old new : Marks) (change : LabelChange) (n : ℕ) (l : List ℕ) (e : ℕ) → AddsChange old new change → is_about l e change ≡ false → IsAbove n (rows_of_pair l e old.changes) → IsAbove n (rows_of_pair l e new.changes)

@@ -4,12 +4,12 @@ pub mod ChangingRows
 pub mod Endings
 pub mod FilesSeen
 pub mod FirstTrees
-pub mod Fronts
+pub mod Prefixes
 pub mod FurtherBack
 pub mod Growths
 pub mod Holdings
 pub mod JoinedListings
-pub mod KeptListings
+pub mod StoredListings
 pub mod KeysAdded
 pub mod Labellings
 pub mod ListingsStay

@@ -199,8 +199,8 @@ listings_more kept made row older base fit before own id e = by made own (size o
         ∙ ap (find nat_cmp e) (sym (older_listing row older id base apart))
 
 -- as a map keeps them
-pub kept_with : (object : ℕ) (map : BTreeMap ℕ ℕ) (before : ℕ → Option (BTreeMap ℕ ℕ)) (q : ℕ) → versions_of (cond (object == q) (Some map) (before q)) ≡ with_listing object (Some map.entries) (λ id. versions_of (before id)) q
-kept_with object map before q = by (object == q)
+pub stored_with : (object : ℕ) (map : BTreeMap ℕ ℕ) (before : ℕ → Option (BTreeMap ℕ ℕ)) (q : ℕ) → versions_of (cond (object == q) (Some map) (before q)) ≡ with_listing object (Some map.entries) (λ id. versions_of (before id)) q
+stored_with object map before q = by (object == q)
   where
     by : (is : Bool) → versions_of (cond is (Some map) (before q)) ≡ elim is as (λ x. Option Versions) [ true ↦ Some map.entries | false ↦ versions_of (before q) ]
     by true = refl

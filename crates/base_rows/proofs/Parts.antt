@@ -6,7 +6,7 @@ use Rattle.cc_names.specs.declared.rows.Deed.TheVariants as deeds
 use Rattle.base_model.specs.Rows.{Base, size}
 use Rattle.base_model.specs.Views.{Checkout, making_effect, making_of_out, made_out, out_effect, private_effect, set_by}
 use Rattle.std.specs.Prelude.{Option, Some, None, option_map}
-use Rattle.base_rows.specs.Effects.{end_effect, file_effect, taken_effect, kept_checkout, plain_checkout, map_effect, row_of_kept, desk_effect, saved_effect}
+use Rattle.base_rows.specs.Effects.{end_effect, file_effect, taken_effect, stored_checkout, plain_checkout, map_effect, row_of_stored, checkout_effect, saved_effect}
 use Rattle.base_rows.specs.Lifetimes.{ended_or, or_else}
 use Rattle.base_rows.specs.LookUps.{Deeds}
 
@@ -26,15 +26,15 @@ out_parts v e older (deeds.Rmview w) = ended (bytes_eq w v)
 out_parts v e older deed = refl
 
 -- a checkout is the same again
-pub plain_again : (checkout : Option Checkout) → option_map plain_checkout (option_map kept_checkout checkout) ≡ checkout
+pub plain_again : (checkout : Option Checkout) → option_map plain_checkout (option_map stored_checkout checkout) ≡ checkout
 plain_again None = refl
 plain_again (Some checkout) = refl
 
 -- the effect on the text of a checkout, whatever becomes of the view
 abbrev pub text_effect : List ℕ → ℕ → Deeds ℕ
-text_effect v e older deed = or_else (map_effect row_of_kept (desk_effect v e older deed)) (saved_effect v e older deed)
+text_effect v e older deed = or_else (map_effect row_of_stored (checkout_effect v e older deed)) (saved_effect v e older deed)
 
-made_again : (effect : Effect Checkout) → making_of_out effect ≡ or_else (map_effect row_of_kept (map_effect kept_checkout effect)) Keeps
+made_again : (effect : Effect Checkout) → making_of_out effect ≡ or_else (map_effect row_of_stored (map_effect stored_checkout effect)) Keeps
 made_again Keeps = refl
 made_again Ends = refl
 made_again (Sets checkout) = refl

@@ -2,7 +2,7 @@
 use Rattle.std.proofs.Common.{◌≡◌, ℕ, suc, ◌<◌, ◌==◌, true, false, Option, Some, None, IfSome, List, [], ◌∷◌, bytes_eq, refl, ap, sym, ◌∙◌, arith}
 use Rattle.std.specs.Prelude.{option_and_then}
 use Rattle.std.proofs.lemmas.Bool.Decides.{nat_tests, Decides-eqb}
-use Rattle.cc_names.specs.Last.{Keeps, Ends, Sets, only_if, left}
+use Rattle.cc_names.specs.Last.{Keeps, Ends, Sets, only_if, value_after}
 use Rattle.cc_names.specs.declared.rows.Deed.{Deed}
 use Rattle.cc_names.specs.declared.rows.Deed.TheVariants as deeds
 use Rattle.cc_names.specs.Formed.{Plain}
@@ -36,13 +36,13 @@ weaker (Some m) n h = omega arith
 just_below : (n : ℕ) → n < suc n
 just_below n = omega arith
 
-below_step : (v : List ℕ) (older : Base) (deed : Deed) (row : Option ℕ) → IfSome row (λ m. m < size older) → IfSome (left (spec_row_effect v older deed) row) (λ m. m < suc (size older))
+below_step : (v : List ℕ) (older : Base) (deed : Deed) (row : Option ℕ) → IfSome row (λ m. m < size older) → IfSome (value_after (spec_row_effect v older deed) row) (λ m. m < suc (size older))
 below_step v older (deeds.Mkview w) row h =
-    elim (bytes_eq w v) as (λ is. IfSome (left (or_else (only_if is (Sets (size older))) Keeps) row) (λ m. m < suc (size older))) [ true ↦ just_below (size older) | false ↦ weaker row (size older) h ]
+    elim (bytes_eq w v) as (λ is. IfSome (value_after (or_else (only_if is (Sets (size older))) Keeps) row) (λ m. m < suc (size older))) [ true ↦ just_below (size older) | false ↦ weaker row (size older) h ]
 below_step v older (deeds.Rmview w) row h =
-    elim (bytes_eq w v) as (λ is. IfSome (left (or_else (only_if {A = ℕ} is Ends) Keeps) row) (λ m. m < suc (size older))) [ true ↦ tt | false ↦ weaker row (size older) h ]
+    elim (bytes_eq w v) as (λ is. IfSome (value_after (or_else (only_if {A = ℕ} is Ends) Keeps) row) (λ m. m < suc (size older))) [ true ↦ tt | false ↦ weaker row (size older) h ]
 below_step v older (deeds.Setcs w text) row h =
-    elim (bytes_eq w v) as (λ is. IfSome (left (only_if is (Sets (size older))) row) (λ m. m < suc (size older))) [ true ↦ just_below (size older) | false ↦ weaker row (size older) h ]
+    elim (bytes_eq w v) as (λ is. IfSome (value_after (only_if is (Sets (size older))) row) (λ m. m < suc (size older))) [ true ↦ just_below (size older) | false ↦ weaker row (size older) h ]
 below_step v older deed row h = weaker row (size older) h
 
 -- the row by which a view has its spec lies in the base
@@ -51,13 +51,13 @@ row_below v [] = tt
 row_below v (row ∷ older) = below_step v older row.deed (last_of (spec_row_effect v) older) (row_below v older)
 
 text_step : (v : List ℕ) (older : Base) (deed : Deed) (before : Option (List ℕ)) (row : Option ℕ) (at : ℕ → Option (List ℕ)) → at (size older) ≡ spec_made deed → before ≡ option_and_then at row
-    → left (spec_effect v deed) before ≡ option_and_then at (left (spec_row_effect v older deed) row)
+    → value_after (spec_effect v deed) before ≡ option_and_then at (value_after (spec_row_effect v older deed) row)
 text_step v older (deeds.Mkview w) before row at now h =
-    elim (bytes_eq w v) as (λ is. left (only_if is (Sets default_spec)) before ≡ option_and_then at (left (or_else (only_if is (Sets (size older))) Keeps) row)) [ true ↦ sym now | false ↦ h ]
+    elim (bytes_eq w v) as (λ is. value_after (only_if is (Sets default_spec)) before ≡ option_and_then at (value_after (or_else (only_if is (Sets (size older))) Keeps) row)) [ true ↦ sym now | false ↦ h ]
 text_step v older (deeds.Rmview w) before row at now h =
-    elim (bytes_eq w v) as (λ is. left (only_if is Ends) before ≡ option_and_then at (left (or_else (only_if {A = ℕ} is Ends) Keeps) row)) [ true ↦ refl | false ↦ h ]
+    elim (bytes_eq w v) as (λ is. value_after (only_if is Ends) before ≡ option_and_then at (value_after (or_else (only_if {A = ℕ} is Ends) Keeps) row)) [ true ↦ refl | false ↦ h ]
 text_step v older (deeds.Setcs w text) before row at now h =
-    elim (bytes_eq w v) as (λ is. left (only_if is (Sets text)) before ≡ option_and_then at (left (only_if is (Sets (size older))) row)) [ true ↦ sym now | false ↦ h ]
+    elim (bytes_eq w v) as (λ is. value_after (only_if is (Sets text)) before ≡ option_and_then at (value_after (only_if is (Sets (size older))) row)) [ true ↦ sym now | false ↦ h ]
 text_step v older deed before row at now h = h
 
 -- The text of a view's config spec is that of the row by which the view has it.

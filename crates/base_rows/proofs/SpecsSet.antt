@@ -15,7 +15,7 @@ use Rattle.base_model.specs.Seen.{rules_read, rules_of_spec, rules}
 use Rattle.base_rows.specs.Effects.{spec_row_effect}
 use Rattle.base_rows.specs.LookUps.{last_of}
 use Rattle.base_rows.specs.Made.{spec_made}
-use Rattle.base_rows.specs.SetSpecs.{if_read, parsed, rules_set, rules_set_if_short, with_spec, specs_set, or_no_rules, row_of_parsed, rules_at}
+use Rattle.base_rows.specs.SetSpecs.{if_read, parsed_rules, rules_set, rules_set_if_short, with_spec, specs_set, or_no_rules, row_of_parsed, rules_at}
 use Rattle.base_rows.specs.declared.view_specs.Parsed.{Parsed}
 use Rattle.base_rows.proofs.SpecRows.{spec_at, text_by_row}
 
@@ -24,7 +24,7 @@ pub set_short : (deed : Deed) → IsDeedFormed deed → rules_set_if_short deed 
 set_short (deeds.Mkview v) formed = refl
 set_short (deeds.Setcs v text) formed =
     let short : nat_lt (length text) 4294967296 ≡ true = grind (arith, nat_tests, formed.1) in
-    ap (λ is. only_where is (parsed text)) short
+    ap (λ is. only_where is (parsed_rules text)) short
 set_short deed formed = refl
 
 abbrev pub rows_of_specs : List Parsed → List ℕ
@@ -92,7 +92,7 @@ no_row_past (row ∷ older) n past =
     let below : size older ≤ n = omega arith in
     grind (arith, nat_tests, no_row_past older n below)
 
-read_or_none : (text : Option (List ℕ)) → or_no_rules (option_and_then parsed text) ≡ rules_of_spec text
+read_or_none : (text : Option (List ℕ)) → or_no_rules (option_and_then parsed_rules text) ≡ rules_of_spec text
 read_or_none None = refl
 read_or_none (Some text) = by (rules_of text)
   where

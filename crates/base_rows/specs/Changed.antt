@@ -23,11 +23,11 @@ changes name (Renames from_name to_name) = bytes_eq from_name name || bytes_eq t
 changes name edit = false
 
 -- the newest row that began a checkout of directory d by the view, and the newest one that changed the name in one
-abbrev pub begun : Base → List ℕ → ℕ → Option ℕ
-begun b v d = last (λ older row. only_if (begins (edit_of v d (size older) row.deed)) (Sets (size older))) b
+abbrev pub newest_checkout_row : Base → List ℕ → ℕ → Option ℕ
+newest_checkout_row b v d = last (λ older row. only_if (begins (edit_of v d (size older) row.deed)) (Sets (size older))) b
 
-abbrev pub changed : Base → List ℕ → ℕ → List ℕ → Option ℕ
-changed b v d name = last (λ older row. only_if (changes name (edit_of v d (size older) row.deed)) (Sets (size older))) b
+abbrev pub newest_change_row : Base → List ℕ → ℕ → List ℕ → Option ℕ
+newest_change_row b v d name = last (λ older row. only_if (changes name (edit_of v d (size older) row.deed)) (Sets (size older))) b
 
 -- the branch on which a deed makes the next version
 abbrev pub checked_in_on : Base → Deed → Option ℕ
@@ -41,14 +41,14 @@ is_since began last_changed = false
 
 -- whether a deed makes a version of the branch from a checkout in which the name was changed
 abbrev pub alters : ℕ → List ℕ → Base → Deed → Bool
-alters branch name older (deeds.Checkin v d) = is_number branch (checked_in_on older (deeds.Checkin v d)) && is_since (begun older v d) (changed older v d name)
+alters branch name older (deeds.Checkin v d) = is_number branch (checked_in_on older (deeds.Checkin v d)) && is_since (newest_checkout_row older v d) (newest_change_row older v d name)
 alters branch name older deed = false
 
 -- the row that began the checkout in which a deed changes names
 abbrev pub changing : Base → Deed → Option ℕ
-changing older (deeds.Mkelem v d name kind taken) = begun older v d
-changing older (deeds.Rmname v d name) = begun older v d
-changing older (deeds.Mv v d from_name to_name) = begun older v d
+changing older (deeds.Mkelem v d name kind taken) = newest_checkout_row older v d
+changing older (deeds.Rmname v d name) = newest_checkout_row older v d
+changing older (deeds.Mv v d from_name to_name) = newest_checkout_row older v d
 changing older deed = None
 
 -- the names that a deed changes
@@ -74,5 +74,5 @@ changing_rows_of b None = []
 changing_rows_of b (Some began) = changing_rows began b
 
 abbrev pub checked_in_rows : Base → Deed → List ℕ
-checked_in_rows older (deeds.Checkin v d) = changing_rows_of older (begun older v d)
+checked_in_rows older (deeds.Checkin v d) = changing_rows_of older (newest_checkout_row older v d)
 checked_in_rows older deed = []

@@ -6,7 +6,7 @@ use Rattle.cc_names.specs.References.{held_at}
 use Rattle.cc_names.specs.declared.rows.Deed.{Deed}
 use Rattle.cc_names.specs.declared.rows.Deed.TheVariants as deeds
 use Rattle.cc_names.specs.declared.rows.TypeKind.{TypeKind}
-use Rattle.base_model.specs.Changes.{held, live_effect, targets_of, type_effect, live}
+use Rattle.base_model.specs.Changes.{objects_held, live_effect, targets_of, type_effect, live_row}
 use Rattle.cc_names.specs.Versions.{is_number}
 use Rattle.base_model.specs.Checkouts.{row_of_checkout}
 use Rattle.base_model.specs.Conditions.{is_arrow}
@@ -17,8 +17,8 @@ use Rattle.base_rows.specs.LookUps.{Deeds, Update}
 use Rattle.base_rows.specs.Made.{is_target}
 use Rattle.base_rows.specs.Subjects.{reserved_branch}
 use Rattle.base_rows.specs.Pool.{Test, publishes}
-use Rattle.base_rows.specs.declared.desks.Checkout.{Checkout}
-use Rattle.base_rows.specs.declared.desks.Taken.{Taken}
+use Rattle.base_rows.specs.declared.checkouts.Checkout.{Checkout}
+use Rattle.base_rows.specs.declared.checkouts.Taken.{Taken}
 
 -- a view's life begins and ends
 abbrev pub life_effect : List ℕ → Deeds ℕ
@@ -50,7 +50,7 @@ object_effect v path older deed = Keeps
 
 -- whether a view holds an object at one of these paths
 abbrev pub holds_one : Base → List ℕ → ℕ → List (List ℕ) → Bool
-holds_one b v id targets = list_any (λ target. is_number id (held_at (held b) v target)) targets
+holds_one b v id targets = list_any (λ target. is_number id (held_at (objects_held b) v target)) targets
 
 -- whether the view of the row that made an object holds it at one of its targets
 abbrev pub held_by_maker : Base → ℕ → Option Deed → Bool
@@ -69,7 +69,7 @@ living_effect id older deed = live_effect id (size older) deed
 -- an object of these targets is made that is live in a base and whose record passes
 abbrev pub pool_effect : Base → List (List ℕ) → Test → Deeds ℕ
 pool_effect b targets passes older deed =
-    only_if (is_some (live b (size older)) && publishes targets passes deed) (Sets (size older))
+    only_if (is_some (live_row b (size older)) && publishes targets passes deed) (Sets (size older))
 
 -- a type is made
 abbrev pub named_effect : List ℕ → Deeds TypeKind
@@ -100,8 +100,8 @@ abbrev pub map_update : {A B : Type 0} → (A → B) → Update A → Update B
 map_update f row = (row.0, option_map f row.1)
 
 -- a checkout as code has it, and as the model has it
-abbrev pub kept_checkout : model.Checkout → Checkout
-kept_checkout checkout = record { row = checkout.row; origin = checkout.origin; reserved = checkout.reserved }
+abbrev pub stored_checkout : model.Checkout → Checkout
+stored_checkout checkout = record { row = checkout.row; origin = checkout.origin; reserved = checkout.reserved }
 
 abbrev pub plain_checkout : Checkout → model.Checkout
 plain_checkout checkout = record { row = checkout.row; origin = checkout.origin; reserved = checkout.reserved }
@@ -112,8 +112,8 @@ taken_effect v e older (deeds.Checkin w f) = only_if (bytes_eq w v && (f == e)) 
 taken_effect v e older (deeds.Uncheckout w f) = only_if (bytes_eq w v && (f == e)) Ends
 taken_effect v e older deed = model.set_by v e (model.made_out (size older) deed)
 
-abbrev pub desk_effect : List ℕ → ℕ → Deeds Checkout
-desk_effect v e older deed = map_effect kept_checkout (taken_effect v e older deed)
+abbrev pub checkout_effect : List ℕ → ℕ → Deeds Checkout
+checkout_effect v e older deed = map_effect stored_checkout (taken_effect v e older deed)
 
 -- a text is saved
 abbrev pub saved_effect : List ℕ → ℕ → Deeds ℕ
@@ -121,8 +121,8 @@ saved_effect v e older (deeds.Save w f text) = only_if (bytes_eq w v && (f == e)
 saved_effect v e older deed = Keeps
 
 -- the row that made a checkout
-abbrev pub row_of_kept : Checkout → ℕ
-row_of_kept checkout = checkout.row
+abbrev pub row_of_stored : Checkout → ℕ
+row_of_stored checkout = checkout.row
 
 -- a view has a config spec by the row that begins it or that sets the spec
 abbrev pub spec_row_effect : List ℕ → Deeds ℕ

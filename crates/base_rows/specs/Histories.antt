@@ -7,7 +7,7 @@ use Rattle.cc_names.specs.declared.rows.Deed.TheVariants as deeds
 use Rattle.cc_names.specs.declared.rows.Placed.{Placed}
 use Rattle.base_model.specs.Rows.{Base, size}
 use Rattle.base_rows.specs.LookUps.{Deeds}
-use Rattle.base_rows.specs.Walks.{all_told}
+use Rattle.base_rows.specs.Walks.{updating_rows}
 
 -- whether a label is put on a version of the element
 abbrev pub is_placed_on : ℕ → Placed → Bool
@@ -29,4 +29,4 @@ history_effect e older deed = only_if (tells_of e (size older) deed) (Sets (size
 
 -- the numbers of the rows of an element's history, the newest first
 abbrev pub history_of : Base → ℕ → List ℕ
-history_of b e = all_told (history_effect e) b
+history_of b e = updating_rows (history_effect e) b

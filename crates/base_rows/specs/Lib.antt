@@ -1,9 +1,9 @@
-pub mod Bearings
-pub mod ChangeBearings
+pub mod AffectedSubjects
+pub mod AffectedByChanges
 pub mod Changed
 pub mod Effects
 pub mod Entries
-pub mod Front
+pub mod BasePrefix
 pub mod Giving
 pub mod Growing
 pub mod Histories
@@ -15,7 +15,7 @@ pub mod LookUps
 pub mod Made
 pub mod MarkSteps
 pub mod Marked
-pub mod NameBearings
+pub mod AffectedByNames
 pub mod NumberKeys
 pub mod Order
 pub mod Pool

@@ -4,7 +4,7 @@ use Rattle.std.specs.Option.{option_or}
 use Rattle.cc_names.specs.Last.{Effect, Keeps, Ends, Sets, last}
 use Rattle.cc_names.specs.declared.rows.Deed.{Deed}
 use Rattle.base_model.specs.Rows.{Base, size, deed_at, first_rows}
-use Rattle.base_rows.specs.Subjects.{Subject, bears}
+use Rattle.base_rows.specs.Subjects.{Subject, affects}
 use Rattle.base_rows.specs.declared.look_ups.Does.{Does}
 use Rattle.base_rows.specs.declared.look_ups.Does.TheVariants as does
 
@@ -17,28 +17,28 @@ abbrev pub Update : Type 0 → Type 0
 Update A = ℕ × Option A
 
 -- the update by a row, where it does something
-abbrev pub told : {A : Type 0} → ℕ → Effect A → Option (Update A)
-told n Keeps = None
-told n Ends = Some (n, None)
-told n (Sets a) = Some (n, Some a)
+abbrev pub update_by_row : {A : Type 0} → ℕ → Effect A → Option (Update A)
+update_by_row n Keeps = None
+update_by_row n Ends = Some (n, None)
+update_by_row n (Sets a) = Some (n, Some a)
 
 -- the newest row of a base that does something
 abbrev pub newest : {A : Type 0} → Deeds A → Base → Option (Update A)
 newest effect [] = None
-newest effect (row ∷ older) = option_or (told (size older) (effect older row.deed)) (newest effect older)
+newest effect (row ∷ older) = option_or (update_by_row (size older) (effect older row.deed)) (newest effect older)
 
 -- the row of a number, where there is one and it does something
-abbrev pub told_by : {A : Type 0} → Deeds A → Base → ℕ → Option Deed → Option (Update A)
-told_by effect older n None = None
-told_by effect older n (Some deed) = told n (effect older deed)
+abbrev pub update_by_deed : {A : Type 0} → Deeds A → Base → ℕ → Option Deed → Option (Update A)
+update_by_deed effect older n None = None
+update_by_deed effect older n (Some deed) = update_by_row n (effect older deed)
 
-abbrev pub told_at : {A : Type 0} → Deeds A → Base → ℕ → Option (Update A)
-told_at effect b n = told_by effect (first_rows n b) n (deed_at b n)
+abbrev pub update_at : {A : Type 0} → Deeds A → Base → ℕ → Option (Update A)
+update_at effect b n = update_by_deed effect (first_rows n b) n (deed_at b n)
 
 -- the first of these numbers whose row does something
-abbrev pub first_told : {A : Type 0} → (ℕ → Option (Update A)) → List ℕ → Option (Update A)
-first_told at [] = None
-first_told at (n ∷ ns) = option_or (at n) (first_told at ns)
+abbrev pub first_update : {A : Type 0} → (ℕ → Option (Update A)) → List ℕ → Option (Update A)
+first_update at [] = None
+first_update at (n ∷ ns) = option_or (at n) (first_update at ns)
 
 -- what a row leaves, where there is one
 abbrev pub left_by : {A : Type 0} → Option (Update A) → Option A
@@ -50,8 +50,8 @@ abbrev pub last_of : {A : Type 0} → Deeds A → Base → Option A
 last_of effect b = last (λ older row. effect older row.deed) b
 
 -- No row does anything to a thing that does not bear on its subject.
-abbrev pub BearsOnAll : {A : Type 0} → Subject → Deeds A → Type 0
-BearsOnAll subject effect = (older : Base) (deed : Deed) → bears subject older deed ≡ false → effect older deed ≡ Keeps
+abbrev pub ActsBySubject : {A : Type 0} → Subject → Deeds A → Type 0
+ActsBySubject subject effect = (older : Base) (deed : Deed) → affects subject older deed ≡ false → effect older deed ≡ Keeps
 
 -- the effect that code tells
 abbrev pub effect_of : {A : Type 0} → Does A → Effect A
@@ -62,11 +62,11 @@ effect_of (does.Sets item) = Sets item
 -- what the oldest row sets a thing to that sets it
 abbrev pub oldest : {A : Type 0} → Deeds A → Base → Option A
 oldest effect [] = None
-oldest effect (row ∷ older) = option_or (oldest effect older) (left_by (told (size older) (effect older row.deed)))
+oldest effect (row ∷ older) = option_or (oldest effect older) (left_by (update_by_row (size older) (effect older row.deed)))
 
 -- what the row of a number sets a thing to, where it does
 abbrev pub set_at : {A : Type 0} → Deeds A → Base → ℕ → Option A
-set_at effect b n = left_by (told_at effect b n)
+set_at effect b n = left_by (update_at effect b n)
 
 -- what the last of these numbers is set to that is set to something
 abbrev pub last_set : {A : Type 0} → (ℕ → Option A) → List ℕ → Option A

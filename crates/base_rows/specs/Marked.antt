@@ -69,11 +69,11 @@ with_marks row key [] rows = rows
 with_marks row key (k ∷ keys) rows = with_marks row key keys (put_if (k == key) row rows)
 
 -- the rows of a base that bear on something of this key
-abbrev pub marked : RandomState → ℕ → Base → List ℕ
-marked hashing key [] = []
-marked hashing key (row ∷ older) = with_marks (size older) key (keys_of hashing older row.deed) (marked hashing key older)
+abbrev pub marked_rows : RandomState → ℕ → Base → List ℕ
+marked_rows hashing key [] = []
+marked_rows hashing key (row ∷ older) = with_marks (size older) key (keys_of hashing older row.deed) (marked_rows hashing key older)
 
 -- the links are the marks of a base's rows
 pub record IsMarked (hashing : RandomState) (links : List Link) (heads : ℕ → Option ℕ) (b : Base) : Type 0 where
   pub chained : IsChained links heads
-  pub rows : (key : ℕ) → rows_by links heads key ≡ marked hashing key b
+  pub rows : (key : ℕ) → rows_by links heads key ≡ marked_rows hashing key b

@@ -3,7 +3,7 @@ use Rattle.std.specs.Prelude.{ℕ, Bool, true, false, ◌&&◌, Option, Some, No
 use Rattle.cc_names.specs.declared.rows.Deed.{Deed}
 use Rattle.cc_names.specs.declared.rows.Deed.TheVariants as deeds
 use Rattle.cc_names.specs.declared.rows.ReadOf.{ReadOf}
-use Rattle.base_model.specs.Changes.{live}
+use Rattle.base_model.specs.Changes.{live_row}
 use Rattle.base_model.specs.Rows.{Base, size}
 use Rattle.base_model.specs.Objects.{are_same_paths}
 
@@ -20,7 +20,7 @@ publishes targets passes deed = false
 abbrev pub newest_passing : Base → List (List ℕ) → Test → Base → Option ℕ
 newest_passing b targets passes [] = None
 newest_passing b targets passes (row ∷ older) =
-    elim (is_some (live b (size older)) && publishes targets passes row.deed) [
+    elim (is_some (live_row b (size older)) && publishes targets passes row.deed) [
       | true ↦ Some (size older)
       | false ↦ newest_passing b targets passes older
     ]

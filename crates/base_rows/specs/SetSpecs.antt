@@ -15,16 +15,16 @@ if_read (Ok rules) = Some rules
 if_read (Err error) = None
 
 -- the rules that a text spells, where it can be read
-abbrev pub parsed : List ℕ → Option (List Rule)
-parsed text = if_read (rules_of text)
+abbrev pub parsed_rules : List ℕ → Option (List Rule)
+parsed_rules text = if_read (rules_of text)
 
 -- the same for a text of fewer than 2 ^ 32 bytes, as those of rows are
 abbrev pub parsed_if_short : List ℕ → Option (List Rule)
-parsed_if_short text = only_where (nat_lt (length text) (2 ^ 32)) (parsed text)
+parsed_if_short text = only_where (nat_lt (length text) (2 ^ 32)) (parsed_rules text)
 
 -- the rules that a row of this deed gives to its view
 abbrev pub rules_set : Deed → Option (List Rule)
-rules_set deed = option_and_then parsed (spec_made deed)
+rules_set deed = option_and_then parsed_rules (spec_made deed)
 
 -- the same, where the text is short
 abbrev pub rules_set_if_short : Deed → Option (List Rule)

@@ -27,7 +27,7 @@ use Rattle.base_rows.specs.declared.subjects.Subject.TheVariants as codes
 pub data Subject : Type 0 where
   Life : List ℕ → Subject
   Spec : List ℕ → Subject
-  Desk : List ℕ → Subject
+  AllCheckedOut : List ℕ → Subject
   File : List ℕ → List ℕ → Subject
   Object : List ℕ → List ℕ → Subject
   Out : List ℕ → ℕ → Subject
@@ -54,18 +54,18 @@ reserved_subjects None = []
 reserved_subjects (Some branch) = Reserved branch ∷ []
 
 -- what a deed that makes row n takes out, changes or gives back, where its checkout reserves this branch
-abbrev pub desk_subjects : ℕ → Option ℕ → Deed → List Subject
-desk_subjects n branch (deeds.Mkelem v directory name kind out) =
-    Out v n ∷ Desk v ∷ NameIn directory name ∷ History n ∷ Given directory ∷ reserved_subjects branch
-desk_subjects n branch (deeds.Checkout v e origin reserved) = Out v e ∷ Desk v ∷ reserved_subjects branch
-desk_subjects n branch (deeds.Branch v e origin name out) =
-    Out v e ∷ Desk v ∷ History e ∷ Leaving origin ∷ BranchNamed e name ∷ reserved_subjects branch
-desk_subjects n branch (deeds.Save v e text) = Saved v e ∷ []
-desk_subjects n branch (deeds.Checkin v e) = Out v e ∷ History e ∷ []
-desk_subjects n branch (deeds.Uncheckout v e) = Out v e ∷ []
-desk_subjects n branch (deeds.Rmname v directory name) = NameIn directory name ∷ []
-desk_subjects n branch (deeds.Mv v directory from_name to_name) = NameIn directory from_name ∷ NameIn directory to_name ∷ Given directory ∷ []
-desk_subjects n branch deed = []
+abbrev pub checkout_subjects : ℕ → Option ℕ → Deed → List Subject
+checkout_subjects n branch (deeds.Mkelem v directory name kind out) =
+    Out v n ∷ AllCheckedOut v ∷ NameIn directory name ∷ History n ∷ Given directory ∷ reserved_subjects branch
+checkout_subjects n branch (deeds.Checkout v e origin reserved) = Out v e ∷ AllCheckedOut v ∷ reserved_subjects branch
+checkout_subjects n branch (deeds.Branch v e origin name out) =
+    Out v e ∷ AllCheckedOut v ∷ History e ∷ Leaving origin ∷ BranchNamed e name ∷ reserved_subjects branch
+checkout_subjects n branch (deeds.Save v e text) = Saved v e ∷ []
+checkout_subjects n branch (deeds.Checkin v e) = Out v e ∷ History e ∷ []
+checkout_subjects n branch (deeds.Uncheckout v e) = Out v e ∷ []
+checkout_subjects n branch (deeds.Rmname v directory name) = NameIn directory name ∷ []
+checkout_subjects n branch (deeds.Mv v directory from_name to_name) = NameIn directory from_name ∷ NameIn directory to_name ∷ Given directory ∷ []
+checkout_subjects n branch deed = []
 
 -- what becomes of objects by a deed that makes row n, where the object that it names has these targets and its checkout reserves
 -- this branch
@@ -74,7 +74,7 @@ object_subjects n targets branch (deeds.Publish v own script entries outputs) = 
 object_subjects n targets branch (deeds.Wink v id) = Winked id ∷ Owned v ∷ map (Object v) targets
 object_subjects n targets branch (deeds.Drop v path) = Object v path ∷ []
 object_subjects n targets branch (deeds.Scrub objects) = map Living objects
-object_subjects n targets branch deed = desk_subjects n branch deed
+object_subjects n targets branch deed = checkout_subjects n branch deed
 
 -- the element of a version on which a label is put
 abbrev pub history_at : Placed → Subject
@@ -127,14 +127,14 @@ abbrev pub plain_subjects : Base → Deed → List Subject
 plain_subjects older deed = subjects (size older) (named_targets older deed) (reserved_branch older deed) deed
 
 -- the subjects on which the next row bears
-abbrev pub borne : Base → Deed → List Subject
-borne older deed = catalog_subjects older deed ++ plain_subjects older deed
+abbrev pub affected_subjects : Base → Deed → List Subject
+affected_subjects older deed = catalog_subjects older deed ++ plain_subjects older deed
 
 -- whether two subjects are one
 abbrev pub is_same : Subject → Subject → Bool
 is_same (Life v) (Life w) = bytes_eq w v
 is_same (Spec v) (Spec w) = bytes_eq w v
-is_same (Desk v) (Desk w) = bytes_eq w v
+is_same (AllCheckedOut v) (AllCheckedOut w) = bytes_eq w v
 is_same (File v path) (File w q) = bytes_eq w v && bytes_eq q path
 is_same (Object v path) (Object w q) = bytes_eq w v && bytes_eq q path
 is_same (Out v e) (Out w f) = bytes_eq w v && (f == e)
@@ -160,7 +160,7 @@ is_same one two = false
 abbrev pub key : RandomState → Subject → ℕ
 key hashing (Life v) = key_of hashing 0 v
 key hashing (Spec v) = key_of hashing 1 v
-key hashing (Desk v) = key_of hashing 2 v
+key hashing (AllCheckedOut v) = key_of hashing 2 v
 key hashing (File v path) = key_at hashing 3 v path
 key hashing (Object v path) = key_at hashing 4 v path
 key hashing (Out v e) = key_with hashing 5 e v
@@ -182,20 +182,20 @@ key hashing (Changing began) = key_by hashing 20 (began ∷ [])
 key hashing (Altered branch name) = key_with hashing 21 branch name
 
 -- whether the next row bears on a subject
-abbrev pub bears : Subject → Base → Deed → Bool
-bears (Changing began) older deed = list_any (is_same (Changing began)) (catalog_subjects older deed)
-bears (Altered branch name) older deed = list_any (is_same (Altered branch name)) (catalog_subjects older deed)
-bears subject older deed = list_any (is_same subject) (plain_subjects older deed)
+abbrev pub affects : Subject → Base → Deed → Bool
+affects (Changing began) older deed = list_any (is_same (Changing began)) (catalog_subjects older deed)
+affects (Altered branch name) older deed = list_any (is_same (Altered branch name)) (catalog_subjects older deed)
+affects subject older deed = list_any (is_same subject) (plain_subjects older deed)
 
 -- the keys of the subjects on which the next row bears
 abbrev pub keys_of : RandomState → Base → Deed → List ℕ
-keys_of hashing older deed = map (key hashing) (borne older deed)
+keys_of hashing older deed = map (key hashing) (affected_subjects older deed)
 
 -- a subject without where its names lie in memory
 abbrev pub plain : code.Subject → Subject
 plain (codes.Life v) = Life v.now
 plain (codes.Spec v) = Spec v.now
-plain (codes.Desk v) = Desk v.now
+plain (codes.AllCheckedOut v) = AllCheckedOut v.now
 plain (codes.File v path) = File v.now path.now
 plain (codes.Object v path) = Object v.now path.now
 plain (codes.Out v e) = Out v.now e

@@ -17,18 +17,18 @@ ghost use Rattle.base_rows.specs.Preparing.{IsPrepared};
 ghost use Rattle.base_rows.specs.SeenFiles.{AreSeen, IsSeenAs};
 ghost use Rattle.base_rows.specs.SetSpecs.{rules_set};
 ghost use Rattle.base_rows.specs.Shown.{HasRoom};
-ghost use Rattle.base_rows.specs.Walks.{all_told};
+ghost use Rattle.base_rows.specs.Walks.{updating_rows};
 
 use crate::growth::{grow, reserve_growth};
 use crate::labels::{relabel, reserve_labels};
 use crate::listings::{Versions, keep_listing};
-use crate::look_ups::{LookUp, left_by, set_at, told_at};
+use crate::look_ups::{LookUp, left_by, set_at, update_at};
 use crate::marks::{Link, mark_keys, reserve_marks};
 use crate::prepared::Prepared;
 use crate::seen_files::{SeenFiles, Views, put_seen, take_seen};
 use crate::skips::first_below;
 use crate::view_specs::{Parsed, keep_spec, spec_of};
-use crate::walks::add_told;
+use crate::walks::add_updating_row;
 use cc_names::changes::VersionId;
 use cc_names::memory::NoMemory;
 use cc_names::names::Name;
@@ -207,13 +207,13 @@ pub struct FirstRows<'a> {
 impl<'a> Model for FirstRows<'a> {
     ghost use Rattle.base_model.specs.Rows.{Base, first_rows};
     ghost use Rattle.std.specs.Prelude.{suc};
-    ghost use Rattle.base_rows.specs.Front.{IsFront};
+    ghost use Rattle.base_rows.specs.BasePrefix.{IsBasePrefix};
 
     ghost Value = { Base };
 
     ghost view = { λ first. first_rows (suc first.count) first.base.now.base };
 
-    ghost invariant = { λ first. IsFront first.count first.base.now.base };
+    ghost invariant = { λ first. IsBasePrefix first.count first.base.now.base };
 }
 
 /// The row of this number. Takes constant time.
@@ -339,8 +339,8 @@ impl<'a> FirstRows<'a> {
         let mut next = first_below(links, start, self.size());
         while let Some(place) = next {
             let link = &links[place];
-            if let Some(told) = told_at(self, link.row, look) {
-                return Some(told);
+            if let Some(update_by_row) = update_at(self, link.row, look) {
+                return Some(update_by_row);
             }
             next = link.older;
             links = &links[..place];
@@ -374,9 +374,9 @@ impl<'a> FirstRows<'a> {
     }
     /// The numbers of all of them that do something to a thing, the newest first. Takes time linear in the names of its subject
     /// and in the rows with its key.
-    pub fn all_told<L: LookUp>(&self, alloc: Global, look: &L) -> Result<Vec<u64>, NoMemory>
+    pub fn updating_rows<L: LookUp>(&self, alloc: Global, look: &L) -> Result<Vec<u64>, NoMemory>
         ensures { IfOk result
-            (λ numbers. numbers.items ≡ all_told (L.effect look.now) self.now) }
+            (λ numbers. numbers.items ≡ updating_rows (L.effect look.now) self.now) }
     {
         let base = self.base;
         let mut numbers = Vec::new(alloc);
@@ -385,7 +385,7 @@ impl<'a> FirstRows<'a> {
         let mut next = base.newest.get(&look.subject().key(base.hashing)).copied();
         while let Some(place) = next {
             let link = &links[place];
-            add_told(self, &mut numbers, bound, link.row, look)?;
+            add_updating_row(self, &mut numbers, bound, link.row, look)?;
             bound = bound.min(link.row);
             next = link.older;
             links = &links[..place];

@@ -7,7 +7,7 @@ ghost use Rattle.base_rows.specs.Changed as model;
 ghost use Rattle.base_rows.specs.Effects.{plain_checkout};
 
 use crate::bases::FirstRows;
-use crate::desks::{Checkout, checked_out};
+use crate::checkouts::{Checkout, checked_out};
 use crate::edits::{BegunOf, ChangedOf};
 use crate::look_ups::{Does, LookUp, only_if};
 use crate::subjects::Subject;
@@ -18,15 +18,15 @@ use cc_names::rows::Deed;
 use std::alloc::Global;
 
 /// The newest row that began a checkout of a directory by the view. Takes the time of a look-up.
-pub(crate) fn begun(rows: &FirstRows<'_>, view: &Name, directory: u64) -> Option<u64>
-    ensures { result ≡ model.begun rows.now view.now directory }
+pub(crate) fn newest_checkout_row(rows: &FirstRows<'_>, view: &Name, directory: u64) -> Option<u64>
+    ensures { result ≡ model.newest_checkout_row rows.now view.now directory }
 {
     rows.last(&BegunOf { view, directory })
 }
 
 /// The newest row that changed the name in one. Takes the time of a look-up.
-fn changed(rows: &FirstRows<'_>, view: &Name, directory: u64, name: &[u8]) -> Option<u64>
-    ensures { result ≡ model.changed rows.now view.now directory name.now }
+fn newest_change_row(rows: &FirstRows<'_>, view: &Name, directory: u64, name: &[u8]) -> Option<u64>
+    ensures { result ≡ model.newest_change_row rows.now view.now directory name.now }
 {
     rows.last(&ChangedOf {
         view,
@@ -56,11 +56,11 @@ pub(crate) fn checked_in_on(rows: &FirstRows<'_>, deed: &Deed) -> Option<u64>
     }
 }
 
-fn is_since(began: Option<u64>, changed: Option<u64>) -> bool
-    ensures { result ≡ model.is_since began changed }
+fn is_since(began: Option<u64>, newest_change_row: Option<u64>) -> bool
+    ensures { result ≡ model.is_since began newest_change_row }
 {
-    match (began, changed) {
-        (Some(began), Some(changed)) => began < changed,
+    match (began, newest_change_row) {
+        (Some(began), Some(newest_change_row)) => began < newest_change_row,
         _ => false,
     }
 }
@@ -72,9 +72,9 @@ fn alters(rows: &FirstRows<'_>, branch: u64, name: &[u8], deed: &Deed) -> bool
     match deed {
         Deed::Checkin { view, element } => {
             let is_on = is_number(branch, checked_in_on(rows, deed));
-            let row = begun(rows, view, *element);
-            let changed = changed(rows, view, *element, name);
-            let since = is_since(row, changed);
+            let row = newest_checkout_row(rows, view, *element);
+            let newest_change_row = newest_change_row(rows, view, *element, name);
+            let since = is_since(row, newest_change_row);
             is_on && since
         }
         _ => false,
@@ -90,17 +90,17 @@ pub(crate) fn changing(rows: &FirstRows<'_>, deed: &Deed) -> Option<u64>
             view,
             directory,
             ..
-        } => begun(rows, view, *directory),
+        } => newest_checkout_row(rows, view, *directory),
         Deed::Rmname {
             view,
             directory,
             ..
-        } => begun(rows, view, *directory),
+        } => newest_checkout_row(rows, view, *directory),
         Deed::Mv {
             view,
             directory,
             ..
-        } => begun(rows, view, *directory),
+        } => newest_checkout_row(rows, view, *directory),
         _ => None,
     }
 }
@@ -114,7 +114,7 @@ struct ChangingIn {
 impl LookUp for ChangingIn {
     type Item = u64;
 
-    ghost use Rattle.base_rows.specs.ChangeBearings.{changing_bears, changing_effect};
+    ghost use Rattle.base_rows.specs.AffectedByChanges.{changing_affects, changing_effect};
     ghost use Rattle.base_rows.specs.Subjects as subjects;
 
     ghost effect = { λ it. changing_effect it.began };
@@ -132,7 +132,7 @@ impl LookUp for ChangingIn {
         Subject::Changing(self.began)
     }
 
-    ghost bears = { λ it. changing_bears it.began };
+    ghost affects = { λ it. changing_affects it.began };
 }
 
 /// A version of the branch from a checkout in which the name was changed.
@@ -145,7 +145,7 @@ pub struct AlteredOn<'a> {
 impl LookUp for AlteredOn<'_> {
     type Item = u64;
 
-    ghost use Rattle.base_rows.specs.ChangeBearings.{altered_bears, altered_effect};
+    ghost use Rattle.base_rows.specs.AffectedByChanges.{altered_affects, altered_effect};
     ghost use Rattle.base_rows.specs.Subjects as subjects;
 
     ghost effect = { λ it. altered_effect it.branch it.name.now };
@@ -163,7 +163,7 @@ impl LookUp for AlteredOn<'_> {
         Subject::Altered(self.branch, self.name)
     }
 
-    ghost bears = { λ it. altered_bears it.branch it.name.now };
+    ghost affects = { λ it. altered_affects it.branch it.name.now };
 }
 
 /// The rows that change names in the checkout that a deed checks in, the newest first. Takes time linear in them, times the time
@@ -176,9 +176,9 @@ pub(crate) fn checked_in_rows(
     ensures { IfOk result (λ numbers. numbers.items ≡ model.checked_in_rows rows.now deed.now) }
 {
     match deed {
-        Deed::Checkin { view, element } => match begun(rows, view, *element) {
+        Deed::Checkin { view, element } => match newest_checkout_row(rows, view, *element) {
             None => Ok(Vec::new(alloc)),
-            Some(began) => rows.all_told(alloc, &ChangingIn { began }),
+            Some(began) => rows.updating_rows(alloc, &ChangingIn { began }),
         },
         _ => Ok(Vec::new(alloc)),
     }

@@ -7,7 +7,7 @@ ghost use Rattle.base_rows.specs.Changed.{begins, changes};
 ghost use Rattle.base_rows.specs.Entries.{plain_edit};
 
 use crate::bases::FirstRows;
-use crate::desks::same_desk;
+use crate::checkouts::same_checkout;
 use crate::look_ups::{Does, LookUp, only_if};
 use crate::subjects::Subject;
 use cc_names::names::Name;
@@ -78,8 +78,8 @@ pub fn edit_of<'a>(view: &Name, directory: u64, number: u64, deed: &'a Deed) -> 
             ..
         } => edit_of_element(
             number,
-            same_desk(view, directory, by, number),
-            same_desk(view, directory, by, *within),
+            same_checkout(view, directory, by, number),
+            same_checkout(view, directory, by, *within),
             *out,
             name,
         ),
@@ -89,7 +89,7 @@ pub fn edit_of<'a>(view: &Name, directory: u64, number: u64, deed: &'a Deed) -> 
             origin,
             ..
         } => edit_where(
-            same_desk(view, directory, by, *element),
+            same_checkout(view, directory, by, *element),
             Edit::BeginsAs(*origin),
         ),
         Deed::Branch {
@@ -99,21 +99,24 @@ pub fn edit_of<'a>(view: &Name, directory: u64, number: u64, deed: &'a Deed) -> 
             out,
             ..
         } => edit_where(
-            same_desk(view, directory, by, *element) && is_out(*out),
+            same_checkout(view, directory, by, *element) && is_out(*out),
             Edit::BeginsAs(*origin),
         ),
         Deed::Rmname {
             view: by,
             directory: within,
             name,
-        } => edit_where(same_desk(view, directory, by, *within), Edit::Removes(name)),
+        } => edit_where(
+            same_checkout(view, directory, by, *within),
+            Edit::Removes(name),
+        ),
         Deed::Mv {
             view: by,
             directory: within,
             from_name,
             to_name,
         } => edit_where(
-            same_desk(view, directory, by, *within),
+            same_checkout(view, directory, by, *within),
             Edit::Renames(from_name, to_name),
         ),
         _ => Edit::Same,
@@ -158,7 +161,7 @@ pub struct BegunOf<'a> {
 impl LookUp for BegunOf<'_> {
     type Item = u64;
 
-    ghost use Rattle.base_rows.specs.NameBearings.{begun_bears};
+    ghost use Rattle.base_rows.specs.AffectedByNames.{begun_affects};
     ghost use Rattle.base_rows.specs.Entries.{begun_effect};
     ghost use Rattle.base_rows.specs.Subjects as subjects;
 
@@ -178,7 +181,7 @@ impl LookUp for BegunOf<'_> {
         Subject::Out(self.view, self.directory)
     }
 
-    ghost bears = { λ it. begun_bears it.view.now it.directory };
+    ghost affects = { λ it. begun_affects it.view.now it.directory };
 }
 
 /// The row that changed a name in a view's checkout of a directory, whatever becomes of either.
@@ -192,7 +195,7 @@ pub struct ChangedOf<'a> {
 impl LookUp for ChangedOf<'_> {
     type Item = u64;
 
-    ghost use Rattle.base_rows.specs.NameBearings.{changed_bears};
+    ghost use Rattle.base_rows.specs.AffectedByNames.{changed_affects};
     ghost use Rattle.base_rows.specs.Entries.{changed_effect};
     ghost use Rattle.base_rows.specs.Subjects as subjects;
 
@@ -212,5 +215,5 @@ impl LookUp for ChangedOf<'_> {
         Subject::NameIn(self.directory, self.name)
     }
 
-    ghost bears = { λ it. changed_bears it.view.now it.directory it.name.now };
+    ghost affects = { λ it. changed_affects it.view.now it.directory it.name.now };
 }

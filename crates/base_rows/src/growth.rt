@@ -11,7 +11,7 @@ ghost use Rattle.base_rows.specs.Effects.{plain_checkout};
 ghost use Rattle.base_rows.specs.Growing.{HasPlace, IsRooted, change_of, tree_change, version_made, with_change};
 
 use crate::bases::FirstRows;
-use crate::desks::{Checkout, checked_out};
+use crate::checkouts::{Checkout, checked_out};
 use crate::trees::branch_of_version;
 use cc_names::memory::NoMemory;
 use cc_names::names::Name;

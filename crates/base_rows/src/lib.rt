@@ -14,7 +14,7 @@
 pub mod bases;
 mod catalog_keys;
 pub mod changed;
-pub mod desks;
+pub mod checkouts;
 pub mod edits;
 mod growth;
 pub mod labels;

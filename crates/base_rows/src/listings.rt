@@ -9,7 +9,7 @@ ghost use Rattle.std.specs.List.Sorted.{IsStrictlySortedBy};
 ghost use Rattle.std.specs.Ordering.{nat_cmp};
 ghost use Rattle.cc_names.specs.Formed.{IsListOf, IsPlaced, element_of};
 ghost use Rattle.base_model.specs.Changes.{targets_of};
-ghost use Rattle.base_model.specs.Closures.{closure, greater_of, is_among, is_publish, listed, listing_of, inputs_of, inputs_of_entry, as_placed, placed_by};
+ghost use Rattle.base_model.specs.Closures.{closure, greater_of, is_among, is_publish, recorded_version, listing_of, inputs_of, inputs_of_entry, as_placed, placed_by};
 ghost use Rattle.base_model.specs.Rows.{only_where};
 ghost use Rattle.base_rows.specs.Listings.{HasListing, greater, listing_made, versions_of, with_listing};
 
@@ -166,8 +166,13 @@ fn has_target(rows: &FirstRows<'_>, object: u64, target: &Path) -> bool
 
 /// The version of the element that the record of an object with this target lists, where these rows have the object. Takes time
 /// linear in the object's targets, and logarithmic in what its record lists.
-pub fn listed(rows: &FirstRows<'_>, object: u64, target: &Path, element: u64) -> Option<u64>
-    ensures { result ≡ listed rows.now object target.now element }
+pub fn recorded_version(
+    rows: &FirstRows<'_>,
+    object: u64,
+    target: &Path,
+    element: u64,
+) -> Option<u64>
+    ensures { result ≡ recorded_version rows.now object target.now element }
 {
     if !has_target(rows, object, target) {
         return None;

@@ -4,7 +4,7 @@ ghost use Rattle.std.specs.Prelude.{◌≡◌};
 ghost use Rattle.std.specs.Option.{option_or};
 ghost use Rattle.cc_names.specs.Last.{only_if};
 ghost use Rattle.base_rows.specs.Lifetimes.{is_behind, later, within};
-ghost use Rattle.base_rows.specs.LookUps.{effect_of, left_by, set_at, told_at};
+ghost use Rattle.base_rows.specs.LookUps.{effect_of, left_by, set_at, update_at};
 
 use crate::bases::{FirstRows, first_rows, row_at};
 use crate::subjects::Subject;
@@ -29,18 +29,21 @@ pub fn only_if<T: Copy>(test: bool, does: Does<T>) -> Does<T>
 }
 
 /// What a row leaves, where there is one.
-pub fn left_by<T: Copy>(told: Option<(u64, Option<T>)>) -> Option<T>
-    ensures { result ≡ left_by told }
+pub fn left_by<T: Copy>(update_by_row: Option<(u64, Option<T>)>) -> Option<T>
+    ensures { result ≡ left_by update_by_row }
 {
-    let (_, item) = told?;
+    let (_, item) = update_by_row?;
     item
 }
 
 /// What is left of a thing of a view, by the last end of its life and by the newest row that does something to the thing.
-pub(crate) fn within<T: Copy>(ended: Option<u64>, told: Option<(u64, Option<T>)>) -> Option<T>
-    ensures { result ≡ within ended told }
+pub(crate) fn within<T: Copy>(
+    ended: Option<u64>,
+    update_by_row: Option<(u64, Option<T>)>,
+) -> Option<T>
+    ensures { result ≡ within ended update_by_row }
 {
-    let (number, item) = told?;
+    let (number, item) = update_by_row?;
     if is_behind(ended, number) { item } else { None }
 }
 
@@ -73,7 +76,7 @@ pub trait LookUp {
     type Item: Copy;
 
     ghost use Rattle.std.specs.Prelude.{◌≡◌};
-    ghost use Rattle.base_rows.specs.LookUps.{Deeds, BearsOnAll, effect_of};
+    ghost use Rattle.base_rows.specs.LookUps.{Deeds, ActsBySubject, effect_of};
     ghost use Rattle.base_rows.specs.Subjects as model;
 
     ghost effect: { Self → Deeds Self.Item };
@@ -88,16 +91,16 @@ pub trait LookUp {
     fn subject(&self) -> Subject<'_>
         ensures { model.plain result ≡ about self.now };
 
-    ghost bears: { (it : Self) → BearsOnAll (about it) (effect it) };
+    ghost affects: { (it : Self) → ActsBySubject (about it) (effect it) };
 }
 
 /// The row of this number, where it does something to the thing, and what it leaves.
-pub(crate) fn told_at<L: LookUp>(
+pub(crate) fn update_at<L: LookUp>(
     rows: &FirstRows<'_>,
     number: u64,
     look: &L,
 ) -> Option<(u64, Option<L::Item>)>
-    ensures { result ≡ told_at (L.effect look.now) rows.now number }
+    ensures { result ≡ update_at (L.effect look.now) rows.now number }
 {
     let row = row_at(rows, number)?;
     match look.effect(&first_rows(rows, number), row.deed()) {
@@ -116,7 +119,7 @@ pub(crate) fn set_at<L: LookUp>(
 ) -> Option<L::Item>
     ensures { result ≡ option_or (set_at (L.effect look.now) rows.now number) other }
 {
-    match left_by(told_at(rows, number, look)) {
+    match left_by(update_at(rows, number, look)) {
         Some(item) => Some(item),
         None => other,
     }

@@ -4,7 +4,7 @@ ghost use Rattle.std.specs.Prelude.{◌≡◌, ◌==◌, option_map};
 ghost use Rattle.std.specs.List.{AllByRecursion, list_any};
 ghost use Rattle.cc_names.specs.Formed.{IsBelowRoot};
 ghost use Rattle.cc_names.specs.References.{held_at};
-ghost use Rattle.base_model.specs.Changes.{held, live, targets_of};
+ghost use Rattle.base_model.specs.Changes.{objects_held, live_row, targets_of};
 ghost use Rattle.base_model.specs.Objects.{held_at_all, held_at_each};
 ghost use Rattle.base_rows.specs.Effects.{gone_effect};
 ghost use Rattle.base_rows.specs.Lifetimes.{number_of};
@@ -50,7 +50,7 @@ struct GoneOf<'a> {
 impl LookUp for GoneOf<'_> {
     type Item = u64;
 
-    ghost use Rattle.base_rows.specs.Bearings.{gone_bears};
+    ghost use Rattle.base_rows.specs.AffectedSubjects.{gone_affects};
     ghost use Rattle.base_rows.specs.Effects.{gone_effect};
     ghost use Rattle.base_rows.specs.Subjects as model;
 
@@ -69,7 +69,7 @@ impl LookUp for GoneOf<'_> {
         Subject::Life(self.view)
     }
 
-    ghost bears = { λ it. gone_bears it.view.now };
+    ghost affects = { λ it. gone_affects it.view.now };
 }
 
 /// The object that a view holds at a path, unless the view is gone.
@@ -82,7 +82,7 @@ struct ObjectOf<'a> {
 impl LookUp for ObjectOf<'_> {
     type Item = u64;
 
-    ghost use Rattle.base_rows.specs.Bearings.{object_bears};
+    ghost use Rattle.base_rows.specs.AffectedSubjects.{object_affects};
     ghost use Rattle.base_rows.specs.Effects.{object_effect};
     ghost use Rattle.base_rows.specs.Subjects as model;
 
@@ -111,7 +111,7 @@ impl LookUp for ObjectOf<'_> {
         Subject::Object(self.view, self.path)
     }
 
-    ghost bears = { λ it. object_bears it.view.now it.path.now };
+    ghost affects = { λ it. object_affects it.view.now it.path.now };
 }
 
 /// An object, from its publish until a scrub takes it.
@@ -123,7 +123,7 @@ struct LivingOf {
 impl LookUp for LivingOf {
     type Item = u64;
 
-    ghost use Rattle.base_rows.specs.Bearings.{living_bears};
+    ghost use Rattle.base_rows.specs.AffectedSubjects.{living_affects};
     ghost use Rattle.base_rows.specs.Effects.{living_effect};
     ghost use Rattle.base_rows.specs.Subjects as model;
 
@@ -148,7 +148,7 @@ impl LookUp for LivingOf {
         Subject::Living(self.object)
     }
 
-    ghost bears = { λ it. living_bears it.object };
+    ghost affects = { λ it. living_affects it.object };
 }
 
 fn is_among(object: u64, objects: &[u64]) -> bool
@@ -167,23 +167,23 @@ fn last_gone(rows: &FirstRows<'_>, view: &Name) -> Option<u64>
 
 /// The object that the view holds at the path. Takes the time of `newest`, twice, and time linear in the targets of the objects
 /// that are looked at.
-pub fn held(rows: &FirstRows<'_>, view: &Name, path: &Path) -> Option<u64>
-    ensures { result ≡ held_at (held rows.now) view.now path.now }
+pub fn objects_held(rows: &FirstRows<'_>, view: &Name, path: &Path) -> Option<u64>
+    ensures { result ≡ held_at (objects_held rows.now) view.now path.now }
 {
     within(last_gone(rows, view), rows.newest(&ObjectOf { view, path }))
 }
 
-/// Whether the view holds the object at each of these paths. Takes the time of `held` for each path, as far as the first where
+/// Whether the view holds the object at each of these paths. Takes the time of `objects_held` for each path, as far as the first where
 /// it doesn't.
 fn is_held_at_each(rows: &FirstRows<'_>, view: &Name, paths: &[Path], object: u64) -> bool
     ensures { result ≡ held_at_each rows.now view.now paths.now object }
 {
     paths
         .iter()
-        .all(|path| held(rows, view, path) == Some(object))
+        .all(|path| objects_held(rows, view, path) == Some(object))
 }
 
-/// The object that the view holds at each of these paths, where it is one and there are paths. Takes the time of `held` for
+/// The object that the view holds at each of these paths, where it is one and there are paths. Takes the time of `objects_held` for
 /// each path, as far as the first where the view holds another object or none.
 pub fn held_at_all(rows: &FirstRows<'_>, view: &Name, paths: &[Path]) -> Option<u64>
     ensures { result ≡ held_at_all rows.now view.now paths.now }
@@ -191,7 +191,7 @@ pub fn held_at_all(rows: &FirstRows<'_>, view: &Name, paths: &[Path]) -> Option<
     let [first, others @ ..] = paths else {
         return None;
     };
-    let object = held(rows, view, first)?;
+    let object = objects_held(rows, view, first)?;
     if is_held_at_each(rows, view, others, object) {
         Some(object)
     } else {
@@ -201,8 +201,8 @@ pub fn held_at_all(rows: &FirstRows<'_>, view: &Name, paths: &[Path]) -> Option<
 
 /// The object's row, where it is live: from its publish until a scrub takes it. Takes the time of `newest`, and time linear in
 /// the objects of the scrub.
-pub fn live(rows: &FirstRows<'_>, object: u64) -> Option<u64>
-    ensures { result ≡ live rows.now object }
+pub fn live_row(rows: &FirstRows<'_>, object: u64) -> Option<u64>
+    ensures { result ≡ live_row rows.now object }
 {
     rows.last(&LivingOf { object })
 }

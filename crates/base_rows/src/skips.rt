@@ -24,9 +24,9 @@ fn are_even(links: &[Link], first: usize, middle: usize, last: usize) -> bool
     requires middle { middle < length links.now }
     requires last { last < length links.now }
 {
-    let front = links[first].depth.saturating_sub(links[middle].depth);
+    let prefix = links[first].depth.saturating_sub(links[middle].depth);
     let back = links[middle].depth.saturating_sub(links[last].depth);
-    front == back
+    prefix == back
 }
 
 /// Where a link skips to that leads on to the one at this place: over two skips, where the second is as wide as the first. So

@@ -22,7 +22,7 @@ pub enum Subject<'a> {
     /// A view's config spec.
     Spec(&'a Name),
     /// All that a view takes out.
-    Desk(&'a Name),
+    AllCheckedOut(&'a Name),
     /// A view's private file at a path.
     File(&'a Name, &'a [u8]),
     /// The object that a view holds at a path.
@@ -124,13 +124,13 @@ fn taken_at<'a>(
 ) -> Option<Subject<'a>>
     ensures subject { option_map model.plain result
         ≡ slice_get
-        (model.Out view.now element ∷ model.Desk view.now ∷ model.reserved_subjects branch)
+        (model.Out view.now element ∷ model.AllCheckedOut view.now ∷ model.reserved_subjects branch)
         index }
     ensures within { IfSome result (λ _. index ≤ 2 ^ 33) }
 {
     match index {
         0 => Some(Subject::Out(view, element)),
-        1 => Some(Subject::Desk(view)),
+        1 => Some(Subject::AllCheckedOut(view)),
         _ => reserved_at(branch, index - 2),
     }
 }
@@ -146,14 +146,14 @@ fn element_at<'a>(
 ) -> Option<Subject<'a>>
     ensures subject { option_map model.plain result
         ≡ slice_get
-        (model.Out view.now number ∷ model.Desk view.now ∷ model.NameIn directory name.now
+        (model.Out view.now number ∷ model.AllCheckedOut view.now ∷ model.NameIn directory name.now
         ∷ model.History number ∷ model.Given directory ∷ model.reserved_subjects branch)
         index }
     ensures within { IfSome result (λ _. index ≤ 2 ^ 33) }
 {
     match index {
         0 => Some(Subject::Out(view, number)),
-        1 => Some(Subject::Desk(view)),
+        1 => Some(Subject::AllCheckedOut(view)),
         2 => Some(Subject::NameIn(directory, name.as_bytes())),
         3 => Some(Subject::History(number)),
         4 => Some(Subject::Given(directory)),
@@ -172,7 +172,7 @@ fn branch_at<'a>(
 ) -> Option<Subject<'a>>
     ensures subject { option_map model.plain result
         ≡ slice_get
-        (model.Out view.now element ∷ model.Desk view.now ∷ model.History element
+        (model.Out view.now element ∷ model.AllCheckedOut view.now ∷ model.History element
         ∷ model.Leaving origin ∷ model.BranchNamed element name.now
         ∷ model.reserved_subjects branch)
         index }
@@ -180,7 +180,7 @@ fn branch_at<'a>(
 {
     match index {
         0 => Some(Subject::Out(view, element)),
-        1 => Some(Subject::Desk(view)),
+        1 => Some(Subject::AllCheckedOut(view)),
         2 => Some(Subject::History(element)),
         3 => Some(Subject::Leaving(origin)),
         4 => Some(Subject::BranchNamed(element, name)),
@@ -292,14 +292,14 @@ pub fn reserved_branch(rows: &FirstRows<'_>, deed: &Deed) -> Option<u64>
 
 /// One of the things that a deed takes out, changes or gives back that makes the row of a number, where its checkout reserves
 /// this branch.
-fn desk_subject_at<'a>(
+fn checkout_subject_at<'a>(
     number: u64,
     branch: Option<u64>,
     deed: &'a Deed,
     index: usize,
 ) -> Option<Subject<'a>>
     ensures subject { option_map model.plain result
-        ≡ slice_get (model.desk_subjects number branch deed.now) index }
+        ≡ slice_get (model.checkout_subjects number branch deed.now) index }
     ensures within { IfSome result (λ _. index ≤ 2 ^ 33) }
 {
     match deed {
@@ -366,7 +366,7 @@ fn object_subject_at<'a>(
         Deed::Wink { view, object } => winked_at(*object, view, targets, index),
         Deed::Drop { view, path } => one(Subject::Object(view, path), index),
         Deed::Scrub { objects } => living_at(objects.as_slice(), index),
-        _ => desk_subject_at(number, branch, deed, index),
+        _ => checkout_subject_at(number, branch, deed, index),
     }
 }
 
@@ -421,7 +421,7 @@ impl Subject<'_> {
         match self {
             Subject::Life(view) => key_of(hashing, 0, view),
             Subject::Spec(view) => key_of(hashing, 1, view),
-            Subject::Desk(view) => key_of(hashing, 2, view),
+            Subject::AllCheckedOut(view) => key_of(hashing, 2, view),
             Subject::File(view, path) => key_within(hashing, 3, view, path),
             Subject::Object(view, path) => key_at(hashing, 4, view, path),
             Subject::Out(view, element) => key_with(hashing, 5, element, view.as_bytes()),

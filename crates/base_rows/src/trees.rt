@@ -3,7 +3,7 @@
 ghost use Rattle.std.specs.Prelude.{◌≡◌};
 ghost use Rattle.std.specs.Option.{option_copied};
 ghost use Rattle.cc_names.specs.Branches.{branch_of_version, name_of_branch, origin_of};
-ghost use Rattle.cc_names.specs.Versions.{is_number, latest, numbered, version_id};
+ghost use Rattle.cc_names.specs.Versions.{is_number, latest, version_of_number, version_id};
 ghost use Rattle.base_model.specs.Changes.{tree};
 ghost use Rattle.base_model.specs.Checkouts.{is_latest, latest_beside};
 ghost use Rattle.base_model.specs.Closures.{is_version_of};
@@ -56,9 +56,9 @@ pub fn latest_version(rows: &FirstRows<'_>, branch: u64, before: Option<u64>) ->
 
 /// The version with a number on a branch, counted from 0. Takes time logarithmic in the branches.
 pub fn version_numbered(rows: &FirstRows<'_>, branch: u64, number: u64) -> Option<u64>
-    ensures { result ≡ numbered (tree rows.now) branch number }
+    ensures { result ≡ version_of_number (tree rows.now) branch number }
 {
-    rows.tree().numbered(branch, number, rows.size())
+    rows.tree().version_of_number(branch, number, rows.size())
 }
 
 /// The id of the version that a row made: its element, its branch and its number there. Takes time logarithmic in the changes.

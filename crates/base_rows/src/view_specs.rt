@@ -32,7 +32,7 @@ struct SetOf<'a> {
 impl LookUp for SetOf<'_> {
     type Item = u64;
 
-    ghost use Rattle.base_rows.specs.Bearings.{set_bears};
+    ghost use Rattle.base_rows.specs.AffectedSubjects.{set_affects};
     ghost use Rattle.base_rows.specs.Effects.{set_effect};
     ghost use Rattle.base_rows.specs.Subjects as model;
 
@@ -53,7 +53,7 @@ impl LookUp for SetOf<'_> {
         Subject::Spec(self.view)
     }
 
-    ghost bears = { λ it. set_bears it.view.now };
+    ghost affects = { λ it. set_affects it.view.now };
 }
 
 /// The row by which the view has its config spec: the last one that set it in the view's life, else the mkview row.

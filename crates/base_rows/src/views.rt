@@ -40,7 +40,7 @@ pub(crate) struct LifeOf<'a> {
 impl LookUp for LifeOf<'_> {
     type Item = u64;
 
-    ghost use Rattle.base_rows.specs.Bearings.{life_bears};
+    ghost use Rattle.base_rows.specs.AffectedSubjects.{life_affects};
     ghost use Rattle.base_rows.specs.Effects.{life_effect};
     ghost use Rattle.base_rows.specs.Subjects as model;
 
@@ -60,7 +60,7 @@ impl LookUp for LifeOf<'_> {
         Subject::Life(self.view)
     }
 
-    ghost bears = { λ it. life_bears it.view.now };
+    ghost affects = { λ it. life_affects it.view.now };
 }
 
 /// Where what a view has of its own ends.
@@ -72,7 +72,7 @@ struct EndOf<'a> {
 impl LookUp for EndOf<'_> {
     type Item = u64;
 
-    ghost use Rattle.base_rows.specs.Bearings.{end_bears};
+    ghost use Rattle.base_rows.specs.AffectedSubjects.{end_affects};
     ghost use Rattle.base_rows.specs.Effects.{end_effect};
     ghost use Rattle.base_rows.specs.Subjects as model;
 
@@ -92,7 +92,7 @@ impl LookUp for EndOf<'_> {
         Subject::Life(self.view)
     }
 
-    ghost bears = { λ it. end_bears it.view.now };
+    ghost affects = { λ it. end_affects it.view.now };
 }
 
 /// A view's private file at a path.
@@ -105,7 +105,7 @@ struct FileOf<'a> {
 impl LookUp for FileOf<'_> {
     type Item = u64;
 
-    ghost use Rattle.base_rows.specs.Bearings.{file_bears};
+    ghost use Rattle.base_rows.specs.AffectedSubjects.{file_affects};
     ghost use Rattle.base_rows.specs.Effects.{file_effect};
     ghost use Rattle.base_rows.specs.Subjects as model;
 
@@ -130,7 +130,7 @@ impl LookUp for FileOf<'_> {
         Subject::File(self.view, self.path)
     }
 
-    ghost bears = { λ it. file_bears it.view.now it.path.now };
+    ghost affects = { λ it. file_affects it.view.now it.path.now };
 }
 
 /// The mkview row with which the view's life began, where the view exists. Takes the time of `newest`.
@@ -153,13 +153,13 @@ fn last_end(rows: &FirstRows<'_>, view: &Name) -> Option<u64>
 pub(crate) fn in_life<T: Copy>(
     rows: &FirstRows<'_>,
     view: &Name,
-    told: Option<(u64, Option<T>)>,
+    update_by_row: Option<(u64, Option<T>)>,
 ) -> Option<T>
-    ensures { result ≡ within (option_map number_of (newest (end_effect view.now) rows.now)) told }
+    ensures { result ≡ within (option_map number_of (newest (end_effect view.now) rows.now)) update_by_row }
 {
-    match told {
+    match update_by_row {
         None => None,
-        Some(_) => within(last_end(rows, view), told),
+        Some(_) => within(last_end(rows, view), update_by_row),
     }
 }
 

@@ -7,7 +7,7 @@ use Rattle.std.specs.Ordering.{nat_cmp}
 use Rattle.std.specs.FinMap.Entries.{put, find}
 use Rattle.legal_history.specs.Builds.Active as model
 use Rattle.build_core.specs.Comes.{came_of, cames_of, comes_of}
-use Rattle.build_core.specs.Slots.{numbered, held_in}
+use Rattle.build_core.specs.Slots.{numbered_slots, held_in}
 use Rattle.build_core.specs.declared.active.Came.{Came}
 use Rattle.build_core.proofs.SlotLaws.{find_numbered, put_numbered}
 
@@ -42,11 +42,11 @@ found_past slots n h = found slots n ∙ ap (option_map came_of) (held_in_past s
 pub noted_in_slot : (slots : List (Option Came)) (n : ℕ) (came : Came) → n < length slots →
     comes_of (set slots n (Some came)) ≡ put nat_cmp n (came_of came) (comes_of slots)
 noted_in_slot slots n came h =
-    ap (numbered 0) (map-set (option_map came_of) slots n (Some came))
+    ap (numbered_slots 0) (map-set (option_map came_of) slots n (Some came))
     ∙ sym (put_numbered n 0 n (came_of came) (cames_of slots) (omega arith) (rw length-map h))
 
 -- one more slot that is empty adds nothing
-one_empty : {A : Type 0} (k : ℕ) (slots : List (Option A)) → numbered k (slots ++ None ∷ []) ≡ numbered k slots
+one_empty : {A : Type 0} (k : ℕ) (slots : List (Option A)) → numbered_slots k (slots ++ None ∷ []) ≡ numbered_slots k slots
 one_empty k [] = refl
 one_empty k (None ∷ slots) = one_empty (k + 1) slots
 one_empty k (Some a ∷ slots) = ap (λ rest. (k, a) ∷ rest) (one_empty (k + 1) slots)
@@ -56,7 +56,7 @@ cames_more [] = refl
 cames_more (slot ∷ slots) = ap (λ rest. option_map came_of slot ∷ rest) (cames_more slots)
 
 pub empty_more : (slots : List (Option Came)) → comes_of slots ≡ [] → comes_of (slots ++ None ∷ []) ≡ []
-empty_more slots e = ap (numbered 0) (cames_more slots) ∙ one_empty 0 (cames_of slots) ∙ e
+empty_more slots e = ap (numbered_slots 0) (cames_more slots) ∙ one_empty 0 (cames_of slots) ∙ e
 
 -- a build in which what the units have come to is changed, behind equal builds
 pub with_comes : (inside self : model.Build) (comes : List (ℕ × model.Came)) (n : ℕ) (came : model.Came) → comes ≡ put nat_cmp n came inside.comes → inside ≡ self →

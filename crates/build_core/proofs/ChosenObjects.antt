@@ -5,7 +5,7 @@ use Rattle.std.specs.Option.{option_or}
 use Rattle.std.proofs.lemmas.Bool.Decides.{Decides-eqb}
 use Rattle.cc_names.specs.Versions.{is_number}
 use Rattle.cc_names.specs.declared.units.Unit.{Unit}
-use Rattle.base_model.specs.Changes.{live}
+use Rattle.base_model.specs.Changes.{live_row}
 use Rattle.base_model.specs.Rows.{Base, size, only_where}
 use Rattle.legal_history.specs.Builds.Active.{Build}
 use Rattle.legal_history.specs.Builds.Reuse.{by_options, if_matches, matches, newest_match, reusable}
@@ -23,7 +23,7 @@ found P n id older false is_match here below is = below is
 newest_matches : (b : Base) (build : Build) (n : ℕ) (unit : Unit) (id : ℕ) (rows : Base) → newest_match b build n unit rows ≡ Some id → matches b build n unit id ≡ true
 newest_matches b build n unit id [] is = absurd (cc)
 newest_matches b build n unit id (row ∷ older) is =
-    found (matches b build n unit) (size older) id (newest_match b build n unit older) (is_some (live b (size older))) (matches b build n unit (size older)) refl
+    found (matches b build n unit) (size older) id (newest_match b build n unit older) (is_some (live_row b (size older))) (matches b build n unit (size older)) refl
     (newest_matches b build n unit id older) is
 
 none_where : (m : ℕ) (is : Bool) → only_where is (Some m) ≡ None → is ≡ false

@@ -7,7 +7,7 @@ use Rattle.std.proofs.lemmas.Option.{slice_get-get_or, slice_get_within, get_or_
 use Rattle.cc_names.specs.Versions.{is_number}
 use Rattle.cc_names.specs.declared.units.Unit.{Unit}
 use Rattle.cc_names.specs.declared.units.UnitScript.TheVariants.{Bare}
-use Rattle.make_graph.specs.Waits.{unit_of, makes_one, prerequisites_of, prerequisites_at, needed, closure_of, is_in, is_marked}
+use Rattle.make_graph.specs.Waits.{unit_of, makes_one, prerequisites_of, prerequisites_at, needed_units, closure_of, is_in, is_marked}
 use Rattle.make_graph.proofs.NeedLemmas.{same_number as same_count, itself}
 use Rattle.make_graph.proofs.StandingLaws.{when_made, when_not}
 use Rattle.base_model.specs.Rows.{only_where}
@@ -16,7 +16,7 @@ use Rattle.legal_history.specs.Builds.Active.{Build, came_to, object_of, number_
 use Rattle.legal_history.specs.Builds.Consistency.{InOrder}
 use Rattle.legal_history.specs.Builds.Serials.{makes}
 use Rattle.legal_history.proofs.Builds.OrderedUnits.{same_number}
-use Rattle.build_core.specs.Sights.{object_before, object_marked, AreNeeds}
+use Rattle.build_core.specs.VisibleObjects.{object_before, object_marked, AreNeeds}
 use Rattle.build_core.proofs.Members.{passed, taken}
 
 true_or_false : (b : Bool) → (b ≡ true) ⊎ (b ≡ false)
@@ -122,7 +122,7 @@ none_found build None = refl
 none_found build (Some m) = refl
 
 found_at : (build : Build) → InOrder build.units → (path : List ℕ) (n : ℕ) → n ≤ length build.units → (paths : List (List ℕ)) →
-    object_before build paths n path ≡ at_place build (needed build.units n paths) (unit_of build.units path)
+    object_before build paths n path ≡ at_place build (needed_units build.units n paths) (unit_of build.units path)
 found_at build order path zero within paths = none_found build (unit_of build.units path)
 found_at build order path (suc k) within paths =
     let unit = get_or build.units k nobody in
@@ -137,7 +137,7 @@ found_at build order path (suc k) within paths =
           ∙ (ap (λ t. option_or (only_where t (object_of (came_to build k))) (object_before build (paths ++ unit.prerequisites) k path)) (makes_same build.units order k unit path at)
           ∙ (ap (λ more. option_or (only_where (is_number k place) (object_of (came_to build k))) (object_before build (paths ++ more) k path)) (sym (ap prerequisites_of at))
           ∙ (ap (option_or (only_where (is_number k place) (object_of (came_to build k)))) (found_at build order path k (omega (arith, within)) (paths ++ prerequisites_at build.units k))
-          ∙ (one_more build k (needed build.units k (paths ++ prerequisites_at build.units k)) place
+          ∙ (one_more build k (needed_units build.units k (paths ++ prerequisites_at build.units k)) place
           ∙ sym (ap (λ l. at_place build l place) (when_made build.units k paths made)))))))
       | inr not ↦
           ap (λ n. object_before build paths n path) (sym (add-one k))

@@ -8,7 +8,7 @@ use Rattle.cc_names.specs.Formed.{Plain}
 use Rattle.cc_names.specs.declared.rows.Deed.{Deed}
 use Rattle.cc_names.specs.declared.rows.Deed.TheVariants as deeds
 use Rattle.cc_names.specs.declared.units.Unit.{Unit}
-use Rattle.base_model.specs.Changes.{live}
+use Rattle.base_model.specs.Changes.{live_row}
 use Rattle.base_model.specs.Rows.{Base, size, deed_at, deed_of, row_at}
 use Rattle.legal_history.specs.Builds.Active.{Build}
 use Rattle.legal_history.specs.Builds.Choices.{visible}
@@ -45,9 +45,9 @@ among b build n unit (row ∷ older) same =
     let here : deed_at b (size older) ≡ Some row.deed = ap deed_of (same (size older) (omega arith) ∙ newest_row row older) in
     let test : matches b build n unit (size older) ≡ publishes unit.targets (agrees_with b build n unit) row.deed =
     ap (record_matches unit.targets (script_text unit.script) (visible b build n unit)) here ∙ matched b build n unit row.deed in
-    by_test (size older) (is_some (live b (size older)) && matches b build n unit (size older)) (is_some (live b (size older)) && publishes unit.targets (agrees_with b build n unit) row.deed)
+    by_test (size older) (is_some (live_row b (size older)) && matches b build n unit (size older)) (is_some (live_row b (size older)) && publishes unit.targets (agrees_with b build n unit) row.deed)
     (newest_match b build n unit older) (newest_passing b unit.targets (agrees_with b build n unit) older)
-    (ap (λ is. is_some (live b (size older)) && is) test)
+    (ap (λ is. is_some (live_row b (size older)) && is) test)
     (among b build n unit older (λ m below. same m (omega arith) ∙ row_stays row older m below))
 
 pub newest_matched : (b : Base) (build : Build) (n : ℕ) (unit : Unit) → newest_match b build n unit b ≡ newest_object b unit.targets (agrees_with b build n unit)

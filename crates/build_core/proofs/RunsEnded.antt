@@ -5,7 +5,7 @@ use Rattle.cc_names.specs.Files.{Files}
 use Rattle.cc_names.specs.Paths.{root}
 use Rattle.cc_names.specs.declared.refusals.ScriptFault.{ScriptFault}
 use Rattle.script_grammar.specs.Lines.{script_of}
-use Rattle.script_grammar.specs.Run.{State, Done, after_lines, output_before, outputs_of, nothing_written, run_of, run, traced}
+use Rattle.script_grammar.specs.Run.{State, Done, after_lines, output_before, outputs_of, nothing_written, run_of, run, trace_of}
 use Rattle.script_grammar.specs.declared.lines.Line.{Line}
 use Rattle.build_core.proofs.RunsGo.{Ends, Leads, leads_done, leads_then, AreReads, reads_wider}
 use Rattle.build_core.proofs.RunsPaths.{line_paths, script_paths}
@@ -45,7 +45,7 @@ outputs_lead files targets n state = leads_done files (StateWell n state) (EndsW
     by (Err fault) reads are few = tt
 
 run_well : (files : Files) (targets : List (List ℕ)) (n : ℕ) (read : Result (List Line) ScriptFault) → files root ≡ None → ArePaths n (script_paths read) →
-    Ends (EndsWell targets n) (traced files [] (run_of targets read)).value (traced files [] (run_of targets read)).reads
+    Ends (EndsWell targets n) (trace_of files [] (run_of targets read)).value (trace_of files [] (run_of targets read)).reads
 run_well files targets n (Err fault) rootless are = tt
 run_well files targets n (Ok lines) rootless are =
     (leads_then files (StateWell 0 nothing_written) (StateWell (0 + length (flat_map line_paths lines))) (EndsWell targets n) (after_lines targets lines nothing_written) (λ after. Done (outputs_of targets after.own))

@@ -7,8 +7,8 @@ use Rattle.cc_names.specs.Files.{Files}
 use Rattle.cc_names.specs.Formed.{IsBelowRoot}
 use Rattle.cc_names.specs.Paths.{IsPath, root, is_root}
 use Rattle.cc_names.specs.declared.refusals.ScriptFault.{ScriptFault}
-use Rattle.script_grammar.specs.Run.{Asking, Done, Traced, traced, noted, and_then, unless_fault, see, present, text_at}
-use Rattle.script_grammar.proofs.CarriedLemmas.{traced-and_then}
+use Rattle.script_grammar.specs.Run.{Asking, Done, Traced, trace_of, with_read, and_then, unless_fault, see, present, text_at}
+use Rattle.script_grammar.proofs.CarriedLemmas.{trace_of-and_then}
 use Rattle.build_core.proofs.RunsEach.{each_of_both}
 
 -- what holds where there was no fault
@@ -17,7 +17,7 @@ Ends after (Ok a) reads = after a reads
 Ends after (Err fault) reads = Unit {0}
 
 pub record Leads {A : Type 0} (files : Files) (before : List (List ℕ) → Type 0) (after : A → List (List ℕ) → Type 0) (asking : Asking (Result A ScriptFault)) : Type 0 where
-  pub ends : (reads : List (List ℕ)) → before reads → Ends after (traced files reads asking).value (traced files reads asking).reads
+  pub ends : (reads : List (List ℕ)) → before reads → Ends after (trace_of files reads asking).value (trace_of files reads asking).reads
 
 pub ends_so : {A : Type 0} (P Q : A → List (List ℕ) → Type 0) → ((a : A) (reads : List (List ℕ)) → P a reads → Q a reads) → (r : Result A ScriptFault) (reads : List (List ℕ)) → Ends P r reads → Ends Q r reads
 ends_so P Q so (Ok a) reads h = so a reads h
@@ -32,11 +32,11 @@ pub leads_then : {A B : Type 0} (files : Files) (before : List (List ℕ) → Ty
     Leads files before middle first → ((a : A) → Leads files (middle a) after (next a)) → Leads files before after (and_then first (unless_fault next))
 leads_then {A} {B} files before middle after first next one two = record {
   ends = λ reads h.
-      subst (λ (t : Traced (Result B ScriptFault)). Ends after t.value t.reads) (sym (traced-and_then files reads first (unless_fault next)))
-      (by (traced files reads first).value (traced files reads first).reads (one.ends reads h));
+      subst (λ (t : Traced (Result B ScriptFault)). Ends after t.value t.reads) (sym (trace_of-and_then files reads first (unless_fault next)))
+      (by (trace_of files reads first).value (trace_of files reads first).reads (one.ends reads h));
 }
   where
-    by : (r : Result A ScriptFault) (reads : List (List ℕ)) → Ends middle r reads → Ends after (traced files reads (unless_fault next r)).value (traced files reads (unless_fault next r)).reads
+    by : (r : Result A ScriptFault) (reads : List (List ℕ)) → Ends middle r reads → Ends after (trace_of files reads (unless_fault next r)).value (trace_of files reads (unless_fault next r)).reads
     by (Ok a) reads h = (two a).ends reads h
     by (Err fault) reads h = tt
 
@@ -49,7 +49,7 @@ pub reads_wider : (m n : ℕ) (reads : List (List ℕ)) → m ≤ n → AreReads
 reads_wider m n reads low h = record { few = let few = h.few in omega arith; each = h.each }
 
 -- one path more
-pub noted_more : (n m : ℕ) (reads : List (List ℕ)) (path : List ℕ) → n + 1 ≤ m → IsBelowRoot path → AreReads n reads → AreReads m (noted reads path)
+pub noted_more : (n m : ℕ) (reads : List (List ℕ)) (path : List ℕ) → n + 1 ≤ m → IsBelowRoot path → AreReads n reads → AreReads m (with_read reads path)
 noted_more n m reads path low below h = by (list_any (bytes_eq path) reads)
   where
     by : (t : Bool) → AreReads m (if t then reads else reads ++ path ∷ [])
@@ -73,7 +73,7 @@ found_below files path text rootless found is_path = (is_path, by (is_root path)
 pub text_leads : (files own : Files) (path : List ℕ) (n : ℕ) → files root ≡ None → IsPath path → Leads files (AreReads n) (λ (text : List ℕ). AreReads (n + 1)) (text_at own path)
 text_leads files own path n rootless is_path = by (own path)
   where
-    by_found : (o : Option (List ℕ)) → files path ≡ o → (reads : List (List ℕ)) → AreReads n reads → Ends (λ (text : List ℕ). AreReads (n + 1)) (present path o) (noted reads path)
+    by_found : (o : Option (List ℕ)) → files path ≡ o → (reads : List (List ℕ)) → AreReads n reads → Ends (λ (text : List ℕ). AreReads (n + 1)) (present path o) (with_read reads path)
     by_found None is reads h = tt
     by_found (Some text) is reads h = noted_more n (n + 1) reads path (omega arith) (found_below files path text rootless is is_path) h
 

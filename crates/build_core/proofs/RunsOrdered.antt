@@ -32,10 +32,10 @@ pub one_more : (rows : List ℕ → Option ℕ) (reads : List (List ℕ)) (i : �
     before ≡ in_order rows (drop i reads) → after ≡ insert_entry (slice_cmp nat_cmp) before path (unwrap_or o 0) → after ≡ in_order rows (drop (i - 1) reads)
 one_more rows reads i path o before after within some at seen stood put_in =
     let next : suc (i - 1) ≡ i = omega arith in
-    let front : drop (i - 1) reads ≡ path ∷ drop i reads =
+    let prefix : drop (i - 1) reads ≡ path ∷ drop i reads =
     drop-cons reads (i - 1) path within ∙ ap (λ p. p ∷ drop (suc (i - 1)) reads) (sym at) ∙ ap (λ n. path ∷ drop n reads) next in
     put_in
     ∙ inserted path (unwrap_or o 0) before
     ∙ ap (λ row. put (slice_cmp nat_cmp) path row before) (row_is o ∙ ap entry_row seen)
     ∙ ap (λ pairs. put (slice_cmp nat_cmp) path (entry_row (rows path)) pairs) stood
-    ∙ sym (ap (in_order rows) front)
+    ∙ sym (ap (in_order rows) prefix)

@@ -11,9 +11,9 @@ use Rattle.cc_names.specs.declared.names.NameFault.{NameFault}
 use Rattle.cc_names.specs.declared.refusals.ScriptFault.{ScriptFault}
 use Rattle.cc_names.specs.declared.refusals.ScriptFault.TheVariants.{Absent, TooBig, IncludeDepth}
 use Rattle.script_grammar.specs.Forms.{lines_in}
-use Rattle.script_grammar.specs.Includes.{without_newline, include_start, quoted, include_of, under, probes_of}
+use Rattle.script_grammar.specs.Includes.{without_newline, include_start, quoted_path, include_of, under, probes_of}
 use Rattle.script_grammar.specs.Lines.{path_in}
-use Rattle.script_grammar.specs.Run.{Asking, Done, traced, noted, and_then, see, output_limit, probe_limit, Output, Made, said, Found, found_or, probed, Preprocessing, included, line_expanded, lines_expanded, expanded}
+use Rattle.script_grammar.specs.Run.{Asking, Done, trace_of, with_read, and_then, see, output_limit, probe_limit, Output, Made, with_output, Found, found_or, probe_of, Preprocessing, included_text, line_expanded, lines_expanded, preprocessed_text}
 use Rattle.build_core.proofs.RunsGo.{Ends, Leads, ends_so, leads_done, leads_then, AreReads, reads_wider, noted_more, the_root}
 
 -- a word that is read as a path is one
@@ -51,53 +51,53 @@ pub record FoundWell (n : ℕ) (found : Found) (reads : List (List ℕ)) : Type 
   pub within : found.probes ≤ 100000
   pub are : AreReads (n + found.probes) reads
 
-probed_leads : (files own : Files) (include : List ℕ) (paths : List (List ℕ)) (probes n : ℕ) → AllByRecursion IsBelowRoot paths → Leads files (AreReads (n + probes)) (FoundWell n) (probed own include paths probes)
+probed_leads : (files own : Files) (include : List ℕ) (paths : List (List ℕ)) (probes n : ℕ) → AllByRecursion IsBelowRoot paths → Leads files (AreReads (n + probes)) (FoundWell n) (probe_of own include paths probes)
 probed_leads files own include [] probes n below = leads_done files (AreReads (n + probes)) (FoundWell n) (Err (Absent include)) (λ reads h. tt)
 probed_leads files own include (path ∷ paths) probes n below = by (nat_lt probes probe_limit) refl (probed_leads files own include paths (probes + 1) n below.1)
   where
     Rest : Type 0
-    Rest = Leads files (AreReads (n + (probes + 1))) (FoundWell n) (probed own include paths (probes + 1))
+    Rest = Leads files (AreReads (n + (probes + 1))) (FoundWell n) (probe_of own include paths (probes + 1))
 
-    by_found : (o : Option (List ℕ)) → probes + 1 ≤ 100000 → Rest → (reads : List (List ℕ)) → AreReads (n + (probes + 1)) (noted reads path) →
-        Ends (FoundWell n) (traced files (noted reads path) (found_or (probed own include paths (probes + 1)) (probes + 1) o)).value
-        (traced files (noted reads path) (found_or (probed own include paths (probes + 1)) (probes + 1) o)).reads
-    by_found None low rest reads h = rest.ends (noted reads path) h
+    by_found : (o : Option (List ℕ)) → probes + 1 ≤ 100000 → Rest → (reads : List (List ℕ)) → AreReads (n + (probes + 1)) (with_read reads path) →
+        Ends (FoundWell n) (trace_of files (with_read reads path) (found_or (probe_of own include paths (probes + 1)) (probes + 1) o)).value
+        (trace_of files (with_read reads path) (found_or (probe_of own include paths (probes + 1)) (probes + 1) o)).reads
+    by_found None low rest reads h = rest.ends (with_read reads path) h
     by_found (Some text) low rest reads h = record { within = low; are = h }
 
-    by_own : (o : Option (List ℕ)) → probes + 1 ≤ 100000 → Rest → Leads files (AreReads (n + probes)) (FoundWell n) (and_then (see o path) (found_or (probed own include paths (probes + 1)) (probes + 1)))
+    by_own : (o : Option (List ℕ)) → probes + 1 ≤ 100000 → Rest → Leads files (AreReads (n + probes)) (FoundWell n) (and_then (see o path) (found_or (probe_of own include paths (probes + 1)) (probes + 1)))
     by_own (Some text) low rest = leads_done files (AreReads (n + probes)) (FoundWell n) (Ok (record { text = text; probes = probes + 1 }))
         (λ reads h. record { within = low; are = reads_wider (n + probes) (n + (probes + 1)) reads (omega arith) h })
     by_own None low rest = record { ends = λ reads h. by_found (files path) low rest reads (noted_more (n + probes) (n + (probes + 1)) reads path (omega arith) below.0 h) }
 
     by : (t : Bool) → nat_lt probes probe_limit ≡ t → Rest →
-        Leads files (AreReads (n + probes)) (FoundWell n) (if t then and_then (see (own path) path) (found_or (probed own include paths (probes + 1)) (probes + 1)) else Done (Err (IncludeDepth include)))
+        Leads files (AreReads (n + probes)) (FoundWell n) (if t then and_then (see (own path) path) (found_or (probe_of own include paths (probes + 1)) (probes + 1)) else Done (Err (IncludeDepth include)))
     by true test rest = by_own (own path) (omega (arith, ltb-true _ _ test)) rest
     by false test rest = leads_done files (AreReads (n + probes)) (FoundWell n) (Err (IncludeDepth include)) (λ reads h. tt)
 
 -- the root alone is never found
-root_leads : (files own : Files) (path : List ℕ) (probes n : ℕ) → files path ≡ None → Leads files (AreReads (n + probes)) (FoundWell n) (probed own path (path ∷ []) probes)
+root_leads : (files own : Files) (path : List ℕ) (probes n : ℕ) → files path ≡ None → Leads files (AreReads (n + probes)) (FoundWell n) (probe_of own path (path ∷ []) probes)
 root_leads files own path probes n rootless = by (nat_lt probes probe_limit) refl
   where
     by_found : (o : Option (List ℕ)) → o ≡ None → (reads : List (List ℕ)) →
-        Ends (FoundWell n) (traced files (noted reads path) (found_or (probed own path [] (probes + 1)) (probes + 1) o)).value (traced files (noted reads path) (found_or (probed own path [] (probes + 1)) (probes + 1) o)).reads
+        Ends (FoundWell n) (trace_of files (with_read reads path) (found_or (probe_of own path [] (probes + 1)) (probes + 1) o)).value (trace_of files (with_read reads path) (found_or (probe_of own path [] (probes + 1)) (probes + 1) o)).reads
     by_found None is reads = tt
     by_found (Some text) is reads = absurd (cc)
 
-    by_own : (o : Option (List ℕ)) → probes + 1 ≤ 100000 → Leads files (AreReads (n + probes)) (FoundWell n) (and_then (see o path) (found_or (probed own path [] (probes + 1)) (probes + 1)))
+    by_own : (o : Option (List ℕ)) → probes + 1 ≤ 100000 → Leads files (AreReads (n + probes)) (FoundWell n) (and_then (see o path) (found_or (probe_of own path [] (probes + 1)) (probes + 1)))
     by_own (Some text) low = leads_done files (AreReads (n + probes)) (FoundWell n) (Ok (record { text = text; probes = probes + 1 }))
         (λ reads h. record { within = low; are = reads_wider (n + probes) (n + (probes + 1)) reads (omega arith) h })
     by_own None low = record { ends = λ reads h. by_found (files path) rootless reads }
 
     by : (t : Bool) → nat_lt probes probe_limit ≡ t →
-        Leads files (AreReads (n + probes)) (FoundWell n) (if t then and_then (see (own path) path) (found_or (probed own path [] (probes + 1)) (probes + 1)) else Done (Err (IncludeDepth path)))
+        Leads files (AreReads (n + probes)) (FoundWell n) (if t then and_then (see (own path) path) (found_or (probe_of own path [] (probes + 1)) (probes + 1)) else Done (Err (IncludeDepth path)))
     by true test = by_own (own path) (omega (arith, ltb-true _ _ test))
     by false test = leads_done files (AreReads (n + probes)) (FoundWell n) (Err (IncludeDepth path)) (λ reads h. tt)
 
 find_leads : (files own : Files) (directories : List (List ℕ)) (path : List ℕ) (probes n : ℕ) → files root ≡ None → IsPath path →
-    Leads files (AreReads (n + probes)) (FoundWell n) (probed own path (probes_of directories path) probes)
+    Leads files (AreReads (n + probes)) (FoundWell n) (probe_of own path (probes_of directories path) probes)
 find_leads files own directories path probes n rootless is_path = by (is_root path) refl
   where
-    by : (t : Bool) → is_root path ≡ t → Leads files (AreReads (n + probes)) (FoundWell n) (probed own path (path ∷ (if t then [] else filter_map (under path) directories)) probes)
+    by : (t : Bool) → is_root path ≡ t → Leads files (AreReads (n + probes)) (FoundWell n) (probe_of own path (path ∷ (if t then [] else filter_map (under path) directories)) probes)
     by true is = root_leads files own path probes n (ap files (the_root path is) ∙ rootless)
     by false is = probed_leads files own path (path ∷ filter_map (under path) directories) probes n ((is_path, is), places_below path directories (is_path, is))
 
@@ -107,7 +107,7 @@ pub record MadeWell (output : Output) (n : ℕ) (made : Made) (reads : List (Lis
   pub within : made.probes ≤ 100000
   pub are : AreReads (n + made.probes) reads
 
-pub said_leads : (files : Files) (output : Output) (more : List ℕ) (n : ℕ) (made : Made) → Leads files (MadeWell output n made) (MadeWell output n) (Done (said output more made))
+pub said_leads : (files : Files) (output : Output) (more : List ℕ) (n : ℕ) (made : Made) → Leads files (MadeWell output n made) (MadeWell output n) (Done (with_output output more made))
 said_leads files output more n made = by (nat_lt output_limit (output.before + length made.bytes + length more)) refl
   where
     by : (t : Bool) → nat_lt output_limit (output.before + length made.bytes + length more) ≡ t →
@@ -127,7 +127,7 @@ include_is line path h = by (starts_with nat_eq (without_newline line) include_s
     by_end true h = (word_is (take (length behind - 1) behind) path h).1
     by_end false h = absurd (cc)
 
-    by : (t : Bool) → (if t then quoted behind else None) ≡ Some path → IsPath path
+    by : (t : Bool) → (if t then quoted_path behind else None) ≡ Some path → IsPath path
     by true h = by_end (ends_with nat_eq behind (34 ∷ [])) h
     by false h = absurd (cc)
 
@@ -145,10 +145,10 @@ lines_leads files include output n each (line ∷ lines) made =
 
 included_leads : (files : Files) (expand : List ℕ → Made → Asking (Result Made ScriptFault)) (pp : Preprocessing) (n : ℕ) → files root ≡ None →
     ((text : List ℕ) (made : Made) → Leads files (MadeWell pp.output n made) (MadeWell pp.output n) (expand text made)) →
-    (path : List ℕ) (made : Made) → IsPath path → Leads files (MadeWell pp.output n made) (MadeWell pp.output n) (included expand pp path made)
+    (path : List ℕ) (made : Made) → IsPath path → Leads files (MadeWell pp.output n made) (MadeWell pp.output n) (included_text expand pp path made)
 included_leads files expand pp n rootless each path made is_path =
     leads_then files (MadeWell pp.output n made) (λ (found : Found). MadeWell pp.output n (record made { probes = found.probes })) (MadeWell pp.output n)
-    (probed pp.own path (probes_of pp.directories path) made.probes) (λ (found : Found). expand found.text (record made { probes = found.probes }))
+    (probe_of pp.own path (probes_of pp.directories path) made.probes) (λ (found : Found). expand found.text (record made { probes = found.probes }))
     (record {
       ends = λ reads h. ends_so (FoundWell n) (λ (found : Found). MadeWell pp.output n (record made { probes = found.probes })) (λ found after well. record { fits = h.fits; within = well.within; are = well.are }) _ _
           ((find_leads files pp.own pp.directories path made.probes n rootless is_path).ends reads h.are);
@@ -156,9 +156,9 @@ included_leads files expand pp n rootless each path made is_path =
     (λ found. each found.text (record made { probes = found.probes }))
 
 pub expanded_leads : (files : Files) (levels : ℕ) (pp : Preprocessing) (n : ℕ) → files root ≡ None → (text : List ℕ) (made : Made) →
-    Leads files (MadeWell pp.output n made) (MadeWell pp.output n) (expanded levels pp text made)
+    Leads files (MadeWell pp.output n made) (MadeWell pp.output n) (preprocessed_text levels pp text made)
 expanded_leads files zero pp n rootless text made =
     lines_leads files (λ path made. Done (Err (IncludeDepth path))) pp.output n
     (λ path made is_path. leads_done files (MadeWell pp.output n made) (MadeWell pp.output n) (Err (IncludeDepth path)) (λ reads h. tt)) (lines_in text) made
 expanded_leads files (suc levels) pp n rootless text made =
-    lines_leads files (included (expanded levels pp) pp) pp.output n (included_leads files (expanded levels pp) pp n rootless (expanded_leads files levels pp n rootless)) (lines_in text) made
+    lines_leads files (included_text (preprocessed_text levels pp) pp) pp.output n (included_leads files (preprocessed_text levels pp) pp n rootless (expanded_leads files levels pp n rootless)) (lines_in text) made

@@ -15,8 +15,8 @@ use Rattle.base_model.specs.Changes.{tree}
 use Rattle.legal_history.specs.Builds.Choices.{Member, unit_of_member, members_before, object_among, visible}
 use Rattle.base_model.specs.Closures.{is_among}
 use Rattle.base_model.specs.Fits.{is_base}
-use Rattle.base_model.specs.Seen.{as_seen, file_at, file_seen, row_of_file, selected}
-use Rattle.legal_history.specs.Builds.Serials.{makes, needed}
+use Rattle.base_model.specs.Seen.{as_seen, file_at, file_seen, row_of_file, selection_at}
+use Rattle.legal_history.specs.Builds.Serials.{makes, needed_units}
 use Rattle.base_model.proofs.FilesBelow.{beyond, file_is_below}
 use Rattle.legal_history.proofs.Builds.Pairs.{member_of, pairs_before, with_pair, members_paired}
 use Rattle.base_model.proofs.VersionsStay.{kind_stays}
@@ -28,7 +28,7 @@ root_kind [] = refl
 root_kind (row ∷ older) = kind_stays row older 0 Directory (root_kind older)
 
 pub no_file_at_root : (b : Base) (v : List ℕ) → file_at b v root ≡ None
-no_file_at_root b v = by (selected b v 0 [])
+no_file_at_root b v = by (selection_at b v 0 [])
   where
     by : (o : Option Picked) → file_seen b (as_seen 0 o) ≡ None
     by None = refl
@@ -62,12 +62,12 @@ pairs_fit rows b build (suc n) h = by (unit_at build n) refl (pairs_fit rows b b
 members_fit : (b : Base) (build : Build) (n : ℕ) → HasObjects b build → AllByRecursion (Fits b) (members_before build n)
 members_fit b build n h = subst (AllByRecursion (Fits b)) (sym (members_paired b build n)) (pairs_fit b b build n h)
 
-needed_fit : (b : Base) (paths : List (List ℕ)) (members : List Member) → AllByRecursion (Fits b) members → AllByRecursion (Fits b) (needed unit_of_member paths members)
+needed_fit : (b : Base) (paths : List (List ℕ)) (members : List Member) → AllByRecursion (Fits b) members → AllByRecursion (Fits b) (needed_units unit_of_member paths members)
 needed_fit b paths [] h = tt
 needed_fit b paths (member ∷ members) h =
     elim (list_any (λ path. makes path member.unit) paths) as (λ (t : Bool). AllByRecursion (Fits b) (elim t as (λ (x : Bool). List Member) [
-      | true ↦ member ∷ needed unit_of_member (paths ++ member.unit.prerequisites) members
-      | false ↦ needed unit_of_member paths members
+      | true ↦ member ∷ needed_units unit_of_member (paths ++ member.unit.prerequisites) members
+      | false ↦ needed_units unit_of_member paths members
     ])) [
       | true ↦ (h.0, needed_fit b (paths ++ member.unit.prerequisites) members h.1)
       | false ↦ needed_fit b paths members h.1
@@ -102,7 +102,7 @@ seen_is_below b build n unit path row base h is =
     (λ r of_file. first_below b build.rows r (file_is_below (first_rows build.rows b) build.view path r base of_file)) is
   where
     members : List Member
-    members = needed unit_of_member unit.prerequisites (members_before build n)
+    members = needed_units unit_of_member unit.prerequisites (members_before build n)
 
     by : (o file : Option ℕ) → ((id : ℕ) → o ≡ Some id → id < size b) → ((r : ℕ) → file ≡ Some r → r < size b) → option_or o file ≡ Some row → row < size b
     by (Some id) file objects files is = objects row is
@@ -112,5 +112,5 @@ seen_is_below b build n unit path row base h is =
 pub nothing_at_root : (b : Base) (build : Build) (n : ℕ) (unit : Unit) → HasObjects b build → visible b build n unit root ≡ None
 nothing_at_root b build n unit h =
     ap (λ o. option_or o (file_at (first_rows build.rows b) build.view root))
-    (object_at_root b (needed unit_of_member unit.prerequisites (members_before build n)) (needed_fit b unit.prerequisites (members_before build n) (members_fit b build n h)))
+    (object_at_root b (needed_units unit_of_member unit.prerequisites (members_before build n)) (needed_fit b unit.prerequisites (members_before build n) (members_fit b build n h)))
     ∙ no_file_at_root (first_rows build.rows b) build.view

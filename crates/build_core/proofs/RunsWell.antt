@@ -6,7 +6,7 @@ use Rattle.std.specs.Str.{bytes_eq}
 use Rattle.cc_names.specs.Files.{Files}
 use Rattle.cc_names.specs.Paths.{IsPath, root}
 use Rattle.cc_names.specs.declared.refusals.ScriptFault.TheVariants.{StrayWrite, Failed}
-use Rattle.script_grammar.specs.Run.{State, Done, Part, Says, TextOf, Preprocessed, Preprocessing, parts_of, Output, Made, said, text_at, expanded, depth_limit, with_part, with_parts, begun, wrote, write_output, after_line, after_lines}
+use Rattle.script_grammar.specs.Run.{State, Done, Part, Says, TextOf, Preprocessed, Preprocessing, parts_of, Output, Made, with_output, text_at, preprocessed_text, depth_limit, with_part, with_parts, output_start, wrote, write_output, after_line, after_lines}
 use Rattle.script_grammar.specs.declared.lines.Line.{Line}
 use Rattle.script_grammar.specs.declared.lines.Line.TheVariants.{Empty, Makes, Fail}
 use Rattle.script_grammar.specs.declared.lines.Work.{Work}
@@ -38,13 +38,13 @@ none_more n = omega arith
 part_leads : (files own : Files) (output : Output) (n : ℕ) (part : Part) (made : Made) → files root ≡ None → AllByRecursion IsPath (part_paths part) →
     Leads files (MadeWell output n made) (MadeWell output (n + length (part_paths part))) (with_part own output part made)
 part_leads files own output n (Says more) made rootless are =
-    subst (λ k. Leads files (MadeWell output n made) (MadeWell output k) (Done (said output more made))) (none_more n) (said_leads files output more n made)
+    subst (λ k. Leads files (MadeWell output n made) (MadeWell output k) (Done (with_output output more made))) (none_more n) (said_leads files output more n made)
 part_leads files own output n (TextOf form path) made rootless are =
-    leads_then files (MadeWell output n made) (λ (text : List ℕ). MadeWell output (n + 1) made) (MadeWell output (n + 1)) (text_at own path) (λ text. Done (said output (form text) made))
+    leads_then files (MadeWell output n made) (λ (text : List ℕ). MadeWell output (n + 1) made) (MadeWell output (n + 1)) (text_at own path) (λ text. Done (with_output output (form text) made))
     (text_then files own output path n made rootless are.0) (λ text. said_leads files output (form text) (n + 1) made)
 part_leads files own output n (Preprocessed directories path) made rootless are =
     let pp : Preprocessing = record { own = own; directories = directories; output = output } in
-    leads_then files (MadeWell output n made) (λ (text : List ℕ). MadeWell output (n + 1) made) (MadeWell output (n + 1)) (text_at own path) (λ text. expanded depth_limit pp text made)
+    leads_then files (MadeWell output n made) (λ (text : List ℕ). MadeWell output (n + 1) made) (MadeWell output (n + 1)) (text_at own path) (λ text. preprocessed_text depth_limit pp text made)
     (text_then files own output path n made rootless are.0) (λ text. expanded_leads files depth_limit pp (n + 1) rootless text made)
 
 -- so many paths and so many more
@@ -62,7 +62,7 @@ parts_leads files own output n (part ∷ parts) made rootless are =
     (part_leads files own output n part made rootless (each_of_first IsPath (part_paths part) (flat_map part_paths parts) are))
     (λ after. parts_leads files own output (n + length (part_paths part)) parts after rootless (each_of_second IsPath (part_paths part) (flat_map part_paths parts) are)))
 
-begun_short : (appends : Bool) (o : Option (List ℕ)) → ((bytes : List ℕ) → o ≡ Some bytes → IsShort bytes) → IsShort (begun appends o)
+begun_short : (appends : Bool) (o : Option (List ℕ)) → ((bytes : List ℕ) → o ≡ Some bytes → IsShort bytes) → IsShort (output_start appends o)
 begun_short true (Some bytes) short = short bytes refl
 begun_short true None short = omega arith
 begun_short false o short = omega arith
@@ -97,7 +97,7 @@ output_leads files n state work appends path rootless are =
     }))
   where
     begin : List ℕ
-    begin = begun appends (state.own path)
+    begin = output_start appends (state.own path)
 
     output : Output
     output = record { path = path; before = length begin }

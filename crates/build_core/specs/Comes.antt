@@ -1,7 +1,7 @@
 -- What the units of an active build have come to, as the program keeps it and as the model sees it.
 use Rattle.std.specs.Prelude.{ℕ, Option, option_map, List, map}
 use Rattle.legal_history.specs.Builds.Active as model
-use Rattle.build_core.specs.Slots.{numbered}
+use Rattle.build_core.specs.Slots.{numbered_slots}
 use Rattle.build_core.specs.declared.active.Came.{Came}
 use Rattle.build_core.specs.declared.active.Came.TheVariants.{Started, Concluded, Given}
 
@@ -17,4 +17,4 @@ cames_of slots = map (option_map came_of) slots
 
 -- what the units have come to, by their numbers
 abbrev pub comes_of : List (Option Came) → List (ℕ × model.Came)
-comes_of slots = numbered 0 (cames_of slots)
+comes_of slots = numbered_slots 0 (cames_of slots)

@@ -5,7 +5,7 @@ pub mod Plans
 pub mod Publishing
 pub mod Releasing
 pub mod Reusing
-pub mod Sights
+pub mod VisibleObjects
 pub mod Slots
 pub mod UnitSteps
-pub mod Kept
+pub mod UnitSlots

@@ -9,7 +9,7 @@ use Rattle.cc_names.specs.declared.refusals.Refusal.{Refusal}
 use Rattle.cc_names.specs.declared.rows.Tag.{Tag}
 use Rattle.cc_names.specs.declared.units.Unit.{Unit}
 use Rattle.base_model.specs.Rows.{Base, size}
-use Rattle.legal_history.specs.Builds.Active.{Build, building, reserved}
+use Rattle.legal_history.specs.Builds.Active.{Build, building, rows_reserved}
 use Rattle.legal_history.specs.Commands.Decisions.{Scene, Decision, Begins}
 use Rattle.legal_history.specs.Commands.Lines.{decision}
 use Rattle.legal_history.specs.Stories.Steps.{build_asked}
@@ -20,7 +20,7 @@ use Rattle.build_core.specs.BuildForms.{IsUnitFormed}
 pub record Meets (s : Scene) (b : Base) (v : List ℕ) (build : Option Tag) (rows : ℕ) : Type 0 where
   pub base : s.base ≡ b
   pub busy : building s.active v ≡ build
-  pub taken : size s.base + reserved s.active ≡ rows
+  pub taken : size s.base + rows_reserved s.active ≡ rows
 
 -- the form of units, of which there are as many as numbers of four bytes count
 pub record AreUnits (units : List Unit) : Type 0 where

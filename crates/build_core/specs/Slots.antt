@@ -2,10 +2,10 @@
 use Rattle.std.specs.Prelude.{ℕ, zero, suc, ◌+◌, Option, Some, None, List, [], ◌∷◌}
 
 -- the filled slots of a list with their numbers, the first slot numbered k
-abbrev pub numbered : {A : Type 0} → ℕ → List (Option A) → List (ℕ × A)
-numbered k [] = []
-numbered k (None ∷ slots) = numbered (k + 1) slots
-numbered k (Some a ∷ slots) = (k, a) ∷ numbered (k + 1) slots
+abbrev pub numbered_slots : {A : Type 0} → ℕ → List (Option A) → List (ℕ × A)
+numbered_slots k [] = []
+numbered_slots k (None ∷ slots) = numbered_slots (k + 1) slots
+numbered_slots k (Some a ∷ slots) = (k, a) ∷ numbered_slots (k + 1) slots
 
 -- what a slot holds, counted from 0; nothing past the last
 abbrev pub held_in : {A : Type 0} → List (Option A) → ℕ → Option A

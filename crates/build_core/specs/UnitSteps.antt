@@ -22,14 +22,14 @@ unless_over true n = None
 unless_over false n = Some n
 
 -- the unit of this number, where there is one and it has no outcome
-abbrev pub awaited : Build → Option ℕ → Option ℕ
-awaited build None = None
-awaited build (Some n) = unless_over (is_outcome (came_to build n)) n
+abbrev pub awaited_unit : Build → Option ℕ → Option ℕ
+awaited_unit build None = None
+awaited_unit build (Some n) = unless_over (is_outcome (came_to build n)) n
 
 -- the first of the units with these targets that has no outcome
 abbrev pub first_awaited : Build → List (List ℕ) → Option ℕ
 first_awaited build [] = None
-first_awaited build (path ∷ paths) = option_or (awaited build (unit_with build path)) (first_awaited build paths)
+first_awaited build (path ∷ paths) = option_or (awaited_unit build (unit_with build path)) (first_awaited build paths)
 
 -- unit m is the first that the unit waits for
 pub record Awaits (build : Build) (unit : Unit) (m : ℕ) : Type 0 where

@@ -6,7 +6,7 @@ ghost use Rattle.legal_history.specs.Stories.Steps.{with_came};
 ghost use Rattle.legal_history.specs.Builds.Consistency.{InOrder};
 ghost use Rattle.build_core.specs.Comes.{came_of, comes_of};
 ghost use Rattle.make_graph.specs.Waits.{dependants_of};
-ghost use Rattle.build_core.specs.Sights.{AreNeeds};
+ghost use Rattle.build_core.specs.VisibleObjects.{AreNeeds};
 
 use cc_names::memory::NoMemory;
 use cc_names::names::Name;
@@ -45,7 +45,7 @@ pub struct ActiveBuild {
 
 impl Model for ActiveBuild {
     ghost use Rattle.legal_history.specs.Builds.Active.{Build};
-    ghost use Rattle.build_core.specs.Kept.{IsKept};
+    ghost use Rattle.build_core.specs.UnitSlots.{AreSlotsOf};
 
     ghost Value = { Build };
 
@@ -62,7 +62,7 @@ impl Model for ActiveBuild {
       faulted = build.faulted;
     } };
 
-    ghost invariant = { λ build. IsKept build.graph build.comes.items };
+    ghost invariant = { λ build. AreSlotsOf build.graph build.comes.items };
 }
 
 /// An empty slot for each unit.

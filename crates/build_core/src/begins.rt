@@ -5,7 +5,7 @@ ghost use Rattle.base_model.specs.Fits.{row_limit};
 ghost use Rattle.cc_names.specs.Answers.{Gives};
 ghost use Rattle.session_text.specs.Formed.{IsClearmake};
 ghost use Rattle.base_model.specs.Rows.{size};
-ghost use Rattle.legal_history.specs.Builds.Active.{building, reserved};
+ghost use Rattle.legal_history.specs.Builds.Active.{building, rows_reserved};
 ghost use Rattle.legal_history.specs.Commands.Decisions.{Scene, first_refusal, needs_room};
 ghost use Rattle.legal_history.specs.Builds.Consistency.{InOrder};
 ghost use Rattle.base_model.specs.Texts.{texts};
@@ -17,9 +17,9 @@ ghost use Rattle.build_core.specs.Plans.{Meets, AreUnits, Begun, Plans};
 use crate::active::ActiveBuild;
 use crate::plans::graph;
 use cc_names::commands::{Clearmake, Macro};
-use cc_names::desks::Occasion;
 use cc_names::memory::Or;
 use cc_names::names::Name;
+use cc_names::occasions::Occasion;
 use cc_names::paths::Path;
 use cc_names::refusals::Refusal;
 use cc_names::rows::Tag;
@@ -85,7 +85,7 @@ fn refusal_of_room(taken: u64, units: u64) -> Option<Refusal>
     requires taken { taken < 2 ^ 63 }
     requires units { units < 2 ^ 63 }
     ensures refusal { (scene : Scene)
-        → size scene.base + reserved scene.active ≡ taken
+        → size scene.base + rows_reserved scene.active ≡ taken
         → result ≡ needs_room scene units }
     ensures room { IfNone result (taken + units ≤ row_limit) }
 {
@@ -97,7 +97,7 @@ fn refusal_of_room(taken: u64, units: u64) -> Option<Refusal>
 }
 
 /// The units with which a build in a view begins, or its first refusal.
-fn begun(
+fn units_of_build(
     alloc: Global,
     hashing: RandomState,
     rows: &FirstRows<'_>,
@@ -146,7 +146,7 @@ pub fn plan_build(
     ensures formed { IfOk result (λ build. IsBuildFormed build) }
     ensures room { IfOk result (λ build. occasion.taken + length build.units ≤ row_limit) }
 {
-    let graph = begun(
+    let graph = units_of_build(
         alloc,
         hashing,
         rows,

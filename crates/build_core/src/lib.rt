@@ -2,7 +2,7 @@
 //!
 //! What it is for: `plan_build` decides a clearmake: which units its build has, over the files of its view, or why it is
 //! refused. An `ActiveBuild` keeps what its units have come to; `step` says what comes next for a unit, `fetch_for_unit` what
-//! its script finds at a path, `reusable` which object it may reuse in place of a run, and `released` which units can be driven
+//! its script finds at a path, `reusable` which object it may reuse in place of a run, and `released_units` which units can be driven
 //! once it has its outcome. `publish_row` makes the row of what a run gave, `wink_row` that by which the view winks an object
 //! in, and `reply_of` says what a build that has ended is replied.
 //!
@@ -20,23 +20,23 @@
 mod active;
 mod begins;
 mod ends;
+mod fetches;
 mod laws;
 mod plans;
 mod publishes;
 mod releases;
 mod replies;
 mod reuse;
-mod sights;
 mod steps;
 mod winks;
 
 pub use active::{ActiveBuild, Came};
 pub use begins::plan_build;
+pub use fetches::fetch_for_unit;
 pub use laws::a_unit_may_publish;
 pub use publishes::publish_row;
-pub use releases::released;
+pub use releases::released_units;
 pub use replies::reply_of;
 pub use reuse::reusable;
-pub use sights::fetch_for_unit;
 pub use steps::{UnitStep, step};
 pub use winks::wink_row;

@@ -8,7 +8,7 @@ ghost use Rattle.legal_history.specs.Builds.Choices.{as_entry, in_order, visible
 ghost use Rattle.build_core.specs.Publishing.{CanPublish, RunGave, IsPublishOf};
 
 use crate::active::ActiveBuild;
-use crate::sights::visible;
+use crate::fetches::visible;
 use crate::steps::script_text;
 use cc_names::copies::Copied;
 use cc_names::lists::List;

@@ -58,7 +58,7 @@ fn can_be_driven(build: &ActiveBuild, unit: u32) -> bool
 /// memory runs out.
 ///
 /// Takes time linear in the unit's dependants and in their prerequisites.
-pub fn released(alloc: Global, build: &ActiveBuild, unit: u32) -> Result<Vec<u32>, NoMemory>
+pub fn released_units(alloc: Global, build: &ActiveBuild, unit: u32) -> Result<Vec<u32>, NoMemory>
     requires { unit < length build.now.units }
     ensures { IfOk result
         (λ units.
@@ -66,11 +66,11 @@ pub fn released(alloc: Global, build: &ActiveBuild, unit: u32) -> Result<Vec<u32
         ≡ filter (is_released build.now unit) (range_with_len 0 (length build.now.units))) }
 {
     let dependants = build.dependants(unit);
-    let mut released = Vec::new(alloc);
+    let mut released_units = Vec::new(alloc);
     for dependant in dependants {
         if can_be_driven(build, *dependant) {
-            released.push(*dependant)?;
+            released_units.push(*dependant)?;
         }
     }
-    Ok(released)
+    Ok(released_units)
 }

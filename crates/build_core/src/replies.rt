@@ -1,7 +1,7 @@
 //! The reply of a build that has ended: its units with objects at each of their targets, the others at their first.
 
 ghost use Rattle.std.specs.Prelude.{◌≡◌, ◌++◌, ◌<◌, ◌^◌, [], true, Some, length, option_copied, IfOk, OnOk};
-ghost use Rattle.legal_history.specs.Builds.Replied.{digest_at, is_of_tag, is_own, word_of_object, word_of_end, word_of_came, told_targets, line_before, lines_of, lines_from, reply_of};
+ghost use Rattle.legal_history.specs.Builds.Replied.{digest_at, is_of_tag, is_own, word_of_object, word_of_end, word_of_came, reported_targets, line_before, lines_of, lines_from, reply_of};
 ghost use Rattle.legal_history.specs.Builds.Active.{came_to, Given};
 ghost use Rattle.base_model.specs.Texts.{text};
 
@@ -145,8 +145,8 @@ fn push_lines(
 }
 
 /// The targets at which a unit is told: each of them where it has an object, else the first.
-fn told_targets(has_object: bool, targets: &[Path]) -> &[Path]
-    ensures { result.now ≡ told_targets has_object targets.now }
+fn reported_targets(has_object: bool, targets: &[Path]) -> &[Path]
+    ensures { result.now ≡ reported_targets has_object targets.now }
 {
     if has_object {
         targets
@@ -169,7 +169,7 @@ fn lines_of_units(
     let mut number = 0;
     while let Some((unit, more)) = rest.split_first() {
         let has_object = build.object_of(number).is_some();
-        let targets = told_targets(has_object, unit.targets.as_slice());
+        let targets = reported_targets(has_object, unit.targets.as_slice());
         push_lines(alloc, rows, build, number, targets, &mut lines)?;
         rest = more;
         number += 1;

@@ -8,10 +8,10 @@ ghost use Rattle.legal_history.specs.Builds.Choices.{visible};
 ghost use Rattle.base_model.specs.Objects.{agrees, held_at_all};
 ghost use Rattle.legal_history.specs.Builds.Reuse.{entry_agrees, if_matches, matches, newest_match, reusable};
 ghost use Rattle.build_core.specs.Reusing.{object_chosen, IsChosen};
-ghost use Rattle.build_core.specs.Sights.{AreNeeds};
+ghost use Rattle.build_core.specs.VisibleObjects.{AreNeeds};
 
 use crate::active::ActiveBuild;
-use crate::sights::visible;
+use crate::fetches::visible;
 use crate::steps::script_text;
 use cc_names::memory::NoMemory;
 use cc_names::rows::ReadOf;

@@ -11,7 +11,7 @@ use Rattle.cc_names.specs.Cuts.{is_newline}
 use Rattle.cc_names.proofs.Splits.{Some-given}
 use Rattle.memchr.specs.Find.{OccursAt, FindsNeedle}
 use Rattle.memchr.proofs.lemmas.MatchLemmas.{OccursAt-part, OccursAt-from_part}
-use Rattle.script_grammar.specs.Forms.{before_lines, lines_in, first_lines, replaced_behind, replaced}
+use Rattle.script_grammar.specs.Forms.{before_lines, lines_in, first_lines, replaced_behind, with_replaced}
 
 none-given : (b : Bool) (n : ℕ) → (if b then Some n else None) ≡ None → b ≡ false
 none-given true n h = cc
@@ -62,41 +62,41 @@ lines_in-none (b ∷ bytes) h some = uncut b bytes (ltb-false _ _ (none-given _ 
 
 -- Lines that were taken off a text: what is left of it, and how many lines are left to take.
 pub record Taken (text rest : List ℕ) (number left : ℕ) : Type 0 where
-  pub front : List ℕ
-  pub whole : text ≡ front ++ rest
-  pub same : first_lines number text ≡ front ++ first_lines left rest
+  pub prefix : List ℕ
+  pub whole : text ≡ prefix ++ rest
+  pub same : first_lines number text ≡ prefix ++ first_lines left rest
 
 pub taken_none : (text : List ℕ) (number left : ℕ) → left ≡ number → Taken text text number left
-taken_none text number left e = record { front = []; whole = refl; same = ap (λ n. first_lines n text) (sym e) }
+taken_none text number left e = record { prefix = []; whole = refl; same = ap (λ n. first_lines n text) (sym e) }
 
 pub taken_more : (text rest line behind : List ℕ) (number left left' : ℕ) → Taken text rest number left → left ≡ suc left' → lines_in rest ≡ line ∷ lines_in behind → rest ≡ line ++ behind →
     Taken text behind number left'
 taken_more text rest line behind number left left' taken e lines is = record {
-  front = taken.front ++ line;
-  whole = taken.whole ∙ ap (λ l. taken.front ++ l) is ∙ sym (append_assoc taken.front line behind);
-  same = taken.same ∙ ap (λ n. taken.front ++ first_lines n rest) e ∙ ap (λ ls. taken.front ++ flat_map (λ (l : List ℕ). l) (take (suc left') ls)) lines
-      ∙ sym (append_assoc taken.front line (first_lines left' behind));
+  prefix = taken.prefix ++ line;
+  whole = taken.whole ∙ ap (λ l. taken.prefix ++ l) is ∙ sym (append_assoc taken.prefix line behind);
+  same = taken.same ∙ ap (λ n. taken.prefix ++ first_lines n rest) e ∙ ap (λ ls. taken.prefix ++ flat_map (λ (l : List ℕ). l) (take (suc left') ls)) lines
+      ∙ sym (append_assoc taken.prefix line (first_lines left' behind));
 }
 
 first_lines-nil : (number : ℕ) → first_lines number [] ≡ []
 first_lines-nil zero = refl
 first_lines-nil (suc n) = refl
 
-taken_front : (text front rest : List ℕ) → text ≡ front ++ rest → take (length text - length rest) text ≡ front
-taken_front text front rest e =
-    let n : length text - length rest ≡ length front = omega (arith, ap length e, length-append front rest) in
-    rw n (rw e (take-append_seam front rest))
+taken_prefix : (text prefix rest : List ℕ) → text ≡ prefix ++ rest → take (length text - length rest) text ≡ prefix
+taken_prefix text prefix rest e =
+    let n : length text - length rest ≡ length prefix = omega (arith, ap length e, length-append prefix rest) in
+    rw n (rw e (take-append_seam prefix rest))
 
 pub taken_all : (text rest : List ℕ) (number left : ℕ) → Taken text rest number left → left ≡ 0 → take (length text - length rest) text ≡ first_lines number text
 taken_all text rest number left taken e =
-    taken_front text taken.front rest taken.whole ∙ sym (taken.same ∙ ap (λ n. taken.front ++ first_lines n rest) e ∙ append-nil taken.front)
+    taken_prefix text taken.prefix rest taken.whole ∙ sym (taken.same ∙ ap (λ n. taken.prefix ++ first_lines n rest) e ∙ append-nil taken.prefix)
 
 pub taken_ended : (text rest : List ℕ) (number left : ℕ) → Taken text rest number left → rest ≡ [] → take (length text - length rest) text ≡ first_lines number text
 taken_ended text rest number left taken e =
-    taken_front text taken.front rest taken.whole ∙ sym (taken.same ∙ ap (λ l. taken.front ++ first_lines left l) e ∙ ap (λ l. taken.front ++ l) (first_lines-nil left) ∙ append-nil taken.front)
+    taken_prefix text taken.prefix rest taken.whole ∙ sym (taken.same ∙ ap (λ l. taken.prefix ++ first_lines left l) e ∙ ap (λ l. taken.prefix ++ l) (first_lines-nil left) ∙ append-nil taken.prefix)
 
 pub taken_within : (text rest : List ℕ) (number left : ℕ) → Taken text rest number left → length rest ≤ length text
-taken_within text rest number left taken = omega (arith, ap length taken.whole, length-append taken.front rest)
+taken_within text rest number left taken = omega (arith, ap length taken.whole, length-append taken.prefix rest)
 
 -- bytes that are passed over
 passed : (from to bytes : List ℕ) (skip : ℕ) → replaced_behind from to skip bytes ≡ replaced_behind from to 0 (drop skip bytes)
@@ -134,16 +134,16 @@ fails_at from text j none some = by (bytes_eq (take (length from) (drop j text))
         absurd (none fits (OccursAt-from_part text from j fits is))
 
 -- up to and with the first occurrence
-pub replaced-at : (from to text : List ℕ) (k : ℕ) → 0 < length from → FindsNeedle text from 0 (Some k) →
+pub with_replaced-at : (from to text : List ℕ) (k : ℕ) → 0 < length from → FindsNeedle text from 0 (Some k) →
     replaced_behind from to 0 text ≡ take k text ++ (to ++ replaced_behind from to 0 (drop (k + length from) text))
-replaced-at from to text k some found =
+with_replaced-at from to text k some found =
     let fits = found.1.fits in
     missed from to text k (omega arith) (λ j high. fails_at from text j (λ f. found.0.before j (omega arith) high) some)
     ∙ ap (λ l. take k text ++ l) (hit from to (drop k text) some (OccursAt-part text from k found.1) ∙ ap (λ l. to ++ replaced_behind from to 0 l) (drop-drop (length from) k text))
 
 -- a text without an occurrence stays
-pub replaced-none : (from to text : List ℕ) → 0 < length from → FindsNeedle text from 0 None → replaced_behind from to 0 text ≡ text
-replaced-none from to text some none =
+pub with_replaced-none : (from to text : List ℕ) → 0 < length from → FindsNeedle text from 0 None → replaced_behind from to 0 text ≡ text
+with_replaced-none from to text some none =
     missed from to text (length text) (omega arith) (λ j high. fails_at from text j (λ f. none j (omega arith) (omega arith)) some)
     ∙ ap (λ l. l ++ replaced_behind from to 0 (drop (length text) text)) all ∙ ap (λ l. text ++ replaced_behind from to 0 l) behind ∙ append-nil text
   where
@@ -157,6 +157,6 @@ replaced-none from to text some none =
     all : take (length text) text ≡ text
     all = sym (append-nil (take (length text) text)) ∙ ap (λ l. take (length text) text ++ l) (sym behind) ∙ take-append-drop (length text) text
 
-pub replaced-some : (from to text : List ℕ) → 0 < length from → replaced from to text ≡ replaced_behind from to 0 text
-replaced-some [] to text some = absurd (omega arith)
-replaced-some (f ∷ from) to text some = refl
+pub with_replaced-some : (from to text : List ℕ) → 0 < length from → with_replaced from to text ≡ replaced_behind from to 0 text
+with_replaced-some [] to text some = absurd (omega arith)
+with_replaced-some (f ∷ from) to text some = refl

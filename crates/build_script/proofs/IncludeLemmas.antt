@@ -8,10 +8,10 @@ use Rattle.script_grammar.specs.Forms.{lines_in}
 use Rattle.cc_names.specs.Paths.{is_root}
 use Rattle.script_grammar.specs.Includes.{include_of, under}
 use Rattle.script_grammar.specs.Lines.{path_in}
-use Rattle.build_script.specs.Making.{includes, resumed}
+use Rattle.build_script.specs.Making.{includes, resumed_making}
 use Rattle.build_script.specs.OpenTexts.{rest_of, rests_of}
 use Rattle.script_grammar.specs.Parts.{Performed, Gave, Halted}
-use Rattle.script_grammar.specs.Run.{Asking, Done, Asks, and_then, unless_fault, Made, Output, Preprocessing, expanded, lines_expanded, line_expanded, included, said, depth_limit, traced}
+use Rattle.script_grammar.specs.Run.{Asking, Done, Asks, and_then, unless_fault, Made, Output, Preprocessing, preprocessed_text, lines_expanded, line_expanded, included_text, with_output, depth_limit, trace_of}
 use Rattle.script_grammar.specs.Standings.{Standing, texts}
 use Rattle.script_grammar.specs.declared.halts.Halt.{Halt}
 use Rattle.script_grammar.specs.declared.halts.Halt.TheVariants.{Fault, GivenUp, NoMemory}
@@ -52,9 +52,9 @@ carried_shown {stands = stands} {broken = broken} {follows = follows} {before = 
     carried_lifted stands broken follows before after first next more result old new one
 
 -- `pp` at so many levels, by what an include line comes to there
-pub expanded-lines : (levels : ℕ) (pp : Preprocessing) (text : List ℕ) → expanded levels pp text ≡ lines_expanded (includes levels pp) pp.output (lines_in text)
-expanded-lines zero pp text = refl
-expanded-lines (suc levels) pp text = refl
+pub preprocessed_text-lines : (levels : ℕ) (pp : Preprocessing) (text : List ℕ) → preprocessed_text levels pp text ≡ lines_expanded (includes levels pp) pp.output (lines_in text)
+preprocessed_text-lines zero pp text = refl
+preprocessed_text-lines (suc levels) pp text = refl
 
 -- a part that ended early, wherever it would have gone on
 pub carried_ended : {F X Y A : Type 0} {stands : F → List ℕ → Option Standing} {broken : F → ℕ} {follows : List (List ℕ) → F → F → Type 0}
@@ -69,41 +69,41 @@ pub carried_passed : {F X Y A : Type 0} {stands : F → List ℕ → Option Stan
     (then : Y → Asking (Result A ScriptFault)) (y : Y) → next x ≡ then y →
     Performed stands broken follows before asking next (Ok x) after old new → Performed stands broken follows before asking then (Ok y) after old new
 carried_passed {stands = stands} {after = after} {old = old} then y e one =
-    record { stays = one.stays; asked = one.asked; went = one.went ∙ ap (traced (texts (stands old)) after) e }
+    record { stays = one.stays; asked = one.asked; went = one.went ∙ ap (trace_of (texts (stands old)) after) e }
 
 -- what is said or included behind a stack of texts
-resumed-lines : (pp : Preprocessing) (rest : List ℕ) (below : List (List ℕ)) (made : Made) →
-    resumed pp (rest ∷ below) made ≡ and_then (lines_expanded (includes (depth_limit - length below) pp) pp.output (lines_in rest) made) (unless_fault (resumed pp below))
-resumed-lines pp rest below made = ap (λ (f : Made → Asking (Result Made ScriptFault)). and_then (f made) (unless_fault (resumed pp below))) (expanded-lines (depth_limit - length below) pp rest)
+resumed_making-lines : (pp : Preprocessing) (rest : List ℕ) (below : List (List ℕ)) (made : Made) →
+    resumed_making pp (rest ∷ below) made ≡ and_then (lines_expanded (includes (depth_limit - length below) pp) pp.output (lines_in rest) made) (unless_fault (resumed_making pp below))
+resumed_making-lines pp rest below made = ap (λ (f : Made → Asking (Result Made ScriptFault)). and_then (f made) (unless_fault (resumed_making pp below))) (preprocessed_text-lines (depth_limit - length below) pp rest)
 
-pub resumed-empty : (pp : Preprocessing) (rest : List ℕ) (below : List (List ℕ)) (made : Made) → rest ≡ [] → resumed pp (rest ∷ below) made ≡ resumed pp below made
-resumed-empty pp rest below made e = resumed-lines pp rest below made ∙ rw e refl
+pub resumed_making-empty : (pp : Preprocessing) (rest : List ℕ) (below : List (List ℕ)) (made : Made) → rest ≡ [] → resumed_making pp (rest ∷ below) made ≡ resumed_making pp below made
+resumed_making-empty pp rest below made e = resumed_making-lines pp rest below made ∙ rw e refl
 
-pub resumed-said : (pp : Preprocessing) (rest line behind : List ℕ) (below : List (List ℕ)) (made made' : Made) →
-    lines_in rest ≡ line ∷ lines_in behind → include_of line ≡ None → said pp.output line made ≡ Ok made' → resumed pp (rest ∷ below) made ≡ resumed pp (behind ∷ below) made'
-resumed-said pp rest line behind below made made' lines plain says =
-    resumed-lines pp rest below made ∙ rw lines (rw plain (rw says (sym (resumed-lines pp behind below made'))))
+pub resumed_making-with_output : (pp : Preprocessing) (rest line behind : List ℕ) (below : List (List ℕ)) (made made' : Made) →
+    lines_in rest ≡ line ∷ lines_in behind → include_of line ≡ None → with_output pp.output line made ≡ Ok made' → resumed_making pp (rest ∷ below) made ≡ resumed_making pp (behind ∷ below) made'
+resumed_making-with_output pp rest line behind below made made' lines plain says =
+    resumed_making-lines pp rest below made ∙ rw lines (rw plain (rw says (sym (resumed_making-lines pp behind below made'))))
 
-pub resumed-unsaid : (pp : Preprocessing) (rest line behind : List ℕ) (below : List (List ℕ)) (made : Made) (fault : ScriptFault) →
-    lines_in rest ≡ line ∷ lines_in behind → include_of line ≡ None → said pp.output line made ≡ Err fault → resumed pp (rest ∷ below) made ≡ Done (Err fault)
-resumed-unsaid pp rest line behind below made fault lines plain says = resumed-lines pp rest below made ∙ rw lines (rw plain (rw says refl))
+pub resumed_making-unsaid : (pp : Preprocessing) (rest line behind : List ℕ) (below : List (List ℕ)) (made : Made) (fault : ScriptFault) →
+    lines_in rest ≡ line ∷ lines_in behind → include_of line ≡ None → with_output pp.output line made ≡ Err fault → resumed_making pp (rest ∷ below) made ≡ Done (Err fault)
+resumed_making-unsaid pp rest line behind below made fault lines plain says = resumed_making-lines pp rest below made ∙ rw lines (rw plain (rw says refl))
 
-pub resumed-included : (pp : Preprocessing) (rest line behind path : List ℕ) (below : List (List ℕ)) (made : Made) →
+pub resumed_making-included_text : (pp : Preprocessing) (rest line behind path : List ℕ) (below : List (List ℕ)) (made : Made) →
     lines_in rest ≡ line ∷ lines_in behind → include_of line ≡ Some path →
-    resumed pp (rest ∷ below) made ≡ and_then (includes (depth_limit - length below) pp path made) (unless_fault (resumed pp (behind ∷ below)))
-resumed-included pp rest line behind path below made lines is =
-    resumed-lines pp rest below made ∙ rw lines (rw is
-    (and_then-assoc (includes (depth_limit - length below) pp path made) (lines_expanded (includes (depth_limit - length below) pp) pp.output (lines_in behind)) (resumed pp below)
-    ∙ ap (λ (f : Made → Asking (Result Made ScriptFault)). and_then (includes (depth_limit - length below) pp path made) (unless_fault f)) (λ i made. sym (resumed-lines pp behind below made) i)))
+    resumed_making pp (rest ∷ below) made ≡ and_then (includes (depth_limit - length below) pp path made) (unless_fault (resumed_making pp (behind ∷ below)))
+resumed_making-included_text pp rest line behind path below made lines is =
+    resumed_making-lines pp rest below made ∙ rw lines (rw is
+    (and_then-assoc (includes (depth_limit - length below) pp path made) (lines_expanded (includes (depth_limit - length below) pp) pp.output (lines_in behind)) (resumed_making pp below)
+    ∙ ap (λ (f : Made → Asking (Result Made ScriptFault)). and_then (includes (depth_limit - length below) pp path made) (unless_fault f)) (λ i made. sym (resumed_making-lines pp behind below made) i)))
 
 -- what is behind a line
 pub lines_behind : (rest line behind past : List ℕ) → lines_in rest ≡ line ∷ lines_in behind → rest ≡ line ++ behind → past ≡ drop (length line) rest → lines_in rest ≡ line ∷ lines_in past
 lines_behind rest line behind past lines whole is =
-    lines ∙ ap (λ (b : List ℕ). line ∷ lines_in b) (sym (is ∙ ap (drop (length line)) whole ∙ behind_front line behind))
+    lines ∙ ap (λ (b : List ℕ). line ∷ lines_in b) (sym (is ∙ ap (drop (length line)) whole ∙ behind_prefix line behind))
   where
-    behind_front : (front rest : List ℕ) → drop (length front) (front ++ rest) ≡ rest
-    behind_front [] rest = refl
-    behind_front (b ∷ front) rest = behind_front front rest
+    behind_prefix : (prefix rest : List ℕ) → drop (length prefix) (prefix ++ rest) ≡ rest
+    behind_prefix [] rest = refl
+    behind_prefix (b ∷ prefix) rest = behind_prefix prefix rest
 
 -- the texts that `pp` is inside of, with one more, and their number
 pub rests_pushed : (opens : List OpenText) (opened : OpenText) → rests_of (opens ++ opened ∷ []) ≡ rest_of opened ∷ rests_of opens
@@ -125,6 +125,6 @@ carried_unsaid {stands = stands} {broken = broken} {asking = asking} {value = va
 }
   where
     by : (halt : Halt) → Gave value shown (Err halt) → Halted (texts (stands files)) reads asking halt reads (broken files) (broken files)
-    by (Fault fault) gave = ap (traced (texts (stands files)) reads) (faults fault gave)
+    by (Fault fault) gave = ap (trace_of (texts (stands files)) reads) (faults fault gave)
     by (GivenUp cause) gave = absurd gave
     by NoMemory gave = tt

@@ -13,22 +13,22 @@ paths_onto read None = None
 paths_onto read (Some more) = Some (read ++ more)
 
 -- the directories of a first pair and of the pairs behind it
-directories_front : (pair rest : List (Bor (List ℕ))) → length pair ≡ min 2 (length (pair ++ rest)) → 0 < length (pair ++ rest) →
+directories_prefix : (pair rest : List (Bor (List ℕ))) → length pair ≡ min 2 (length (pair ++ rest)) → 0 < length (pair ++ rest) →
     directories_of (map (λ word. word.now) (pair ++ rest)) ≡ path_before (directory_of (map (λ word. word.now) pair)) (directories_of (map (λ word. word.now) rest))
-directories_front [] [] e h = absurd (omega arith)
-directories_front [] (a ∷ rest) e h = absurd (omega arith)
-directories_front (a ∷ []) [] e h = by (bytes_eq a.now (codes "-I"))
+directories_prefix [] [] e h = absurd (omega arith)
+directories_prefix [] (a ∷ rest) e h = absurd (omega arith)
+directories_prefix (a ∷ []) [] e h = by (bytes_eq a.now (codes "-I"))
   where
     by : (flagged : Bool) → None ≡ path_before (if flagged then None else None) (Some [])
     by true = refl
     by false = refl
-directories_front (a ∷ []) (b ∷ rest) e h = absurd (omega arith)
-directories_front (a ∷ b ∷ []) rest e h = refl
-directories_front (a ∷ b ∷ c ∷ more) rest e h = absurd (omega arith)
+directories_prefix (a ∷ []) (b ∷ rest) e h = absurd (omega arith)
+directories_prefix (a ∷ b ∷ []) rest e h = refl
+directories_prefix (a ∷ b ∷ c ∷ more) rest e h = absurd (omega arith)
 
 pub directories_cut : (words pair rest : List (Bor (List ℕ))) → words ≡ pair ++ rest → length pair ≡ min 2 (length words) → 0 < length words →
     directories_of (map (λ word. word.now) words) ≡ path_before (directory_of (map (λ word. word.now) pair)) (directories_of (map (λ word. word.now) rest))
-directories_cut words pair rest e two filled = rw e (directories_front pair rest (rw e at two) (rw e at filled))
+directories_cut words pair rest e two filled = rw e (directories_prefix pair rest (rw e at two) (rw e at filled))
 
 -- a path that is read joins those before it
 pub onto_path : (read : List (List ℕ)) (path : List ℕ) (more : Option (List (List ℕ))) → paths_onto read (path_before (Some path) more) ≡ paths_onto (read ++ path ∷ []) more

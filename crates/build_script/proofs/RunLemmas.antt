@@ -10,7 +10,7 @@ use Rattle.script_grammar.specs.declared.lines.Line.{Line}
 use Rattle.script_grammar.specs.declared.lines.Line.TheVariants.{Empty, Makes, Fail}
 use Rattle.build_script.specs.Progress.{HoldsEach}
 use Rattle.cc_names.specs.Files.{Files}
-use Rattle.script_grammar.specs.Run.{Ran, Traced, carried_out, traced, State, Asking, Done, and_then, unless_fault, noted, write_output, after_line, after_lines}
+use Rattle.script_grammar.specs.Run.{Ran, Traced, carried_out, trace_of, State, Asking, Done, and_then, unless_fault, with_read, write_output, after_line, after_lines}
 use Rattle.script_grammar.specs.Standings.{IsAmong, AreAmong}
 use Rattle.cc_names.specs.declared.refusals.ScriptFault.TheVariants.{StrayWrite}
 
@@ -70,8 +70,8 @@ any_among p (first ∷ paths) path among passes = by (bytes_eq path first) refl 
     by false other among rest = rw (rest among passes) (or-true (p first))
 
 -- a path that is noted
-any-noted : (p : List ℕ → Bool) (paths : List (List ℕ)) (path : List ℕ) → list_any p (noted paths path) ≡ (list_any p paths || p path)
-any-noted p paths path = by (list_any (bytes_eq path) paths) refl (p path) refl
+any-with_read : (p : List ℕ → Bool) (paths : List (List ℕ)) (path : List ℕ) → list_any p (with_read paths path) ≡ (list_any p paths || p path)
+any-with_read p paths path = by (list_any (bytes_eq path) paths) refl (p path) refl
   where
     by : (b : Bool) → list_any (bytes_eq path) paths ≡ b → (t : Bool) → p path ≡ t → list_any p (if b then paths else paths ++ path ∷ []) ≡ (list_any p paths || t)
     by true among true passes = any_among p paths path among passes ∙ sym (or-true (list_any p paths))
@@ -79,10 +79,10 @@ any-noted p paths path = by (list_any (bytes_eq path) paths) refl (p path) refl
     by false apart t is = any-append p paths (path ∷ []) ∙ ap (λ (b : Bool). list_any p paths || b) (or-false (p path) ∙ is)
 
 -- one more target
-pub holds_more : (keys targets keys' : List (List ℕ)) (i : ℕ) (target : List ℕ) → HoldsEach keys (take i targets) → keys' ≡ noted keys target → target ≡ get_or targets i target → i < length targets → HoldsEach keys' (take (i + 1) targets)
+pub holds_more : (keys targets keys' : List (List ℕ)) (i : ℕ) (target : List ℕ) → HoldsEach keys (take i targets) → keys' ≡ with_read keys target → target ≡ get_or targets i target → i < length targets → HoldsEach keys' (take (i + 1) targets)
 holds_more keys targets keys' i target h e is low = record {
   same = λ path.
-      ap (list_any (λ t. bytes_eq t path)) e ∙ any-noted (λ t. bytes_eq t path) keys target ∙ ap (λ (b : Bool). b || bytes_eq target path) (h.same path)
+      ap (list_any (λ t. bytes_eq t path)) e ∙ any-with_read (λ t. bytes_eq t path) keys target ∙ ap (λ (b : Bool). b || bytes_eq target path) (h.same path)
       ∙ sym (ap (list_any (λ t. bytes_eq t path)) (rw add-one (take-suc targets i target low ∙ ap (λ (x : List ℕ). take i targets ++ x ∷ []) (sym is)))
       ∙ any-append (λ t. bytes_eq t path) (take i targets) (target ∷ []) ∙ ap (λ (b : Bool). list_any (λ t. bytes_eq t path) (take i targets) || b) (or-false (bytes_eq target path)));
 }
@@ -118,7 +118,7 @@ any-turned path [] = refl
 any-turned path (first ∷ paths) = λ i. turned path first i || any-turned path paths i
 
 -- a run comes to what it traces
-pub came_to : (files : Files) (asking : Asking (Result (List (List ℕ)) ScriptFault)) (ran : Ran) → traced files [] asking ≡ record { value = ran.result; reads = ran.reads } → ran ≡ carried_out files asking
+pub came_to : (files : Files) (asking : Asking (Result (List (List ℕ)) ScriptFault)) (ran : Ran) → trace_of files [] asking ≡ record { value = ran.result; reads = ran.reads } → ran ≡ carried_out files asking
 came_to files asking ran e = ap (λ t. the_run t) (sym e)
   where
     the_run : Traced (Result (List (List ℕ)) ScriptFault) → Ran

@@ -62,18 +62,18 @@ runs_cut line (b ∷ run) rest e filled h =
 pub words_cut : (line run rest : List ℕ) → line ≡ run ++ rest → 0 < length run → IsChunkByPrefix is_alike line (length run) → words line ≡ words_of_run run ++ words rest
 words_cut line run rest e filled h = ap (flat_map words_of_run) (runs_cut line run rest e filled h)
 
-arrows_front : (pair rest : List ℕ) → length pair ≡ min 2 (length (pair ++ rest)) → 0 < length (pair ++ rest) → arrows (pair ++ rest) ≡ pair ∷ arrows rest
-arrows_front [] [] e h = absurd (omega arith)
-arrows_front [] (a ∷ rest) e h = absurd (omega arith)
-arrows_front (a ∷ []) [] e h = refl
-arrows_front (a ∷ []) (b ∷ rest) e h = absurd (omega arith)
-arrows_front (a ∷ b ∷ []) rest e h = refl
-arrows_front (a ∷ b ∷ c ∷ more) rest e h = absurd (omega arith)
+arrows_prefix : (pair rest : List ℕ) → length pair ≡ min 2 (length (pair ++ rest)) → 0 < length (pair ++ rest) → arrows (pair ++ rest) ≡ pair ∷ arrows rest
+arrows_prefix [] [] e h = absurd (omega arith)
+arrows_prefix [] (a ∷ rest) e h = absurd (omega arith)
+arrows_prefix (a ∷ []) [] e h = refl
+arrows_prefix (a ∷ []) (b ∷ rest) e h = absurd (omega arith)
+arrows_prefix (a ∷ b ∷ []) rest e h = refl
+arrows_prefix (a ∷ b ∷ c ∷ more) rest e h = absurd (omega arith)
 
 -- arrows are a pair and the arrows behind it
 pub arrows_cut : (run pair rest : List ℕ) → run ≡ pair ++ rest → length pair ≡ min 2 (length run) → 0 < length run → arrows run ≡ pair ∷ arrows rest
 arrows_cut run pair rest e two filled =
-    rw e (arrows_front pair rest (rw e at two) (rw e at filled))
+    rw e (arrows_prefix pair rest (rw e at two) (rw e at filled))
 
 -- a word behind words that were found, before more
 pub pushed : (found : List (Bor (List ℕ))) (word : Bor (List ℕ)) (more : List (List ℕ)) →

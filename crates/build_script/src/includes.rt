@@ -1,7 +1,7 @@
 //! Which lines include a file, and where it is looked for.
 
 ghost use Rattle.std.specs.Prelude.{◌≡◌, ◌++◌, ◌∷◌, IfOk};
-ghost use Rattle.script_grammar.specs.Includes.{without_newline, quoted, include_of, under};
+ghost use Rattle.script_grammar.specs.Includes.{without_newline, quoted_path, include_of, under};
 
 use crate::lines::read_path;
 use cc_names::memory::NoMemory;
@@ -25,8 +25,8 @@ fn without_newline(line: &[u8]) -> &[u8]
 }
 
 /// The path before a last `"`.
-fn quoted(alloc: Global, bytes: &[u8]) -> Result<Option<Path>, NoMemory>
-    ensures { IfOk result (λ path. path ≡ quoted bytes.now) }
+fn quoted_path(alloc: Global, bytes: &[u8]) -> Result<Option<Path>, NoMemory>
+    ensures { IfOk result (λ path. path ≡ quoted_path bytes.now) }
 {
     if !bytes.ends_with(b"\"") {
         return Ok(None);
@@ -42,7 +42,7 @@ pub(crate) fn include_of(alloc: Global, line: &[u8]) -> Result<Option<Path>, NoM
     if !line.starts_with(INCLUDE_START) {
         return Ok(None);
     }
-    quoted(alloc, &line[INCLUDE_START.len()..])
+    quoted_path(alloc, &line[INCLUDE_START.len()..])
 }
 
 /// A path under a directory, or nothing where it would be longer than a path may be: that is told by the lengths alone.

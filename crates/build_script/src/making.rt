@@ -2,8 +2,8 @@
 
 ghost use Rattle.std.specs.Prelude.{◌≡◌, ◌+◌, ◌++◌, ◌∷◌, [], ℕ, List, Ok, IfOk, OnOk, length, map, nat_lt};
 ghost use Rattle.std.specs.List.{flat_map, join_with_byte};
-ghost use Rattle.script_grammar.specs.Run.{Done, Asks, TextOf, and_then, see, present, text_at, noted, said, with_part, with_parts, parts_of, output_limit};
-ghost use Rattle.script_grammar.specs.Forms.{replaced};
+ghost use Rattle.script_grammar.specs.Run.{Done, Asks, TextOf, and_then, see, present, text_at, with_read, with_output, with_part, with_parts, parts_of, output_limit};
+ghost use Rattle.script_grammar.specs.Forms.{with_replaced};
 ghost use Rattle.build_script.specs.Making.{form_of, made_with, output_at};
 ghost use Rattle.script_grammar.specs.Parts.{Performed, Gave, gives, own_of};
 ghost use Rattle.build_script.specs.MadeOf.{made_of};
@@ -65,7 +65,7 @@ pub(crate) fn note(
     reads: &mut IndexSet<Path, RandomState>,
     path: &Path,
 ) -> Result<(), NoMemory>
-    ensures { OnOk result (reads.new.keys ≡ noted reads.old.keys path.now) }
+    ensures { OnOk result (reads.new.keys ≡ with_read reads.old.keys path.now) }
 {
     if !reads.contains(path) {
         reads.insert(path.copy(alloc)?)?;
@@ -146,7 +146,7 @@ fn is_too_big(before: usize, fresh: usize, more: usize) -> bool
 /// More bytes behind what the line has made, within the limit.
 pub(crate) fn say(making: Making<'_>, made: &mut Made, more: &[u8]) -> Result<(), Halt>
     ensures { Gave
-        (said (output_at making.entry.path.now making.entry.before) more.now (made_of made.old))
+        (with_output (output_at making.entry.path.now making.entry.before) more.now (made_of made.old))
         (λ _. made_of made.new) result }
 {
     if is_too_big(making.before, made.bytes.len(), more.len()) {
@@ -167,8 +167,8 @@ fn say_replaced(
     text: &[u8],
 ) -> Result<(), Halt>
     ensures { Gave
-        (said (output_at making.entry.path.now making.entry.before)
-        (replaced from.now to.now text.now) (made_of made.old)) (λ _. made_of made.new) result }
+        (with_output (output_at making.entry.path.now making.entry.before)
+        (with_replaced from.now to.now text.now) (made_of made.old)) (λ _. made_of made.new) result }
 {
     if from.is_empty() {
         return say(making, made, text);
@@ -192,7 +192,7 @@ fn say_as(
     text: &[u8],
 ) -> Result<(), Halt>
     ensures { Gave
-        (said (output_at making.entry.path.now making.entry.before)
+        (with_output (output_at making.entry.path.now making.entry.before)
         (form_of form.entry path.now text.now) (made_of made.old)) (λ _. made_of made.new)
         result }
 {
@@ -252,7 +252,7 @@ fn pour_all<F: Files>(
 }
 
 /// A word, the others with a space before each, and a newline.
-fn spaced(alloc: Global, first: &Text, others: &[Text]) -> Result<Vec<u8>, NoMemory>
+fn line_after_word(alloc: Global, first: &Text, others: &[Text]) -> Result<Vec<u8>, NoMemory>
     ensures { IfOk result
         (λ bytes. bytes.items ≡ (first.now ++ flat_map (λ word. 32 ∷ word) others.now) ++ 10 ∷ []) }
 {
@@ -267,11 +267,11 @@ fn spaced(alloc: Global, first: &Text, others: &[Text]) -> Result<Vec<u8>, NoMem
 
 /// The words with one space between, and a newline.
 #[tactic(auto, using(crate::proofs::RunLemmas::joined_by_spaces))]
-fn joined(alloc: Global, words: &[Text]) -> Result<Vec<u8>, NoMemory>
+fn line_of_words(alloc: Global, words: &[Text]) -> Result<Vec<u8>, NoMemory>
     ensures { IfOk result (λ bytes. bytes.items ≡ join_with_byte 32 words.now ++ 10 ∷ []) }
 {
     match words.split_first() {
-        Some((first, others)) => spaced(alloc, first, others),
+        Some((first, others)) => line_after_word(alloc, first, others),
         None => Ok(Vec::from_slice(alloc, b"\n")?),
     }
 }
@@ -279,11 +279,11 @@ fn joined(alloc: Global, words: &[Text]) -> Result<Vec<u8>, NoMemory>
 /// The words with one space between, and a newline.
 fn echo(making: Making<'_>, made: &mut Made, words: &[Text]) -> Result<(), Halt>
     ensures { Gave
-        (said (output_at making.entry.path.now making.entry.before)
+        (with_output (output_at making.entry.path.now making.entry.before)
         (join_with_byte 32 words.now ++ 10 ∷ []) (made_of made.old)) (λ _. made_of made.new)
         result }
 {
-    let bytes = joined(making.alloc, words)?;
+    let bytes = line_of_words(making.alloc, words)?;
     say(making, made, bytes.as_slice())
 }
 

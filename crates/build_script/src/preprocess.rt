@@ -1,11 +1,11 @@
 //! `pp`: a text with each include line replaced by the text that it includes.
 
 ghost use Rattle.std.specs.Prelude.{◌≡◌, ◌+◌, ◌-◌, ◌<◌, ◌≤◌, ◌∷◌, ℕ, List, Err, IfOk, OnOk, OnSome, length};
-ghost use Rattle.script_grammar.specs.Run.{Preprocessed, probed, found_or, expanded, with_part, depth_limit};
+ghost use Rattle.script_grammar.specs.Run.{Preprocessed, probe_of, found_or, preprocessed_text, with_part, depth_limit};
 ghost use Rattle.std.specs.List.{filter_map};
 ghost use Rattle.cc_names.specs.declared.refusals.ScriptFault.TheVariants.{Absent};
 ghost use Rattle.script_grammar.specs.Includes.{probes_of, under};
-ghost use Rattle.build_script.specs.Making.{output_at, resumed, left_of, includes, preprocessing, made_with, found_with};
+ghost use Rattle.build_script.specs.Making.{output_at, resumed_making, left_of, includes, preprocessing, made_with, found_with};
 ghost use Rattle.build_script.specs.OpenTexts.{rest_of, rests_of};
 ghost use Rattle.script_grammar.specs.Parts.{Performed, Gave, gives, own_of};
 ghost use Rattle.build_script.specs.MadeOf.{made_of};
@@ -41,8 +41,8 @@ fn probe<F: Files>(
 ) -> Result<Option<Text>, Halt>
     ensures went { (more : List (List ℕ))
         → Performed F.stands F.broken F.follows reads.old.keys
-        (probed (own_of making.entry.written.now) include.now (place.now ∷ more) probes.old)
-        (found_or (probed (own_of making.entry.written.now) include.now more probes.new)
+        (probe_of (own_of making.entry.written.now) include.now (place.now ∷ more) probes.old)
+        (found_or (probe_of (own_of making.entry.written.now) include.now more probes.new)
         probes.new) result reads.new.keys files.old files.new }
     ensures counted { OnOk result (probes.new ≡ probes.old + 1) }
     ensures within { OnOk result (probes.new ≤ 100000) }
@@ -76,10 +76,10 @@ fn probe_under<F: Files>(
 ) -> Result<Option<Text>, Halt>
     ensures went { (more : List (List ℕ))
         → Performed F.stands F.broken F.follows reads.old.keys
-        (probed (own_of making.entry.written.now) path.now
+        (probe_of (own_of making.entry.written.now) path.now
         (filter_map (under path.now) (directory.now ∷ more)) probes.old)
         (found_or
-        (probed (own_of making.entry.written.now) path.now (filter_map (under path.now) more)
+        (probe_of (own_of making.entry.written.now) path.now (filter_map (under path.now) more)
         probes.new) probes.new) result reads.new.keys files.old files.new }
     ensures counted { OnOk result (probes.old ≤ probes.new) }
     ensures found { IfOk result (λ found. OnSome found (probes.old < probes.new)) }
@@ -101,7 +101,7 @@ fn find_under<F: Files>(
     path: &Path,
 ) -> Result<Text, Halt>
     ensures went { Performed F.stands F.broken F.follows reads.old.keys
-        (probed (own_of making.entry.written.now) path.now
+        (probe_of (own_of making.entry.written.now) path.now
         (filter_map (under path.now) directories.now) probes.old)
         (gives (found_with probes.new)) result reads.new.keys files.old files.new }
     ensures counted { OnOk result (probes.old < probes.new) }
@@ -126,7 +126,7 @@ fn find<F: Files>(
     path: &Path,
 ) -> Result<Text, Halt>
     ensures went { Performed F.stands F.broken F.follows reads.old.keys
-        (probed (own_of making.entry.written.now) path.now (probes_of directories.now path.now)
+        (probe_of (own_of making.entry.written.now) path.now (probes_of directories.now path.now)
         probes.old) (gives (found_with probes.new)) result reads.new.keys files.old files.new }
     ensures counted { OnOk result (probes.old < probes.new) }
     ensures within { OnOk result (probes.new ≤ 100000) }
@@ -158,7 +158,7 @@ fn include<F: Files>(
         (output_at making.entry.path.now making.entry.before)) path.now
         (made_with bytes probes.old))
         (λ text.
-        expanded (depth_limit - (inside + 1))
+        preprocessed_text (depth_limit - (inside + 1))
         (preprocessing (own_of making.entry.written.now) directories.now
         (output_at making.entry.path.now making.entry.before)) text
         (made_with bytes probes.new)) result reads.new.keys files.old files.new }
@@ -204,12 +204,12 @@ fn step<F: Files>(
     innermost: OpenText,
 ) -> Result<(), Halt>
     ensures went { Performed F.stands F.broken F.follows reads.old.keys
-        (resumed
+        (resumed_making
         (preprocessing (own_of making.entry.written.now) directories.now
         (output_at making.entry.path.now making.entry.before))
         (rest_of innermost ∷ rests_of inside.old.items) (made_of made.old))
         (λ _.
-        resumed
+        resumed_making
         (preprocessing (own_of making.entry.written.now) directories.now
         (output_at making.entry.path.now making.entry.before)) (rests_of inside.new.items)
         (made_of made.new)) result reads.new.keys files.old files.new }
@@ -251,7 +251,7 @@ fn expand<F: Files>(
     text: Text,
 ) -> Result<(), Halt>
     ensures { Performed F.stands F.broken F.follows reads.old.keys
-        (expanded depth_limit
+        (preprocessed_text depth_limit
         (preprocessing (own_of making.entry.written.now) directories.now
         (output_at making.entry.path.now making.entry.before)) text (made_of made.old))
         (gives (λ _. made_of made.new)) result reads.new.keys files.old files.new }

@@ -3,7 +3,7 @@
 ghost use Rattle.std.specs.Prelude.{◌≡◌, ◌++◌, [], ℕ, List, Ok, IfOk, OnOk, length};
 ghost use Rattle.std.specs.List.{list_any};
 ghost use Rattle.std.specs.Str.{bytes_eq};
-ghost use Rattle.script_grammar.specs.Run.{begun, wrote, write_output, after_line, outputs_of, nothing_written};
+ghost use Rattle.script_grammar.specs.Run.{output_start, wrote, write_output, after_line, outputs_of, nothing_written};
 ghost use Rattle.script_grammar.specs.Parts.{Performed, Gave, gives, own_of};
 ghost use Rattle.build_script.specs.Progress.{state_of};
 
@@ -31,7 +31,7 @@ fn store(
 ) -> Result<(), NoMemory>
     ensures { OnOk result
         (own_of written.new
-        ≡ wrote output.now (begun appends (own_of written.old output.now) ++ fresh.items)
+        ≡ wrote output.now (output_start appends (own_of written.old output.now) ++ fresh.items)
         (own_of written.old)) }
 {
     let bytes = match written.remove(output) {
@@ -47,7 +47,7 @@ fn store(
 
 /// How many bytes an output has before a line writes to it.
 fn length_before(written: &Outputs, output: &Path, appends: bool) -> usize
-    ensures { result ≡ length (begun appends (own_of written.now output.now)) }
+    ensures { result ≡ length (output_start appends (own_of written.now output.now)) }
 {
     match written.get(output) {
         Some(bytes) if appends => bytes.len(),

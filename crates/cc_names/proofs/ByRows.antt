@@ -101,13 +101,13 @@ filter-reverse p (x ∷ xs) =
 
 module _ {X : Type 0} (n : X → ℕ) where
   -- the front of a list that falls falls
-  pub falls_front : (xs ys : List X) → Falls (map n (xs ++ ys)) → Falls (map n xs)
-  falls_front [] ys falls = tt
-  falls_front (x ∷ xs) ys falls = (above_front (n x) xs falls.0, falls_front xs ys falls.1)
+  pub falls_prefix : (xs ys : List X) → Falls (map n (xs ++ ys)) → Falls (map n xs)
+  falls_prefix [] ys falls = tt
+  falls_prefix (x ∷ xs) ys falls = (above_prefix (n x) xs falls.0, falls_prefix xs ys falls.1)
     where
-      above_front : (row : ℕ) (zs : List X) → IsAbove row (map n (zs ++ ys)) → IsAbove row (map n zs)
-      above_front row [] above = tt
-      above_front row (z ∷ zs) above = (above.0, above_front row zs above.1)
+      above_prefix : (row : ℕ) (zs : List X) → IsAbove row (map n (zs ++ ys)) → IsAbove row (map n zs)
+      above_prefix row [] above = tt
+      above_prefix row (z ∷ zs) above = (above.0, above_prefix row zs above.1)
 
   -- what a row is found at stands alone, so the order of the search does not matter
   pub find-reverse : (row : ℕ) (xs : List X) → Falls (map n (reverse xs)) → find (λ x. eqb (n x) row) (reverse xs) ≡ find (λ x. eqb (n x) row) xs
@@ -115,7 +115,7 @@ module _ {X : Type 0} (n : X → ℕ) where
   find-reverse row (x ∷ xs) falls =
       let q : X → Bool = λ y. eqb (n y) row in
       let apart : Falls (map n (reverse xs ++ x ∷ [])) = rw (reverse-append (x ∷ []) xs) at falls in
-      let rest : find q (reverse xs) ≡ find q xs = find-reverse row xs (falls_front (reverse xs) (x ∷ []) apart) in
+      let rest : find q (reverse xs) ≡ find q xs = find-reverse row xs (falls_prefix (reverse xs) (x ∷ []) apart) in
       rw (reverse-append (x ∷ []) xs, find-append q (reverse xs) (x ∷ [])) (elim (eqb_cases (n x) row) [
         | inl same ↦
             let none : find q (reverse xs) ≡ None = find_nothing q (reverse xs) (λ k d within. above_last apart same k d within) in

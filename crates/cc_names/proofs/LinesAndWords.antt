@@ -3,25 +3,25 @@ use Rattle.std.proofs.Common.{◌≡◌, ◌≢◌, ℕ, ◌+◌, ◌≤◌, Boo
 use Rattle.std.specs.Prelude.{nat_lt}
 use Rattle.std.specs.List.{position, position_or_len, prefix_len, slice_split, onto_first}
 use Rattle.std.proofs.lemmas.List.Splits.{length-slice_split, slice_split-cons_yes}
-use Rattle.cc_names.specs.Cuts.{is_newline, is_blank, ended, lines_of, without_empty, words_of, starts_with_word, before, behind}
+use Rattle.cc_names.specs.Cuts.{is_newline, is_blank, without_empty_end, lines_of, without_empty, words_of, starts_with_word, before, behind}
 use Rattle.cc_names.proofs.Splits.{Some-given, slice_split-at, slice_split-none}
 
 -- one part or more
 some_part : (p : ℕ → Bool) (xs : List ℕ) → slice_split p xs ≢ []
 some_part p xs e = let l : length (slice_split p xs) ≡ 0 = ap length e in let m = length-slice_split p xs in absurd (omega arith)
 
-ended-more : (part : List ℕ) (parts : List (List ℕ)) → parts ≢ [] → ended (part ∷ parts) ≡ part ∷ ended parts
-ended-more [] [] h = absurd (h refl)
-ended-more [] (q ∷ qs) h = refl
-ended-more (b ∷ bs) parts h = refl
+without_empty_end-more : (part : List ℕ) (parts : List (List ℕ)) → parts ≢ [] → without_empty_end (part ∷ parts) ≡ part ∷ without_empty_end parts
+without_empty_end-more [] [] h = absurd (h refl)
+without_empty_end-more [] (q ∷ qs) h = refl
+without_empty_end-more (b ∷ bs) parts h = refl
 
 -- the first line of a text, and the lines behind it
 pub lines-next : (text : List ℕ) (found : Option ℕ) → text ≢ [] → found ≡ position is_newline text → lines_of text ≡ before text found ∷ lines_of (behind text found)
 lines-next text (Some place) some h =
-    ap ended (slice_split-at is_newline 0 text place (sym h))
-    ∙ ended-more (take place text) (slice_split is_newline (drop (place + 1) text)) (some_part is_newline (drop (place + 1) text))
+    ap without_empty_end (slice_split-at is_newline 0 text place (sym h))
+    ∙ without_empty_end-more (take place text) (slice_split is_newline (drop (place + 1) text)) (some_part is_newline (drop (place + 1) text))
 lines-next [] None some h = absurd (some refl)
-lines-next (b ∷ bs) None some h = ap ended (slice_split-none is_newline (b ∷ bs) (sym h))
+lines-next (b ∷ bs) None some h = ap without_empty_end (slice_split-none is_newline (b ∷ bs) (sym h))
 
 -- blanks before words
 pub words-past_blank : (b : ℕ) (bs : List ℕ) → is_blank b ≡ true → words_of (b ∷ bs) ≡ words_of bs
@@ -46,12 +46,12 @@ words-next (b ∷ bs) (Some place) h e =
     let most = length-take place (b ∷ bs) in
     absurd (omega arith))
 
-ended-short : (part : List ℕ) (parts : List (List ℕ)) → length (ended (part ∷ parts)) ≤ 1 + length (ended parts)
-ended-short [] [] = omega arith
-ended-short [] (q ∷ qs) = omega arith
-ended-short (b ∷ bs) parts = omega arith
+without_empty_end-short : (part : List ℕ) (parts : List (List ℕ)) → length (without_empty_end (part ∷ parts)) ≤ 1 + length (without_empty_end parts)
+without_empty_end-short [] [] = omega arith
+without_empty_end-short [] (q ∷ qs) = omega arith
+without_empty_end-short (b ∷ bs) parts = omega arith
 
-first_longer : (b : ℕ) (parts : List (List ℕ)) → length (ended (onto_first b parts)) ≤ 1 + length (ended parts)
+first_longer : (b : ℕ) (parts : List (List ℕ)) → length (without_empty_end (onto_first b parts)) ≤ 1 + length (without_empty_end parts)
 first_longer b [] = omega arith
 first_longer b ([] ∷ []) = omega arith
 first_longer b ([] ∷ q ∷ qs) = omega arith
@@ -64,6 +64,6 @@ length-lines_of (b ∷ bs) =
     let more : length (lines_of (b ∷ bs)) ≤ length bs + 1 = by_first (is_newline b) b (slice_split is_newline bs) (length bs) (length-lines_of bs) in
     omega arith
   where
-    by_first : (newline : Bool) (b : ℕ) (parts : List (List ℕ)) (len : ℕ) → length (ended parts) ≤ len → length (ended (cond newline ([] ∷ parts) (onto_first b parts))) ≤ len + 1
-    by_first true b parts len h = let e = ended-short [] parts in omega arith
+    by_first : (newline : Bool) (b : ℕ) (parts : List (List ℕ)) (len : ℕ) → length (without_empty_end parts) ≤ len → length (without_empty_end (cond newline ([] ∷ parts) (onto_first b parts))) ≤ len + 1
+    by_first true b parts len h = let e = without_empty_end-short [] parts in omega arith
     by_first false b parts len h = let e = first_longer b parts in omega arith

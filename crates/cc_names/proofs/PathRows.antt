@@ -1,7 +1,7 @@
 -- Worked rows of the definitions on paths.
 use Rattle.std.proofs.Common.{◌≡◌, Some, None, Ok, Err, [], ◌∷◌, replicate, refl}
 use Rattle.std.specs.Prelude.{codes}
-use Rattle.cc_names.specs.Paths.{names_of, joined, parent_of, last_of, join_of}
+use Rattle.cc_names.specs.Paths.{names_of, path_of_names, parent_of, last_of, join_of}
 use Rattle.cc_names.specs.declared.names.NameFault.TheVariants.{TooLong}
 
 names-root : names_of (codes ".") ≡ []
@@ -13,11 +13,11 @@ names-one = refl
 names-three : names_of (codes "src/lib/a.c") ≡ codes "src" ∷ codes "lib" ∷ codes "a.c" ∷ []
 names-three = refl
 
-joined-none : joined [] ≡ codes "."
-joined-none = refl
+path_of_names-none : path_of_names [] ≡ codes "."
+path_of_names-none = refl
 
-joined-three : joined (codes "src" ∷ codes "lib" ∷ codes "a.c" ∷ []) ≡ codes "src/lib/a.c"
-joined-three = refl
+path_of_names-three : path_of_names (codes "src" ∷ codes "lib" ∷ codes "a.c" ∷ []) ≡ codes "src/lib/a.c"
+path_of_names-three = refl
 
 parent-root : parent_of (codes ".") ≡ None
 parent-root = refl

@@ -1,7 +1,7 @@
 -- Worked trees of versions, checked by computation.
 use Rattle.std.proofs.Common.{◌≡◌, Some, None, List, [], ◌∷◌, refl}
 use Rattle.std.specs.Prelude.{codes, map}
-use Rattle.cc_names.specs.Versions.{of_first_rows, versions_on, versions_of, row_of_version, version_id, latest, numbered, kind_of}
+use Rattle.cc_names.specs.Versions.{of_first_rows, versions_on, versions_of, row_of_version, version_id, latest, version_of_number, kind_of}
 use Rattle.cc_names.specs.Branches.{origin_of, name_of_branch, branch_named, branch_behind, names_of_branch}
 use Rattle.cc_names.specs.declared.rows.Kind.TheVariants.{File, Directory}
 use Rattle.cc_names.specs.declared.changes.TreeChange.{TreeChange}
@@ -38,10 +38,10 @@ none_before_all = refl
 numbers_of_in : map row_of_version (versions_on checked_in 6) ≡ 17 ∷ 8 ∷ 6 ∷ []
 numbers_of_in = refl
 
-third_of_in : numbered checked_in 6 2 ≡ Some 17
+third_of_in : version_of_number checked_in 6 2 ≡ Some 17
 third_of_in = refl
 
-no_fourth : numbered checked_in 6 3 ≡ None
+no_fourth : version_of_number checked_in 6 3 ≡ None
 no_fourth = refl
 
 version_id_of_17 : version_id checked_in 17 ≡ Some (record { element = 6; branch = 6; number = 2 })

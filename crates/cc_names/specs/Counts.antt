@@ -6,8 +6,8 @@ abbrev pub last_count : ℕ
 last_count = 18446744073709551615
 
 -- a count with this much added, up to its last number; it never falls
-abbrev pub raised : ℕ → ℕ → ℕ
-raised count more = max count (min (count + more) last_count)
+abbrev pub raised_count : ℕ → ℕ → ℕ
+raised_count count more = max count (min (count + more) last_count)
 
 -- a count is greater than before, or stands at its last number
 abbrev pub Rose : ℕ → ℕ → Type 0

@@ -11,14 +11,14 @@ abbrev pub is_blank : ℕ → Bool
 is_blank b = (b == 32) || (b == 9)
 
 -- parts without the last of them, where that is empty
-abbrev pub ended : List (List ℕ) → List (List ℕ)
-ended [] = []
-ended ([] ∷ []) = []
-ended (part ∷ parts) = part ∷ ended parts
+abbrev pub without_empty_end : List (List ℕ) → List (List ℕ)
+without_empty_end [] = []
+without_empty_end ([] ∷ []) = []
+without_empty_end (part ∷ parts) = part ∷ without_empty_end parts
 
 -- the lines of a text: each ends with a newline, which the last may lack
 abbrev pub lines_of : List ℕ → List (List ℕ)
-lines_of text = ended (slice_split is_newline text)
+lines_of text = without_empty_end (slice_split is_newline text)
 
 -- parts without the empty ones
 abbrev pub without_empty : List (List ℕ) → List (List ℕ)

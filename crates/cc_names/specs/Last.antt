@@ -13,13 +13,13 @@ only_if true effect = effect
 only_if false effect = Keeps
 
 -- what an effect leaves of what was there before
-abbrev pub left : {A : Type 0} → Effect A → Option A → Option A
-left Keeps before = before
-left Ends before = None
-left (Sets a) before = Some a
+abbrev pub value_after : {A : Type 0} → Effect A → Option A → Option A
+value_after Keeps before = before
+value_after Ends before = None
+value_after (Sets a) before = Some a
 
 -- What the last change that bears on a thing set, and nothing where that change ended it. The list has the newest
 -- change first; the effect of a change is told by it and by the older ones.
 abbrev pub last : {X A : Type 0} → (List X → X → Effect A) → List X → Option A
 last effect [] = None
-last effect (x ∷ older) = left (effect older x) (last effect older)
+last effect (x ∷ older) = value_after (effect older x) (last effect older)

@@ -53,14 +53,14 @@ abbrev pub names_of : List ℕ → List (List ℕ)
 names_of path = if is_root path then [] else slice_split is_slash path
 
 -- the path of these names; the root where there are none
-abbrev pub joined : List (List ℕ) → List ℕ
-joined [] = root
-joined (name ∷ names) = join_with_byte 47 (name ∷ names)
+abbrev pub path_of_names : List (List ℕ) → List ℕ
+path_of_names [] = root
+path_of_names (name ∷ names) = join_with_byte 47 (name ∷ names)
 
 -- the path of all names but the last
 abbrev pub without_last : List (List ℕ) → Option (List ℕ)
 without_last [] = None
-without_last (name ∷ names) = Some (joined (take (length names) (name ∷ names)))
+without_last (name ∷ names) = Some (path_of_names (take (length names) (name ∷ names)))
 
 -- the path of the directory that holds this one; the root has none
 abbrev pub parent_of : List ℕ → Option (List ℕ)
@@ -76,7 +76,7 @@ unless_long path = if nat_lt 1024 (length path) then Err (TooLong (length path))
 
 -- the path of this name in the directory of that path
 abbrev pub join_of : List ℕ → List ℕ → Result (List ℕ) NameFault
-join_of path name = unless_long (joined (names_of path ++ (name ∷ [])))
+join_of path name = unless_long (path_of_names (names_of path ++ (name ∷ [])))
 
 -- a path before paths, where all of them are there
 abbrev pub path_before : Option (List ℕ) → Option (List (List ℕ)) → Option (List (List ℕ))

@@ -30,8 +30,8 @@ abbrev pub is_view_path : ViewPath → ViewPath → Bool
 is_view_path one two = bytes_eq one.0 two.0 && bytes_eq one.1 two.1
 
 -- the view holds nothing at the path any more
-abbrev pub lost : List ℕ → List ℕ → Held → Held
-lost v path held = where_key view_path_cmp (λ view_path. not (is_view_path view_path (v, path))) held
+abbrev pub without_reference : List ℕ → List ℕ → Held → Held
+without_reference v path held = where_key view_path_cmp (λ view_path. not (is_view_path view_path (v, path))) held
 
 -- the view holds nothing any more
 abbrev pub view_gone : List ℕ → Held → Held
@@ -40,7 +40,7 @@ view_gone v held = where_key view_path_cmp (λ view_path. not (bytes_eq view_pat
 -- the references after one change
 abbrev pub held_after : ReferenceChange → Held → Held
 held_after (Won v targets id) held = won v id targets held
-held_after (Lost v path) held = lost v path held
+held_after (Lost v path) held = without_reference v path held
 held_after (ViewGone v) held = view_gone v held
 
 -- the references that changes leave

@@ -114,8 +114,8 @@ abbrev pub latest : List TreeChange → ℕ → Option ℕ → Option ℕ
 latest changes b before = option_map row_of_version (find (λ v. is_before before v.moment) (versions_on changes b))
 
 -- the version with a number on a branch
-abbrev pub numbered : List TreeChange → ℕ → ℕ → Option ℕ
-numbered changes b number = option_map row_of_version (find (λ v. v.number == number) (versions_on changes b))
+abbrev pub version_of_number : List TreeChange → ℕ → ℕ → Option ℕ
+version_of_number changes b number = option_map row_of_version (find (λ v. v.number == number) (versions_on changes b))
 
 -- what kind of element a row made
 abbrev pub kind_by : TreeChange → Option Kind

@@ -33,7 +33,7 @@ fn assert_printed(
 }
 
 #[test]
-fn a_fault_is_told_with_its_place(rt: HostRuntime) -> Result<(), Fail> {
+fn a_fault_is_reported_with_its_place(rt: HostRuntime) -> Result<(), Fail> {
     let table: [(&[u8], &str, &str); 13] = [
         (b"a-b.c", "", ""),
         (b"", "empty", "empty"),

@@ -4,7 +4,7 @@ use Rattle.std.proofs.lemmas.Grind.{common_steps}
 use Rattle.std.proofs.lemmas.List.{take_rest, take-append-drop, length-take-le, drop-drop, nil_from_length}
 use Rattle.std.proofs.Math.Seq.{take-add, take-append_seam}
 use Rattle.std.specs.Io.KnownBytes.{Appends, Consumes, ReadConsumes}
-use Rattle.cc_outside.specs.Feeds.{AppendsFront}
+use Rattle.cc_outside.specs.Feeds.{AppendsPrefix}
 
 -- bytes that grow by a front of a piece, and then by a front of the rest of it
 pub Appends-then : (a b c : Option (List ℕ)) (n k : ℕ) (xs : List ℕ) → Appends a b (take n xs) → Appends b c (take k (take (length xs - n) (drop n xs))) → Appends a c (take (n + k) xs)
@@ -17,8 +17,8 @@ Appends-then (Some x) (Some y) (Some z) n k xs p q =
     ∙ ap (λ v. x ++ v) (ap (λ v. take n xs ++ v) (ap f (take_rest xs n)) ∙ sym (take-add n k xs))
 
 -- the same, where the second front is not known
-pub AppendsFront-then : (a b c : Option (List ℕ)) (n : ℕ) (xs : List ℕ) → n ≤ length xs → Appends a b (take n xs) → AppendsFront b c (take (length xs - n) (drop n xs)) → AppendsFront a c xs
-AppendsFront-then a b c n xs h p q =
+pub AppendsPrefix-then : (a b c : Option (List ℕ)) (n : ℕ) (xs : List ℕ) → n ≤ length xs → Appends a b (take n xs) → AppendsPrefix b c (take (length xs - n) (drop n xs)) → AppendsPrefix a c xs
+AppendsPrefix-then a b c n xs h p q =
     let within : q.0 ≤ length (take (length xs - n) (drop n xs)) = q.1 in
     let same : length (take (length xs - n) (drop n xs)) ≡ length (drop n xs) = ap length (take_rest xs n) in
     let len : length (drop n xs) + n ≡ length xs = omega (arith, length-drop {A = ℕ}) in
@@ -55,14 +55,14 @@ Consumes-length (Some x) None xs limit p h = absurd p
 Consumes-length (Some x) (Some y) xs limit p h = let e : length x ≡ length xs + length y = ap length p ∙ length-append xs y in omega arith
 
 -- a source of bytes gives the first of those behind a place, and none only where there are none or no room
-pub takes_front : (bytes into piece : List ℕ) (place count : ℕ) → count ≡ min (length (drop place bytes)) (length into) → piece ≡ take count (drop place bytes) → ReadConsumes {E = ℕ} (Some (drop place bytes)) (Some (drop (place + count) bytes)) (Ok count) (piece ++ drop count into)
-takes_front bytes into piece place count m e =
+pub takes_prefix : (bytes into piece : List ℕ) (place count : ℕ) → count ≡ min (length (drop place bytes)) (length into) → piece ≡ take count (drop place bytes) → ReadConsumes {E = ℕ} (Some (drop place bytes)) (Some (drop (place + count) bytes)) (Ok count) (piece ++ drop count into)
+takes_prefix bytes into piece place count m e =
     let within : count ≤ length (drop place bytes) = omega arith in
     let len : length piece ≡ count = ap length e ∙ length-take-le count (drop place bytes) within in
     let f : ℕ → List ℕ = λ n. take n (piece ++ drop count into) in
-    let front : take count (piece ++ drop count into) ≡ take count (drop place bytes) =
+    let prefix : take count (piece ++ drop count into) ≡ take count (drop place bytes) =
     sym (ap f len) ∙ take-append_seam piece (drop count into) ∙ e in (
-      rw (front, ← drop-drop count place bytes) (sym (take-append-drop count (drop place bytes))),
+      rw (prefix, ← drop-drop count place bytes) (sym (take-append-drop count (drop place bytes))),
       λ z room.
           let len_into : length (piece ++ drop count into) ≡ length piece + (length into - count) = length-append piece (drop count into) ∙ ap (λ v. length piece + v) (length-drop count into) in
           let none : length (drop place bytes) ≡ 0 = omega arith in

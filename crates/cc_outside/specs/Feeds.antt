@@ -2,18 +2,18 @@
 use Rattle.std.specs.Prelude.{ℕ, ◌≤◌, Bool, Option, Result, Ok, Err, List, [], ◌++◌, ◌==◌, length, take, drop, min, if◌then◌else◌}
 use Rattle.std.specs.List.{list_any}
 use Rattle.std.specs.Io.KnownBytes.{Appends}
-use Rattle.cc_names.specs.Counts.{raised}
+use Rattle.cc_names.specs.Counts.{raised_count}
 use Rattle.cc_outside.specs.declared.sources.ReadFault.{ReadFault}
 use Rattle.cc_outside.specs.declared.sinks.WriteFault.{WriteFault}
 
 -- told bytes grow by a front of this piece, which may be empty
-abbrev pub AppendsFront : Option (List ℕ) → Option (List ℕ) → List ℕ → Type 0
-AppendsFront old new piece = (count : ℕ) × (count ≤ length piece) × Appends old new (take count piece)
+abbrev pub AppendsPrefix : Option (List ℕ) → Option (List ℕ) → List ℕ → Type 0
+AppendsPrefix old new piece = (count : ℕ) × (count ≤ length piece) × Appends old new (take count piece)
 
 -- told bytes grow by what was taken of a piece; after a fault, by some front of it
 abbrev pub WriteTakes : {E : Type 0} → Option (List ℕ) → Option (List ℕ) → Result ℕ E → List ℕ → Type 0
 WriteTakes old new (Ok count) piece = Appends old new (take count piece)
-WriteTakes old new (Err fault) piece = AppendsFront old new piece
+WriteTakes old new (Err fault) piece = AppendsPrefix old new piece
 
 -- whether a call of this number is to fail
 abbrev pub is_to_fail : List ℕ → ℕ → Bool
@@ -34,13 +34,13 @@ fresh_feed bytes fail = record { left = bytes; given = 0; calls = 0; faults = 0;
 -- what its next call answers, with room for this many bytes
 abbrev pub feed_answer : Feed → ℕ → Result ℕ ReadFault
 feed_answer feed room =
-    if is_to_fail feed.fail (raised feed.calls 1) then Err (record {}) else Ok (min (length feed.left) room)
+    if is_to_fail feed.fail (raised_count feed.calls 1) then Err (record {}) else Ok (min (length feed.left) room)
 
 -- a source in memory after a call with this answer
 abbrev pub feed_after : Feed → Result ℕ ReadFault → Feed
 feed_after feed (Ok count) =
-    record feed { left = drop count feed.left; given = raised feed.given count; calls = raised feed.calls 1 }
-feed_after feed (Err fault) = record feed { calls = raised feed.calls 1; faults = raised feed.faults 1 }
+    record feed { left = drop count feed.left; given = raised_count feed.given count; calls = raised_count feed.calls 1 }
+feed_after feed (Err fault) = record feed { calls = raised_count feed.calls 1; faults = raised_count feed.faults 1 }
 
 -- a sink in memory: what it holds, its calls and faults, and the numbers of the calls that fail
 pub record Basin : Type 0 where
@@ -55,8 +55,8 @@ fresh_basin fail = record { held = []; calls = 0; faults = 0; fail = fail }
 
 -- a sink in memory after a call with this piece and this answer
 abbrev pub basin_after : Basin → List ℕ → Result ℕ WriteFault → Basin
-basin_after basin piece (Ok count) = record basin { held = basin.held ++ take count piece; calls = raised basin.calls 1 }
-basin_after basin piece (Err fault) = record basin { calls = raised basin.calls 1; faults = raised basin.faults 1 }
+basin_after basin piece (Ok count) = record basin { held = basin.held ++ take count piece; calls = raised_count basin.calls 1 }
+basin_after basin piece (Err fault) = record basin { calls = raised_count basin.calls 1; faults = raised_count basin.faults 1 }
 
 -- what is known of a source that tells no content: how many bytes it gave, and how many calls failed
 pub record Flow : Type 0 where

@@ -1,4 +1,4 @@
 pub mod Feeds
 pub mod Moments
-pub mod Sights
+pub mod GhostStates
 pub mod Reading

@@ -6,6 +6,6 @@ abbrev pub moment_at : List ℕ → ℕ → ℕ
 moment_at moments reading = slice_index moments (min reading (length moments - 1))
 
 -- a clock with its list of moments and the number of its next reading
-pub record Told : Type 0 where
+pub record ModeledClock : Type 0 where
   pub moments : List ℕ
   pub readings : ℕ

@@ -3,7 +3,7 @@
 //! What it is for: the traits `Source`, `Sink` and `Clock`, each with a sight that says what a source has left, what a sink
 //! holds or what a clock tells, and how many calls failed or were made; a double in memory of each, for tests; an adapter
 //! of each over the standard library; the two calls that move a whole text, `read_whole` and `write_whole`; and the trait
-//! `Gate`, which runs of scripts ask before and after, with the gate that does nothing.
+//! `Hook`, which runs of scripts ask before and after, with the gate that does nothing.
 //!
 //! What it promises: each double and each adapter is proved against its trait. A fault is answered only where the
 //! count of faults rose. The adapters tell no content: what a file or a terminal gives is known only as it comes.
@@ -12,7 +12,7 @@
 #![tactic(auto)]
 
 mod clocks;
-mod gates;
+mod hooks;
 mod list_clock;
 mod memory_sink;
 mod memory_source;
@@ -23,7 +23,7 @@ mod std_source;
 mod system_clock;
 
 pub use clocks::Clock;
-pub use gates::{Gate, OpenGate};
+pub use hooks::{Hook, OpenHook};
 pub use list_clock::ListClock;
 pub use memory_sink::MemorySink;
 pub use memory_source::MemorySource;

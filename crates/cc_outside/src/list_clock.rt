@@ -1,7 +1,7 @@
 //! A clock that tells a list.
 
 ghost use Rattle.std.specs.Prelude.{◌≡◌, ◌<◌, IfOk, IfSome, length, Some};
-ghost use Rattle.cc_names.specs.Counts.{raised};
+ghost use Rattle.cc_names.specs.Counts.{raised_count};
 ghost use Rattle.cc_outside.specs.Moments.{moment_at};
 
 use crate::clocks::Clock;
@@ -18,9 +18,9 @@ pub struct ListClock {
 
 impl Model for ListClock {
     ghost use Rattle.std.specs.Prelude.{◌<◌, vec_len};
-    ghost use Rattle.cc_outside.specs.Moments.{Told};
+    ghost use Rattle.cc_outside.specs.Moments.{ModeledClock};
 
-    ghost Value = { Told };
+    ghost Value = { ModeledClock };
 
     ghost view = { λ c. record { moments = c.moments.items; readings = c.readings } };
 
@@ -29,19 +29,19 @@ impl Model for ListClock {
 
 impl ListClock {
     /// A clock that tells these moments.
-    pub fn new(alloc: Global, told: &[u64]) -> Result<ListClock, NoMemory>
-        requires { 0 < length told.now }
-        ensures { IfOk result (λ clock. clock ≡ record { moments = told.now; readings = 0 }) }
+    pub fn new(alloc: Global, modeled: &[u64]) -> Result<ListClock, NoMemory>
+        requires { 0 < length modeled.now }
+        ensures { IfOk result (λ clock. clock ≡ record { moments = modeled.now; readings = 0 }) }
     {
         Ok(ListClock {
-            moments: Vec::from_slice(alloc, told)?,
+            moments: Vec::from_slice(alloc, modeled)?,
             readings: 0,
         })
     }
 }
 
 impl Clock for ListClock {
-    ghost sight = { λ c. record { told = Some c.moments; readings = c.readings } };
+    ghost ghost_state = { λ c. record { modeled = Some c.moments; readings = c.readings } };
 
     fn now(&mut self) -> u64 {
         let last = self.moments.len() - 1;

@@ -1,7 +1,7 @@
 //! A sink in memory, whose calls fail by plan.
 
 ghost use Rattle.std.specs.Prelude.{◌≡◌, ◌≤◌, ◌<◌, IfOk, OnErr, IsErr, length, Some, true};
-ghost use Rattle.cc_names.specs.Counts.{raised, Rose};
+ghost use Rattle.cc_names.specs.Counts.{raised_count, Rose};
 ghost use Rattle.cc_outside.specs.Feeds.{WriteTakes, is_to_fail, fresh_basin, basin_after};
 
 use crate::sinks::{Sink, WriteFault};
@@ -50,7 +50,7 @@ impl MemorySink {
 }
 
 impl Sink for MemorySink {
-    ghost sight = { λ s. record { held = Some s.held; faults = s.faults } };
+    ghost ghost_state = { λ s. record { held = Some s.held; faults = s.faults } };
 
     fn write(&mut self, piece: &[u8]) -> Result<usize, WriteFault>
         ensures within { IfOk result (λ count. count ≤ length piece.now) }
@@ -58,7 +58,7 @@ impl Sink for MemorySink {
         ensures bytes { WriteTakes (Some self.old.held) (Some self.new.held) result piece.now }
         ensures kept { self.old.faults ≤ self.new.faults }
         ensures fault { OnErr result (Rose self.old.faults self.new.faults) }
-        ensures planned { is_to_fail self.old.fail (raised self.old.calls 1) ≡ true → IsErr result }
+        ensures planned { is_to_fail self.old.fail (raised_count self.old.calls 1) ≡ true → IsErr result }
         ensures whole { IfOk result (λ count. count ≡ length piece.now) }
         ensures after { self.new ≡ basin_after self.old piece.now result }
     {

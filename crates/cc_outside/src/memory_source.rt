@@ -2,7 +2,7 @@
 
 ghost use Rattle.std.specs.Prelude.{◌≡◌, ◌≤◌, IfOk, OnErr, length, Some};
 ghost use Rattle.std.specs.Io.KnownBytes.{ReadConsumes};
-ghost use Rattle.cc_names.specs.Counts.{raised, Rose};
+ghost use Rattle.cc_names.specs.Counts.{raised_count, Rose};
 ghost use Rattle.cc_outside.specs.Feeds.{fresh_feed, feed_answer, feed_after};
 
 use crate::sources::{ReadFault, Source};
@@ -55,12 +55,12 @@ impl MemorySource {
 }
 
 impl Source for MemorySource {
-    ghost sight = { λ s. record { left = Some s.left; given = s.given; faults = s.faults } };
+    ghost ghost_state = { λ s. record { left = Some s.left; given = s.given; faults = s.faults } };
 
     fn read(&mut self, into: &mut [u8]) -> Result<usize, ReadFault>
         ensures within { IfOk result (λ count. count ≤ length into.new) }
         ensures bytes { ReadConsumes (Some self.old.left) (Some self.new.left) result into.new }
-        ensures counted { IfOk result (λ count. self.new.given ≡ raised self.old.given count) }
+        ensures counted { IfOk result (λ count. self.new.given ≡ raised_count self.old.given count) }
         ensures uncounted { OnErr result (self.new.given ≡ self.old.given) }
         ensures kept { self.old.faults ≤ self.new.faults }
         ensures fault { OnErr result (Rose self.old.faults self.new.faults) }

@@ -3,8 +3,8 @@
 ghost use Rattle.std.specs.Prelude.{◌≡◌, ◌≤◌, ◌<◌, length, IfOk, OnOk, OnErr};
 ghost use Rattle.std.specs.Io.KnownBytes.{Appends};
 ghost use Rattle.cc_names.specs.Counts.{Rose};
-ghost use Rattle.cc_outside.specs.Feeds.{WriteTakes, AppendsFront};
-ghost use Rattle.cc_outside.specs.Sights.{SinkSight};
+ghost use Rattle.cc_outside.specs.Feeds.{WriteTakes, AppendsPrefix};
+ghost use Rattle.cc_outside.specs.GhostStates.{SinkState};
 
 use std::fmt;
 
@@ -23,25 +23,25 @@ impl std::error::Error for WriteFault {}
 /// Where bytes go.
 pub trait Sink {
     // The bytes that it holds, where they are told, and how many calls failed so far.
-    ghost sight: { Self → SinkSight };
+    ghost ghost_state: { Self → SinkState };
 
     /// Takes bytes from the front of a piece and answers how many: at least one, where there are any.
     fn write(&mut self, piece: &[u8]) -> Result<usize, WriteFault>
         ensures within { IfOk result (λ count. count ≤ length piece.now) }
         ensures some { IfOk result (λ count. 0 < length piece.now → 0 < count) }
-        ensures bytes { WriteTakes (sight self.old).held (sight self.new).held result piece.now }
-        ensures kept { (sight self.old).faults ≤ (sight self.new).faults }
-        ensures fault { OnErr result (Rose (sight self.old).faults (sight self.new).faults) };
+        ensures bytes { WriteTakes (ghost_state self.old).held (ghost_state self.new).held result piece.now }
+        ensures kept { (ghost_state self.old).faults ≤ (ghost_state self.new).faults }
+        ensures fault { OnErr result (Rose (ghost_state self.old).faults (ghost_state self.new).faults) };
 }
 
 /// Writes a whole text. Takes time linear in it where the sink takes each piece at once.
 pub fn write_whole<K: Sink>(sink: &mut K, text: &[u8]) -> Result<(), WriteFault>
     ensures written { OnOk result
-        (Appends (K.sight sink.old).held (K.sight sink.new).held text.now) }
-    ensures kept { (K.sight sink.old).faults ≤ (K.sight sink.new).faults }
-    ensures fault { OnErr result (Rose (K.sight sink.old).faults (K.sight sink.new).faults) }
-    ensures front { OnErr result
-        (AppendsFront (K.sight sink.old).held (K.sight sink.new).held text.now) }
+        (Appends (K.ghost_state sink.old).held (K.ghost_state sink.new).held text.now) }
+    ensures kept { (K.ghost_state sink.old).faults ≤ (K.ghost_state sink.new).faults }
+    ensures fault { OnErr result (Rose (K.ghost_state sink.old).faults (K.ghost_state sink.new).faults) }
+    ensures prefix { OnErr result
+        (AppendsPrefix (K.ghost_state sink.old).held (K.ghost_state sink.new).held text.now) }
 {
     let mut done = 0;
     while done < text.len() {

@@ -4,7 +4,7 @@ ghost use Rattle.std.specs.Prelude.{◌≡◌, ◌+◌, ◌≤◌, ◌<◌, ◌^
 ghost use Rattle.std.specs.Io.KnownBytes.{ReadConsumes, IsAtEnd};
 ghost use Rattle.cc_names.specs.Counts.{Rose, RoseAtMost};
 ghost use Rattle.cc_outside.specs.Reading.{OnFault, OnTooLong};
-ghost use Rattle.cc_outside.specs.Sights.{SourceSight, Gave, GaveAbove, Lost};
+ghost use Rattle.cc_outside.specs.GhostStates.{SourceState, Gave, GaveAbove, Lost};
 
 use cc_names::memory::Or;
 use cc_names::texts::Text;
@@ -26,17 +26,17 @@ impl std::error::Error for ReadFault {}
 /// Where bytes come from.
 pub trait Source {
     // The bytes that are still to come, where they are told; how many were given, and how many calls failed so far.
-    ghost sight: { Self → SourceSight };
+    ghost ghost_state: { Self → SourceState };
 
     /// Gives the next bytes, at most as many as there is room for, and answers how many. No bytes, where there is
     /// room, are the end.
     fn read(&mut self, into: &mut [u8]) -> Result<usize, ReadFault>
         ensures within { IfOk result (λ count. count ≤ length into.new) }
-        ensures bytes { ReadConsumes (sight self.old).left (sight self.new).left result into.new }
-        ensures counted { IfOk result (λ count. Gave (sight self.old) (sight self.new) count) }
-        ensures uncounted { OnErr result ((sight self.new).given ≡ (sight self.old).given) }
-        ensures kept { (sight self.old).faults ≤ (sight self.new).faults }
-        ensures fault { OnErr result (Rose (sight self.old).faults (sight self.new).faults) };
+        ensures bytes { ReadConsumes (ghost_state self.old).left (ghost_state self.new).left result into.new }
+        ensures counted { IfOk result (λ count. Gave (ghost_state self.old) (ghost_state self.new) count) }
+        ensures uncounted { OnErr result ((ghost_state self.new).given ≡ (ghost_state self.old).given) }
+        ensures kept { (ghost_state self.old).faults ≤ (ghost_state self.new).faults }
+        ensures fault { OnErr result (Rose (ghost_state self.old).faults (ghost_state self.new).faults) };
 }
 
 /// Why a source was not read to its end.
@@ -59,18 +59,18 @@ pub fn read_whole<S: Source>(
     limit: usize,
 ) -> Result<Text, Or<Unread>>
     requires { limit < 2 ^ 62 }
-    ensures bytes { IfOk result (λ text. Lost (S.sight source.old) (S.sight source.new) text) }
-    ensures end { IfOk result (λ text. IsAtEnd (S.sight source.new).left) }
+    ensures bytes { IfOk result (λ text. Lost (S.ghost_state source.old) (S.ghost_state source.new) text) }
+    ensures end { IfOk result (λ text. IsAtEnd (S.ghost_state source.new).left) }
     ensures short { IfOk result (λ text. length text ≤ limit) }
     ensures counted { IfOk result
-        (λ text. Gave (S.sight source.old) (S.sight source.new) (length text)) }
-    ensures kept { (S.sight source.old).faults ≤ (S.sight source.new).faults }
-    ensures fault { OnFault result (Rose (S.sight source.old).faults (S.sight source.new).faults) }
+        (λ text. Gave (S.ghost_state source.old) (S.ghost_state source.new) (length text)) }
+    ensures kept { (S.ghost_state source.old).faults ≤ (S.ghost_state source.new).faults }
+    ensures fault { OnFault result (Rose (S.ghost_state source.old).faults (S.ghost_state source.new).faults) }
     ensures too_long { OnTooLong result
-        (GaveAbove limit (S.sight source.old) (S.sight source.new)) }
-    ensures told { OnTooLong result
-        (IfSome (S.sight source.old).left (λ bytes. limit < length bytes)) }
-    ensures taken { RoseAtMost (limit + 1) (S.sight source.old).given (S.sight source.new).given }
+        (GaveAbove limit (S.ghost_state source.old) (S.ghost_state source.new)) }
+    ensures modeled { OnTooLong result
+        (IfSome (S.ghost_state source.old).left (λ bytes. limit < length bytes)) }
+    ensures taken { RoseAtMost (limit + 1) (S.ghost_state source.old).given (S.ghost_state source.new).given }
 {
     let mut piece = vec![in alloc; 0u8; PIECE]?;
     let mut bytes = Vec::new(alloc);

@@ -31,7 +31,7 @@ impl<O: Write> StdSink<O> {
 }
 
 impl<O: Write> Sink for StdSink<O> {
-    ghost sight = { λ s. record { held = None; faults = s } };
+    ghost ghost_state = { λ s. record { held = None; faults = s } };
 
     fn write(&mut self, piece: &[u8]) -> Result<usize, WriteFault> {
         match self.inner.write(piece) {

@@ -36,7 +36,7 @@ impl<I: Read> StdSource<I> {
 }
 
 impl<I: Read> Source for StdSource<I> {
-    ghost sight = { λ s. record { left = None; given = s.given; faults = s.faults } };
+    ghost ghost_state = { λ s. record { left = None; given = s.given; faults = s.faults } };
 
     fn read(&mut self, into: &mut [u8]) -> Result<usize, ReadFault> {
         match self.inner.read(into) {

@@ -36,7 +36,7 @@ impl<R: rt::Clock> SystemClock<R> {
 }
 
 impl<R: rt::Clock> Clock for SystemClock<R> {
-    ghost sight = { λ c. record { told = None; readings = c } };
+    ghost ghost_state = { λ c. record { modeled = None; readings = c } };
 
     fn now(&mut self) -> u64 {
         if let Ok(time) = self.rt.since_1970() {

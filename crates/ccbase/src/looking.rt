@@ -3,7 +3,7 @@
 ghost use Rattle.std.specs.Prelude.{◌≡◌, IfOk, OnErr};
 ghost use Rattle.disk_model.specs.Counting.{next_count};
 ghost use Rattle.disk_model.specs.Devices.{Idles};
-ghost use Rattle.disk_model.specs.Told.{Both, Counted};
+ghost use Rattle.disk_model.specs.DiskStates.{Both, Counted};
 
 use cc_names::memory::Or;
 use disk_model::{Counts, Disk, DiskFault, FileDisk};
@@ -18,11 +18,11 @@ pub(crate) trait Look: Disk + Sized {
     /// Says on standard error what of FILE is foreign. The look is made by the calls of another disk over the same files, which
     /// has opened none so far. It is no call on this disk; where it fails it counts as one call, which failed.
     fn look(&mut self, rt: &HostRuntime, file: &str, other: Self) -> Result<(), DiskFault>
-        ensures same { IfOk result (λ _. Self.sight self.new ≡ Self.sight self.old) }
+        ensures same { IfOk result (λ _. Self.ghost_state self.new ≡ Self.ghost_state self.old) }
         ensures idles { OnErr result
-            (Both Idles (Self.sight self.old).told (Self.sight self.new).told) }
+            (Both Idles (Self.ghost_state self.old).modeled (Self.ghost_state self.new).modeled) }
         ensures counts { OnErr result
-            (Counted result (Self.sight self.old) (Self.sight self.new)) };
+            (Counted result (Self.ghost_state self.old) (Self.ghost_state self.new)) };
 }
 
 /// How many rows the journal of a disk has, or nothing where memory runs out; and the disk, which is the error where it failed.
@@ -153,7 +153,7 @@ impl LookingDisk<FileDisk<HostRuntime>> {
 }
 
 impl<D: Disk + Look> Disk for LookingDisk<D> {
-    ghost sight = { λ looking. D.sight looking.disk };
+    ghost ghost_state = { λ looking. D.ghost_state looking.disk };
 
     ghost tells = { D.tells };
 

@@ -19,7 +19,7 @@ use crate::looking::LookingDisk;
 use cc_names::memory::NoMemory;
 use cc_names::refusals::SessionCause;
 use cc_names::texts::Text;
-use cc_outside::{OpenGate, StdSink, StdSource, SystemClock, write_whole};
+use cc_outside::{OpenHook, StdSink, StdSource, SystemClock, write_whole};
 use disk_model::FileDisk;
 use session_run::{Status, run_words};
 use std::alloc::Global;
@@ -162,7 +162,7 @@ fn run<R: Threads + Wait + Sync>(
         threads,
         alloc,
         hashing,
-        &OpenGate,
+        &OpenHook,
         texts.as_slice(),
         &mut source,
         &mut sink,

@@ -9,16 +9,16 @@ use Rattle.std.specs.Ordering.{nat_cmp}
 use Rattle.std.specs.Prelude.{is_some, nat_le}
 use Rattle.std.specs.declared.cmp.Ordering.TheVariants.{Less}
 use Rattle.cc_names.specs.Formed.{Plain, IsListOf, IsLong}
-use Rattle.cc_names.specs.Last.{Ends, Sets, only_if, left}
+use Rattle.cc_names.specs.Last.{Ends, Sets, only_if, value_after}
 use Rattle.cc_names.specs.References.{is_held}
 use Rattle.cc_names.specs.Versions.{put_if}
 use Rattle.cc_names.specs.declared.rows.Deed.{Deed}
 use Rattle.cc_names.specs.declared.rows.Deed.TheVariants as deeds
-use Rattle.base_model.specs.Changes.{held, live, live_effect}
+use Rattle.base_model.specs.Changes.{objects_held, live_row, live_effect}
 use Rattle.base_model.specs.Closures.{is_publish_deed}
 use Rattle.base_model.specs.Conditions.{may_be_scrubbed}
 use Rattle.base_model.specs.Rows.{Base, size, row_at}
-use Rattle.legal_history.specs.Commands.ObjectLines.{due, due_among, is_due}
+use Rattle.legal_history.specs.Commands.ObjectLines.{due_objects, due_among, is_due}
 use Rattle.legal_history.proofs.Reuse.SoundRows.{live_below}
 use Rattle.base_model.proofs.Tables.{same_number}
 use Rattle.base_rows.specs.Order.{oldest_first}
@@ -88,7 +88,7 @@ due_long b moment age n limit (row ∷ rows) low high = by (is_due b moment age 
     by false rest = rest
 
 -- what is due has the form of a scrub's list
-pub due_formed : (b : Base) (moment age : ℕ) → size b ≤ 4000000 → IsListOf IsLong (due b moment age) × IsStrictlySortedBy nat_cmp (due b moment age)
+pub due_formed : (b : Base) (moment age : ℕ) → size b ≤ 4000000 → IsListOf IsLong (due_objects b moment age) × IsStrictlySortedBy nat_cmp (due_objects b moment age)
 due_formed b moment age low =
     let length_is : length (reverse b) ≡ length b = length-reverse b in
     let short = due_short b moment age 1 (reverse b) in
@@ -96,38 +96,38 @@ due_formed b moment age low =
     ((omega arith, due_long b moment age 1 4000001 (reverse b) (omega arith) (omega arith)), due_ascends b moment age 1 (reverse b))
 
 -- no object is made by a row that publishes none
-ended : (t : Bool) (before : Option ℕ) → before ≡ None → left (only_if t Ends) before ≡ None
+ended : (t : Bool) (before : Option ℕ) → before ≡ None → value_after (only_if t Ends) before ≡ None
 ended true before none = refl
 ended false before none = none
 
-unmade : (deed : Deed) (n id : ℕ) (before : Option ℕ) → before ≡ None → (n == id) ≡ false → left (live_effect id n deed) before ≡ None
-unmade (deeds.Publish v targets script entries outputs) n id before none apart = ap (λ t. left (only_if t (Sets n)) before) apart ∙ none
+unmade : (deed : Deed) (n id : ℕ) (before : Option ℕ) → before ≡ None → (n == id) ≡ false → value_after (live_effect id n deed) before ≡ None
+unmade (deeds.Publish v targets script entries outputs) n id before none apart = ap (λ t. value_after (only_if t (Sets n)) before) apart ∙ none
 unmade (deeds.Scrub objects) n id before none apart = ended (list_any (λ object. object == id) objects) before none
 unmade deed n id before none apart = none
 
-unmade_here : (deed : Deed) (n id : ℕ) (before : Option ℕ) → before ≡ None → is_publish_deed (Some deed) ≡ false → left (live_effect id n deed) before ≡ None
+unmade_here : (deed : Deed) (n id : ℕ) (before : Option ℕ) → before ≡ None → is_publish_deed (Some deed) ≡ false → value_after (live_effect id n deed) before ≡ None
 unmade_here (deeds.Publish v targets script entries outputs) n id before none other = absurd (cc)
 unmade_here (deeds.Scrub objects) n id before none other = ended (list_any (λ object. object == id) objects) before none
 unmade_here deed n id before none other = none
 
-none_live : (b : Base) (id : ℕ) → size b ≤ id → live b id ≡ None
-none_live b id low = by (live b id) refl
+none_live : (b : Base) (id : ℕ) → size b ≤ id → live_row b id ≡ None
+none_live b id low = by (live_row b id) refl
   where
-    by : (found : Option ℕ) → live b id ≡ found → found ≡ None
+    by : (found : Option ℕ) → live_row b id ≡ found → found ≡ None
     by None is = refl
     by (Some n) is = absurd (let below = live_below b id (ap is_some is) in omega arith)
 
-pub unpublished : (b : Base) (id : ℕ) (row : Plain) → row_at b id ≡ Some row → is_publish_deed (Some row.deed) ≡ false → live b id ≡ None
+pub unpublished : (b : Base) (id : ℕ) (row : Plain) → row_at b id ≡ Some row → is_publish_deed (Some row.deed) ≡ false → live_row b id ≡ None
 unpublished [] id row at other = absurd (cc)
 unpublished (first ∷ older) id row at other = by (size older == id) refl at (λ is. unpublished older id row is other)
   where
-    by : (t : Bool) → (size older == id) ≡ t → elim t as (λ x. Option Plain) [ true ↦ Some first | false ↦ row_at older id ] ≡ Some row → (row_at older id ≡ Some row → live older id ≡ None) →
-        left (live_effect id (size older) first.deed) (live older id) ≡ None
+    by : (t : Bool) → (size older == id) ≡ t → elim t as (λ x. Option Plain) [ true ↦ Some first | false ↦ row_at older id ] ≡ Some row → (row_at older id ≡ Some row → live_row older id ≡ None) →
+        value_after (live_effect id (size older) first.deed) (live_row older id) ≡ None
     by true here is rest =
         let same : first ≡ row = cc in
         let number = same_number (size older) id here in
-        unmade_here first.deed (size older) id (live older id) (none_live older id (omega arith)) (ap (λ (r : Plain). is_publish_deed (Some r.deed)) same ∙ other)
-    by false apart is rest = unmade first.deed (size older) id (live older id) (rest is) apart
+        unmade_here first.deed (size older) id (live_row older id) (none_live older id (omega arith)) (ap (λ (r : Plain). is_publish_deed (Some r.deed)) same ∙ other)
+    by false apart is rest = unmade first.deed (size older) id (live_row older id) (rest is) apart
 
 either_way : (one two : Bool) → (one && two) ≡ (two && one)
 either_way true true = refl
@@ -141,17 +141,17 @@ due_tested b moment age id row at = by (is_publish_deed (Some row.deed)) refl
   where
     by : (t : Bool) → is_publish_deed (Some row.deed) ≡ t → (t && nat_le (row.moment + age) moment && may_be_scrubbed b id) ≡ is_due b moment age id row.moment
     by true is = either_way (nat_le (row.moment + age) moment) (may_be_scrubbed b id)
-    by false is = sym (ap (λ (found : Option ℕ). is_some found && not (is_held (held b) id) && nat_le (row.moment + age) moment) (unpublished b id row at is))
+    by false is = sym (ap (λ (found : Option ℕ). is_some found && not (is_held (objects_held b) id) && nat_le (row.moment + age) moment) (unpublished b id row at is))
 
 -- the row at a place of the list from the oldest on
 pub numbered_row : (b : Base) (all : List Plain) (i : ℕ) (row : Plain) → all ≡ oldest_first b → i < length all → row ≡ get_or all i row → row_at b (suc i) ≡ Some row
 numbered_row b all i row is within at = ap (λ (rows : Base). row_at rows (suc i)) (sym (ap reverse is ∙ reverse-reverse b)) ∙ row_numbered all i ∙ slice_get_read all (length all) i row refl within at
 
 -- what was found when all rows are read is what is due
-pub all_read : (b : Base) (moment age number i : ℕ) (all : List Plain) (found : List ℕ) → all ≡ oldest_first b → length all ≤ i → found ++ due_from b moment age (suc number) (drop i all) ≡ due_from b moment age 1 all → found ≡ due b moment age
+pub all_read : (b : Base) (moment age number i : ℕ) (all : List Plain) (found : List ℕ) → all ≡ oldest_first b → length all ≤ i → found ++ due_from b moment age (suc number) (drop i all) ≡ due_from b moment age 1 all → found ≡ due_objects b moment age
 all_read b moment age number i all found is past so =
     sym (append-nil found)
-    ∙ sym (at_drop_all (λ (left : List Plain). found ++ due_from b moment age (suc number) left) all i past)
+    ∙ sym (at_drop_all (λ (value_after : List Plain). found ++ due_from b moment age (suc number) value_after) all i past)
     ∙ so
     ∙ ap (due_from b moment age 1) is
     ∙ due_read b moment age b

@@ -7,7 +7,7 @@ use Rattle.cc_names.specs.declared.refusals.Refusal.{Refusal}
 use Rattle.cc_names.specs.declared.rows.Tag.{Tag}
 use Rattle.cc_names.specs.declared.selection.Picked.{Picked}
 use Rattle.base_model.specs.Rows.{Base, size}
-use Rattle.legal_history.specs.Builds.Active.{building, reserved}
+use Rattle.legal_history.specs.Builds.Active.{building, rows_reserved}
 use Rattle.legal_history.specs.Commands.Decisions.{Answers, Decision, Makes, Scene}
 use Rattle.checkout_desk.specs.declared.found.Selected.{Selected}
 
@@ -29,9 +29,9 @@ DecidesIfAny tag moment (Ok (Some row)) decision = Decides tag moment (Ok row) d
 DecidesIfAny tag moment (Err refusal) decision = RefusalIs refusal decision
 
 -- what was decided where there is always a row
-abbrev pub made : Result Plain (Or Refusal) → Result (Option Plain) (Or Refusal)
-made (Ok row) = Ok (Some row)
-made (Err refusal) = Err refusal
+abbrev pub with_row : Result Plain (Or Refusal) → Result (Option Plain) (Or Refusal)
+with_row (Ok row) = Ok (Some row)
+with_row (Err refusal) = Err refusal
 
 -- unless memory ran out, the refusal is that of a test
 abbrev pub IsOfTest : Or Refusal → Option Refusal → Type 0
@@ -58,4 +58,4 @@ pub record Sees (s : Scene) (b : Base) (now : ℕ) (v : List ℕ) (build : Optio
   pub base : s.base ≡ b
   pub moment : s.moment ≡ now
   pub busy : building s.active v ≡ build
-  pub taken : size s.base + reserved s.active ≡ rows
+  pub taken : size s.base + rows_reserved s.active ≡ rows

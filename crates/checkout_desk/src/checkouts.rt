@@ -12,9 +12,9 @@ use crate::checkout_needs::{needs_checkout_rule, needs_latest, needs_not_out, ne
 use crate::found::{Selected, find_selected_idle};
 use crate::needs::{needs_branch_type, needs_no_branch};
 use crate::room::needs_room;
-use cc_names::desks::Occasion;
 use cc_names::memory::{NoMemory, Or};
 use cc_names::names::Name;
+use cc_names::occasions::Occasion;
 use cc_names::paths::Path;
 use cc_names::refusals::Refusal;
 use cc_names::rows::{Deed, Out, Row};

@@ -5,7 +5,7 @@ ghost use Rattle.cc_names.specs.Commands.{view_of};
 ghost use Rattle.session_text.specs.Formed.{IsChange};
 ghost use Rattle.legal_history.specs.Commands.Decisions.{Scene};
 ghost use Rattle.legal_history.specs.Commands.Lines.{change_decision};
-ghost use Rattle.checkout_desk.specs.Deciding.{DecidesIfAny, Sees, made};
+ghost use Rattle.checkout_desk.specs.Deciding.{DecidesIfAny, Sees, with_row};
 
 use crate::arrows::mkarrow;
 use crate::branches::mkbranch;
@@ -23,16 +23,16 @@ use crate::scrubs::scrub;
 use crate::types::mktype;
 use crate::views::{mkview, rmview};
 use cc_names::commands::Change;
-use cc_names::desks::Occasion;
 use cc_names::memory::Or;
+use cc_names::occasions::Occasion;
 use cc_names::refusals::Refusal;
 use cc_names::rows::{Kind, Row, TypeKind};
 use std::alloc::Global;
 use view_lookup::FirstRows;
 
 /// What was decided where there is always a row.
-fn made(row: Result<Row, Or<Refusal>>) -> Result<Option<Row>, Or<Refusal>>
-    ensures { result ≡ made row }
+fn with_row(row: Result<Row, Or<Refusal>>) -> Result<Option<Row>, Or<Refusal>>
+    ensures { result ≡ with_row row }
 {
     Ok(Some(row?))
 }
@@ -52,10 +52,10 @@ pub fn decide(
         → DecidesIfAny occasion.tag occasion.moment result (change_decision scene change.now) }
 {
     match change {
-        Change::Mkview { view } => made(mkview(alloc, rows, view, occasion)),
-        Change::Rmview { view, force } => made(rmview(alloc, rows, view, *force, occasion)),
-        Change::Setcs { view, text } => made(setcs(alloc, rows, view, text, occasion)),
-        Change::Mkelem { view, nco, path } => made(mkelem(
+        Change::Mkview { view } => with_row(mkview(alloc, rows, view, occasion)),
+        Change::Rmview { view, force } => with_row(rmview(alloc, rows, view, *force, occasion)),
+        Change::Setcs { view, text } => with_row(setcs(alloc, rows, view, text, occasion)),
+        Change::Mkelem { view, nco, path } => with_row(mkelem(
             alloc,
             rows,
             view,
@@ -64,7 +64,7 @@ pub fn decide(
             path,
             occasion,
         )),
-        Change::Mkdir { view, nco, path } => made(mkelem(
+        Change::Mkdir { view, nco, path } => with_row(mkelem(
             alloc,
             rows,
             view,
@@ -77,40 +77,50 @@ pub fn decide(
             view,
             unreserved,
             path,
-        } => made(checkout(alloc, rows, view, *unreserved, path, occasion)),
+        } => with_row(checkout(alloc, rows, view, *unreserved, path, occasion)),
         Change::Mkbranch {
             view,
             nco,
             branch,
             path,
-        } => made(mkbranch(alloc, rows, view, *nco, branch, path, occasion)),
-        Change::Save { view, path, text } => made(save(alloc, rows, view, path, text, occasion)),
-        Change::Rm { view, path } => made(rm(alloc, rows, view, path, occasion)),
+        } => with_row(mkbranch(alloc, rows, view, *nco, branch, path, occasion)),
+        Change::Save { view, path, text } => with_row(save(
+            alloc, rows, view, path, text, occasion,
+        )),
+        Change::Rm { view, path } => with_row(rm(alloc, rows, view, path, occasion)),
         Change::Checkin {
             view,
             identical,
             path,
-        } => made(checkin(alloc, rows, view, *identical, path, occasion)),
-        Change::Uncheckout { view, path } => made(uncheckout(alloc, rows, view, path, occasion)),
-        Change::Rmname { view, path } => made(rmname(alloc, rows, view, path, occasion)),
-        Change::Mv { view, path, name } => made(mv(alloc, rows, view, path, name, occasion)),
-        Change::Mklbtype { name } => made(mktype(alloc, rows, TypeKind::Label, name, occasion)),
-        Change::Mkbrtype { name } => made(mktype(alloc, rows, TypeKind::Branch, name, occasion)),
+        } => with_row(checkin(alloc, rows, view, *identical, path, occasion)),
+        Change::Uncheckout { view, path } => with_row(uncheckout(
+            alloc, rows, view, path, occasion,
+        )),
+        Change::Rmname { view, path } => with_row(rmname(alloc, rows, view, path, occasion)),
+        Change::Mv { view, path, name } => with_row(mv(alloc, rows, view, path, name, occasion)),
+        Change::Mklbtype { name } => with_row(mktype(alloc, rows, TypeKind::Label, name, occasion)),
+        Change::Mkbrtype { name } => with_row(mktype(
+            alloc,
+            rows,
+            TypeKind::Branch,
+            name,
+            occasion,
+        )),
         Change::Mklabel {
             view,
             replace,
             label,
             path,
-        } => made(mklabel(alloc, rows, view, *replace, label, path, occasion)),
-        Change::Rmlabel { view, label, path } => made(rmlabel(
+        } => with_row(mklabel(alloc, rows, view, *replace, label, path, occasion)),
+        Change::Rmlabel { view, label, path } => with_row(rmlabel(
             alloc, rows, view, label, path, occasion,
         )),
         Change::Mkarrow {
             view,
             path,
             version,
-        } => made(mkarrow(alloc, rows, view, path, version, occasion)),
-        Change::Rmdo { view, path } => made(rmdo(alloc, rows, view, path, occasion)),
+        } => with_row(mkarrow(alloc, rows, view, path, version, occasion)),
+        Change::Rmdo { view, path } => with_row(rmdo(alloc, rows, view, path, occasion)),
         Change::MklabelConfig {
             view,
             replace,

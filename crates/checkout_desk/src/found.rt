@@ -4,7 +4,7 @@ ghost use Rattle.std.specs.Prelude.{◌≡◌, ℕ, IfOk, ◌∷◌, []};
 ghost use Rattle.cc_names.specs.Formed.{IsBelowRoot};
 ghost use Rattle.cc_names.specs.Names.{IsName};
 ghost use Rattle.cc_names.specs.References.{held_at};
-ghost use Rattle.base_model.specs.Changes.{held};
+ghost use Rattle.base_model.specs.Changes.{objects_held};
 ghost use Rattle.base_model.specs.Seen.{at};
 ghost use Rattle.legal_history.specs.Commands.Decisions.{Scene, past};
 ghost use Rattle.legal_history.specs.Commands.DirectoryLines.{changes_directory};
@@ -76,7 +76,7 @@ pub fn find_object(
     path: &Path,
 ) -> Result<u64, Or<Refusal>>
     ensures { Finds result
-        (λ more. for_object path.now (held_at (held rows.now) view.now path.now) more) }
+        (λ more. for_object path.now (held_at (objects_held rows.now) view.now path.now) more) }
 {
     match held(rows, view, path) {
         Some(object) => Ok(object),

@@ -3,12 +3,12 @@
 ghost use Rattle.std.specs.Prelude.{◌≡◌, ℕ, Option, ◌∷◌, [], ◌++◌, IfOk, option_and_then, option_map};
 ghost use Rattle.cc_names.specs.Formed.{IsBelowRoot};
 ghost use Rattle.cc_names.specs.Names.{IsName};
-ghost use Rattle.base_model.specs.Catalogs.{named, own_of};
+ghost use Rattle.base_model.specs.Catalogs.{element_named, own_of};
 ghost use Rattle.base_model.specs.Views.{out};
 ghost use Rattle.legal_history.specs.Commands.FileLines.{last_name};
 ghost use Rattle.base_rows.specs.Effects.{plain_checkout};
 ghost use Rattle.legal_history.specs.Commands.Decisions.{Scene, first_refusal, needs_room};
-ghost use Rattle.legal_history.specs.Commands.DirectoryLines.{mv, mv_in, mv_tests, renamed, rmname, rmname_in};
+ghost use Rattle.legal_history.specs.Commands.DirectoryLines.{mv, mv_in, mv_tests, renamed_path, rmname, rmname_in};
 ghost use Rattle.cc_names.specs.declared.rows.Tag.{Tag};
 ghost use Rattle.checkout_desk.specs.Deciding.{Sees, Decides, Tests};
 
@@ -16,9 +16,9 @@ use crate::checkout_needs::needs_not_out;
 use crate::found::{find_directory_out, last_name, parent_of};
 use crate::needs::{needs_free_path, needs_name};
 use crate::room::needs_room;
-use cc_names::desks::Occasion;
 use cc_names::memory::{NoMemory, Or};
 use cc_names::names::Name;
+use cc_names::occasions::Occasion;
 use cc_names::paths::Path;
 use cc_names::refusals::Refusal;
 use cc_names::rows::{Deed, Row};
@@ -29,7 +29,7 @@ use view_lookup::{Checkout, FirstRows, checked_out, named_by_checkout};
 fn named_out(rows: &FirstRows<'_>, view: &Name, directory: u64, name: &Name) -> Option<Checkout>
     ensures { option_map plain_checkout result
         ≡ option_and_then (out rows.now view.now)
-        (named name.now (own_of rows.now view.now directory)) }
+        (element_named name.now (own_of rows.now view.now directory)) }
 {
     let element = named_by_checkout(rows, view, directory, name)?;
     checked_out(rows, view, element)
@@ -80,8 +80,8 @@ pub fn rmname(
 }
 
 /// The path with another last name. One that would be too long is the path itself, and no command asks for it.
-fn renamed(alloc: Global, path: &Path, name: &Name) -> Result<Path, NoMemory>
-    ensures { IfOk result (λ other. other ≡ renamed path.now name.now) }
+fn renamed_path(alloc: Global, path: &Path, name: &Name) -> Result<Path, NoMemory>
+    ensures { IfOk result (λ other. other ≡ renamed_path path.now name.now) }
 {
     let parent = parent_of(alloc, path)?;
     match parent.join(alloc, name) {
@@ -111,7 +111,7 @@ fn mv_tests(
 {
     let from = last_name(alloc, path)?;
     needs_name(alloc, rows, view, path, directory, &from)?;
-    let target = renamed(alloc, path, name)?;
+    let target = renamed_path(alloc, path, name)?;
     needs_free_path(alloc, rows, view, &target, directory, name)?;
     needs_room(taken)?;
     Ok(from)

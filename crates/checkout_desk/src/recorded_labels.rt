@@ -8,7 +8,7 @@ ghost use Rattle.cc_names.specs.Formed.{IsListOf, IsPlaced, IsTypeName, element_
 ghost use Rattle.cc_names.specs.References.{held_at};
 ghost use Rattle.cc_names.specs.declared.refusals.Refusal.TheVariants.{NotVersion};
 ghost use Rattle.cc_names.specs.declared.rows.Tag.{Tag};
-ghost use Rattle.base_model.specs.Changes.{held};
+ghost use Rattle.base_model.specs.Changes.{objects_held};
 ghost use Rattle.legal_history.specs.Commands.Decisions.{Scene, first_refusal, past};
 ghost use Rattle.legal_history.specs.Commands.Found.{for_object};
 ghost use Rattle.legal_history.specs.Commands.LabelLines.{labels_free, mklabel_config, mklabel_config_of, mklabel_config_tests, outsider};
@@ -20,10 +20,10 @@ use crate::found::find_object;
 use crate::labels::needs_label_free;
 use crate::needs::{needs_label_type, needs_view};
 use crate::room::needs_room;
-use cc_names::desks::Occasion;
 use cc_names::lists::List;
 use cc_names::memory::{NoMemory, Or};
 use cc_names::names::Name;
+use cc_names::occasions::Occasion;
 use cc_names::paths::Path;
 use cc_names::refusals::Refusal;
 use cc_names::rows::{Deed, Placed, Row};
@@ -146,14 +146,14 @@ fn find_object_in(
         → scene.base ≡ rows.now
         → Finds result
         (λ more. past (needs_view scene.base view.now ∷ [])
-        (for_object path.now (held_at (held scene.base) view.now path.now) more)) }
+        (for_object path.now (held_at (objects_held scene.base) view.now path.now) more)) }
 {
     needs_view(rows, view)?;
     find_object(alloc, rows, view, path)
 }
 
 /// The row of `mklabel V [-replace] -config P L`, with each version that the record of the view's object lists; none where it
-/// lists nothing; or its first refusal. Takes the time of `held`, for each entry of the records on which the object rests that of
+/// lists nothing; or its first refusal. Takes the time of `objects_held`, for each entry of the records on which the object rests that of
 /// `version_id_of`, each record once, and for each version that the record lists that of `holder`.
 pub fn mklabel_config(
     alloc: Global,

@@ -3,7 +3,7 @@
 ghost use Rattle.std.specs.Prelude.{◌≡◌, ◌+◌};
 ghost use Rattle.legal_history.specs.Commands.Decisions.{Scene, needs_room};
 ghost use Rattle.base_model.specs.Rows.{size};
-ghost use Rattle.legal_history.specs.Builds.Active.{reserved};
+ghost use Rattle.legal_history.specs.Builds.Active.{rows_reserved};
 ghost use Rattle.checkout_desk.specs.Deciding.{Tests};
 
 use cc_names::memory::Or;
@@ -14,7 +14,7 @@ use view_lookup::ROW_LIMIT;
 /// the limit.
 pub fn needs_room(taken: u64) -> Result<(), Or<Refusal>>
     ensures { (scene : Scene)
-        → size scene.base + reserved scene.active ≡ taken
+        → size scene.base + rows_reserved scene.active ≡ taken
         → Tests result (needs_room scene 1) }
 {
     if taken >= ROW_LIMIT {

@@ -7,13 +7,13 @@ ghost use Rattle.cc_names.specs.Formed.{IsListOf, IsLong};
 ghost use Rattle.base_model.specs.Closures.{is_publish_deed};
 ghost use Rattle.base_model.specs.Rows.{row_at};
 ghost use Rattle.legal_history.specs.Commands.Decisions.{Scene};
-ghost use Rattle.legal_history.specs.Commands.ObjectLines.{due, is_due, scrub};
+ghost use Rattle.legal_history.specs.Commands.ObjectLines.{due_objects, is_due, scrub};
 ghost use Rattle.checkout_desk.specs.Deciding.{DecidesIfAny, Sees};
 
 use crate::room::needs_room;
-use cc_names::desks::Occasion;
 use cc_names::lists::List;
 use cc_names::memory::{NoMemory, Or};
+use cc_names::occasions::Occasion;
 use cc_names::refusals::Refusal;
 use cc_names::rows::{Deed, Row};
 use std::alloc::Global;
@@ -53,8 +53,13 @@ fn is_due(rows: &FirstRows<'_>, moment: u64, age: u64, number: u64, row: &Row) -
 
 /// The objects that are due, oldest first. Takes time linear in the rows, and for each object that is old enough the time of
 /// `may_be_scrubbed`.
-fn due(alloc: Global, rows: &FirstRows<'_>, moment: u64, age: u64) -> Result<Vec<u64>, NoMemory>
-    ensures due { IfOk result (λ objects. objects.items ≡ due rows.now moment age) }
+fn due_objects(
+    alloc: Global,
+    rows: &FirstRows<'_>,
+    moment: u64,
+    age: u64,
+) -> Result<Vec<u64>, NoMemory>
+    ensures due_objects { IfOk result (λ objects. objects.items ≡ due_objects rows.now moment age) }
     ensures formed { IfOk result
         (λ objects. IsListOf IsLong objects.items
         × IsStrictlySortedBy nat_cmp objects.items) }
@@ -84,7 +89,7 @@ pub fn scrub(
         → Sees scene rows.now occasion.moment view occasion.busy occasion.taken
         → DecidesIfAny occasion.tag occasion.moment result (scrub scene age) }
 {
-    let objects = due(alloc, rows, occasion.moment, age)?;
+    let objects = due_objects(alloc, rows, occasion.moment, age)?;
     if objects.is_empty() {
         return Ok(None);
     }

@@ -9,9 +9,9 @@ ghost use Rattle.legal_history.specs.Commands.Tests.{needs_free_type};
 ghost use Rattle.checkout_desk.specs.Deciding.{Sees, Decides, Tests};
 
 use crate::room::needs_room;
-use cc_names::desks::Occasion;
 use cc_names::memory::Or;
 use cc_names::names::Name;
+use cc_names::occasions::Occasion;
 use cc_names::refusals::Refusal;
 use cc_names::rows::{Deed, Row, TypeKind};
 use std::alloc::Global;

@@ -4,9 +4,9 @@ use Rattle.std.specs.Bool.{OnTrue}
 use Rattle.std.specs.Prelude.{IfOk, OnErr, OnOk, is_ok}
 use Rattle.std.specs.Result.{result_eq}
 use mathlib.Core.List.{IsPrefix}
-use Rattle.cc_names.specs.declared.desks.Begun.{Begun}
-use Rattle.cc_names.specs.declared.desks.Begun.TheVariants as begins
-use Rattle.cc_names.specs.declared.desks.Next.TheVariants as nexts
+use Rattle.cc_names.specs.declared.occasions.Begun.{Begun}
+use Rattle.cc_names.specs.declared.occasions.Begun.TheVariants as begins
+use Rattle.cc_names.specs.declared.occasions.Next.TheVariants as nexts
 use Rattle.cc_names.specs.declared.memory.NoMemory.{NoMemory}
 use Rattle.cc_names.specs.declared.rows.Tag.{Tag}
 use Rattle.cc_names.specs.declared.steps.StoryStep.{StoryStep}

@@ -3,7 +3,7 @@ use Rattle.std.proofs.Common.{◌≡◌, sym, subst, ◌∙◌, ℕ, ◌+◌, �
 use mathlib.Core.List.{IsPrefix}
 use Rattle.cc_names.specs.declared.steps.StoryStep.{StoryStep}
 use Rattle.turn_lock.proofs.Prefixes.{begins_itself, begins_on}
-use Rattle.turn_lock.specs.Sight.{IsLongerOf, Sight}
+use Rattle.turn_lock.specs.PassState.{IsLongerOf, PassState}
 use Rattle.clearmake.specs.Passes.{IsLater}
 
 -- both stories begin the longer
@@ -20,7 +20,7 @@ begins_on_both : (pass one later joined : List StoryStep) → one ≡ pass → I
 begins_on_both pass one later joined same p q = subst (λ (t : List StoryStep). IsPrefix t joined) same (begins_on one later joined p q)
 
 -- two halves of a pass, each of which went on, make one that went on
-pub joined_later : (pass one two first second joined : Sight StoryStep) → one.lock ≡ pass.lock → (one.weight ≡ pass.weight - pass.weight / 2) × (two.weight ≡ pass.weight / 2) →
+pub joined_later : (pass one two first second joined : PassState StoryStep) → one.lock ≡ pass.lock → (one.weight ≡ pass.weight - pass.weight / 2) × (two.weight ≡ pass.weight / 2) →
     (one.seen ≡ pass.seen) × (two.seen ≡ pass.seen) → IsLater one first → IsLater two second →
     joined.lock ≡ first.lock → joined.weight ≡ first.weight + second.weight → IsLongerOf first.seen second.seen joined.seen → IsLater pass joined
 joined_later pass one two first second joined own weight seen a b lock sum longer = record {

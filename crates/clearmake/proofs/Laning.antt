@@ -5,14 +5,14 @@ use Rattle.std.specs.Result.{result_and}
 use native.Mathlib.Decide.{dec_le}
 use mathlib.Core.Logic.{dite}
 use mathlib.Core.List.{IsPrefix}
-use Rattle.cc_names.specs.declared.desks.Next.TheVariants as nexts
+use Rattle.cc_names.specs.declared.occasions.Next.TheVariants as nexts
 use Rattle.cc_names.specs.declared.memory.NoMemory.{NoMemory}
 use Rattle.cc_names.specs.declared.rows.Tag.{Tag}
 use Rattle.cc_names.specs.declared.steps.StoryStep.{StoryStep}
 use Rattle.legal_history.specs.Stories.Lawful.{Legal}
 use Rattle.legal_history.specs.Stories.States.{State, next_tag}
 use Rattle.legal_history.specs.Stories.Steps.{state_of}
-use Rattle.turn_lock.specs.Sight.{IsLongerOf}
+use Rattle.turn_lock.specs.PassState.{IsLongerOf}
 use Rattle.clearmake.specs.Nexts.{next_of}
 use Rattle.clearmake.specs.Passes.{AreLanesDone, IsLaneDone}
 use Rattle.clearmake.proofs.Joins.{both_begin}

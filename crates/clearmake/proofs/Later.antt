@@ -4,7 +4,7 @@ use Rattle.std.specs.Prelude.{is_some, option_and_then, option_map, slice_get}
 use native.Mathlib.Decide.{dec_le}
 use mathlib.Core.Logic.{dite}
 use mathlib.Core.List.{IsPrefix}
-use Rattle.cc_names.specs.declared.desks.Next.TheVariants as nexts
+use Rattle.cc_names.specs.declared.occasions.Next.TheVariants as nexts
 use Rattle.cc_names.specs.declared.rows.Tag.{Tag}
 use Rattle.cc_names.specs.declared.steps.StoryStep.{StoryStep}
 use Rattle.cc_names.specs.declared.units.Unit.{Unit}
@@ -28,7 +28,7 @@ use Rattle.clearmake.specs.Calls.{IsRunOfUnit, WasStarted}
 use Rattle.clearmake.specs.Going.{HasOutcome}
 use Rattle.clearmake.specs.Nexts.{next_of}
 use Rattle.clearmake.specs.Passes.{Builds, IsLaneDone, IsPast}
-use Rattle.clearmake.specs.Sights.{sees, standing_at, standing_of, stands}
+use Rattle.clearmake.specs.FoundTexts.{sees, standing_at, standing_of, stands}
 use Rattle.clearmake.proofs.Nexts.{done_stays, next_stays, tag_is_next}
 
 later : (old new : List StoryStep) → IsPrefix old new → Legal new → GoesLater (state_of old) (state_of new)

@@ -5,7 +5,7 @@ use Rattle.cc_names.specs.Commands.{lane_at}
 use Rattle.cc_names.specs.declared.commands.Command.{Command}
 use Rattle.cc_names.specs.declared.commands.Command.TheVariants as commands
 use Rattle.cc_names.specs.declared.commands.Lane.{Lane}
-use Rattle.cc_names.specs.declared.desks.Next.TheVariants as nexts
+use Rattle.cc_names.specs.declared.occasions.Next.TheVariants as nexts
 use Rattle.cc_names.specs.declared.rows.Tag.{Tag}
 use Rattle.legal_history.specs.Stories.Commanded.{command_of}
 use Rattle.legal_history.specs.Stories.States.{State, command_behind, done_of, next_tag}

@@ -22,7 +22,7 @@ use Rattle.legal_history.specs.Stories.Steps.{state_of}
 use Rattle.clearmake.specs.Calls.{IsRunOfUnit, IsStarted, WasStarted}
 use Rattle.clearmake.specs.Outside.{RanSo}
 use Rattle.clearmake.specs.Passes.{IsPast}
-use Rattle.clearmake.specs.Sights.{sees, standing_of}
+use Rattle.clearmake.specs.FoundTexts.{sees, standing_of}
 use Rattle.clearmake.proofs.Later.{stands_so}
 
 pub was_started : (s : State) (lane n : ℕ) (script : List Line) (targets : List (List ℕ)) → IsStarted s lane n script targets → WasStarted s lane n

@@ -9,11 +9,11 @@ use Rattle.build_script.specs.declared.files.Got.TheVariants as gots
 use Rattle.legal_history.specs.Stories.Lawful.{Legal}
 use Rattle.legal_history.specs.Stories.Steps.{state_of}
 use Rattle.turn_lock.proofs.Prefixes.{begins_on}
-use Rattle.turn_lock.specs.Sight.{LockId, Sight}
+use Rattle.turn_lock.specs.PassState.{LockId, PassState}
 use Rattle.clearmake.specs.Calls.{WasStarted}
 use Rattle.clearmake.specs.Outside.{Follows, IsRead, IsReading, Reading}
 use Rattle.clearmake.specs.Passes.{Builds, IsPast, Knows}
-use Rattle.clearmake.specs.Sights.{IsFetched, sees}
+use Rattle.clearmake.specs.FoundTexts.{IsFetched, sees}
 use Rattle.clearmake.proofs.Later.{past_stays, sees_same, started_stays}
 
 pub knows_on : (begun one two : List StoryStep) (tag : Tag) (count : ℕ) → Knows begun one tag count → IsPrefix one two → Knows begun two tag count
@@ -40,33 +40,33 @@ some_same : {A : Type 0} {a b : A} → Some a ≡ Some b → a ≡ b
 some_same h = cc
 
 -- a read leaves files that are read through the lock
-pub reads_on : (lock : LockId) (begun : List StoryStep) (found : Option (Sight StoryStep)) (r : Reading) (was new : Sight StoryStep) (story : List StoryStep) (broken : ℕ) → IsReading lock begun found r → found ≡ Some was →
+pub reads_on : (lock : LockId) (begun : List StoryStep) (found : Option (PassState StoryStep)) (r : Reading) (was new : PassState StoryStep) (story : List StoryStep) (broken : ℕ) → IsReading lock begun found r → found ≡ Some was →
     new.lock ≡ lock → new.seen ≡ story → IsPrefix was.seen story → Legal story → (0 < broken → IsPast (state_of story) r.tag) →
     IsReading lock begun (Some new) (record { pass = new; start = r.start; tag = r.tag; count = r.count; unit = r.unit; broken = broken })
 reads_on lock begun found r was new story broken h is own seen p legal past = record {
   there = refl;
   own = own;
   knows = h.knows;
-  begins = subst (IsPrefix r.start) (sym seen) (begins_on r.start was.seen story (subst (λ (s : Sight StoryStep). IsPrefix r.start s.seen) (some_same (sym h.there ∙ is)) h.begins) p);
+  begins = subst (IsPrefix r.start) (sym seen) (begins_on r.start was.seen story (subst (λ (s : PassState StoryStep). IsPrefix r.start s.seen) (some_same (sym h.there ∙ is)) h.begins) p);
   builds = h.builds;
   started = h.started;
   past = λ some. subst (λ t. IsPast (state_of t) r.tag) (sym seen) (past some);
 }
 
 -- what was past before a read is past after it
-pub past_read : (lock : LockId) (begun : List StoryStep) (found : Option (Sight StoryStep)) (r : Reading) (was : Sight StoryStep) (story : List StoryStep) → IsReading lock begun found r → found ≡ Some was →
+pub past_read : (lock : LockId) (begun : List StoryStep) (found : Option (PassState StoryStep)) (r : Reading) (was : PassState StoryStep) (story : List StoryStep) → IsReading lock begun found r → found ≡ Some was →
     IsPrefix was.seen story → Legal story → 0 < r.broken → IsPast (state_of story) r.tag
 past_read lock begun found r was story h is p legal some =
-    past_stays was.seen story r.tag p legal (subst (λ (s : Sight StoryStep). IsPast (state_of s.seen) r.tag) (some_same (sym h.there ∙ is)) (h.past some))
+    past_stays was.seen story r.tag p legal (subst (λ (s : PassState StoryStep). IsPast (state_of s.seen) r.tag) (some_same (sym h.there ∙ is)) (h.past some))
 
 -- an answer that is Broken says that the command is past
 pub broken_past : (got : Got) (standing : Option Standing) (story : List StoryStep) (tag : Tag) → got ≡ gots.Broken → IsRead got standing story tag → IsPast (state_of story) tag
 broken_past got standing story tag is h = subst (λ g. IsRead g standing story tag) is h
 
 -- where a read of a run found the build over, its command is past
-pub past_at_end : (lock : LockId) (begun : List StoryStep) (found : Option (Sight StoryStep)) (r old new : Reading) (pass : Sight StoryStep) → IsReading lock begun found r → found ≡ Some pass → r ≡ new → Follows old new →
+pub past_at_end : (lock : LockId) (begun : List StoryStep) (found : Option (PassState StoryStep)) (r old new : Reading) (pass : PassState StoryStep) → IsReading lock begun found r → found ≡ Some pass → r ≡ new → Follows old new →
     0 < new.broken → IsPast (state_of pass.seen) old.tag
 past_at_end lock begun found r old new pass h is view follows some =
     let tag : r.tag ≡ old.tag = ap (λ (n : Reading). n.tag) view ∙ follows.tag in
     let past = h.past (subst (λ (n : Reading). 0 < n.broken) (sym view) some) in
-    subst (λ t. IsPast (state_of pass.seen) t) tag (subst (λ (s : Sight StoryStep). IsPast (state_of s.seen) r.tag) (some_same (sym h.there ∙ is)) past)
+    subst (λ t. IsPast (state_of pass.seen) t) tag (subst (λ (s : PassState StoryStep). IsPast (state_of s.seen) r.tag) (some_same (sym h.there ∙ is)) past)

@@ -1,7 +1,7 @@
 -- What becomes of the units of a build, and of the build.
 use Rattle.std.specs.Prelude.{ℕ, Result, Ok, Err, List}
-use Rattle.cc_names.specs.declared.desks.Begun.{Begun}
-use Rattle.cc_names.specs.declared.desks.Begun.TheVariants as begins
+use Rattle.cc_names.specs.declared.occasions.Begun.{Begun}
+use Rattle.cc_names.specs.declared.occasions.Begun.TheVariants as begins
 use Rattle.cc_names.specs.declared.memory.NoMemory.{NoMemory}
 use Rattle.cc_names.specs.declared.rows.Tag.{Tag}
 use Rattle.cc_names.specs.declared.steps.StoryStep.{StoryStep}

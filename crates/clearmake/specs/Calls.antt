@@ -1,8 +1,8 @@
 -- What the calls of a desk on a lane's build ask and leave.
 use Rattle.std.specs.Prelude.{◌≡◌, ℕ, ◌<◌, ◌^◌, ◌&&◌, ◌==◌, Bool, true, false, not, Some, Ok, is_some, List, [], length, unwrap_or, option_map, filter}
 use Rattle.std.specs.List.{list_any, range_with_len}
-use Rattle.cc_names.specs.declared.desks.Begun.{Begun}
-use Rattle.cc_names.specs.declared.desks.Begun.TheVariants as begins
+use Rattle.cc_names.specs.declared.occasions.Begun.{Begun}
+use Rattle.cc_names.specs.declared.occasions.Begun.TheVariants as begins
 use Rattle.cc_names.specs.declared.steps.StoryStep.{StoryStep}
 use Rattle.cc_names.specs.declared.units.Unit.{Unit}
 use Rattle.script_grammar.specs.Lines.{script_of}
@@ -109,7 +109,7 @@ is_released build n m =
     && unwrap_or (option_map (λ unit. needs build n unit && is_ready build unit) (unit_at build m)) false
 
 -- the units that unit n of a lane's build has released, in their order
-abbrev pub released : State → ℕ → ℕ → List ℕ
-released s lane n =
+abbrev pub released_units : State → ℕ → ℕ → List ℕ
+released_units s lane n =
     unwrap_or
     (option_map (λ build. filter (is_released build n) (range_with_len 0 (length build.units))) (build_of s.active lane)) []

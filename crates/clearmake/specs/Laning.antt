@@ -1,6 +1,6 @@
 -- What becomes of a lane's turn.
 use Rattle.std.specs.Prelude.{◌≡◌, ◌≤◌, ℕ, Some, List}
-use Rattle.cc_names.specs.declared.desks.Next.TheVariants as nexts
+use Rattle.cc_names.specs.declared.occasions.Next.TheVariants as nexts
 use Rattle.cc_names.specs.declared.steps.StoryStep.{StoryStep}
 use Rattle.legal_history.specs.Stories.Commanded.{command_of}
 use Rattle.legal_history.specs.Stories.Steps.{state_of}

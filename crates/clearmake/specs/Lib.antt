@@ -7,4 +7,4 @@ pub mod Nexts
 pub mod Outside
 pub mod Passes
 pub mod ReadingLaws
-pub mod Sights
+pub mod FoundTexts

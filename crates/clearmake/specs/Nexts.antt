@@ -2,8 +2,8 @@
 use Rattle.std.specs.Prelude.{ℕ, Option, Some, None}
 use Rattle.cc_names.specs.declared.commands.Command.{Command}
 use Rattle.cc_names.specs.declared.commands.Command.TheVariants as commands
-use Rattle.cc_names.specs.declared.desks.Next.{Next}
-use Rattle.cc_names.specs.declared.desks.Next.TheVariants.{Act, Build, Done}
+use Rattle.cc_names.specs.declared.occasions.Next.{Next}
+use Rattle.cc_names.specs.declared.occasions.Next.TheVariants.{Act, Build, Done}
 use Rattle.cc_names.specs.declared.rows.Tag.{Tag}
 use Rattle.legal_history.specs.Stories.Commanded.{command_of}
 use Rattle.legal_history.specs.Stories.States.{State, next_tag}

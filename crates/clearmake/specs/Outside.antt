@@ -13,14 +13,14 @@ use Rattle.script_grammar.specs.declared.files.GivenUp.{GivenUp}
 use Rattle.build_script.specs.declared.outcomes.Ended.{Ended}
 use Rattle.legal_history.specs.Stories.States.{State}
 use Rattle.legal_history.specs.Stories.Steps.{state_of}
-use Rattle.turn_lock.specs.Sight.{LockId, Sight}
+use Rattle.turn_lock.specs.PassState.{LockId, PassState}
 use Rattle.clearmake.specs.Calls.{IsRunOfUnit, WasStarted}
 use Rattle.clearmake.specs.Passes.{Builds, IsLater, IsPast, Knows}
 
 -- files that are read through a lock: the pass, the story that it had seen as the run began, the build's command and its number
 -- of units, the unit that is run, and how many reads found the build over
 pub record Reading : Type 0 where
-  pub pass : Sight StoryStep
+  pub pass : PassState StoryStep
   pub start : List StoryStep
   pub tag : Tag
   pub count : ℕ
@@ -28,13 +28,13 @@ pub record Reading : Type 0 where
   pub broken : ℕ
 
 -- the pass, where it is there
-abbrev pub sight_or : LockId → Option (Sight StoryStep) → Sight StoryStep
-sight_or lock None = record { lock = lock; seen = []; weight = 0 }
-sight_or lock (Some pass) = pass
+abbrev pub pass_or : LockId → Option (PassState StoryStep) → PassState StoryStep
+pass_or lock None = record { lock = lock; seen = []; weight = 0 }
+pass_or lock (Some pass) = pass
 
 -- The pass is one of the lock, and has seen no less than as the run began, when the unit had been started in a build found begun
 -- earlier. Where a read found the build over, its command is past.
-pub record IsReading (lock : LockId) (begun : List StoryStep) (pass : Option (Sight StoryStep)) (r : Reading) : Type 0 where
+pub record IsReading (lock : LockId) (begun : List StoryStep) (pass : Option (PassState StoryStep)) (r : Reading) : Type 0 where
   pub there : pass ≡ Some r.pass
   pub own : r.pass.lock ≡ lock
   pub knows : Knows begun r.start r.tag r.count

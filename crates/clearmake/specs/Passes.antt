@@ -1,13 +1,13 @@
 -- What is known of the story that a pass has seen.
 use Rattle.std.specs.Prelude.{◌≡◌, ◌⊎◌, ℕ, ◌+◌, ◌<◌, ◌≤◌, List}
 use mathlib.Core.List.{IsPrefix}
-use Rattle.cc_names.specs.declared.desks.Next.TheVariants as nexts
+use Rattle.cc_names.specs.declared.occasions.Next.TheVariants as nexts
 use Rattle.cc_names.specs.declared.rows.Tag.{Tag}
 use Rattle.cc_names.specs.declared.steps.StoryStep.{StoryStep}
 use Rattle.legal_history.specs.Stories.Lawful.{Legal}
 use Rattle.legal_history.specs.Stories.States.{State, done_of}
 use Rattle.legal_history.specs.Stories.Steps.{state_of}
-use Rattle.turn_lock.specs.Sight.{Sight}
+use Rattle.turn_lock.specs.PassState.{PassState}
 use Rattle.clearmake.specs.Calls.{IsBuilding}
 use Rattle.clearmake.specs.Going.{HasOutcome}
 use Rattle.clearmake.specs.Nexts.{next_of}
@@ -27,7 +27,7 @@ abbrev pub IsPast : State → Tag → Type 0
 IsPast s tag = (tag.phase < s.number) ⊎ ((tag.phase ≡ s.number) × (tag.command ≤ done_of s.done tag.lane))
 
 -- a later pass of the same lock, of the same weight, which has seen a longer story or the same
-pub record IsLater (old new : Sight StoryStep) : Type 0 where
+pub record IsLater (old new : PassState StoryStep) : Type 0 where
   pub lock : new.lock ≡ old.lock
   pub weight : new.weight ≡ old.weight
   pub begins : IsPrefix old.seen new.seen

@@ -3,14 +3,14 @@ use Rattle.std.specs.Prelude.{refl}
 use Rattle.std.proofs.Common.{◌∙◌}
 use Rattle.cc_names.specs.declared.steps.StoryStep.{StoryStep}
 use Rattle.turn_lock.proofs.Prefixes.{begins_itself, begins_on}
-use Rattle.turn_lock.specs.Sight.{Sight}
+use Rattle.turn_lock.specs.PassState.{PassState}
 use Rattle.clearmake.specs.Outside.{Follows, Reading}
 use Rattle.clearmake.specs.Passes.{IsLater}
 
-pub later_itself : (pass : Sight StoryStep) → IsLater pass pass
+pub later_itself : (pass : PassState StoryStep) → IsLater pass pass
 later_itself pass = record { lock = refl; weight = refl; begins = begins_itself pass.seen }
 
-pub later_on : (one two three : Sight StoryStep) → IsLater one two → IsLater two three → IsLater one three
+pub later_on : (one two three : PassState StoryStep) → IsLater one two → IsLater two three → IsLater one three
 later_on one two three h g = record {
   lock = g.lock ∙ h.lock;
   weight = g.weight ∙ h.weight;

@@ -7,9 +7,9 @@ ghost use Rattle.std.specs.Bool.{OnTrue};
 ghost use mathlib.Core.List.{IsPrefix};
 ghost use Rattle.clearmake.specs.Passes.{AreLanesDone};
 
-use crate::desks::PhaseDesk;
 use crate::lanes::{LaneTurn, take_turn_at};
-use cc_names::desks::Next;
+use crate::services::PhaseService;
+use cc_names::occasions::Next;
 use std::alloc::Global;
 
 /// How many lanes a phase has at most.
@@ -30,12 +30,12 @@ enum Round {
 }
 
 /// Whether a lane that is not set aside has a command next that builds.
-fn any_builds<T: PhaseDesk>(desk: &T, lanes: u32, aside: &[bool; LANES]) -> bool
+fn any_builds<T: PhaseService>(service: &T, lanes: u32, aside: &[bool; LANES]) -> bool
     requires { lanes ≤ 64 }
 {
     for index in 0..lanes {
         if !aside[index as usize] {
-            if let Next::Build(_) = desk.next(index + 1) {
+            if let Next::Build(_) = service.next(index + 1) {
                 return true;
             }
         }
@@ -44,13 +44,13 @@ fn any_builds<T: PhaseDesk>(desk: &T, lanes: u32, aside: &[bool; LANES]) -> bool
 }
 
 /// Whether no lane has anything left to do.
-fn are_done<T: PhaseDesk>(desk: &T, lanes: u32) -> bool
-    ensures { OnTrue result (AreLanesDone (T.story desk.now) 1 lanes T.number) }
+fn are_done<T: PhaseService>(service: &T, lanes: u32) -> bool
+    ensures { OnTrue result (AreLanesDone (T.story service.now) 1 lanes T.number) }
 {
-    desk.legal();
-    desk.in_phase();
+    service.legal();
+    service.in_phase();
     for index in 0..lanes {
-        match desk.next(index + 1) {
+        match service.next(index + 1) {
             Next::Done => {}
             _ => return false,
         }
@@ -60,19 +60,19 @@ fn are_done<T: PhaseDesk>(desk: &T, lanes: u32) -> bool
 
 /// A round: each lane that is not set aside takes its turn, until one comes to a build. A lane is set aside that has nothing
 /// left to do, since to look behind its last command again and again may take long, and one for which memory ran out.
-fn take_turns<T: PhaseDesk>(
-    desk: &mut T,
+fn take_turns<T: PhaseService>(
+    service: &mut T,
     alloc: Global,
     lanes: u32,
     aside: &mut [bool; LANES],
 ) -> Round
     requires { lanes ≤ 64 }
-    ensures { IsPrefix (T.story desk.old) (T.story desk.new) }
+    ensures { IsPrefix (T.story service.old) (T.story service.new) }
 {
     let mut round = Round::Spent;
     for index in 0..lanes {
         if !aside[index as usize] {
-            match take_turn_at(desk, alloc, index + 1) {
+            match take_turn_at(service, alloc, index + 1) {
                 LaneTurn::Acted => round = Round::Acted,
                 LaneTurn::Done | LaneTurn::OutOfMemory => aside[index as usize] = true,
                 LaneTurn::Build(_, _) => return Round::Builds,
@@ -84,19 +84,23 @@ fn take_turns<T: PhaseDesk>(
 
 /// Carries out the commands of so many lanes until a lane comes to a build. True where nothing is left to do in any; else there
 /// may be something: a build is ahead, or memory ran out.
-pub(crate) fn act_before_threads<T: PhaseDesk>(desk: &mut T, alloc: Global, lanes: u32) -> bool
+pub(crate) fn act_before_threads<T: PhaseService>(
+    service: &mut T,
+    alloc: Global,
+    lanes: u32,
+) -> bool
     requires { lanes ≤ 64 }
-    ensures begins { IsPrefix (T.story desk.old) (T.story desk.new) }
-    ensures finished { OnTrue result (AreLanesDone (T.story desk.new) 1 lanes T.number) }
+    ensures begins { IsPrefix (T.story service.old) (T.story service.new) }
+    ensures finished { OnTrue result (AreLanesDone (T.story service.new) 1 lanes T.number) }
 {
     let mut aside = [false; LANES];
     for _ in 0..ROUNDS {
-        if any_builds(desk, lanes, &aside) {
+        if any_builds(service, lanes, &aside) {
             return false;
         }
-        match take_turns(desk, alloc, lanes, &mut aside) {
+        match take_turns(service, alloc, lanes, &mut aside) {
             Round::Acted => {}
-            Round::Spent => return are_done(desk, lanes),
+            Round::Spent => return are_done(service, lanes),
             Round::Builds => return false,
         }
     }

@@ -5,16 +5,16 @@ ghost use Rattle.std.specs.Thread.{IsSync};
 ghost use Rattle.clearmake.specs.Passes.{IsLater, Knows};
 
 use crate::contexts::BuildContext;
-use crate::desks::BuildDesk;
+use crate::services::BuildService;
 use crate::task_queues::{Builder, TaskQueues, deal, make_builders};
 use crate::tasks::do_task;
-use cc_outside::Gate;
+use cc_outside::Hook;
 use std::sync::Wait;
 use std::thread::{Threads, join};
 use turn_lock::Pass;
 
 /// One builder: does its own tasks and those that it steals, until none is left with anyone.
-fn build_share<R: Wait, T: BuildDesk, G: Gate>(
+fn build_share<R: Wait, T: BuildService, G: Hook>(
     context: &BuildContext<'_, R, T, G>,
     queues: &TaskQueues,
     builder: &mut Builder,
@@ -38,7 +38,7 @@ fn build_share<R: Wait, T: BuildDesk, G: Gate>(
 }
 
 /// The work of these builders, half of them in another thread.
-fn build_shares<R: Threads + Wait + Sync, T: BuildDesk + Send, G: Gate + Sync>(
+fn build_shares<R: Threads + Wait + Sync, T: BuildService + Send, G: Hook + Sync>(
     context: &BuildContext<'_, R, T, G>,
     queues: &TaskQueues,
     builders: &mut [Builder],
@@ -64,7 +64,7 @@ fn build_shares<R: Threads + Wait + Sync, T: BuildDesk + Send, G: Gate + Sync>(
     let alloc = context.alloc;
     let hashing = context.hashing;
     let lock = context.lock;
-    let gate = context.gate;
+    let hook = context.hook;
     let begun = context.begun;
     let tag = context.tag;
     let count = context.count;
@@ -82,7 +82,7 @@ fn build_shares<R: Threads + Wait + Sync, T: BuildDesk + Send, G: Gate + Sync>(
                 alloc,
                 hashing,
                 lock,
-                gate,
+                hook,
                 begun,
                 tag,
                 count,
@@ -100,7 +100,7 @@ fn build_shares<R: Threads + Wait + Sync, T: BuildDesk + Send, G: Gate + Sync>(
                 alloc,
                 hashing,
                 lock,
-                gate,
+                hook,
                 begun,
                 tag,
                 count,
@@ -114,7 +114,7 @@ fn build_shares<R: Threads + Wait + Sync, T: BuildDesk + Send, G: Gate + Sync>(
 /// Has so many builders drive the units of a build, as far as they come: a unit is laid to whoever gave the last one that it
 /// needs its outcome, others steal from a builder that a long script holds up, and no script is run twice. Nothing is said of
 /// what they leave: where memory runs out, that may be each unit.
-pub(crate) fn build_units<R: Threads + Wait + Sync, T: BuildDesk + Send, G: Gate + Sync>(
+pub(crate) fn build_units<R: Threads + Wait + Sync, T: BuildService + Send, G: Hook + Sync>(
     context: &BuildContext<'_, R, T, G>,
     pass: Pass<T>,
     jobs: u32,

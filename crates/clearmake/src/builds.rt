@@ -3,7 +3,7 @@
 ghost use Rattle.std.specs.Prelude.{◌≡◌, ◌≤◌};
 ghost use Rattle.std.specs.Bool.{OnTrue};
 ghost use mathlib.Core.List.{IsPrefix};
-ghost use Rattle.cc_names.specs.declared.desks.Next.TheVariants as nexts;
+ghost use Rattle.cc_names.specs.declared.occasions.Next.TheVariants as nexts;
 ghost use Rattle.legal_history.specs.Stories.Steps.{state_of};
 ghost use Rattle.clearmake.specs.Building.{IsOpened, opened_of};
 ghost use Rattle.clearmake.specs.Nexts.{next_of};
@@ -11,13 +11,13 @@ ghost use Rattle.clearmake.specs.Passes.{AreDone, IsLater, IsPast, Knows};
 
 use crate::builders::build_units;
 use crate::contexts::{BuildContext, PhaseContext, is_next};
-use crate::desks::BuildDesk;
+use crate::services::BuildService;
 use crate::sweeps::sweep;
 use crate::turns::TurnEnd;
-use cc_names::desks::Begun;
 use cc_names::memory::NoMemory;
+use cc_names::occasions::Begun;
 use cc_names::rows::Tag;
-use cc_outside::Gate;
+use cc_outside::Hook;
 use std::alloc::Global;
 use std::snapshot::Snapshot;
 use std::sync::Wait;
@@ -53,21 +53,26 @@ fn opened_of(begun: Result<Begun, NoMemory>) -> Opened
 }
 
 /// Begins the build of a command that was found to be built, in a turn at the desk.
-fn begin_at<T: BuildDesk>(desk: &mut T, alloc: Global, seen: &Snapshot<Pass<T>>, tag: Tag) -> Opened
-    requires begins { IsPrefix seen.now.value.seen (T.story desk.old) }
+fn begin_at<T: BuildService>(
+    service: &mut T,
+    alloc: Global,
+    seen: &Snapshot<Pass<T>>,
+    tag: Tag,
+) -> Opened
+    requires begins { IsPrefix seen.now.value.seen (T.story service.old) }
     requires next { next_of (state_of seen.now.value.seen) tag.lane ≡ nexts.Build tag }
-    ensures begins { IsPrefix (T.story desk.old) (T.story desk.new) }
-    ensures opened { IsOpened result (T.story desk.new) tag }
+    ensures begins { IsPrefix (T.story service.old) (T.story service.new) }
+    ensures opened { IsOpened result (T.story service.new) tag }
 {
-    if !is_next(desk, seen, tag) {
+    if !is_next(service, seen, tag) {
         return Opened::Over;
     }
-    opened_of(desk.begin(alloc, tag.lane))
+    opened_of(service.begin(alloc, tag.lane))
 }
 
 /// Takes a turn to begin the build of a command that was found to be built.
 #[tactic(auto, using(crate::proofs::Steps::taken_grown))]
-fn begin_once<R: Wait, T: BuildDesk, G: Gate>(
+fn begin_once<R: Wait, T: BuildService, G: Hook>(
     context: &PhaseContext<'_, R, T, G>,
     pass: Pass<T>,
     tag: Tag,
@@ -78,34 +83,34 @@ fn begin_once<R: Wait, T: BuildDesk, G: Gate>(
     ensures opened { IsOpened result.1 result.0.seen tag }
 {
     let seen = Snapshot::of(&pass);
-    let (held, mut desk) = context.lock.take(context.rt, pass);
-    let opened = begin_at(&mut desk, context.alloc, &seen, tag);
-    (context.lock.give(held, desk), opened)
+    let (held, mut service) = context.lock.take(context.rt, pass);
+    let opened = begin_at(&mut service, context.alloc, &seen, tag);
+    (context.lock.give(held, service), opened)
 }
 
 /// Ends a build whose units all had their outcomes, in a turn at the desk. False where memory ran out.
-fn end_at<R, T: BuildDesk, G>(
+fn end_at<R, T: BuildService, G>(
     context: &BuildContext<'_, R, T, G>,
-    desk: &mut T,
+    service: &mut T,
     seen: &Snapshot<Pass<T>>,
 ) -> bool
-    requires knows { Knows context.now.begun.now.value.seen (T.story desk.old) context.now.tag
+    requires knows { Knows context.now.begun.now.value.seen (T.story service.old) context.now.tag
         context.now.count }
-    requires begins { IsPrefix seen.now.value.seen (T.story desk.old) }
+    requires begins { IsPrefix seen.now.value.seen (T.story service.old) }
     requires done { AreDone seen.now.value.seen context.now.tag context.now.count
         context.now.count }
-    ensures begins { IsPrefix (T.story desk.old) (T.story desk.new) }
-    ensures ended { OnTrue result (IsPast (state_of (T.story desk.new)) context.now.tag) }
+    ensures begins { IsPrefix (T.story service.old) (T.story service.new) }
+    ensures ended { OnTrue result (IsPast (state_of (T.story service.new)) context.now.tag) }
 {
-    if !context.goes_on(desk) {
+    if !context.goes_on(service) {
         return true;
     }
-    desk.end(context.alloc, context.tag.lane).is_ok()
+    service.end(context.alloc, context.tag.lane).is_ok()
 }
 
 /// Takes a turn to end a build whose units all have their outcomes. False where memory ran out.
 #[tactic(auto, using(crate::proofs::Steps::taken_grown))]
-fn end_once<R: Wait, T: BuildDesk, G: Gate>(
+fn end_once<R: Wait, T: BuildService, G: Hook>(
     context: &BuildContext<'_, R, T, G>,
     pass: Pass<T>,
 ) -> (Pass<T>, bool)
@@ -117,13 +122,13 @@ fn end_once<R: Wait, T: BuildDesk, G: Gate>(
     ensures ended { OnTrue result.1 (IsPast (state_of result.0.seen) context.now.tag) }
 {
     let seen = Snapshot::of(&pass);
-    let (held, mut desk) = context.lock.take(context.rt, pass);
-    let ended = end_at(context, &mut desk, &seen);
-    (context.lock.give(held, desk), ended)
+    let (held, mut service) = context.lock.take(context.rt, pass);
+    let ended = end_at(context, &mut service, &seen);
+    (context.lock.give(held, service), ended)
 }
 
 /// Carries out a build that is active: by builders, and what they leave one unit after the other.
-fn build_begun<R: Threads + Wait + Sync, T: BuildDesk + Send, G: Gate + Sync>(
+fn build_begun<R: Threads + Wait + Sync, T: BuildService + Send, G: Hook + Sync>(
     context: &BuildContext<'_, R, T, G>,
     pass: Pass<T>,
     jobs: u32,
@@ -156,7 +161,7 @@ fn build_begun<R: Threads + Wait + Sync, T: BuildDesk + Send, G: Gate + Sync>(
 ///
 /// The gate is asked outside the lock, before and after each run of a script and before each of its reads. Names are found
 /// by the hashing.
-pub(crate) fn build<R: Threads + Wait + Sync, T: BuildDesk + Send, G: Gate + Sync>(
+pub(crate) fn build<R: Threads + Wait + Sync, T: BuildService + Send, G: Hook + Sync>(
     context: &PhaseContext<'_, R, T, G>,
     pass: Pass<T>,
     tag: Tag,
@@ -179,7 +184,7 @@ pub(crate) fn build<R: Threads + Wait + Sync, T: BuildDesk + Send, G: Gate + Syn
                 alloc: context.alloc,
                 hashing: context.hashing,
                 lock: context.lock,
-                gate: context.gate,
+                hook: context.hook,
                 begun: &begun,
                 tag,
                 count,

@@ -3,14 +3,14 @@
 ghost use Rattle.std.specs.Prelude.{◌≡◌};
 ghost use Rattle.std.specs.Bool.{OnTrue, OnFalse};
 ghost use mathlib.Core.List.{IsPrefix};
-ghost use Rattle.cc_names.specs.declared.desks.Next.TheVariants as nexts;
+ghost use Rattle.cc_names.specs.declared.occasions.Next.TheVariants as nexts;
 ghost use Rattle.legal_history.specs.Stories.Lawful.{Legal};
 ghost use Rattle.legal_history.specs.Stories.Steps.{state_of};
 ghost use Rattle.clearmake.specs.Nexts.{next_of};
 ghost use Rattle.clearmake.specs.Passes.{Builds, IsPast, Knows};
 
-use crate::desks::BuildDesk;
-use cc_names::desks::Next;
+use crate::services::BuildService;
+use cc_names::occasions::Next;
 use cc_names::rows::Tag;
 use std::alloc::Global;
 use std::hash::RandomState;
@@ -24,18 +24,18 @@ pub(crate) struct PhaseContext<'a, R, T: Storied, G> {
     pub(crate) alloc: Global,
     pub(crate) hashing: RandomState,
     pub(crate) lock: &'a TurnLock<T>,
-    pub(crate) gate: &'a G,
+    pub(crate) hook: &'a G,
 }
 
 /// What the builders of a build share: the lock round the desk, the gate, and the build, whose command is the one of this
 /// tag, with its number of units. All that is known of the build is what a pass had seen when it was found begun.
 #[derive(Drop)]
-pub(crate) struct BuildContext<'a, R, T: BuildDesk, G> {
+pub(crate) struct BuildContext<'a, R, T: BuildService, G> {
     pub(crate) rt: &'a R,
     pub(crate) alloc: Global,
     pub(crate) hashing: RandomState,
     pub(crate) lock: &'a TurnLock<T>,
-    pub(crate) gate: &'a G,
+    pub(crate) hook: &'a G,
     pub(crate) begun: &'a Snapshot<Pass<T>>,
     pub(crate) tag: Tag,
     pub(crate) count: u32,
@@ -43,28 +43,28 @@ pub(crate) struct BuildContext<'a, R, T: BuildDesk, G> {
 
 /// Whether a command that was found to be built is its lane's next still. Else it is finished.
 #[tactic(auto, using(crate::proofs::Later::is_past))]
-pub(crate) fn is_next<T: BuildDesk>(desk: &T, seen: &Snapshot<Pass<T>>, tag: Tag) -> bool
-    requires begins { IsPrefix seen.now.value.seen (T.story desk.now) }
+pub(crate) fn is_next<T: BuildService>(service: &T, seen: &Snapshot<Pass<T>>, tag: Tag) -> bool
+    requires begins { IsPrefix seen.now.value.seen (T.story service.now) }
     requires next { next_of (state_of seen.now.value.seen) tag.lane ≡ nexts.Build tag }
-    ensures legal { Legal (T.story desk.now) }
+    ensures legal { Legal (T.story service.now) }
     ensures next { OnTrue result
-        (next_of (state_of (T.story desk.now)) tag.lane ≡ nexts.Build tag) }
-    ensures past { OnFalse result (IsPast (state_of (T.story desk.now)) tag) }
+        (next_of (state_of (T.story service.now)) tag.lane ≡ nexts.Build tag) }
+    ensures past { OnFalse result (IsPast (state_of (T.story service.now)) tag) }
 {
-    desk.legal();
-    desk.next(tag.lane) == Next::Build(tag)
+    service.legal();
+    service.next(tag.lane) == Next::Build(tag)
 }
 
-impl<R, T: BuildDesk, G> BuildContext<'_, R, T, G> {
+impl<R, T: BuildService, G> BuildContext<'_, R, T, G> {
     /// Whether the build goes on. Else its command is finished.
     #[tactic(auto, using(crate::proofs::Later::still_builds))]
-    pub(crate) fn goes_on(&self, desk: &T) -> bool
-        requires { Knows self.now.begun.now.value.seen (T.story desk.now) self.now.tag
+    pub(crate) fn goes_on(&self, service: &T) -> bool
+        requires { Knows self.now.begun.now.value.seen (T.story service.now) self.now.tag
             self.now.count }
-        ensures legal { Legal (T.story desk.now) }
-        ensures on { OnTrue result (Builds (T.story desk.now) self.now.tag self.now.count) }
-        ensures past { OnFalse result (IsPast (state_of (T.story desk.now)) self.now.tag) }
+        ensures legal { Legal (T.story service.now) }
+        ensures on { OnTrue result (Builds (T.story service.now) self.now.tag self.now.count) }
+        ensures past { OnFalse result (IsPast (state_of (T.story service.now)) self.now.tag) }
     {
-        is_next(desk, self.begun, self.tag)
+        is_next(service, self.begun, self.tag)
     }
 }

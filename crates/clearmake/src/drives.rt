@@ -9,70 +9,70 @@ ghost use Rattle.clearmake.specs.Driving.{IsDriven, IsTried};
 ghost use Rattle.clearmake.specs.Passes.{Builds, IsLater, Knows};
 
 use crate::contexts::BuildContext;
-use crate::desks::BuildDesk;
 use crate::runs::run_outside;
 use crate::script_runs::ScriptRuns;
+use crate::services::BuildService;
 use crate::turns::{TurnEnd, UnitTurn};
 use build_script::files::GivenUp;
 use build_script::outcomes::Ended;
 use build_script::scripts::Script;
 use cc_names::memory::{NoMemory, Or};
 use cc_names::paths::Path;
-use cc_outside::Gate;
+use cc_outside::Hook;
 use std::snapshot::Snapshot;
 use std::sync::Wait;
 use turn_lock::Pass;
 
 /// Tries a unit, in a turn at the desk.
-pub(crate) fn try_at<R, T: BuildDesk, G>(
+pub(crate) fn try_at<R, T: BuildService, G>(
     context: &BuildContext<'_, R, T, G>,
-    desk: &mut T,
+    service: &mut T,
     unit: u32,
 ) -> Result<UnitTurn, NoMemory>
-    requires knows { Knows context.now.begun.now.value.seen (T.story desk.old) context.now.tag
+    requires knows { Knows context.now.begun.now.value.seen (T.story service.old) context.now.tag
         context.now.count }
     requires unit { unit < context.now.count }
-    ensures begins { IsPrefix (T.story desk.old) (T.story desk.new) }
+    ensures begins { IsPrefix (T.story service.old) (T.story service.new) }
     ensures tried { IfOk result
-        (λ turn. IsTried turn (T.story desk.new) context.now.tag context.now.count unit) }
+        (λ turn. IsTried turn (T.story service.new) context.now.tag context.now.count unit) }
 {
-    if !context.goes_on(desk) {
+    if !context.goes_on(service) {
         return Ok(UnitTurn::End(TurnEnd::Over));
     }
-    let turn = desk.try_unit(context.alloc, context.tag.lane, unit);
-    desk.legal();
+    let turn = service.try_unit(context.alloc, context.tag.lane, unit);
+    service.legal();
     turn
 }
 
 /// Finishes a unit whose script was run, in a turn at the desk.
-fn finish_at<R, T: BuildDesk, G>(
+fn finish_at<R, T: BuildService, G>(
     context: &BuildContext<'_, R, T, G>,
-    desk: &mut T,
+    service: &mut T,
     start: &Snapshot<Pass<T>>,
     unit: u32,
     ended: Ended,
 ) -> Result<TurnEnd, NoMemory>
     requires knows { Knows context.now.begun.now.value.seen start.now.value.seen context.now.tag
         context.now.count }
-    requires begins { IsPrefix start.now.value.seen (T.story desk.old) }
+    requires begins { IsPrefix start.now.value.seen (T.story service.old) }
     requires builds { Builds start.now.value.seen context.now.tag context.now.count }
     requires ran { IsRunOfUnit (state_of start.now.value.seen) context.now.tag.lane unit
         (ran_of ended) }
-    ensures begins { IsPrefix (T.story desk.old) (T.story desk.new) }
+    ensures begins { IsPrefix (T.story service.old) (T.story service.new) }
     ensures driven { IfOk result
-        (λ end. IsDriven end (T.story desk.new) context.now.tag context.now.count unit) }
+        (λ end. IsDriven end (T.story service.new) context.now.tag context.now.count unit) }
 {
-    if !context.goes_on(desk) {
+    if !context.goes_on(service) {
         return Ok(TurnEnd::Over);
     }
-    let end = desk.finish_unit(context.alloc, context.tag.lane, unit, ended);
-    desk.legal();
+    let end = service.finish_unit(context.alloc, context.tag.lane, unit, ended);
+    service.legal();
     end
 }
 
 /// Takes a turn to try a unit.
 #[tactic(auto, using(crate::proofs::Steps::taken_grown))]
-fn try_once<R: Wait, T: BuildDesk, G: Gate>(
+fn try_once<R: Wait, T: BuildService, G: Hook>(
     context: &BuildContext<'_, R, T, G>,
     pass: Pass<T>,
     unit: u32,
@@ -85,14 +85,14 @@ fn try_once<R: Wait, T: BuildDesk, G: Gate>(
     ensures tried { IfOk result.1
         (λ turn. IsTried turn result.0.seen context.now.tag context.now.count unit) }
 {
-    let (held, mut desk) = context.lock.take(context.rt, pass);
-    let turn = try_at(context, &mut desk, unit);
-    (context.lock.give(held, desk), turn)
+    let (held, mut service) = context.lock.take(context.rt, pass);
+    let turn = try_at(context, &mut service, unit);
+    (context.lock.give(held, service), turn)
 }
 
 /// Takes a turn to finish a unit.
 #[tactic(auto, using(crate::proofs::Steps::taken_grown))]
-fn finish_once<R: Wait, T: BuildDesk, G: Gate>(
+fn finish_once<R: Wait, T: BuildService, G: Hook>(
     context: &BuildContext<'_, R, T, G>,
     pass: Pass<T>,
     start: &Snapshot<Pass<T>>,
@@ -110,14 +110,14 @@ fn finish_once<R: Wait, T: BuildDesk, G: Gate>(
     ensures driven { IfOk result.1
         (λ end. IsDriven end result.0.seen context.now.tag context.now.count unit) }
 {
-    let (held, mut desk) = context.lock.take(context.rt, pass);
-    let end = finish_at(context, &mut desk, start, unit, ended);
-    (context.lock.give(held, desk), end)
+    let (held, mut service) = context.lock.take(context.rt, pass);
+    let end = finish_at(context, &mut service, start, unit, ended);
+    (context.lock.give(held, service), end)
 }
 
 /// Runs the script of a unit that was started, outside the lock, and finishes the unit. The runs of its builder, where it is
 /// one of several, tell the others that it is at a script.
-pub(crate) fn run_started<R: Wait, T: BuildDesk, G: Gate>(
+pub(crate) fn run_started<R: Wait, T: BuildService, G: Hook>(
     context: &BuildContext<'_, R, T, G>,
     pass: Pass<T>,
     unit: u32,
@@ -145,7 +145,7 @@ pub(crate) fn run_started<R: Wait, T: BuildDesk, G: Gate>(
 }
 
 /// Drives a unit as far as it goes by itself.
-pub(crate) fn drive<R: Wait, T: BuildDesk, G: Gate>(
+pub(crate) fn drive<R: Wait, T: BuildService, G: Hook>(
     context: &BuildContext<'_, R, T, G>,
     pass: Pass<T>,
     unit: u32,

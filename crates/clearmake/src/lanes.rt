@@ -8,11 +8,11 @@ ghost use Rattle.clearmake.specs.Passes.{AreLanesDone, IsLaneDone, IsLater};
 
 use crate::builds::build;
 use crate::contexts::PhaseContext;
-use crate::desks::PhaseDesk;
-use cc_names::desks::Next;
+use crate::services::PhaseService;
 use cc_names::memory::NoMemory;
+use cc_names::occasions::Next;
 use cc_names::rows::Tag;
-use cc_outside::Gate;
+use cc_outside::Hook;
 use std::alloc::Global;
 use std::sync::Wait;
 use std::thread::{Threads, join};
@@ -39,22 +39,22 @@ pub(crate) enum LaneTurn {
 
 /// Carries out a lane's next commands as long as they build nothing, up to 64 in one turn at the desk, and says why it stops:
 /// the next one builds, there is none, the turn has had its commands, or memory ran out.
-pub(crate) fn take_turn_at<T: PhaseDesk>(desk: &mut T, alloc: Global, lane: u32) -> LaneTurn
-    ensures begins { IsPrefix (T.story desk.old) (T.story desk.new) }
-    ensures turn { IsLaneTurn result (T.story desk.new) lane T.number }
+pub(crate) fn take_turn_at<T: PhaseService>(service: &mut T, alloc: Global, lane: u32) -> LaneTurn
+    ensures begins { IsPrefix (T.story service.old) (T.story service.new) }
+    ensures turn { IsLaneTurn result (T.story service.new) lane T.number }
 {
     for _ in 0..COMMANDS_A_TURN {
-        desk.legal();
-        desk.in_phase();
-        match desk.next(lane) {
+        service.legal();
+        service.in_phase();
+        match service.next(lane) {
             Next::Done => return LaneTurn::Done,
             Next::Build(tag) => {
-                return match desk.jobs(alloc, lane) {
+                return match service.jobs(alloc, lane) {
                     Ok(jobs) => LaneTurn::Build(tag, jobs),
                     Err(NoMemory) => LaneTurn::OutOfMemory,
                 };
             }
-            Next::Act => match desk.act(alloc, lane) {
+            Next::Act => match service.act(alloc, lane) {
                 Ok(()) => {}
                 Err(NoMemory) => return LaneTurn::OutOfMemory,
             },
@@ -65,7 +65,7 @@ pub(crate) fn take_turn_at<T: PhaseDesk>(desk: &mut T, alloc: Global, lane: u32)
 
 /// Takes a lane's turn at the desk.
 #[tactic(auto, using(crate::proofs::Steps::taken_grown))]
-fn take_turn<R: Wait, T: PhaseDesk, G: Gate>(
+fn take_turn<R: Wait, T: PhaseService, G: Hook>(
     context: &PhaseContext<'_, R, T, G>,
     pass: Pass<T>,
     lane: u32,
@@ -74,14 +74,14 @@ fn take_turn<R: Wait, T: PhaseDesk, G: Gate>(
     ensures pass { IsLater pass result.0 }
     ensures turn { IsLaneTurn result.1 result.0.seen lane T.number }
 {
-    let (held, mut desk) = context.lock.take(context.rt, pass);
-    let turn = take_turn_at(&mut desk, context.alloc, lane);
-    (context.lock.give(held, desk), turn)
+    let (held, mut service) = context.lock.take(context.rt, pass);
+    let turn = take_turn_at(&mut service, context.alloc, lane);
+    (context.lock.give(held, service), turn)
 }
 
 /// Carries out the commands of a lane, one after the other, each build by so many builders at most. On `Ok` nothing is left to
 /// do. `Err` where memory ran out: a build that had begun stays active, and a later call goes on with it.
-fn run_lane<R: Threads + Wait + Sync, T: PhaseDesk + Send, G: Gate + Sync>(
+fn run_lane<R: Threads + Wait + Sync, T: PhaseService + Send, G: Hook + Sync>(
     context: &PhaseContext<'_, R, T, G>,
     pass: Pass<T>,
     lane: u32,
@@ -115,7 +115,7 @@ fn run_lane<R: Threads + Wait + Sync, T: PhaseDesk + Send, G: Gate + Sync>(
 
 /// Carries out the commands of so many lanes, from the first on, half of them in another thread. On `Ok` nothing is left to do
 /// in any. `Err` where memory ran out for one at least; the others went on.
-pub(crate) fn run_lanes<R: Threads + Wait + Sync, T: PhaseDesk + Send, G: Gate + Sync>(
+pub(crate) fn run_lanes<R: Threads + Wait + Sync, T: PhaseService + Send, G: Hook + Sync>(
     context: &PhaseContext<'_, R, T, G>,
     pass: Pass<T>,
     first: u32,
@@ -139,7 +139,7 @@ pub(crate) fn run_lanes<R: Threads + Wait + Sync, T: PhaseDesk + Send, G: Gate +
     let alloc = context.alloc;
     let hashing = context.hashing;
     let lock = context.lock;
-    let gate = context.gate;
+    let hook = context.hook;
     // Where no thread can be had the second one is carried out first.
     let ((two, others_ran), (one, ran)) = join(
         rt,
@@ -155,7 +155,7 @@ pub(crate) fn run_lanes<R: Threads + Wait + Sync, T: PhaseDesk + Send, G: Gate +
                 alloc,
                 hashing,
                 lock,
-                gate,
+                hook,
             };
             run_lanes(&context, two, next, others)
         },
@@ -171,7 +171,7 @@ pub(crate) fn run_lanes<R: Threads + Wait + Sync, T: PhaseDesk + Send, G: Gate +
                 alloc,
                 hashing,
                 lock,
-                gate,
+                hook,
             };
             run_lanes(&context, one, first, here)
         },
@@ -182,7 +182,7 @@ pub(crate) fn run_lanes<R: Threads + Wait + Sync, T: PhaseDesk + Send, G: Gate +
 /// Carries out the commands of so many lanes one lane after the other, on this thread, each build by one builder: so no memory
 /// is taken for threads, for deques or for more than one script. On `Ok` nothing is left to do in any. `Err` where memory ran
 /// out for one, which ends it.
-fn run_lanes_apart<R: Threads + Wait + Sync, T: PhaseDesk + Send, G: Gate + Sync>(
+fn run_lanes_apart<R: Threads + Wait + Sync, T: PhaseService + Send, G: Hook + Sync>(
     context: &PhaseContext<'_, R, T, G>,
     pass: Pass<T>,
     lanes: u32,
@@ -206,7 +206,7 @@ fn run_lanes_apart<R: Threads + Wait + Sync, T: PhaseDesk + Send, G: Gate + Sync
 
 /// Carries out the commands of the lanes of a phase, all at once; and where memory ran out, what is left of them one lane after
 /// the other. On `Ok` nothing is left to do in any. `Err` where memory ran out a second time.
-pub(crate) fn run_lanes_twice<R: Threads + Wait + Sync, T: PhaseDesk + Send, G: Gate + Sync>(
+pub(crate) fn run_lanes_twice<R: Threads + Wait + Sync, T: PhaseService + Send, G: Hook + Sync>(
     context: &PhaseContext<'_, R, T, G>,
     pass: Pass<T>,
     lanes: u32,

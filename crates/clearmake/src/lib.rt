@@ -3,7 +3,7 @@
 //! What it is for: a base stands behind a lock, and threads take turns at it. `run_phase` carries out the commands of the lanes
 //! of a phase, on a thread for each lane once one of them builds; a command that builds has so many builders at once. Where
 //! memory runs out, what is left is carried out once more, one lane after the other and by one builder. A script runs outside
-//! the lock, and each of its reads is a turn of its own. `BuildDesk` is what the base is asked.
+//! the lock, and each of its reads is a turn of its own. `BuildService` is what the base is asked.
 //!
 //! What it promises: the story that comes back begins with the one handed in. On `Ok` each lane of the phase has nothing left
 //! to do. What a run reads is what its unit saw when it began, whatever other threads did meanwhile, and each unit is finished
@@ -17,18 +17,18 @@ mod before_threads;
 mod builders;
 mod builds;
 mod contexts;
-mod desks;
 mod drives;
 mod lanes;
 mod locked_files;
 mod phases;
 mod runs;
 mod script_runs;
+mod services;
 mod sweeps;
 mod task_queues;
 mod tasks;
 mod turns;
 
-pub use desks::{BuildDesk, PhaseDesk};
 pub use phases::run_phase;
+pub use services::{BuildService, PhaseService};
 pub use turns::{TurnEnd, UnitTurn};

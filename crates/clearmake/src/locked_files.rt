@@ -7,14 +7,14 @@ ghost use Rattle.legal_history.specs.Stories.Steps.{state_of};
 ghost use Rattle.clearmake.specs.Calls.{WasStarted};
 ghost use Rattle.clearmake.specs.Outside.{IsRead};
 ghost use Rattle.clearmake.specs.Passes.{Builds, Knows};
-ghost use Rattle.clearmake.specs.Sights.{sees};
+ghost use Rattle.clearmake.specs.FoundTexts.{sees};
 
 use crate::contexts::BuildContext;
-use crate::desks::BuildDesk;
 use crate::script_runs::{ScriptRuns, note_change};
+use crate::services::BuildService;
 use build_script::files::{Files, Got};
 use cc_names::paths::Path;
-use cc_outside::Gate;
+use cc_outside::Hook;
 use std::marker::Model;
 use std::snapshot::Snapshot;
 use std::sync::Wait;
@@ -22,7 +22,7 @@ use turn_lock::Pass;
 
 /// The files that a unit's script sees, each read in a turn of its own at the desk. Other threads take turns between the
 /// reads; what the unit sees is the same at each.
-pub(crate) struct LockedFiles<'s, 'a, R: Wait, T: BuildDesk, G: Gate> {
+pub(crate) struct LockedFiles<'s, 'a, R: Wait, T: BuildService, G: Hook> {
     pub(crate) context: &'s BuildContext<'a, R, T, G>,
     pub(crate) start: &'s Snapshot<Pass<T>>,
     pub(crate) unit: u32,
@@ -32,14 +32,14 @@ pub(crate) struct LockedFiles<'s, 'a, R: Wait, T: BuildDesk, G: Gate> {
     pub(crate) broken: u64,
 }
 
-impl<'s, 'a, R: Wait, T: BuildDesk, G: Gate> Model for LockedFiles<'s, 'a, R, T, G> {
-    ghost use Rattle.clearmake.specs.Outside.{IsReading, Reading, sight_or};
+impl<'s, 'a, R: Wait, T: BuildService, G: Hook> Model for LockedFiles<'s, 'a, R, T, G> {
+    ghost use Rattle.clearmake.specs.Outside.{IsReading, Reading, pass_or};
 
     ghost Value = { Reading };
 
     ghost view = { λ f.
         record {
-          pass = sight_or f.context.now.lock.now.id f.pass;
+          pass = pass_or f.context.now.lock.now.id f.pass;
           start = f.start.now.value.seen;
           tag = f.context.now.tag;
           count = f.context.now.count;
@@ -50,7 +50,7 @@ impl<'s, 'a, R: Wait, T: BuildDesk, G: Gate> Model for LockedFiles<'s, 'a, R, T,
     ghost invariant = { λ f.
         IsReading f.context.now.lock.now.id f.context.now.begun.now.value.seen f.pass
         (record {
-          pass = sight_or f.context.now.lock.now.id f.pass;
+          pass = pass_or f.context.now.lock.now.id f.pass;
           start = f.start.now.value.seen;
           tag = f.context.now.tag;
           count = f.context.now.count;
@@ -61,30 +61,30 @@ impl<'s, 'a, R: Wait, T: BuildDesk, G: Gate> Model for LockedFiles<'s, 'a, R, T,
 
 /// What a unit that was started finds at a path, in a turn at the desk. Broken where the build is over.
 #[tactic(auto, using(crate::proofs::Rereads::reads_same, crate::proofs::Rereads::started_now, crate::proofs::Rereads::knows_on))]
-fn read_at<R: Wait, T: BuildDesk, G: Gate>(
+fn read_at<R: Wait, T: BuildService, G: Hook>(
     context: &BuildContext<'_, R, T, G>,
-    desk: &T,
+    service: &T,
     start: &Snapshot<Pass<T>>,
     unit: u32,
     path: &Path,
 ) -> Got
     requires knows { Knows context.now.begun.now.value.seen start.now.value.seen context.now.tag
         context.now.count }
-    requires begins { IsPrefix start.now.value.seen (T.story desk.now) }
+    requires begins { IsPrefix start.now.value.seen (T.story service.now) }
     requires builds { Builds start.now.value.seen context.now.tag context.now.count }
     requires started { WasStarted (state_of start.now.value.seen) context.now.tag.lane unit }
-    ensures legal { Legal (T.story desk.now) }
+    ensures legal { Legal (T.story service.now) }
     ensures read { IsRead result
-        (sees (state_of start.now.value.seen) context.now.tag.lane unit path.now) (T.story desk.now)
+        (sees (state_of start.now.value.seen) context.now.tag.lane unit path.now) (T.story service.now)
         context.now.tag }
 {
-    if !context.goes_on(desk) {
+    if !context.goes_on(service) {
         return Got::Broken;
     }
-    desk.fetch(context.alloc, context.tag.lane, unit, path)
+    service.fetch(context.alloc, context.tag.lane, unit, path)
 }
 
-impl<R: Wait, T: BuildDesk, G: Gate> Files for LockedFiles<'_, '_, R, T, G> {
+impl<R: Wait, T: BuildService, G: Hook> Files for LockedFiles<'_, '_, R, T, G> {
     ghost use Rattle.clearmake.specs.Outside.{Follows};
     ghost use Rattle.clearmake.specs.ReadingLaws.{follows_itself, follows_on};
 
@@ -96,15 +96,15 @@ impl<R: Wait, T: BuildDesk, G: Gate> Files for LockedFiles<'_, '_, R, T, G> {
 
     fn read(&mut self, path: &Path) -> Got {
         self.context
-            .gate
+            .hook
             .read(self.context.tag.lane, self.target, path);
         let Some(pass) = self.pass.take() else {
             unreachable!()
         };
         note_change(self.runs);
-        let (held, desk) = self.context.lock.take(self.context.rt, pass);
-        let got = read_at(self.context, &desk, self.start, self.unit, path);
-        self.pass = Some(self.context.lock.give(held, desk));
+        let (held, service) = self.context.lock.take(self.context.rt, pass);
+        let got = read_at(self.context, &service, self.start, self.unit, path);
+        self.pass = Some(self.context.lock.give(held, service));
         note_change(self.runs);
         if let Got::Broken = got {
             self.broken = self.broken.saturating_add(1);

@@ -6,10 +6,10 @@ ghost use Rattle.clearmake.specs.Passes.{AreLanesDone};
 
 use crate::before_threads::act_before_threads;
 use crate::contexts::PhaseContext;
-use crate::desks::PhaseDesk;
 use crate::lanes::run_lanes_twice;
+use crate::services::PhaseService;
 use cc_names::memory::NoMemory;
-use cc_outside::Gate;
+use cc_outside::Hook;
 use std::alloc::Global;
 use std::hash::RandomState;
 use std::sync::Wait;
@@ -26,31 +26,31 @@ const WHOLE: u64 = 65_536;
 /// The desk comes back with a story that begins with its own. On `Ok` each lane has nothing left to do. `Err` where memory ran
 /// out twice for a lane, among all and by itself, or where there was none for the lock; a build that had begun stays active.
 /// It need not return: it waits for the threads that it starts, and these wait for one another at the desk.
-pub fn run_phase<R: Threads + Wait + Sync, C: PhaseDesk + Send, G: Gate + Sync>(
+pub fn run_phase<R: Threads + Wait + Sync, C: PhaseService + Send, G: Hook + Sync>(
     rt: &R,
     alloc: Global,
     hashing: RandomState,
-    gate: &G,
-    desk: C,
+    hook: &G,
+    service: C,
     lanes: u32,
 ) -> (C, Result<(), NoMemory>)
     requires { lanes ≤ 64 }
-    ensures begins { IsPrefix (C.story desk) (C.story result.0) }
+    ensures begins { IsPrefix (C.story service) (C.story result.0) }
     ensures finished { OnOk result.1 (AreLanesDone (C.story result.0) 1 lanes C.number) }
 {
-    let mut desk = desk;
-    if act_before_threads(&mut desk, alloc, lanes) || lanes == 0 {
-        return (desk, Ok(()));
+    let mut service = service;
+    if act_before_threads(&mut service, alloc, lanes) || lanes == 0 {
+        return (service, Ok(()));
     }
-    match TurnLock::new(alloc, desk, WHOLE) {
-        Err(desk) => (desk, Err(NoMemory)),
+    match TurnLock::new(alloc, service, WHOLE) {
+        Err(service) => (service, Err(NoMemory)),
         Ok((lock, pass)) => {
             let context = PhaseContext {
                 rt,
                 alloc,
                 hashing,
                 lock: &lock,
-                gate,
+                hook,
             };
             let (pass, ran) = run_lanes_twice(&context, pass, lanes);
             (lock.close(pass), ran)

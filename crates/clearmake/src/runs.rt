@@ -8,16 +8,16 @@ ghost use Rattle.clearmake.specs.Outside.{RanSo};
 ghost use Rattle.clearmake.specs.Passes.{Builds, IsLater, Knows};
 
 use crate::contexts::BuildContext;
-use crate::desks::BuildDesk;
 use crate::locked_files::LockedFiles;
 use crate::script_runs::{ScriptRuns, note_change};
+use crate::services::BuildService;
 use build_script::files::GivenUp;
 use build_script::outcomes::Ended;
 use build_script::run::run;
 use build_script::scripts::Script;
 use cc_names::memory::Or;
 use cc_names::paths::Path;
-use cc_outside::Gate;
+use cc_outside::Hook;
 use std::snapshot::Snapshot;
 use std::sync::Wait;
 use turn_lock::Pass;
@@ -26,7 +26,7 @@ use turn_lock::Pass;
 /// between the reads the lock is free. The gate is told of the run, with the unit's first target, and of each read.
 ///
 /// Given up where memory runs out, and where a read finds the build over.
-pub(crate) fn run_outside<'s, R: Wait, T: BuildDesk, G: Gate>(
+pub(crate) fn run_outside<'s, R: Wait, T: BuildService, G: Hook>(
     context: &'s BuildContext<'_, R, T, G>,
     pass: Pass<T>,
     start: &'s Snapshot<Pass<T>>,
@@ -58,9 +58,9 @@ pub(crate) fn run_outside<'s, R: Wait, T: BuildDesk, G: Gate>(
         broken: 0,
     };
     note_change(runs);
-    context.gate.enter(context.tag.lane, target);
+    context.hook.enter(context.tag.lane, target);
     let ran = run(context.alloc, context.hashing, script, targets, &mut files);
-    context.gate.leave(context.tag.lane, target);
+    context.hook.leave(context.tag.lane, target);
     note_change(runs);
     let LockedFiles {
         context: _,

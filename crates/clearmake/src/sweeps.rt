@@ -5,17 +5,17 @@ ghost use Rattle.clearmake.specs.Passes.{IsLater, Knows};
 ghost use Rattle.clearmake.specs.Building.{IsSwept};
 
 use crate::contexts::BuildContext;
-use crate::desks::BuildDesk;
 use crate::drives::drive;
+use crate::services::BuildService;
 use crate::turns::TurnEnd;
 use cc_names::memory::NoMemory;
-use cc_outside::Gate;
+use cc_outside::Hook;
 use std::sync::Wait;
 use turn_lock::Pass;
 
 /// Drives each unit of a build that has no outcome yet, in their order: so none is left that waits for another. Where each has
 /// its outcome they are concluded; else the build is over.
-pub(crate) fn sweep<R: Wait, T: BuildDesk, G: Gate>(
+pub(crate) fn sweep<R: Wait, T: BuildService, G: Hook>(
     context: &BuildContext<'_, R, T, G>,
     pass: Pass<T>,
 ) -> (Pass<T>, Result<TurnEnd, NoMemory>)

@@ -41,7 +41,7 @@ pub(crate) struct Builder {
 
 /// What the others see of a builder: where to steal from it, and whether it is at a script.
 #[derive(Drop)]
-struct Fellow {
+struct Peer {
     stealer: Stealer<u32>,
     runs: ScriptRuns,
 }
@@ -49,7 +49,7 @@ struct Fellow {
 /// What the builders of a build share beside the desk: what they see of one another, and which units are claimed.
 #[derive(Drop)]
 pub(crate) struct TaskQueues {
-    fellows: Vec<Fellow>,
+    peers: Vec<Peer>,
     claimed: Vec<AtomicBool>,
     // How many tasks lie in deques or are being done.
     pending: AtomicU64,
@@ -76,15 +76,15 @@ pub(crate) fn make_builders(alloc: Global, builders: u32) -> Result<Vec<Builder>
 }
 
 /// What others see of each of some builders.
-fn make_fellows(alloc: Global, builders: &[Builder]) -> Result<Vec<Fellow>, NoMemory> {
-    let mut fellows = Vec::new(alloc);
+fn make_peers(alloc: Global, builders: &[Builder]) -> Result<Vec<Peer>, NoMemory> {
+    let mut peers = Vec::new(alloc);
     for builder in builders {
-        fellows.push(Fellow {
+        peers.push(Peer {
             stealer: builder.worker.stealer()?,
             runs: ScriptRuns::new(),
         })?;
     }
-    Ok(fellows)
+    Ok(peers)
 }
 
 /// A flag for each of some units, which nobody has claimed.
@@ -127,7 +127,7 @@ impl TaskQueues {
         units: u32,
     ) -> Result<TaskQueues, NoMemory> {
         Ok(TaskQueues {
-            fellows: make_fellows(alloc, builders)?,
+            peers: make_peers(alloc, builders)?,
             claimed: make_claims(alloc, units)?,
             pending: AtomicU64::new(0),
             over: AtomicU64::new(0),
@@ -137,7 +137,7 @@ impl TaskQueues {
 
     /// The runs of scripts of a builder, as the others see them.
     pub(crate) fn runs_of(&self, builder: &Builder) -> Option<&ScriptRuns> {
-        self.fellows.get(builder.number).map(|fellow| &fellow.runs)
+        self.peers.get(builder.number).map(|peer| &peer.runs)
     }
 
     /// Whether a builder has claimed a unit.
@@ -178,11 +178,11 @@ impl TaskQueues {
 
     /// A builder that is at a script and has tasks, which it begins only when that has ended: the first one from a number on.
     fn held_up(&self, first: usize) -> Option<usize> {
-        let count = self.fellows.len();
+        let count = self.peers.len();
         for step in 0..count {
             let number = first.wrapping_add(step) % count;
-            if let Some(fellow) = self.fellows.get(number) {
-                if fellow.runs.current().is_some() && !fellow.stealer.is_empty() {
+            if let Some(peer) = self.peers.get(number) {
+                if peer.runs.current().is_some() && !peer.stealer.is_empty() {
                     return Some(number);
                 }
             }
@@ -192,17 +192,17 @@ impl TaskQueues {
 
     /// A task of a builder, where its script goes on while this one sleeps for a while, or was found to be long before.
     fn steal_at<R: Wait>(&self, rt: &R, number: usize) -> Option<u32> {
-        let fellow = self.fellows.get(number)?;
-        let run = fellow.runs.current()?;
-        if !fellow.runs.is_long(run) {
+        let peer = self.peers.get(number)?;
+        let run = peer.runs.current()?;
+        if !peer.runs.is_long(run) {
             sleep_at(&self.over, rt, LONG);
-            if fellow.runs.current() != Some(run) {
+            if peer.runs.current() != Some(run) {
                 return None;
             }
-            fellow.runs.note_long(run);
+            peer.runs.note_long(run);
             self.idle.wake_all();
         }
-        steal_from(&fellow.stealer)
+        steal_from(&peer.stealer)
     }
 
     /// A task that another builder has, where a script holds that one up. Else this one sleeps, longer each time.
@@ -216,7 +216,7 @@ impl TaskQueues {
             builder.first = number.wrapping_add(1);
         }
         sleep_at(&self.idle, rt, builder.sleep);
-        let longest = LONGEST_SLEEP.saturating_mul(self.fellows.len() as u64);
+        let longest = LONGEST_SLEEP.saturating_mul(self.peers.len() as u64);
         builder.sleep = builder.sleep.saturating_mul(2).min(longest);
         None
     }

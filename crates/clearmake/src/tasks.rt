@@ -6,34 +6,36 @@ ghost use Rattle.clearmake.specs.Driving.{IsTried};
 ghost use Rattle.clearmake.specs.Passes.{IsLater, Knows};
 
 use crate::contexts::BuildContext;
-use crate::desks::BuildDesk;
 use crate::drives::{run_started, try_at};
+use crate::services::BuildService;
 use crate::task_queues::{Builder, TaskQueues};
 use crate::turns::{TurnEnd, UnitTurn};
 use cc_names::memory::NoMemory;
-use cc_outside::Gate;
+use cc_outside::Hook;
 use std::sync::Wait;
 use turn_lock::Pass;
 
 /// The units that a unit has released, in a turn at the desk.
-fn released_at<R, T: BuildDesk, G>(
+fn released_at<R, T: BuildService, G>(
     context: &BuildContext<'_, R, T, G>,
-    desk: &T,
+    service: &T,
     unit: u32,
 ) -> Option<Vec<u32>>
-    requires knows { Knows context.now.begun.now.value.seen (T.story desk.now) context.now.tag
+    requires knows { Knows context.now.begun.now.value.seen (T.story service.now) context.now.tag
         context.now.count }
     requires unit { unit < context.now.count }
 {
-    if !context.goes_on(desk) {
+    if !context.goes_on(service) {
         return None;
     }
-    desk.released(context.alloc, context.tag.lane, unit).ok()
+    service
+        .released_units(context.alloc, context.tag.lane, unit)
+        .ok()
 }
 
 /// Takes a turn to ask for the units that a unit has released.
 #[tactic(auto, using(crate::proofs::Steps::same_begins))]
-fn released_once<R: Wait, T: BuildDesk, G: Gate>(
+fn released_once<R: Wait, T: BuildService, G: Hook>(
     context: &BuildContext<'_, R, T, G>,
     pass: Pass<T>,
     unit: u32,
@@ -44,9 +46,9 @@ fn released_once<R: Wait, T: BuildDesk, G: Gate>(
     requires unit { unit < context.now.count }
     ensures { IsLater pass result.0 }
 {
-    let (held, desk) = context.lock.take(context.rt, pass);
-    let released = released_at(context, &desk, unit);
-    (context.lock.give(held, desk), released)
+    let (held, service) = context.lock.take(context.rt, pass);
+    let released = released_at(context, &service, unit);
+    (context.lock.give(held, service), released)
 }
 
 /// Lays tasks into a builder's deque.
@@ -57,7 +59,7 @@ fn push_all(queues: &TaskQueues, builder: &mut Builder, units: &[u32]) {
 }
 
 /// Lays the units that a unit has released into a builder's deque.
-fn push_released<R: Wait, T: BuildDesk, G: Gate>(
+fn push_released<R: Wait, T: BuildService, G: Hook>(
     context: &BuildContext<'_, R, T, G>,
     queues: &TaskQueues,
     builder: &mut Builder,
@@ -78,24 +80,24 @@ fn push_released<R: Wait, T: BuildDesk, G: Gate>(
 }
 
 /// Tries a unit that nobody has claimed, in a turn at the desk. Whoever finds it concluded, or starts its script, claims it.
-fn try_unclaimed_at<R, T: BuildDesk, G>(
+fn try_unclaimed_at<R, T: BuildService, G>(
     context: &BuildContext<'_, R, T, G>,
     queues: &TaskQueues,
-    desk: &mut T,
+    service: &mut T,
     unit: u32,
 ) -> Result<Option<UnitTurn>, NoMemory>
-    requires knows { Knows context.now.begun.now.value.seen (T.story desk.old) context.now.tag
+    requires knows { Knows context.now.begun.now.value.seen (T.story service.old) context.now.tag
         context.now.count }
     requires unit { unit < context.now.count }
-    ensures begins { IsPrefix (T.story desk.old) (T.story desk.new) }
+    ensures begins { IsPrefix (T.story service.old) (T.story service.new) }
     ensures tried { IfOk result
         (λ found. IfSome found
-        (λ turn. IsTried turn (T.story desk.new) context.now.tag context.now.count unit)) }
+        (λ turn. IsTried turn (T.story service.new) context.now.tag context.now.count unit)) }
 {
     if queues.is_claimed(unit) {
         return Ok(None);
     }
-    let turn = try_at(context, desk, unit)?;
+    let turn = try_at(context, service, unit)?;
     if matches!(
         turn,
         UnitTurn::End(TurnEnd::Concluded) | UnitTurn::Run(_, _)
@@ -107,7 +109,7 @@ fn try_unclaimed_at<R, T: BuildDesk, G>(
 
 /// Takes a turn to try a unit that nobody has claimed.
 #[tactic(auto, using(crate::proofs::Steps::taken_grown))]
-fn try_unclaimed<R: Wait, T: BuildDesk, G: Gate>(
+fn try_unclaimed<R: Wait, T: BuildService, G: Hook>(
     context: &BuildContext<'_, R, T, G>,
     queues: &TaskQueues,
     pass: Pass<T>,
@@ -122,13 +124,13 @@ fn try_unclaimed<R: Wait, T: BuildDesk, G: Gate>(
         (λ found. IfSome found
         (λ turn. IsTried turn result.0.seen context.now.tag context.now.count unit)) }
 {
-    let (held, mut desk) = context.lock.take(context.rt, pass);
-    let tried = try_unclaimed_at(context, queues, &mut desk, unit);
-    (context.lock.give(held, desk), tried)
+    let (held, mut service) = context.lock.take(context.rt, pass);
+    let tried = try_unclaimed_at(context, queues, &mut service, unit);
+    (context.lock.give(held, service), tried)
 }
 
 /// Drives a unit that nobody has claimed. True where this builder saw it concluded first, and has what it releases done.
-fn take_up<R: Wait, T: BuildDesk, G: Gate>(
+fn take_up<R: Wait, T: BuildService, G: Hook>(
     context: &BuildContext<'_, R, T, G>,
     queues: &TaskQueues,
     builder: &Builder,
@@ -154,7 +156,7 @@ fn take_up<R: Wait, T: BuildDesk, G: Gate>(
 }
 
 /// Does a task: its unit is driven, and those that it releases become tasks.
-pub(crate) fn do_task<R: Wait, T: BuildDesk, G: Gate>(
+pub(crate) fn do_task<R: Wait, T: BuildService, G: Hook>(
     context: &BuildContext<'_, R, T, G>,
     queues: &TaskQueues,
     builder: &mut Builder,

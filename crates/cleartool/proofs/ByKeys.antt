@@ -54,12 +54,12 @@ more_above one two [] low h = tt
 more_above one two (key ∷ keys) low h = (nat_list_cmp_total.trans one two key low h.0, more_above one two keys low h.1)
 
 module _ {X : Type 0} (f : List ℕ → X → List ℕ) where
-  abbrev pub told : List ℕ × X → List ℕ
-  told entry = f entry.0 entry.1
+  abbrev pub reported : List ℕ × X → List ℕ
+  reported entry = f entry.0 entry.1
 
   -- what is told of a key
-  abbrev pub told_of : List (List ℕ × X) → List ℕ → List ℕ
-  told_of table key = option_map_or (f key) (find (slice_cmp nat_cmp) key table) []
+  abbrev pub text_of_key : List (List ℕ × X) → List ℕ → List ℕ
+  text_of_key table key = option_map_or (f key) (find (slice_cmp nat_cmp) key table) []
 
   -- a key below all of a table has no entry
   none_below : (key : List ℕ) (table : List (List ℕ × X)) → T (below_all (slice_cmp nat_cmp) key table) → find (slice_cmp nat_cmp) key table ≡ None
@@ -79,7 +79,7 @@ module _ {X : Type 0} (f : List ℕ → X → List ℕ) where
       both false b p q = p
 
   -- keys above an entry's are told without it
-  without_entry : (entry : List ℕ × X) (table : List (List ℕ × X)) (keys : List (List ℕ)) → AllAbove entry.0 keys → map (told_of (entry ∷ table)) keys ≡ map (told_of table) keys
+  without_entry : (entry : List ℕ × X) (table : List (List ℕ × X)) (keys : List (List ℕ)) → AllAbove entry.0 keys → map (text_of_key (entry ∷ table)) keys ≡ map (text_of_key table) keys
   without_entry entry table [] h = refl
   without_entry entry table (key ∷ keys) h =
       ap₂ (λ (one : List ℕ) (more : List (List ℕ)). one ∷ more)
@@ -101,7 +101,7 @@ module _ {X : Type 0} (f : List ℕ → X → List ℕ) where
   HasKeys table keys = (key : List ℕ) → is_some (find (slice_cmp nat_cmp) key table) ≡ true → is_among key keys ≡ true
 
   pub by_keys : (keys : List (List ℕ)) (table : List (List ℕ × X)) → IsStrictlySortedBy (slice_cmp nat_cmp) keys → T (is_sorted (slice_cmp nat_cmp) table) → HasKeys table keys →
-      concat (map (told_of table) keys) ≡ concat (map told table)
+      concat (map (text_of_key table) keys) ≡ concat (map reported table)
   unfolding IsStrictlySortedBy
   by_keys [] [] ordered sorted has = refl
   by_keys [] (entry ∷ table) ordered sorted has = absurd (cc (has entry.0 (ap is_some (found_first entry table))))
@@ -110,13 +110,13 @@ module _ {X : Type 0} (f : List ℕ → X → List ℕ) where
       by (slice_cmp nat_cmp key entry.0) refl (λ more. by_keys keys (entry ∷ table) ordered.1 sorted more) (λ more. by_keys keys table ordered.1 (t_second _ _ sorted) more)
     where
       by : (o : Ordering) → slice_cmp nat_cmp key entry.0 ≡ o →
-          (HasKeys (entry ∷ table) keys → concat (map (told_of (entry ∷ table)) keys) ≡ concat (map told (entry ∷ table))) →
-          (HasKeys table keys → concat (map (told_of table) keys) ≡ concat (map told table)) →
-          concat (map (told_of (entry ∷ table)) (key ∷ keys)) ≡ concat (map told (entry ∷ table))
+          (HasKeys (entry ∷ table) keys → concat (map (text_of_key (entry ∷ table)) keys) ≡ concat (map reported (entry ∷ table))) →
+          (HasKeys table keys → concat (map (text_of_key table) keys) ≡ concat (map reported table)) →
+          concat (map (text_of_key (entry ∷ table)) (key ∷ keys)) ≡ concat (map reported (entry ∷ table))
       by Less e with_all with_rest =
           let none : find (slice_cmp nat_cmp) key (entry ∷ table) ≡ None =
           ap (λ o. cond (is_eq o) (Some entry.1) (find (slice_cmp nat_cmp) key table)) e ∙ none_below key table (below_more key entry.0 table e (t_first _ _ sorted)) in
-          ap (λ o. option_map_or (f key) o [] ++ concat (map (told_of (entry ∷ table)) keys)) none
+          ap (λ o. option_map_or (f key) o [] ++ concat (map (text_of_key (entry ∷ table)) keys)) none
           ∙ with_all (λ k is. rest k (bytes_eq k key) refl is)
         where
           rest : (k : List ℕ) (t : Bool) → bytes_eq k key ≡ t → is_some (find (slice_cmp nat_cmp) k (entry ∷ table)) ≡ true → is_among k keys ≡ true

@@ -18,7 +18,7 @@ use Rattle.base_model.specs.Objects.{are_same_paths, record_of, row_in}
 use Rattle.base_model.specs.Rows.{Base}
 use Rattle.legal_history.specs.Queries.RecordTexts.{Paths, diffcr_text, recorded_script, path_lines, with_paths, unless_same}
 use Rattle.cleartool.specs.Differences.{is_read, row_lines}
-use Rattle.cleartool.proofs.ByKeys.{by_keys, told_of}
+use Rattle.cleartool.proofs.ByKeys.{by_keys, text_of_key}
 
 -- the row of a path, by the first entry
 row_first : (entry : ReadOf) (entries : List ReadOf) (path : List ℕ) → row_in (entry ∷ entries) path ≡ cond (bytes_eq entry.path path) (Some entry.row) (row_in entries path)
@@ -33,12 +33,12 @@ pub row_more : (entries : List ReadOf) (i : ℕ) (entry : ReadOf) (key path : Li
     old ≡ row_in (drop i entries) path → new ≡ cond (is_at (slice_cmp nat_cmp key) path) (Some entry.row) old → new ≡ row_in (drop (i - 1) entries) path
 row_more entries i entry key path old new within some at same stood put_in =
     let next : suc (i - 1) ≡ i = omega arith in
-    let front : drop (i - 1) entries ≡ entry ∷ drop i entries =
+    let prefix : drop (i - 1) entries ≡ entry ∷ drop i entries =
     drop-cons entries (i - 1) entry within ∙ ap (λ e. e ∷ drop (suc (i - 1)) entries) (sym at) ∙ ap (λ n. entry ∷ drop n entries) next in
     put_in
     ∙ ap (λ t. cond t (Some entry.row) old) (is_eq-slice_cmp key path ∙ ap (λ p. bytes_eq p path) same)
     ∙ ap (cond (bytes_eq entry.path path) (Some entry.row)) stood
-    ∙ sym (ap (λ (left : List ReadOf). row_in left path) front ∙ row_first entry (drop i entries) path)
+    ∙ sym (ap (λ (left : List ReadOf). row_in left path) prefix ∙ row_first entry (drop i entries) path)
 
 -- a path that no entry has
 unread : (entries : List ReadOf) (path : List ℕ) → is_read path entries ≡ false → row_in entries path ≡ None
@@ -102,8 +102,8 @@ has_path : (one two : List ReadOf) (path : List ℕ) → is_some (find (slice_cm
 has_path one two path = put_paths one (with_paths two []) path ∙ ap (λ t. is_read path one || t) (put_paths two [] path) ∙ either (is_read path one) (is_read path two)
 
 -- what is told of a path, by the table
-told_by_table : (b : Base) (one two : List ReadOf) (key : List ℕ) → path_lines b one two key ≡ told_of (of_path b one two) (table_of one two) key
-told_by_table b one two key = by (find (slice_cmp nat_cmp) key (table_of one two)) refl
+path_by_table : (b : Base) (one two : List ReadOf) (key : List ℕ) → path_lines b one two key ≡ text_of_key (of_path b one two) (table_of one two) key
+path_by_table b one two key = by (find (slice_cmp nat_cmp) key (table_of one two)) refl
   where
     by : (found : Option (List ℕ)) → find (slice_cmp nat_cmp) key (table_of one two) ≡ found → path_lines b one two key ≡ option_map_or (of_path b one two key) found []
     by (Some path) e = refl
@@ -112,19 +112,19 @@ told_by_table b one two key = by (find (slice_cmp nat_cmp) key (table_of one two
         ap₂ (row_lines b key) (unread one key (no_first (is_read key one) (is_read key two) neither)) (unread two key (no_second (is_read key one) (is_read key two) neither))
 
 -- Paths in order that are those of two records tell what the model tells.
-pub paths_told : (b : Base) (one two : List ReadOf) (keys : List (List ℕ)) → IsStrictlySortedBy (slice_cmp nat_cmp) keys → ((path : List ℕ) → is_among path keys ≡ (is_read path one || is_read path two)) →
+pub paths_found : (b : Base) (one two : List ReadOf) (keys : List (List ℕ)) → IsStrictlySortedBy (slice_cmp nat_cmp) keys → ((path : List ℕ) → is_among path keys ≡ (is_read path one || is_read path two)) →
     concat (map (path_lines b one two) keys) ≡ concat (map (λ path. path_lines b one two path.0) (with_paths one (with_paths two [])))
-paths_told b one two keys ordered among =
-    ap concat (same_map (path_lines b one two) (told_of (of_path b one two) (table_of one two)) keys (told_by_table b one two))
+paths_found b one two keys ordered among =
+    ap concat (same_map (path_lines b one two) (text_of_key (of_path b one two) (table_of one two)) keys (path_by_table b one two))
     ∙ by_keys (of_path b one two) keys (table_of one two) ordered (put_sorted one (with_paths two []) (put_sorted two [] tt))
     (λ key is. among key ∙ sym (has_path one two key) ∙ is)
 
 -- How two records differ, as it is written.
-pub differences_told : (b : Base) (one two : ℕ) (first_targets second_targets : List (List ℕ)) (first_script second_script : List ℕ) (first second : List ReadOf) (same_targets same_script : Bool) (keys : List (List ℕ)) (text : List ℕ) →
+pub differences_written : (b : Base) (one two : ℕ) (first_targets second_targets : List (List ℕ)) (first_script second_script : List ℕ) (first second : List ReadOf) (same_targets same_script : Bool) (keys : List (List ℕ)) (text : List ℕ) →
     first_targets ≡ targets_of b one → second_targets ≡ targets_of b two → first_script ≡ recorded_script b one → second_script ≡ recorded_script b two → first ≡ record_of b one → second ≡ record_of b two →
     same_targets ≡ are_same_paths first_targets second_targets → same_script ≡ bytes_eq first_script second_script → IsStrictlySortedBy (slice_cmp nat_cmp) keys → ((path : List ℕ) → is_among path keys ≡ (is_read path first || is_read path second)) →
     text ≡ (unless_same same_targets (codes "targets differ\n") ++ unless_same same_script (codes "script differs\n")) ++ concat (map (path_lines b first second) keys) → text ≡ diffcr_text b one two
-differences_told b one two first_targets second_targets first_script second_script first second same_targets same_script keys text one_targets two_targets one_script two_script one_entries two_entries targets script ordered among is =
+differences_written b one two first_targets second_targets first_script second_script first second same_targets same_script keys text one_targets two_targets one_script two_script one_entries two_entries targets script ordered among is =
     let listed = concat (map (path_lines b first second) keys) in
     let targets_line = unless_same (are_same_paths (targets_of b one) (targets_of b two)) (codes "targets differ\n") in
     let script_line = unless_same (bytes_eq (recorded_script b one) (recorded_script b two)) (codes "script differs\n") in
@@ -132,5 +132,5 @@ differences_told b one two first_targets second_targets first_script second_scri
     ∙ ap (λ t. (unless_same t (codes "targets differ\n") ++ unless_same same_script (codes "script differs\n")) ++ listed) (targets ∙ ap₂ are_same_paths one_targets two_targets)
     ∙ ap (λ t. (targets_line ++ unless_same t (codes "script differs\n")) ++ listed) (script ∙ ap₂ bytes_eq one_script two_script)
     ∙ ap (λ (rest : List ℕ). (targets_line ++ script_line) ++ rest)
-    (paths_told b first second keys ordered among
+    (paths_found b first second keys ordered among
     ∙ ap₂ (λ (one two : List ReadOf). concat (map (λ path. path_lines b one two path.0) (with_paths one (with_paths two [])))) one_entries two_entries)

@@ -15,17 +15,17 @@ use Rattle.std.proofs.lemmas.List.{reverse-append, reverse-reverse}
 use Rattle.std.proofs.lemmas.Map.Text.{is_eq-slice_cmp}
 use Rattle.std.proofs.lemmas.Slice.Eq.{bytes_eq-Decides}
 use Rattle.cc_names.specs.Names.{IsName}
-use Rattle.cc_names.specs.Paths.{IsPath, join_of, joined, names_of}
+use Rattle.cc_names.specs.Paths.{IsPath, join_of, path_of_names, names_of}
 use Rattle.cc_names.specs.declared.names.NameFault.TheVariants.{TooLong}
 use Rattle.cc_names.specs.declared.selection.Seen.{Seen}
 use Rattle.cc_names.specs.declared.selection.Seen.TheVariants.{Element, Nothing}
-use Rattle.base_model.specs.Catalogs.{Catalog, named}
+use Rattle.base_model.specs.Catalogs.{Catalog, element_named}
 use Rattle.base_model.specs.Closures.{is_among}
 use Rattle.base_model.specs.Rows.{Base, size}
 use Rattle.base_model.specs.Seen as seeing
 use Rattle.base_model.specs.Seen.{at, at_names, below, element_at, entries_of, private_or}
 use Rattle.base_model.specs.Views.{private}
-use Rattle.legal_history.specs.Queries.ListingTexts.{catalog_or_none, path_in}
+use Rattle.legal_history.specs.Queries.DirectoryTexts.{catalog_or_none, path_in}
 use Rattle.legal_history.specs.Queries.Merges.{Elements, elements_below, in_catalog, with_element}
 use Rattle.base_model.proofs.Owned.{and_first, and_second}
 use Rattle.base_model.proofs.Either.{or_first, or_second}
@@ -132,37 +132,37 @@ same_elements b v path found ordered has =
 
 -- ---- the names of a directory
 
-named_or : (name : List ℕ) (entry : List ℕ × ℕ) (catalog : Catalog) → is_some (named name (entry ∷ catalog)) ≡ (bytes_eq name entry.0 || is_some (named name catalog))
-named_or name entry catalog = ap (λ t. is_some (cond t (Some entry.1) (named name catalog))) (is_eq-slice_cmp name entry.0) ∙ by (bytes_eq name entry.0)
+named_or : (name : List ℕ) (entry : List ℕ × ℕ) (catalog : Catalog) → is_some (element_named name (entry ∷ catalog)) ≡ (bytes_eq name entry.0 || is_some (element_named name catalog))
+named_or name entry catalog = ap (λ t. is_some (cond t (Some entry.1) (element_named name catalog))) (is_eq-slice_cmp name entry.0) ∙ by (bytes_eq name entry.0)
   where
-    by : (t : Bool) → is_some (cond t (Some entry.1) (named name catalog)) ≡ (t || is_some (named name catalog))
+    by : (t : Bool) → is_some (cond t (Some entry.1) (element_named name catalog)) ≡ (t || is_some (element_named name catalog))
     by true = refl
     by false = refl
 
 module _ (test : List ℕ → Bool) where
   -- a name of a catalog that passes is that of an entry that does
-  entry_passes : (name : List ℕ) (catalog : Catalog) → is_some (named name catalog) ≡ true → test name ≡ true → list_any (λ entry. test entry.0) catalog ≡ true
+  entry_passes : (name : List ℕ) (catalog : Catalog) → is_some (element_named name catalog) ≡ true → test name ≡ true → list_any (λ entry. test entry.0) catalog ≡ true
   entry_passes name [] is h = absurd (cc)
   entry_passes name (entry ∷ catalog) is h = by (bytes_eq name entry.0) refl (sym (named_or name entry catalog) ∙ is) (entry_passes name catalog)
     where
-      by : (t : Bool) → bytes_eq name entry.0 ≡ t → (t || is_some (named name catalog)) ≡ true → (is_some (named name catalog) ≡ true → test name ≡ true → list_any (λ entry. test entry.0) catalog ≡ true) →
+      by : (t : Bool) → bytes_eq name entry.0 ≡ t → (t || is_some (element_named name catalog)) ≡ true → (is_some (element_named name catalog) ≡ true → test name ≡ true → list_any (λ entry. test entry.0) catalog ≡ true) →
           (test entry.0 || list_any (λ entry. test entry.0) catalog) ≡ true
       by true same is rest = or_first (test entry.0) (list_any (λ entry. test entry.0) catalog) (ap test (sym (same_text name entry.0 same)) ∙ h)
       by false same is rest = or_second (test entry.0) (list_any (λ entry. test entry.0) catalog) (rest is h)
 
-  some_name : (catalog : Catalog) (names : List (List ℕ)) → list_any (λ name. is_some (named name catalog) && test name) names ≡ true → list_any (λ entry. test entry.0) catalog ≡ true
+  some_name : (catalog : Catalog) (names : List (List ℕ)) → list_any (λ name. is_some (element_named name catalog) && test name) names ≡ true → list_any (λ entry. test entry.0) catalog ≡ true
   some_name catalog [] h = absurd (cc)
-  some_name catalog (name ∷ names) h = by (is_some (named name catalog) && test name) refl h (some_name catalog names)
+  some_name catalog (name ∷ names) h = by (is_some (element_named name catalog) && test name) refl h (some_name catalog names)
     where
-      by : (t : Bool) → (is_some (named name catalog) && test name) ≡ t → (t || list_any (λ name. is_some (named name catalog) && test name) names) ≡ true →
-          (list_any (λ name. is_some (named name catalog) && test name) names ≡ true → list_any (λ entry. test entry.0) catalog ≡ true) → list_any (λ entry. test entry.0) catalog ≡ true
-      by true is h rest = entry_passes name catalog (and_first (is_some (named name catalog)) (test name) is) (and_second (is_some (named name catalog)) (test name) is)
+      by : (t : Bool) → (is_some (element_named name catalog) && test name) ≡ t → (t || list_any (λ name. is_some (element_named name catalog) && test name) names) ≡ true →
+          (list_any (λ name. is_some (element_named name catalog) && test name) names ≡ true → list_any (λ entry. test entry.0) catalog ≡ true) → list_any (λ entry. test entry.0) catalog ≡ true
+      by true is h rest = entry_passes name catalog (and_first (is_some (element_named name catalog)) (test name) is) (and_second (is_some (element_named name catalog)) (test name) is)
       by false is h rest = rest h
 
   -- a name that passes, of a catalog
   record Passing (catalog : Catalog) : Type 0 where
     name : List ℕ
-    there : is_some (named name catalog) ≡ true
+    there : is_some (element_named name catalog) ≡ true
     passes : test name ≡ true
 
   passing : (catalog : Catalog) → list_any (λ entry. test entry.0) catalog ≡ true → Passing catalog
@@ -172,31 +172,31 @@ module _ (test : List ℕ → Bool) where
       by : (t : Bool) → test entry.0 ≡ t → (t || list_any (λ entry. test entry.0) catalog) ≡ true → (list_any (λ entry. test entry.0) catalog ≡ true → Passing catalog) → Passing (entry ∷ catalog)
       by true is h rest = record {
         name = entry.0;
-        there = named_or entry.0 entry catalog ∙ or_first (bytes_eq entry.0 entry.0) (is_some (named entry.0 catalog)) ((bytes_eq-Decides entry.0 entry.0).1 refl);
+        there = named_or entry.0 entry catalog ∙ or_first (bytes_eq entry.0 entry.0) (is_some (element_named entry.0 catalog)) ((bytes_eq-Decides entry.0 entry.0).1 refl);
         passes = is;
       }
       by false is h rest =
           let one = rest h in
-          record { name = one.name; there = named_or one.name entry catalog ∙ or_second (bytes_eq one.name entry.0) (is_some (named one.name catalog)) one.there; passes = one.passes }
+          record { name = one.name; there = named_or one.name entry catalog ∙ or_second (bytes_eq one.name entry.0) (is_some (element_named one.name catalog)) one.there; passes = one.passes }
 
-  among_names : (catalog : Catalog) (names : List (List ℕ)) (name : List ℕ) → is_some (named name catalog) ≡ true → test name ≡ true → is_among name names ≡ true →
-      list_any (λ name. is_some (named name catalog) && test name) names ≡ true
+  among_names : (catalog : Catalog) (names : List (List ℕ)) (name : List ℕ) → is_some (element_named name catalog) ≡ true → test name ≡ true → is_among name names ≡ true →
+      list_any (λ name. is_some (element_named name catalog) && test name) names ≡ true
   among_names catalog [] name there h among = absurd (cc)
   among_names catalog (first ∷ names) name there h among = by (bytes_eq name first) refl among (among_names catalog names name there h)
     where
-      by : (t : Bool) → bytes_eq name first ≡ t → (t || is_among name names) ≡ true → (is_among name names ≡ true → list_any (λ name. is_some (named name catalog) && test name) names ≡ true) →
-          ((is_some (named first catalog) && test first) || list_any (λ name. is_some (named name catalog) && test name) names) ≡ true
+      by : (t : Bool) → bytes_eq name first ≡ t → (t || is_among name names) ≡ true → (is_among name names ≡ true → list_any (λ name. is_some (element_named name catalog) && test name) names ≡ true) →
+          ((is_some (element_named first catalog) && test first) || list_any (λ name. is_some (element_named name catalog) && test name) names) ≡ true
       by true same among rest =
           let one = same_text name first same in
-          or_first (is_some (named first catalog) && test first) (list_any (λ name. is_some (named name catalog) && test name) names)
-          (and_true (is_some (named first catalog)) (test first) (ap (λ n. is_some (named n catalog)) (sym one) ∙ there) (ap test (sym one) ∙ h))
-      by false same among rest = or_second (is_some (named first catalog) && test first) (list_any (λ name. is_some (named name catalog) && test name) names) (rest among)
+          or_first (is_some (element_named first catalog) && test first) (list_any (λ name. is_some (element_named name catalog) && test name) names)
+          (and_true (is_some (element_named first catalog)) (test first) (ap (λ n. is_some (element_named n catalog)) (sym one) ∙ there) (ap test (sym one) ∙ h))
+      by false same among rest = or_second (is_some (element_named first catalog) && test first) (list_any (λ name. is_some (element_named name catalog) && test name) names) (rest among)
 
   -- names among which are all of a catalog have one of it that passes where an entry does
-  by_names : (catalog : Catalog) (names : List (List ℕ)) → ((name : List ℕ) → is_some (named name catalog) ≡ true → is_among name names ≡ true) →
-      list_any (λ name. is_some (named name catalog) && test name) names ≡ list_any (λ entry. test entry.0) catalog
+  by_names : (catalog : Catalog) (names : List (List ℕ)) → ((name : List ℕ) → is_some (element_named name catalog) ≡ true → is_among name names ≡ true) →
+      list_any (λ name. is_some (element_named name catalog) && test name) names ≡ list_any (λ entry. test entry.0) catalog
   by_names catalog names all =
-      both_ways (list_any (λ name. is_some (named name catalog) && test name) names) (list_any (λ entry. test entry.0) catalog)
+      both_ways (list_any (λ name. is_some (element_named name catalog) && test name) names) (list_any (λ entry. test entry.0) catalog)
       (some_name catalog names)
       (λ h. let one = passing catalog h in among_names catalog names one.name one.there one.passes (all one.name one.there))
 
@@ -207,7 +207,7 @@ module _ (b : Base) (v : List ℕ) where
 
   -- whether a path lies below a name of the catalog of what stands at another
   abbrev pub lies_named : ℕ → List ℕ → List ℕ → List ℕ → Bool
-  lies_named depth path q name = is_some (named name (catalog_at path)) && lies_below depth b v (path_in path name) q
+  lies_named depth path q name = is_some (element_named name (catalog_at path)) && lies_below depth b v (path_in path name) q
 
   -- nothing lies below what is no element
   nowhere : (depth : ℕ) (path q : List ℕ) → is_element (at b v path) ≡ false → lies_below depth b v path q ≡ false
@@ -225,30 +225,30 @@ module _ (b : Base) (v : List ℕ) where
       ∙ ap (λ names. below b v names name (entries_of b v (at b v path))) (sym (ap reverse (reverse-append (names_of path) (name ∷ []))) ∙ reverse-reverse (names_of path ++ name ∷ []))
 
   -- no element stands at a name that the catalog has not, and none at a path that is too long
-  unnamed : (names : List (List ℕ)) (name : List ℕ) (entries : Option Catalog) → named name (catalog_or_none entries) ≡ None → is_element (below b v names name entries) ≡ false
+  unnamed : (names : List (List ℕ)) (name : List ℕ) (entries : Option Catalog) → element_named name (catalog_or_none entries) ≡ None → is_element (below b v names name entries) ≡ false
   unnamed names name None h = refl
   unnamed names name (Some catalog) h =
-      ap (λ found. is_element (seeing.unless_long (joined names) (private_or (private b v (joined names)) (element_at b v names found)))) h
-      ∙ by (nat_le (length (joined names)) 1024) (private b v (joined names))
+      ap (λ found. is_element (seeing.unless_long (path_of_names names) (private_or (private b v (path_of_names names)) (element_at b v names found)))) h
+      ∙ by (nat_le (length (path_of_names names)) 1024) (private b v (path_of_names names))
     where
       by : (short : Bool) (row : Option ℕ) → is_element (if short then private_or row Nothing else Nothing) ≡ false
       by true (Some row) = refl
       by true None = refl
       by false row = refl
 
-  too_long : (names : List (List ℕ)) (name : List ℕ) (entries : Option Catalog) → nat_lt 1024 (length (joined names)) ≡ true → is_element (below b v names name entries) ≡ false
+  too_long : (names : List (List ℕ)) (name : List ℕ) (entries : Option Catalog) → nat_lt 1024 (length (path_of_names names)) ≡ true → is_element (below b v names name entries) ≡ false
   too_long names name None long = refl
   too_long names name (Some catalog) long =
-      ap (λ (short : Bool). is_element (if short then private_or (private b v (joined names)) (element_at b v names (named name catalog)) else Nothing)) not_short
+      ap (λ (short : Bool). is_element (if short then private_or (private b v (path_of_names names)) (element_at b v names (element_named name catalog)) else Nothing)) not_short
     where
-      not_short : nat_le (length (joined names)) 1024 ≡ false
+      not_short : nat_le (length (path_of_names names)) 1024 ≡ false
       not_short = grind (arith, nat_tests, long)
 
   -- what lies below the path of a name in a directory
   pub joined_lies : (depth : ℕ) (path name q : List ℕ) → IsPath path → IsName name → lies_below_joined depth b v (join_of path name) q ≡ lies_named depth path q name
   joined_lies depth path name q is_path is_name = by (nat_lt 1024 (length (path_in path name))) refl
     where
-      by_name : (found : Option ℕ) → named name (catalog_at path) ≡ found → lies_below depth b v (path_in path name) q ≡ (is_some found && lies_below depth b v (path_in path name) q)
+      by_name : (found : Option ℕ) → element_named name (catalog_at path) ≡ found → lies_below depth b v (path_in path name) q ≡ (is_some found && lies_below depth b v (path_in path name) q)
       by_name None none =
           nowhere depth (path_in path name) q
           (ap is_element (at_name path name is_path is_name) ∙ unnamed (names_of path ++ name ∷ []) name (entries_of b v (at b v path)) none)
@@ -256,11 +256,11 @@ module _ (b : Base) (v : List ℕ) where
 
       by : (long : Bool) → nat_lt 1024 (length (path_in path name)) ≡ long → lies_below_joined depth b v (if long then Err (TooLong (length (path_in path name))) else Ok (path_in path name)) q ≡ lies_named depth path q name
       by true long =
-          sym (ap (λ t. is_some (named name (catalog_at path)) && t)
+          sym (ap (λ t. is_some (element_named name (catalog_at path)) && t)
           (nowhere depth (path_in path name) q
           (ap is_element (at_name path name is_path is_name) ∙ too_long (names_of path ++ name ∷ []) name (entries_of b v (at b v path)) long))
-          ∙ never (is_some (named name (catalog_at path))))
-      by false short = by_name (named name (catalog_at path)) refl
+          ∙ never (is_some (element_named name (catalog_at path))))
+      by false short = by_name (element_named name (catalog_at path)) refl
 
   -- what was found at a path, once an element was put in at another
   pub put_in : (path key q : List ℕ) (before : Option Seen) → key ≡ path → cond (is_at (slice_cmp nat_cmp key) q) (Some (at b v path)) before ≡ seen_where (bytes_eq q path) b v q before
@@ -269,7 +269,7 @@ module _ (b : Base) (v : List ℕ) where
       ∙ at_same b v path q (bytes_eq q path) refl before
 
   -- what is found once an element and what lies below the names in it were put in
-  pub all_put_in : (depth : ℕ) (path q : List ℕ) (names : List (List ℕ)) → is_element (at b v path) ≡ true → ((name : List ℕ) → is_some (named name (catalog_at path)) ≡ true → is_among name names ≡ true) →
+  pub all_put_in : (depth : ℕ) (path q : List ℕ) (names : List (List ℕ)) → is_element (at b v path) ≡ true → ((name : List ℕ) → is_some (element_named name (catalog_at path)) ≡ true → is_among name names ≡ true) →
       (old inserted found : Option Seen) → inserted ≡ seen_where (bytes_eq q path) b v q old → found ≡ seen_where (list_any (lies_named depth path q) names) b v q inserted →
       found ≡ seen_where (lies_below (suc depth) b v path q) b v q old
   all_put_in depth path q names element all old inserted found first rest =

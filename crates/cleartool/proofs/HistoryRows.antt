@@ -11,28 +11,28 @@ use Rattle.cc_names.specs.declared.rows.Deed.{Deed}
 use Rattle.cc_names.specs.declared.rows.Deed.TheVariants as deeds
 use Rattle.cc_names.specs.declared.rows.Placed.{Placed}
 use Rattle.base_model.specs.Rows.{Base, size, row_at}
-use Rattle.legal_history.specs.Queries.HistoryTexts.{dated, line_where, placed_lines, history_line, history_lines, lshistory_text}
+use Rattle.legal_history.specs.Queries.HistoryTexts.{dated_line, line_where, placed_lines, history_line, history_lines, lshistory_text}
 use Rattle.legal_history.specs.Queries.VersionNames.{branch_name, version_name}
 use Rattle.cleartool.specs.Histories.{row_lines}
 use Rattle.base_rows.specs.Histories.{is_placed_on, tells_of, history_of}
-use Rattle.base_rows.specs.LookUps.{told}
+use Rattle.base_rows.specs.LookUps.{update_by_row}
 
 -- a label that is put on no version of the element has no lines
 no_placed : (b : Base) (e moment : ℕ) (label : List ℕ) (placed : List Placed) → list_any (is_placed_on e) placed ≡ false → placed_lines b e moment label placed ≡ []
 no_placed b e moment label [] none = refl
 no_placed b e moment label (one ∷ more) none =
-    elim (one.element == e) as (λ is. (is || list_any (is_placed_on e) more) ≡ false → line_where is (dated moment (codes "label " ++ label ++ 32 ∷ version_name b one.version)) ++ placed_lines b e moment label more ≡ []) [
+    elim (one.element == e) as (λ is. (is || list_any (is_placed_on e) more) ≡ false → line_where is (dated_line moment (codes "label " ++ label ++ 32 ∷ version_name b one.version)) ++ placed_lines b e moment label more ≡ []) [
       | true ↦ λ h. absurd (cc)
       | false ↦ λ h. no_placed b e moment label more h
     ] none
 
 -- a row that does not tell of the element has no lines
 no_line : (b : Base) (e n moment : ℕ) (deed : Deed) → tells_of e n deed ≡ false → history_line b e n moment deed ≡ []
-no_line b e n moment (deeds.Mkelem v directory name kind out) none = ap (λ is. line_where is (dated moment (codes "create element"))) none
-no_line b e n moment (deeds.Branch v f origin name out) none = ap (λ is. line_where is (dated moment (codes "create branch " ++ branch_name b n))) none
-no_line b e n moment (deeds.Checkin v f) none = ap (λ is. line_where is (dated moment (codes "create version " ++ version_name b n))) none
-no_line b e n moment (deeds.Label label f version) none = ap (λ is. line_where is (dated moment (codes "label " ++ label ++ 32 ∷ version_name b version))) none
-no_line b e n moment (deeds.Unlabel label f) none = ap (λ is. line_where is (dated moment (codes "unlabel " ++ label))) none
+no_line b e n moment (deeds.Mkelem v directory name kind out) none = ap (λ is. line_where is (dated_line moment (codes "create element"))) none
+no_line b e n moment (deeds.Branch v f origin name out) none = ap (λ is. line_where is (dated_line moment (codes "create branch " ++ branch_name b n))) none
+no_line b e n moment (deeds.Checkin v f) none = ap (λ is. line_where is (dated_line moment (codes "create version " ++ version_name b n))) none
+no_line b e n moment (deeds.Label label f version) none = ap (λ is. line_where is (dated_line moment (codes "label " ++ label ++ 32 ∷ version_name b version))) none
+no_line b e n moment (deeds.Unlabel label f) none = ap (λ is. line_where is (dated_line moment (codes "unlabel " ++ label))) none
 no_line b e n moment (deeds.Labels label placed) none = no_placed b e moment label placed none
 no_line b e n moment deed none = refl
 
@@ -52,7 +52,7 @@ by_rows b e (row ∷ older) agree =
     let found : row_at b n ≡ Some row = agree n (omega arith) ∙ newest_row row older in
     let here : row_lines b e n ≡ history_line b e n row.moment row.deed = ap (λ (one : Option Plain). option_map_or (λ (row : Plain). history_line b e n row.moment row.deed) one []) found in
     let before = by_rows b e older (λ m low. agree m (omega (arith, low)) ∙ older_row row older m low) in
-    elim (tells_of e n row.deed) as (λ is. tells_of e n row.deed ≡ is → concat (map (row_lines b e) (put_if (is_some (told n (only_if is (Sets n)))) n (history_of older e))) ≡ history_line b e n row.moment row.deed ++ history_lines b e older) [
+    elim (tells_of e n row.deed) as (λ is. tells_of e n row.deed ≡ is → concat (map (row_lines b e) (put_if (is_some (update_by_row n (only_if is (Sets n)))) n (history_of older e))) ≡ history_line b e n row.moment row.deed ++ history_lines b e older) [
       | true ↦ λ is. ap₂ (λ (one more : List ℕ). one ++ more) here before
       | false ↦ λ is. before ∙ sym (ap (λ (one : List ℕ). one ++ history_lines b e older) (no_line b e n row.moment row.deed is))
     ] refl

@@ -14,7 +14,7 @@ use Rattle.std.proofs.lemmas.Map.Text.{is_eq-slice_cmp}
 use Rattle.std.proofs.lemmas.Slice.Eq.{bytes_eq-Decides}
 use Rattle.cc_names.specs.Formed.{Plain}
 use Rattle.cc_names.specs.Labels.{holder}
-use Rattle.cc_names.specs.Last.{Ends, Sets, only_if, left}
+use Rattle.cc_names.specs.Last.{Ends, Sets, only_if, value_after}
 use Rattle.cc_names.specs.Versions.{is_number, put_if}
 use Rattle.cc_names.specs.declared.changes.LabelChange.{LabelChange}
 use Rattle.cc_names.specs.declared.changes.LabelChange.TheVariants.{Put, Taken}
@@ -31,7 +31,7 @@ use Rattle.legal_history.specs.Queries.ElementTexts.{NameSet, first_of, label_ty
 use Rattle.base_model.proofs.Owned.{row_fits, rows_below, and_first, and_second}
 use Rattle.base_rows.specs.Histories.{history_of, is_placed_on, tells_of}
 use Rattle.cleartool.specs.LabelSets.{label_put, label_at, stands_on, with_name_if, with_label, labels_among}
-use Rattle.base_rows.specs.LookUps.{told}
+use Rattle.base_rows.specs.LookUps.{update_by_row}
 use Rattle.view_lookup.proofs.EntryEdits.{flipped}
 
 -- ---- sets of names
@@ -193,13 +193,13 @@ type_has : (b : Base) (name : List ℕ) → is_label_type b name ≡ true → ha
 type_has [] name is = absurd (cc)
 type_has (row ∷ older) name is = by row.deed (type_has older name) is
   where
-    kept : (made : List ℕ) (kind : TypeKind) (test : Bool) → bytes_eq made name ≡ test → is_label_kind (left (only_if test (Sets kind)) (kind_of_type older name)) ≡ true →
+    kept : (made : List ℕ) (kind : TypeKind) (test : Bool) → bytes_eq made name ≡ test → is_label_kind (value_after (only_if test (Sets kind)) (kind_of_type older name)) ≡ true →
         (is_label_type older name ≡ true → has name (label_types older) ≡ true) → has name (with_label_type (deeds.Mktype kind made) (label_types older)) ≡ true
     kept made type_kinds.Label true test is before = has_put name made (label_types older) ∙ or_first (bytes_eq name made) (has name (label_types older)) (flipped made name true test)
     kept made type_kinds.Branch true test is before = absurd (cc)
     kept made kind false test is before = type_stays name (deeds.Mktype kind made) (label_types older) (before is)
 
-    by : (deed : Deed) → (is_label_type older name ≡ true → has name (label_types older) ≡ true) → is_label_kind (left (type_effect name deed) (kind_of_type older name)) ≡ true → has name (with_label_type deed (label_types older)) ≡ true
+    by : (deed : Deed) → (is_label_type older name ≡ true → has name (label_types older) ≡ true) → is_label_kind (value_after (type_effect name deed) (kind_of_type older name)) ≡ true → has name (with_label_type deed (label_types older)) ≡ true
     by (deeds.Mktype kind made) before is = kept made kind (bytes_eq made name) refl is before
     by deed before is = before is
 
@@ -210,14 +210,14 @@ record AllTyped (b : Base) (changes : List LabelChange) : Type 0 where
 one_put : (b : Base) (n : ℕ) (label : List ℕ) (f version : ℕ) (changes : List LabelChange) → has label (label_types b) ≡ true → AllTyped b changes → AllTyped b (Put n label f version ∷ changes)
 one_put b n label f version changes is h = record { typed = λ name e r held. by name e r (bytes_eq name label && (e == f)) refl held }
   where
-    by : (name : List ℕ) (e r : ℕ) (x : Bool) → (bytes_eq name label && (e == f)) ≡ x → left (only_if x (Sets version)) (holder changes name e) ≡ Some r → has name (label_types b) ≡ true
+    by : (name : List ℕ) (e r : ℕ) (x : Bool) → (bytes_eq name label && (e == f)) ≡ x → value_after (only_if x (Sets version)) (holder changes name e) ≡ Some r → has name (label_types b) ≡ true
     by name e r true test held = subst (λ n. has n (label_types b) ≡ true) (sym ((bytes_eq-Decides name label).0 (and_first _ _ test))) is
     by name e r false test held = h.typed name e r held
 
 one_taken : (b : Base) (n : ℕ) (label : List ℕ) (f : ℕ) (changes : List LabelChange) → AllTyped b changes → AllTyped b (Taken n label f ∷ changes)
 one_taken b n label f changes h = record { typed = λ name e r held. by name e r (bytes_eq name label && (e == f)) held }
   where
-    by : (name : List ℕ) (e r : ℕ) (x : Bool) → left (only_if x Ends) (holder changes name e) ≡ Some r → has name (label_types b) ≡ true
+    by : (name : List ℕ) (e r : ℕ) (x : Bool) → value_after (only_if x Ends) (holder changes name e) ≡ Some r → has name (label_types b) ≡ true
     by name e r true held = absurd (cc)
     by name e r false held = h.typed name e r held
 
@@ -267,14 +267,14 @@ put_or_before P n label (one ∷ more) changes name e r held before here =
     (λ held. by (bytes_eq name label && (e == one.element)) refl held)
     (λ same any. here same (or_last (one.element == e) (list_any (is_placed_on e) more) any))
   where
-    by : (x : Bool) → (bytes_eq name label && (e == one.element)) ≡ x → left (only_if x (Sets one.version)) (holder changes name e) ≡ Some r → P
+    by : (x : Bool) → (bytes_eq name label && (e == one.element)) ≡ x → value_after (only_if x (Sets one.version)) (holder changes name e) ≡ Some r → P
     by true test held =
         let at : (one.element == e) ≡ true = turned_number e one.element (and_second (bytes_eq name label) (e == one.element) test) in
         here (and_first (bytes_eq name label) (e == one.element) test) (or_first (one.element == e) (list_any (is_placed_on e) more) at)
     by false test held = before held
 
 -- where row n puts the label on the element it is put by the history
-put_here : (b : Base) (name label : List ℕ) (n : ℕ) (ns : List ℕ) (test : Bool) → label_at b n ≡ Some label → bytes_eq name label ≡ true → test ≡ true → is_put b name (put_if (is_some (told n (only_if test (Sets n)))) n ns) ≡ true
+put_here : (b : Base) (name label : List ℕ) (n : ℕ) (ns : List ℕ) (test : Bool) → label_at b n ≡ Some label → bytes_eq name label ≡ true → test ≡ true → is_put b name (put_if (is_some (update_by_row n (only_if test (Sets n)))) n ns) ≡ true
 put_here b name label n ns true at same is =
     ap (λ found. is_label name found || is_put b name ns) at ∙ or_first (bytes_eq name label) (is_put b name ns) same
 put_here b name label n ns false at same is = absurd (cc)
@@ -282,26 +282,26 @@ put_here b name label n ns false at same is = absurd (cc)
 -- a label that is held was put by a row of the element's history
 row_put : (b older : Base) (deed : Deed) (e : ℕ) (name : List ℕ) (r : ℕ) → label_at b (size older) ≡ label_put deed → holder (labels_after (size older) deed (labels older)) name e ≡ Some r →
     (holder (labels older) name e ≡ Some r → is_put b name (history_of older e) ≡ true) →
-    is_put b name (put_if (is_some (told (size older) (only_if (tells_of e (size older) deed) (Sets (size older))))) (size older) (history_of older e)) ≡ true
+    is_put b name (put_if (is_some (update_by_row (size older) (only_if (tells_of e (size older) deed) (Sets (size older))))) (size older) (history_of older e)) ≡ true
 row_put b older (deeds.Label label f version) e name r at held before = by (bytes_eq name label && (e == f)) refl held
   where
-    by : (x : Bool) → (bytes_eq name label && (e == f)) ≡ x → left (only_if x (Sets version)) (holder (labels older) name e) ≡ Some r →
-        is_put b name (put_if (is_some (told (size older) (only_if (f == e) (Sets (size older))))) (size older) (history_of older e)) ≡ true
+    by : (x : Bool) → (bytes_eq name label && (e == f)) ≡ x → value_after (only_if x (Sets version)) (holder (labels older) name e) ≡ Some r →
+        is_put b name (put_if (is_some (update_by_row (size older) (only_if (f == e) (Sets (size older))))) (size older) (history_of older e)) ≡ true
     by true test held = put_here b name label (size older) (history_of older e) (f == e) at (and_first _ _ test) (turned_number e f (and_second (bytes_eq name label) (e == f) test))
-    by false test held = more_put b name (is_some (told (size older) (only_if (f == e) (Sets (size older))))) (size older) (history_of older e) (before held)
+    by false test held = more_put b name (is_some (update_by_row (size older) (only_if (f == e) (Sets (size older))))) (size older) (history_of older e) (before held)
 row_put b older (deeds.Unlabel label f) e name r at held before = by (bytes_eq name label && (e == f)) held
   where
-    by : (x : Bool) → left (only_if x Ends) (holder (labels older) name e) ≡ Some r →
-        is_put b name (put_if (is_some (told (size older) (only_if (f == e) (Sets (size older))))) (size older) (history_of older e)) ≡ true
+    by : (x : Bool) → value_after (only_if x Ends) (holder (labels older) name e) ≡ Some r →
+        is_put b name (put_if (is_some (update_by_row (size older) (only_if (f == e) (Sets (size older))))) (size older) (history_of older e)) ≡ true
     by true held = absurd (cc)
-    by false held = more_put b name (is_some (told (size older) (only_if (f == e) (Sets (size older))))) (size older) (history_of older e) (before held)
+    by false held = more_put b name (is_some (update_by_row (size older) (only_if (f == e) (Sets (size older))))) (size older) (history_of older e) (before held)
 row_put b older (deeds.Labels label placed) e name r at held before =
-    put_or_before (is_put b name (put_if (is_some (told (size older) (only_if (list_any (is_placed_on e) placed) (Sets (size older))))) (size older) (history_of older e)) ≡ true)
+    put_or_before (is_put b name (put_if (is_some (update_by_row (size older) (only_if (list_any (is_placed_on e) placed) (Sets (size older))))) (size older) (history_of older e)) ≡ true)
     (size older) label placed (labels older) name e r held
-    (λ held. more_put b name (is_some (told (size older) (only_if (list_any (is_placed_on e) placed) (Sets (size older))))) (size older) (history_of older e) (before held))
+    (λ held. more_put b name (is_some (update_by_row (size older) (only_if (list_any (is_placed_on e) placed) (Sets (size older))))) (size older) (history_of older e) (before held))
     (λ same any. put_here b name label (size older) (history_of older e) (list_any (is_placed_on e) placed) at same any)
 row_put b older deed e name r at held before =
-    more_put b name (is_some (told (size older) (only_if (tells_of e (size older) deed) (Sets (size older))))) (size older) (history_of older e) (before held)
+    more_put b name (is_some (update_by_row (size older) (only_if (tells_of e (size older) deed) (Sets (size older))))) (size older) (history_of older e) (before held)
 
 newest_row : (row : Plain) (older : Base) → row_at (row ∷ older) (size older) ≡ Some row
 newest_row row older = ap (λ is. elim is [ true ↦ Some row | false ↦ row_at older (size older) ]) (same (size older))

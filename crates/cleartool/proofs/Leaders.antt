@@ -2,7 +2,7 @@
 use Rattle.std.proofs.Common.{◌≡◌, refl, sym, subst, ◌∙◌, ℕ, suc, ◌<◌, Bool, true, false, ◌&&◌, ◌||◌, ◌==◌, Option, Some, None, List, [], ◌∷◌, arith}
 use Rattle.std.specs.Prelude.{cond, find, is_none, not, option_and_then}
 use Rattle.cc_names.specs.Branches.{branch_of_version, origin_by, origin_of}
-use Rattle.cc_names.specs.Versions.{branch_of_change, change_at, is_number, numbered, row_of_change, versions_on}
+use Rattle.cc_names.specs.Versions.{branch_of_change, change_at, is_number, version_of_number, row_of_change, versions_on}
 use Rattle.cc_names.specs.declared.changes.TreeChange.{TreeChange}
 use Rattle.cc_names.specs.declared.changes.TreeChange.TheVariants.{ElementMade, BranchMade, VersionMade}
 use Rattle.cc_names.specs.declared.rows.Deed.{Deed}
@@ -28,7 +28,7 @@ successor_below : (b : Base) (one two : ℕ) → is_successor b one two ≡ true
 successor_below b one two h = by (change_at (tree b) one) refl h
   where
     by : (o : Option TreeChange) → change_at (tree b) one ≡ o →
-        is_number two (option_and_then (λ version. numbered (tree b) version.branch (suc version.number)) (option_and_then (λ change. find (λ v. v.row == one) (versions_on (tree b) (branch_of_change change))) o)) ≡ true →
+        is_number two (option_and_then (λ version. version_of_number (tree b) version.branch (suc version.number)) (option_and_then (λ change. find (λ v. v.row == one) (versions_on (tree b) (branch_of_change change))) o)) ≡ true →
         one < size b
     by None at h = absurd (cc)
     by (Some change) at h = (within b).numbers one change at
@@ -71,20 +71,20 @@ are_below (row ∷ older) base = row_more older row.moment row.deed (row_fits ro
 branch_below : (b : Base) (one two : ℕ) → is_base b ≡ true → is_branch_from (tree b) one two ≡ true → one < size b
 branch_below b one two base h = (are_below b base).origins two one (number_is one (origin_of (tree b) two) (sym (branch_by b one two) ∙ h))
 
-tail_below : (b : Base) (one two : ℕ) (deed : Deed) → deed_fits b deed ≡ true → leads one two deed ≡ true → one < size b
-tail_below b one two (deeds.Arrow e tail head) fit h =
+arrow_source_below : (b : Base) (one two : ℕ) (deed : Deed) → deed_fits b deed ≡ true → leads one two deed ≡ true → one < size b
+arrow_source_below b one two (deeds.Arrow e tail head) fit h =
     let number = same_number tail one (and_first (tail == one) (head == two) h) in
     let three = and_first (is_version_of b e tail && is_version_of b e head && not (tail == head)) (is_none (arrow_row b e tail head)) fit in
     let both = and_first (is_version_of b e tail && is_version_of b e head) (not (tail == head)) three in
     subst (λ n. n < size b) number (version_below b e tail (and_first (is_version_of b e tail) (is_version_of b e head) both))
-tail_below b one two deed fit h = absurd (cc)
+arrow_source_below b one two deed fit h = absurd (cc)
 
 arrow_below : (b : Base) (one two : ℕ) → is_base b ≡ true → is_arrow_between b one two ≡ true → one < size b
 arrow_below [] one two base h = absurd (cc)
 arrow_below (row ∷ older) one two base h = by (leads one two row.deed) refl h (arrow_below older one two (rows_below row older base))
   where
     by : (t : Bool) → leads one two row.deed ≡ t → (t || is_arrow_between older one two) ≡ true → (is_arrow_between older one two ≡ true → one < size older) → one < size (row ∷ older)
-    by true e h rest = let low = tail_below older one two row.deed (row_fits row older base) e in omega arith
+    by true e h rest = let low = arrow_source_below older one two row.deed (row_fits row older base) e in omega arith
     by false e h rest = let low = rest h in omega arith
 
 pub leader_below : (b : Base) (one two : ℕ) → is_base b ≡ true → follows b one two ≡ true → one < size b

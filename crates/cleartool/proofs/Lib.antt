@@ -16,7 +16,7 @@ pub mod PathSets
 pub mod GivenRows
 pub mod HoldersFound
 pub mod LabelsFound
-pub mod TakenIn
+pub mod AddedVersions
 pub mod Predecessors
 pub mod Leaders
 pub mod ArrowTails

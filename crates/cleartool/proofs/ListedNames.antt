@@ -13,7 +13,7 @@ use Rattle.std.proofs.lemmas.List.{reverse-append, reverse-reverse}
 use Rattle.std.proofs.lemmas.Map.Text.{is_eq-slice_cmp}
 use Rattle.std.proofs.lemmas.Slice.Eq.{bytes_eq-Decides}
 use Rattle.cc_names.specs.Formed.{IsBelowRoot, Plain}
-use Rattle.cc_names.specs.Last.{Ends, Sets, left, only_if}
+use Rattle.cc_names.specs.Last.{Ends, Sets, value_after, only_if}
 use Rattle.cc_names.specs.Names.{IsName}
 use Rattle.cc_names.specs.PathLaws.{PartsJoin}
 use Rattle.cc_names.specs.Paths.{IsPath, join_of, last_of, names_of, parent_of, root, without_last}
@@ -25,24 +25,24 @@ use Rattle.cc_names.specs.declared.selection.Picked.{Picked}
 use Rattle.cc_names.specs.declared.selection.Seen.{Seen}
 use Rattle.cc_names.specs.declared.selection.Seen.TheVariants.{Nothing}
 use Rattle.cc_names.proofs.NamesOfPaths.{path-short}
-use Rattle.cc_names.proofs.PathParts.{joined-names_of, last_or-append, names_of-joined, names_of-names, without_last-append}
-use Rattle.base_model.specs.Catalogs.{Catalog, catalog_of, named, own_of}
-use Rattle.base_model.specs.Changes.{held}
+use Rattle.cc_names.proofs.PathParts.{path_of_names-names_of, last_or-append, names_of-path_of_names, names_of-names, without_last-append}
+use Rattle.base_model.specs.Catalogs.{Catalog, catalog_of, element_named, own_of}
+use Rattle.base_model.specs.Changes.{objects_held}
 use Rattle.base_model.specs.Closures.{is_among}
 use Rattle.base_model.specs.Fits.{is_base}
 use Rattle.base_model.specs.Rows.{Base, size}
 use Rattle.base_model.specs.Seen as seeing
-use Rattle.base_model.specs.Seen.{as_seen, at, at_names, below, catalog_by, element_at, entries_by, entries_of, private_or, selected}
+use Rattle.base_model.specs.Seen.{as_seen, at, at_names, below, catalog_by, element_at, entries_by, entries_of, private_or, selection_at}
 use Rattle.base_model.specs.Views.{private, private_effect}
 use Rattle.legal_history.specs.Commands.FileLines.{last_name, parent}
-use Rattle.legal_history.specs.Queries.ListingTexts.{Names, catalog_names, catalog_or_none, is_something, ls_text, names_in, object_names, path_in, private_names, with_name_if, with_private}
+use Rattle.legal_history.specs.Queries.DirectoryTexts.{Names, catalog_names, catalog_or_none, is_something, ls_text, names_in, object_names, path_in, private_names, with_name_if, with_private}
 use Rattle.base_model.proofs.Makings.{seen_element}
 use Rattle.base_model.proofs.Picks.{picked_is}
 use Rattle.base_rows.specs.Giving.{gives_view}
 use Rattle.cleartool.specs.Owned.{is_name, paths_given, was_given}
 use Rattle.base_rows.proofs.Holdings.{same_view_path}
 use Rattle.cleartool.specs.Listed.{HasNames, SeesDirectory, lies_in, line_at, line_of, line_where}
-use Rattle.cleartool.proofs.ByKeys.{by_keys, told_of}
+use Rattle.cleartool.proofs.ByKeys.{by_keys, text_of_key}
 use Rattle.cleartool.proofs.HeldListed.{held_given}
 use Rattle.cleartool.proofs.NamesGiven.{checkout_given, version_given}
 
@@ -82,13 +82,13 @@ all_more P [] x all is = (is, tt)
 all_more P (first ∷ xs) x all is = (all.0, all_more P xs x all.1 is)
 
 pub names_in_path : (directory name : List ℕ) → IsPath directory → IsName name → names_of (path_in directory name) ≡ names_of directory ++ name ∷ []
-names_in_path directory name path is = names_of-joined (names_of directory ++ name ∷ []) (all_more IsName (names_of directory) name (names_of-names directory path) is)
+names_in_path directory name path is = names_of-path_of_names (names_of directory ++ name ∷ []) (all_more IsName (names_of directory) name (names_of-names directory path) is)
 
 parent_in : (directory name : List ℕ) → IsPath directory → IsName name → parent_of (path_in directory name) ≡ Some directory
 parent_in directory name path is =
     ap without_last (names_in_path directory name path is)
     ∙ without_last-append (names_of directory) name
-    ∙ ap Some (joined-names_of directory)
+    ∙ ap Some (path_of_names-names_of directory)
 
 last_in : (directory name : List ℕ) → IsPath directory → IsName name → last_of (path_in directory name) ≡ Some name
 last_in directory name path is = ap (last_or None) (names_in_path directory name path is) ∙ last_or-append None (names_of directory) name
@@ -150,12 +150,12 @@ module _ (law : PartsJoin) (b : Base) (v directory : List ℕ) where
   -- ---- the names of a catalog
 
   catalog_find : (name : List ℕ) (catalog : Catalog) (rest : Names) → find (slice_cmp nat_cmp) name (catalog_names b v directory catalog rest)
-      ≡ cond (is_some (named name catalog) && is_something (seen_at name)) (Some (seen_at name)) (find (slice_cmp nat_cmp) name rest)
+      ≡ cond (is_some (element_named name catalog) && is_something (seen_at name)) (Some (seen_at name)) (find (slice_cmp nat_cmp) name rest)
   catalog_find name [] rest = refl
   catalog_find name (entry ∷ catalog) rest =
       find_if (is_something (seen_at entry.0)) name entry.0 (seen_at entry.0) (catalog_names b v directory catalog rest)
       ∙ by (bytes_eq name entry.0) refl (catalog_find name catalog rest)
-      ∙ sym (ap (λ t. cond (is_some (cond t (Some entry.1) (named name catalog)) && is_something (seen_at name)) (Some (seen_at name)) (find (slice_cmp nat_cmp) name rest)) (is_eq-slice_cmp name entry.0))
+      ∙ sym (ap (λ t. cond (is_some (cond t (Some entry.1) (element_named name catalog)) && is_something (seen_at name)) (Some (seen_at name)) (find (slice_cmp nat_cmp) name rest)) (is_eq-slice_cmp name entry.0))
     where
       here : (s c : Bool) (a : Seen) (older : Option Seen) → cond (s && true) (Some a) (cond (c && s) (Some a) older) ≡ cond (true && s) (Some a) older
       here true c a older = refl
@@ -167,12 +167,12 @@ module _ (law : PartsJoin) (b : Base) (v directory : List ℕ) where
       passed false a older = refl
 
       by : (t : Bool) → bytes_eq name entry.0 ≡ t → find (slice_cmp nat_cmp) name (catalog_names b v directory catalog rest)
-          ≡ cond (is_some (named name catalog) && is_something (seen_at name)) (Some (seen_at name)) (find (slice_cmp nat_cmp) name rest) →
+          ≡ cond (is_some (element_named name catalog) && is_something (seen_at name)) (Some (seen_at name)) (find (slice_cmp nat_cmp) name rest) →
           cond (is_something (seen_at entry.0) && t) (Some (seen_at entry.0)) (find (slice_cmp nat_cmp) name (catalog_names b v directory catalog rest))
-          ≡ cond (is_some (cond t (Some entry.1) (named name catalog)) && is_something (seen_at name)) (Some (seen_at name)) (find (slice_cmp nat_cmp) name rest)
+          ≡ cond (is_some (cond t (Some entry.1) (element_named name catalog)) && is_something (seen_at name)) (Some (seen_at name)) (find (slice_cmp nat_cmp) name rest)
       by true e before =
           ap₂ (λ (key : List ℕ) (found : Option Seen). cond (is_something (seen_at key) && true) (Some (seen_at key)) found) (sym (same_text name entry.0 e)) before
-          ∙ here (is_something (seen_at name)) (is_some (named name catalog)) (seen_at name) (find (slice_cmp nat_cmp) name rest)
+          ∙ here (is_something (seen_at name)) (is_some (element_named name catalog)) (seen_at name) (find (slice_cmp nat_cmp) name rest)
       by false e before = passed (is_something (seen_at entry.0)) (seen_at entry.0) (find (slice_cmp nat_cmp) name (catalog_names b v directory catalog rest)) ∙ before
 
   catalog_sorted : (catalog : Catalog) (rest : Names) → T (is_sorted (slice_cmp nat_cmp) rest) → T (is_sorted (slice_cmp nat_cmp) (catalog_names b v directory catalog rest))
@@ -266,15 +266,15 @@ module _ (law : PartsJoin) (b : Base) (v directory : List ℕ) where
   private_put path [] h = absurd (cc)
   private_put path (row ∷ older) h = by row.deed h (private_put path older)
     where
-      ends : (t : Bool) (before : Option ℕ) → is_some (left (only_if t Ends) before) ≡ true → is_some before ≡ true
+      ends : (t : Bool) (before : Option ℕ) → is_some (value_after (only_if t Ends) before) ≡ true → is_some before ≡ true
       ends true before h = absurd (cc)
       ends false before h = h
 
-      sets : (t : Bool) (n : ℕ) (before : Option ℕ) (rest : Bool) → is_some (left (only_if t (Sets n)) before) ≡ true → (is_some before ≡ true → rest ≡ true) → (t || rest) ≡ true
+      sets : (t : Bool) (n : ℕ) (before : Option ℕ) (rest : Bool) → is_some (value_after (only_if t (Sets n)) before) ≡ true → (is_some before ≡ true → rest ≡ true) → (t || rest) ≡ true
       sets true n before rest h more = refl
       sets false n before rest h more = more h
 
-      by : (deed : Deed) → is_some (left (private_effect v path (size older) deed) (private older v path)) ≡ true → (is_some (private older v path) ≡ true → is_put path older ≡ true) → (puts path deed || is_put path older) ≡ true
+      by : (deed : Deed) → is_some (value_after (private_effect v path (size older) deed) (private older v path)) ≡ true → (is_some (private older v path) ≡ true → is_put path older ≡ true) → (puts path deed || is_put path older) ≡ true
       by (deeds.Mkview w) h before = before (ends (bytes_eq w v) (private older v path) h)
       by (deeds.Rmview w) h before = before (ends (bytes_eq w v) (private older v path) h)
       by (deeds.Put w q text) h before = sets (bytes_eq w v && bytes_eq q path) (size older) (private older v path) (is_put path older) h before
@@ -308,36 +308,36 @@ module _ (law : PartsJoin) (b : Base) (v directory : List ℕ) where
 
   -- the paths of the view in some references lie below the root
   abbrev HeldBelow : Held → Type 0
-  HeldBelow held = (path : List ℕ) → is_some (held_at held v path) ≡ true → IsBelowRoot path
+  HeldBelow objects_held = (path : List ℕ) → is_some (held_at objects_held v path) ≡ true → IsBelowRoot path
 
   some_if : (t : Bool) (id : ℕ) (found : Option ℕ) → is_some found ≡ true → is_some (cond t (Some id) found) ≡ true
   some_if true id found h = refl
   some_if false id found h = h
 
-  rest_below : (entry : (List ℕ × List ℕ) × ℕ) (held : Held) → HeldBelow (entry ∷ held) → HeldBelow held
-  rest_below entry held low = λ path is. low path (some_if (eq_by_cmp view_path_cmp (v, path) entry.0) entry.1 (held_at held v path) is)
+  rest_below : (entry : (List ℕ × List ℕ) × ℕ) (objects_held : Held) → HeldBelow (entry ∷ objects_held) → HeldBelow objects_held
+  rest_below entry objects_held low = λ path is. low path (some_if (eq_by_cmp view_path_cmp (v, path) entry.0) entry.1 (held_at objects_held v path) is)
 
-  entry_below : (entry : (List ℕ × List ℕ) × ℕ) (held : Held) → bytes_eq entry.0.0 v ≡ true → HeldBelow (entry ∷ held) → IsBelowRoot entry.0.1
-  entry_below entry held own low =
-      low entry.0.1 (ap (λ t. is_some (cond t (Some entry.1) (held_at held v entry.0.1))) (same_view_path v entry.0.1 entry.0.0 entry.0.1 ∙ ap₂ (λ (one two : Bool). one && two) own (itself entry.0.1)))
+  entry_below : (entry : (List ℕ × List ℕ) × ℕ) (objects_held : Held) → bytes_eq entry.0.0 v ≡ true → HeldBelow (entry ∷ objects_held) → IsBelowRoot entry.0.1
+  entry_below entry objects_held own low =
+      low entry.0.1 (ap (λ t. is_some (cond t (Some entry.1) (held_at objects_held v entry.0.1))) (same_view_path v entry.0.1 entry.0.0 entry.0.1 ∙ ap₂ (λ (one two : Bool). one && two) own (itself entry.0.1)))
 
-  object_find : (name : List ℕ) → IsPath directory → IsName name → (held : Held) → HeldBelow held → find (slice_cmp nat_cmp) name (object_names b v directory held [])
-      ≡ cond (is_some (held_at held v (path_in directory name))) (Some (seen_at name)) None
+  object_find : (name : List ℕ) → IsPath directory → IsName name → (objects_held : Held) → HeldBelow objects_held → find (slice_cmp nat_cmp) name (object_names b v directory objects_held [])
+      ≡ cond (is_some (held_at objects_held v (path_in directory name))) (Some (seen_at name)) None
   object_find name path is [] low = refl
-  object_find name path is (entry ∷ held) low =
-      find_if (bytes_eq entry.0.0 v && bytes_eq (parent entry.0.1) directory) name (last_name entry.0.1) (at b v entry.0.1) (object_names b v directory held [])
-      ∙ by_view (bytes_eq entry.0.0 v) refl (object_find name path is held (rest_below entry held low))
-      ∙ sym (ap (λ t. cond (is_some (cond t (Some entry.1) (held_at held v (path_in directory name)))) (Some (seen_at name)) None) (same_view_path v (path_in directory name) entry.0.0 entry.0.1))
+  object_find name path is (entry ∷ objects_held) low =
+      find_if (bytes_eq entry.0.0 v && bytes_eq (parent entry.0.1) directory) name (last_name entry.0.1) (at b v entry.0.1) (object_names b v directory objects_held [])
+      ∙ by_view (bytes_eq entry.0.0 v) refl (object_find name path is objects_held (rest_below entry objects_held low))
+      ∙ sym (ap (λ t. cond (is_some (cond t (Some entry.1) (held_at objects_held v (path_in directory name)))) (Some (seen_at name)) None) (same_view_path v (path_in directory name) entry.0.0 entry.0.1))
     where
       by_path : IsBelowRoot entry.0.1 → (t : Bool) → bytes_eq entry.0.1 (path_in directory name) ≡ t →
-          find (slice_cmp nat_cmp) name (object_names b v directory held []) ≡ cond (is_some (held_at held v (path_in directory name))) (Some (seen_at name)) None →
-          cond (bytes_eq (parent entry.0.1) directory && bytes_eq name (last_name entry.0.1)) (Some (at b v entry.0.1)) (find (slice_cmp nat_cmp) name (object_names b v directory held []))
-          ≡ cond (is_some (cond t (Some entry.1) (held_at held v (path_in directory name)))) (Some (seen_at name)) None
+          find (slice_cmp nat_cmp) name (object_names b v directory objects_held []) ≡ cond (is_some (held_at objects_held v (path_in directory name))) (Some (seen_at name)) None →
+          cond (bytes_eq (parent entry.0.1) directory && bytes_eq name (last_name entry.0.1)) (Some (at b v entry.0.1)) (find (slice_cmp nat_cmp) name (object_names b v directory objects_held []))
+          ≡ cond (is_some (cond t (Some entry.1) (held_at objects_held v (path_in directory name)))) (Some (seen_at name)) None
       by_path low true same before =
           let one : entry.0.1 ≡ path_in directory name = same_text entry.0.1 (path_in directory name) same in
           let above : bytes_eq (parent entry.0.1) directory ≡ true = is_itself (parent entry.0.1) directory (ap parent one ∙ ap (λ (o : Option (List ℕ)). unwrap_or o root) (parent_in directory name path is)) in
           let last : bytes_eq name (last_name entry.0.1) ≡ true = is_itself name (last_name entry.0.1) (sym (ap last_name one ∙ ap (λ (o : Option (List ℕ)). unwrap_or o []) (last_in directory name path is))) in
-          ap₂ (λ (x y : Bool). cond (x && y) (Some (at b v entry.0.1)) (find (slice_cmp nat_cmp) name (object_names b v directory held []))) above last
+          ap₂ (λ (x y : Bool). cond (x && y) (Some (at b v entry.0.1)) (find (slice_cmp nat_cmp) name (object_names b v directory objects_held []))) above last
           ∙ ap (λ (q : List ℕ). Some (at b v q)) one
       by_path low false other before =
           let none : (bytes_eq (parent entry.0.1) directory && bytes_eq name (last_name entry.0.1)) ≡ false =
@@ -345,19 +345,19 @@ module _ (law : PartsJoin) (b : Base) (v directory : List ℕ) where
           let parts = and_both (bytes_eq (parent entry.0.1) directory) (bytes_eq name (last_name entry.0.1)) h in
           let same = is_itself entry.0.1 (path_in directory name) (path_by law directory name entry.0.1 low parts.0 parts.1) in
           cc (same, other)) in
-          ap (λ t. cond t (Some (at b v entry.0.1)) (find (slice_cmp nat_cmp) name (object_names b v directory held []))) none ∙ before
+          ap (λ t. cond t (Some (at b v entry.0.1)) (find (slice_cmp nat_cmp) name (object_names b v directory objects_held []))) none ∙ before
 
       by_view : (own : Bool) → bytes_eq entry.0.0 v ≡ own →
-          find (slice_cmp nat_cmp) name (object_names b v directory held []) ≡ cond (is_some (held_at held v (path_in directory name))) (Some (seen_at name)) None →
-          cond ((own && bytes_eq (parent entry.0.1) directory) && bytes_eq name (last_name entry.0.1)) (Some (at b v entry.0.1)) (find (slice_cmp nat_cmp) name (object_names b v directory held []))
-          ≡ cond (is_some (cond (own && bytes_eq entry.0.1 (path_in directory name)) (Some entry.1) (held_at held v (path_in directory name)))) (Some (seen_at name)) None
-      by_view true own before = by_path (entry_below entry held own low) (bytes_eq entry.0.1 (path_in directory name)) refl before
+          find (slice_cmp nat_cmp) name (object_names b v directory objects_held []) ≡ cond (is_some (held_at objects_held v (path_in directory name))) (Some (seen_at name)) None →
+          cond ((own && bytes_eq (parent entry.0.1) directory) && bytes_eq name (last_name entry.0.1)) (Some (at b v entry.0.1)) (find (slice_cmp nat_cmp) name (object_names b v directory objects_held []))
+          ≡ cond (is_some (cond (own && bytes_eq entry.0.1 (path_in directory name)) (Some entry.1) (held_at objects_held v (path_in directory name)))) (Some (seen_at name)) None
+      by_view true own before = by_path (entry_below entry objects_held own low) (bytes_eq entry.0.1 (path_in directory name)) refl before
       by_view false own before = before
 
-  object_sorted : (held : Held) → T (is_sorted (slice_cmp nat_cmp) (object_names b v directory held []))
+  object_sorted : (objects_held : Held) → T (is_sorted (slice_cmp nat_cmp) (object_names b v directory objects_held []))
   object_sorted [] = tt
-  object_sorted (entry ∷ held) =
-      sorted_if (bytes_eq entry.0.0 v && bytes_eq (parent entry.0.1) directory) (last_name entry.0.1) (at b v entry.0.1) (object_names b v directory held []) (object_sorted held)
+  object_sorted (entry ∷ objects_held) =
+      sorted_if (bytes_eq entry.0.0 v && bytes_eq (parent entry.0.1) directory) (last_name entry.0.1) (at b v entry.0.1) (object_names b v directory objects_held []) (object_sorted objects_held)
 
   -- ---- each name that is listed is among names that are all
 
@@ -399,11 +399,11 @@ module _ (law : PartsJoin) (b : Base) (v directory : List ℕ) where
         (object_has name held' (λ path found. all path (some_if (eq_by_cmp view_path_cmp (v, path) entry.0) entry.1 (held_at held' v path) found)))
 
     catalog_has : (name : List ℕ) (P : Type 0) (catalog : Catalog) (rest : Names) → is_some (find (slice_cmp nat_cmp) name (catalog_names b v directory catalog rest)) ≡ true →
-        (is_some (named name catalog) ≡ true → P) → (is_some (find (slice_cmp nat_cmp) name rest) ≡ true → P) → P
+        (is_some (element_named name catalog) ≡ true → P) → (is_some (find (slice_cmp nat_cmp) name rest) ≡ true → P) → P
     catalog_has name P catalog rest is here before =
-        found_or P (is_some (named name catalog) && is_something (seen_at name)) (seen_at name) (find (slice_cmp nat_cmp) name rest)
+        found_or P (is_some (element_named name catalog) && is_something (seen_at name)) (seen_at name) (find (slice_cmp nat_cmp) name rest)
         (sym (ap is_some (catalog_find name catalog rest)) ∙ is)
-        (λ h. here (and_both (is_some (named name catalog)) (is_something (seen_at name)) h).0) before
+        (λ h. here (and_both (is_some (element_named name catalog)) (is_something (seen_at name)) h).0) before
 
     -- ---- the directory itself
 
@@ -414,10 +414,10 @@ module _ (law : PartsJoin) (b : Base) (v directory : List ℕ) where
       entries : entries_of b v (at b v directory) ≡ Some catalog
       entries = ap (entries_of b v) sees.seen ∙ ap (entries_by b v e sees.picked) sees.kind
 
-      catalog_given : (name : List ℕ) → is_some (named name catalog) ≡ true → is_among name names ≡ true
+      catalog_given : (name : List ℕ) → is_some (element_named name catalog) ≡ true → is_among name names ≡ true
       catalog_given name is = by sees.picked.out refl is
         where
-          by : (own : Bool) → sees.picked.out ≡ own → is_some (named name (catalog_by own (own_of b v e) (catalog_of b sees.picked.row))) ≡ true → is_among name names ≡ true
+          by : (own : Bool) → sees.picked.out ≡ own → is_some (element_named name (catalog_by own (own_of b v e) (catalog_of b sees.picked.row))) ≡ true → is_among name names ≡ true
           by true out is = has.given name (checkout_given b v e name base is)
           by false out is =
               let seen = seen_element b v (reverse (names_of directory)) e sees.picked sees.seen in
@@ -428,7 +428,7 @@ module _ (law : PartsJoin) (b : Base) (v directory : List ℕ) where
       table = names_in b v directory
 
       abbrev own_names : Names
-      own_names = private_names b v directory b (object_names b v directory (held b) [])
+      own_names = private_names b v directory b (object_names b v directory (objects_held b) [])
 
       table_is : table ≡ catalog_names b v directory catalog own_names
       table_is = ap (λ o. catalog_names b v directory (catalog_or_none o) own_names) entries
@@ -437,32 +437,32 @@ module _ (law : PartsJoin) (b : Base) (v directory : List ℕ) where
       has_keys name is =
           catalog_has name (is_among name names ≡ true) catalog own_names (sym (ap (λ (all : Names). is_some (find (slice_cmp nat_cmp) name all)) table_is) ∙ is)
           (catalog_given name)
-          (λ found. private_has name (is_among name names ≡ true) b (object_names b v directory (held b) []) (λ p given. given) found (λ among. among)
-          (object_has name (held b) (held_given b v)))
+          (λ found. private_has name (is_among name names ≡ true) b (object_names b v directory (objects_held b) []) (λ p given. given) found (λ among. among)
+          (object_has name (objects_held b) (held_given b v)))
 
       table_sorted : T (is_sorted (slice_cmp nat_cmp) table)
       table_sorted =
           subst (λ (all : Names). T (is_sorted (slice_cmp nat_cmp) all)) (sym table_is)
-          (catalog_sorted catalog own_names (private_sorted b (object_names b v directory (held b) []) (object_sorted (held b))))
+          (catalog_sorted catalog own_names (private_sorted b (object_names b v directory (objects_held b) []) (object_sorted (objects_held b))))
 
       -- what stands at the path of a name
       at_in : (name : List ℕ) → IsName name → seen_at name
-          ≡ seeing.unless_long (path_in directory name) (private_or (private b v (path_in directory name)) (element_at b v (names_of directory ++ name ∷ []) (named name catalog)))
+          ≡ seeing.unless_long (path_in directory name) (private_or (private b v (path_in directory name)) (element_at b v (names_of directory ++ name ∷ []) (element_named name catalog)))
       at_in name is =
           ap (λ ns. at_names b v (reverse ns)) (names_in_path directory name path is)
           ∙ ap (at_names b v) (reverse-append (names_of directory) (name ∷ []))
           ∙ ap₂ (λ (ns : List (List ℕ)) (o : Option Catalog). below b v ns name o) (sym (ap reverse (reverse-append (names_of directory) (name ∷ []))) ∙ reverse-reverse (names_of directory ++ name ∷ [])) entries
 
       found_in : (name : List ℕ) → IsName name → find (slice_cmp nat_cmp) name table
-          ≡ cond (is_some (named name catalog) && is_something (seen_at name)) (Some (seen_at name))
-          (cond (is_some (private b v (path_in directory name))) (Some (seen_at name)) (cond (is_some (held_at (held b) v (path_in directory name))) (Some (seen_at name)) None))
+          ≡ cond (is_some (element_named name catalog) && is_something (seen_at name)) (Some (seen_at name))
+          (cond (is_some (private b v (path_in directory name))) (Some (seen_at name)) (cond (is_some (held_at (objects_held b) v (path_in directory name))) (Some (seen_at name)) None))
       found_in name is =
           ap (λ (all : Names). find (slice_cmp nat_cmp) name all) table_is
           ∙ catalog_find name catalog own_names
-          ∙ ap (λ found. cond (is_some (named name catalog) && is_something (seen_at name)) (Some (seen_at name)) found)
-          (private_find name path is b (object_names b v directory (held b) []) has.below
+          ∙ ap (λ found. cond (is_some (element_named name catalog) && is_something (seen_at name)) (Some (seen_at name)) found)
+          (private_find name path is b (object_names b v directory (objects_held b) []) has.below
           ∙ ap₂ (λ (t : Bool) (found : Option Seen). cond t (Some (seen_at name)) found) (put_there (is_some (private b v (path_in directory name))) refl)
-          (object_find name path is (held b) (λ p found. has.below p (held_given b v p found))))
+          (object_find name path is (objects_held b) (λ p found. has.below p (held_given b v p found))))
         where
           put_there : (q : Bool) → is_some (private b v (path_in directory name)) ≡ q → (is_put (path_in directory name) b && is_some (private b v (path_in directory name))) ≡ is_some (private b v (path_in directory name))
           put_there true e = ap (λ t. t && is_some (private b v (path_in directory name))) (private_put (path_in directory name) b e)
@@ -480,8 +480,8 @@ module _ (law : PartsJoin) (b : Base) (v directory : List ℕ) where
           omega (arith, short, above)
 
       -- the line of a name is what the table tells of it
-      pub told_at : (name : List ℕ) → IsName name → told_of (line_of b v directory) table name ≡ line_at b v directory name (join_of directory name)
-      told_at name is =
+      pub line_at_is : (name : List ℕ) → IsName name → text_of_key (line_of b v directory) table name ≡ line_at b v directory name (join_of directory name)
+      line_at_is name is =
           ap (λ found. option_map_or (line_of b v directory name) found []) (found_in name is)
           ∙ by (nat_lt 1024 (length (path_in directory name))) refl
         where
@@ -495,11 +495,11 @@ module _ (law : PartsJoin) (b : Base) (v directory : List ℕ) where
           nothing_there true q o a s p r = ap₂ (λ (x y : Bool). option_map_or (line_of b v directory name) (cond x (Some a) (cond y (Some a) (cond o (Some a) None))) []) s p ∙ ap (λ z. option_map_or (line_of b v directory name) (cond z (Some a) None) []) r
           nothing_there false q o a s p r = ap₂ (λ (y z : Bool). option_map_or (line_of b v directory name) (cond y (Some a) (cond z (Some a) None)) []) p r
 
-          element_told : (object : Option ℕ) (found : ℕ) (picked : Option Picked) →
+          element_line : (object : Option ℕ) (found : ℕ) (picked : Option Picked) →
               option_map_or (line_of b v directory name) (cond (true && is_something (as_seen found picked)) (Some (as_seen found picked)) (cond false (Some (as_seen found picked)) (cond (is_some object) (Some (as_seen found picked)) None))) []
               ≡ line_where b v directory name (as_seen found picked) object
-          element_told object found (Some picked) = refl
-          element_told object found None = refl
+          element_line object found (Some picked) = refl
+          element_line object found None = refl
 
           shown : (row : Option ℕ) (found : Option ℕ) (object : Option ℕ) (a : Seen) → a ≡ private_or row (element_at b v (names_of directory ++ name ∷ []) found) →
               option_map_or (line_of b v directory name) (cond (is_some found && is_something a) (Some a) (cond (is_some row) (Some a) (cond (is_some object) (Some a) None))) []
@@ -510,25 +510,25 @@ module _ (law : PartsJoin) (b : Base) (v directory : List ℕ) where
           shown None None (Some object) a is = ap (λ (x : Seen). option_map_or (line_of b v directory name) (cond (false && is_something x) (Some x) (cond false (Some x) (cond true (Some x) None))) []) is ∙ sym (ap (λ (x : Seen). line_where b v directory name x (Some object)) is)
           shown None (Some found) object a is =
               ap (λ (x : Seen). option_map_or (line_of b v directory name) (cond (true && is_something x) (Some x) (cond false (Some x) (cond (is_some object) (Some x) None))) []) is
-              ∙ element_told object found (selected b v found (names_of directory ++ name ∷ []))
+              ∙ element_line object found (selection_at b v found (names_of directory ++ name ∷ []))
               ∙ sym (ap (λ (x : Seen). line_where b v directory name x object) is)
 
           by : (t : Bool) → nat_lt 1024 (length (path_in directory name)) ≡ t →
-              option_map_or (line_of b v directory name) (cond (is_some (named name catalog) && is_something (seen_at name)) (Some (seen_at name))
-              (cond (is_some (private b v (path_in directory name))) (Some (seen_at name)) (cond (is_some (held_at (held b) v (path_in directory name))) (Some (seen_at name)) None))) []
+              option_map_or (line_of b v directory name) (cond (is_some (element_named name catalog) && is_something (seen_at name)) (Some (seen_at name))
+              (cond (is_some (private b v (path_in directory name))) (Some (seen_at name)) (cond (is_some (held_at (objects_held b) v (path_in directory name))) (Some (seen_at name)) None))) []
               ≡ line_at b v directory name (if t then Err (TooLong (length (path_in directory name))) else Ok (path_in directory name))
           by true long =
               let unseen : seen_at name ≡ Nothing =
-              at_in name is ∙ ap (λ t. if t then private_or (private b v (path_in directory name)) (element_at b v (names_of directory ++ name ∷ []) (named name catalog)) else Nothing) (long_seen long) in
-              nothing_there (is_some (named name catalog)) (is_some (private b v (path_in directory name))) (is_some (held_at (held b) v (path_in directory name))) (seen_at name)
+              at_in name is ∙ ap (λ t. if t then private_or (private b v (path_in directory name)) (element_at b v (names_of directory ++ name ∷ []) (element_named name catalog)) else Nothing) (long_seen long) in
+              nothing_there (is_some (element_named name catalog)) (is_some (private b v (path_in directory name))) (is_some (held_at (objects_held b) v (path_in directory name))) (seen_at name)
               (ap is_something unseen)
               (not_true (is_some (private b v (path_in directory name))) (λ h. none_long name long (put_given (path_in directory name) b (private_put (path_in directory name) b h))))
-              (not_true (is_some (held_at (held b) v (path_in directory name))) (λ h. none_long name long (held_given b v (path_in directory name) h)))
+              (not_true (is_some (held_at (objects_held b) v (path_in directory name))) (λ h. none_long name long (held_given b v (path_in directory name) h)))
           by false short =
-              let visible : seen_at name ≡ private_or (private b v (path_in directory name)) (element_at b v (names_of directory ++ name ∷ []) (named name catalog)) =
-              at_in name is ∙ ap (λ t. if t then private_or (private b v (path_in directory name)) (element_at b v (names_of directory ++ name ∷ []) (named name catalog)) else Nothing) (short_seen short) in
-              shown (private b v (path_in directory name)) (named name catalog) (held_at (held b) v (path_in directory name)) (seen_at name) visible
+              let visible : seen_at name ≡ private_or (private b v (path_in directory name)) (element_at b v (names_of directory ++ name ∷ []) (element_named name catalog)) =
+              at_in name is ∙ ap (λ t. if t then private_or (private b v (path_in directory name)) (element_at b v (names_of directory ++ name ∷ []) (element_named name catalog)) else Nothing) (short_seen short) in
+              shown (private b v (path_in directory name)) (element_named name catalog) (held_at (objects_held b) v (path_in directory name)) (seen_at name) visible
 
       -- The names of the directory are told by these names.
-      pub ls_told : IsStrictlySortedBy (slice_cmp nat_cmp) names → concat (map (told_of (line_of b v directory) table) names) ≡ ls_text b v directory
-      ls_told ordered = by_keys (line_of b v directory) names table ordered table_sorted has_keys
+      pub ls_by_names : IsStrictlySortedBy (slice_cmp nat_cmp) names → concat (map (text_of_key (line_of b v directory) table) names) ≡ ls_text b v directory
+      ls_by_names ordered = by_keys (line_of b v directory) names table ordered table_sorted has_keys

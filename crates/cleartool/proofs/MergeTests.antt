@@ -16,13 +16,13 @@ use Rattle.legal_history.specs.Queries.QueryLines.{answers_of, findmerge, needs_
 use Rattle.cleartool.specs.Answering.{AnswersAs, FindsSelected, Tests}
 
 -- where an element is selected, the branch is the test that is left
-selected_by : (path : List ℕ) (view : Option Refusal) (seen : Seen) (text : ℕ → Picked → List ℕ) (told : List ℕ) (branch : Option Refusal) (lines : List ℕ) →
-    past (view ∷ []) (for_selected path seen (λ e picked. answers [] (text e picked))) ≡ Ok (Answers told) → answers (view ∷ needs_selected path seen ∷ needs_element path seen ∷ branch ∷ []) lines ≡ answers (branch ∷ []) lines
-selected_by path None (Element e picked) text told branch lines h = refl
-selected_by path None (Private row) text told branch lines h = absurd (cc)
-selected_by path None (Unselected e) text told branch lines h = absurd (cc)
-selected_by path None Nothing text told branch lines h = absurd (cc)
-selected_by path (Some refusal) seen text told branch lines h = absurd (cc)
+selected_by : (path : List ℕ) (view : Option Refusal) (seen : Seen) (text : ℕ → Picked → List ℕ) (reported : List ℕ) (branch : Option Refusal) (lines : List ℕ) →
+    past (view ∷ []) (for_selected path seen (λ e picked. answers [] (text e picked))) ≡ Ok (Answers reported) → answers (view ∷ needs_selected path seen ∷ needs_element path seen ∷ branch ∷ []) lines ≡ answers (branch ∷ []) lines
+selected_by path None (Element e picked) text reported branch lines h = refl
+selected_by path None (Private row) text reported branch lines h = absurd (cc)
+selected_by path None (Unselected e) text reported branch lines h = absurd (cc)
+selected_by path None Nothing text reported branch lines h = absurd (cc)
+selected_by path (Some refusal) seen text reported branch lines h = absurd (cc)
 
 -- where none is, the refusal is the one
 refused_by : (path : List ℕ) (view : Option Refusal) (seen : Seen) (text : ℕ → Picked → List ℕ) (refusal : Refusal) (branch : Option Refusal) (lines : List ℕ) →

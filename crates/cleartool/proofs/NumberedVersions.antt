@@ -4,7 +4,7 @@ use Rattle.std.specs.Prelude.{find, option_map, slice_get}
 use Rattle.std.proofs.lemmas.Bool.Decides.{nat_tests}
 use Rattle.std.proofs.lemmas.List.{length-reverse, reverse-append}
 use Rattle.std.proofs.lemmas.Option.{slice_get-map}
-use Rattle.cc_names.specs.Versions.{Version, branch_of_change, numbered, put_if, row_of_version, version_made, versions_on}
+use Rattle.cc_names.specs.Versions.{Version, branch_of_change, version_of_number, put_if, row_of_version, version_made, versions_on}
 use Rattle.cc_names.specs.declared.changes.TreeChange.{TreeChange}
 use Rattle.base_model.specs.Changes.{tree}
 use Rattle.base_model.specs.Rows.{Base}
@@ -38,7 +38,7 @@ found_at (change ∷ older) branch n = by (branch_of_change change == branch) (f
         ∙ sym (at_last (reverse rest) newest n)
         ∙ ap (λ (all : List Version). slice_get all n) (sym (reverse-append (newest ∷ []) rest))
 
-pub numbered_at : (b : Base) (branch n : ℕ) → numbered (tree b) branch n ≡ slice_get (rows_on b branch) n
+pub numbered_at : (b : Base) (branch n : ℕ) → version_of_number (tree b) branch n ≡ slice_get (rows_on b branch) n
 numbered_at b branch n =
     ap (option_map row_of_version) (found_at (tree b) branch n)
     ∙ sym (slice_get-map row_of_version (reverse (versions_on (tree b) branch)) n)

@@ -3,7 +3,7 @@ use Rattle.std.proofs.Common.{◌≡◌, refl, ap, ap₂, sym, subst, ◌∙◌,
 use Rattle.std.proofs.lemmas.Bool.Decides.{nat_tests}
 use Rattle.std.specs.Prelude.{find, is_some, option_and_then, option_map}
 use Rattle.cc_names.specs.Branches.{branch_of_version, origin_by, origin_of}
-use Rattle.cc_names.specs.Versions.{Version, branch_of_change, change_at, element_by, element_of_branch, is_number, numbered, put_if, row_of_change, row_of_version, version_at, version_id, version_id_of, version_made, versions_on}
+use Rattle.cc_names.specs.Versions.{Version, branch_of_change, change_at, element_by, element_of_branch, is_number, version_of_number, put_if, row_of_change, row_of_version, version_at, version_id, version_id_of, version_made, versions_on}
 use Rattle.cc_names.specs.declared.changes.TreeChange.{TreeChange}
 use Rattle.cc_names.specs.declared.changes.TreeChange.TheVariants.{ElementMade, BranchMade, VersionMade}
 use Rattle.cc_names.specs.declared.changes.VersionId.{VersionId}
@@ -90,24 +90,24 @@ has_number (change ∷ older) branch test v h = by (branch_of_change change == b
         (find test (versions_on older branch) ≡ Some v → Numbered older branch v) → Numbered (change ∷ older) branch v
     by true on h before = of_test (test (version_made change (length (versions_on older branch)))) h before on
     by false on h before =
-        let numbered = before h in
+        let version_of_number = before h in
         let same : versions_on (change ∷ older) branch ≡ versions_on older branch = ap (λ t. put_if t (version_made change (length (versions_on older branch))) (versions_on older branch)) on in
         record {
-          found = ap (find (λ w. w.number == v.number)) same ∙ numbered.found;
-          low = subst (λ versions. v.number < length versions) (sym same) numbered.low;
+          found = ap (find (λ w. w.number == v.number)) same ∙ version_of_number.found;
+          low = subst (λ versions. v.number < length versions) (sym same) version_of_number.low;
         }
 
 -- the version that a row made is the one of its number on its branch
-row_of_number : (b : Base) (r : ℕ) (v : Version) → version_at (tree b) r ≡ Some v → numbered (tree b) v.branch v.number ≡ Some r
+row_of_number : (b : Base) (r : ℕ) (v : Version) → version_at (tree b) r ≡ Some v → version_of_number (tree b) v.branch v.number ≡ Some r
 row_of_number b r v h = by (change_at (tree b) r) h
   where
-    by : (o : Option TreeChange) → option_and_then (λ change. find (λ v. v.row == r) (versions_on (tree b) (branch_of_change change))) o ≡ Some v → numbered (tree b) v.branch v.number ≡ Some r
+    by : (o : Option TreeChange) → option_and_then (λ change. find (λ v. v.row == r) (versions_on (tree b) (branch_of_change change))) o ≡ Some v → version_of_number (tree b) v.branch v.number ≡ Some r
     by None h = absurd (cc)
     by (Some change) h =
         let branch = branch_of_change change in
         let stands = (all_stand b).stands branch (λ v. v.row == r) v h in
         let row : v.row ≡ r = same_number v.row r (passes (λ v. v.row == r) (versions_on (tree b) branch) v h) in
-        ap (λ on. numbered (tree b) on v.number) stands.branch_is
+        ap (λ on. version_of_number (tree b) on v.number) stands.branch_is
         ∙ ap (option_map row_of_version) (has_number (tree b) branch (λ v. v.row == r) v h).found
         ∙ ap Some row
 
@@ -118,7 +118,7 @@ record RowOf (b : Base) (branch n r : ℕ) : Type 0 where
   on : version.branch ≡ branch
   number : version.number ≡ n
 
-number_of_row : (b : Base) (branch n r : ℕ) → numbered (tree b) branch n ≡ Some r → RowOf b branch n r
+number_of_row : (b : Base) (branch n r : ℕ) → version_of_number (tree b) branch n ≡ Some r → RowOf b branch n r
 number_of_row b branch n r h = by (find (λ v. v.number == n) (versions_on (tree b) branch)) refl h
   where
     by : (o : Option Version) → find (λ v. v.number == n) (versions_on (tree b) branch) ≡ o → option_map row_of_version o ≡ Some r → RowOf b branch n r
@@ -211,10 +211,10 @@ module _ (b : Base) (one two : ℕ) where
   came_before : is_successor b one two ≡ true → is_number one (predecessor (tree b) two) ≡ true
   came_before h = by (version_at (tree b) one) refl h
     where
-      by : (o : Option Version) → version_at (tree b) one ≡ o → is_number two (option_and_then (λ version. numbered (tree b) version.branch (suc version.number)) o) ≡ true → is_number one (predecessor (tree b) two) ≡ true
+      by : (o : Option Version) → version_at (tree b) one ≡ o → is_number two (option_and_then (λ version. version_of_number (tree b) version.branch (suc version.number)) o) ≡ true → is_number one (predecessor (tree b) two) ≡ true
       by None at h = absurd (cc)
       by (Some v) at h =
-          let next = number_of_row b v.branch (suc v.number) two (number_is two (numbered (tree b) v.branch (suc v.number)) h) in
+          let next = number_of_row b v.branch (suc v.number) two (number_is two (version_of_number (tree b) v.branch (suc v.number)) h) in
           let id = has_id b two next.version next.made in
           is_itself one (predecessor (tree b) two)
           (ap (option_and_then (λ version_id. numbered_before (tree b) version_id.branch version_id.number)) id.is
@@ -228,9 +228,9 @@ module _ (b : Base) (one two : ℕ) where
       by_number v zero at number h = absurd (cc)
       by_number v (suc n) at number h =
           let before = number_of_row b v.branch n one h in
-          is_itself two (option_and_then (λ version. numbered (tree b) version.branch (suc version.number)) (version_at (tree b) one))
-          (ap (option_and_then (λ version. numbered (tree b) version.branch (suc version.number))) before.made
-          ∙ ap₂ (λ branch number. numbered (tree b) branch number) before.on (ap suc before.number ∙ sym number)
+          is_itself two (option_and_then (λ version. version_of_number (tree b) version.branch (suc version.number)) (version_at (tree b) one))
+          (ap (option_and_then (λ version. version_of_number (tree b) version.branch (suc version.number))) before.made
+          ∙ ap₂ (λ branch number. version_of_number (tree b) branch number) before.on (ap suc before.number ∙ sym number)
           ∙ row_of_number b two v at)
 
       by : (o : Option VersionId) → version_id (tree b) two ≡ o → option_and_then (λ version_id. numbered_before (tree b) version_id.branch version_id.number) o ≡ Some one → is_successor b one two ≡ true

@@ -45,10 +45,10 @@ module _ (b : Base) (path : List ℕ) (e : ℕ) where
       ∙ branches_left (left ++ Branch depth branch ∷ []) depth branches
       ∙ ap (λ (bytes : List ℕ). concat (map lines (reverse branches)) ++ bytes) (one_left left (Branch depth branch))
       ∙ sym (append_assoc (concat (map lines (reverse branches))) (lines branch) rest)
-      ∙ ap (λ (bytes : List ℕ). bytes ++ rest) (sym (told lines branch branches))
+      ∙ ap (λ (bytes : List ℕ). bytes ++ rest) (sym (reported lines branch branches))
     where
-      told : (lines : ℕ → List ℕ) (branch : ℕ) (branches : List ℕ) → concat (map lines (reverse (branch ∷ branches))) ≡ concat (map lines (reverse branches)) ++ lines branch
-      told lines branch branches =
+      reported : (lines : ℕ → List ℕ) (branch : ℕ) (branches : List ℕ) → concat (map lines (reverse (branch ∷ branches))) ≡ concat (map lines (reverse branches)) ++ lines branch
+      reported lines branch branches =
           ap (λ (rows : List ℕ). concat (map lines rows)) (reverse-append (branch ∷ []) branches)
           ∙ ap concat (map-append lines (reverse branches) (branch ∷ []))
           ∙ concat-append (map lines (reverse branches)) (lines branch ∷ [])
@@ -69,10 +69,10 @@ module _ (b : Base) where
 
 module _ (b : Base) (path : List ℕ) (e : ℕ) where
   -- the line of a branch, and its versions left to tell
-  pub branch_told : (text : List ℕ) (left : List Part) (depth branch : ℕ) → depth ≢ 0 →
+  pub branch_is_written : (text : List ℕ) (left : List Part) (depth branch : ℕ) → depth ≢ 0 →
       (text ++ line (at_version path (branch_name b branch))) ++ left_lines b path e (left ++ Versions (depth - 1) branch 0 ∷ []) ≡ text ++ (branch_lines depth b path e branch ++ left_lines b path e left)
-  branch_told text left zero branch some = absurd (some refl)
-  branch_told text left (suc depth) branch some =
+  branch_is_written text left zero branch some = absurd (some refl)
+  branch_is_written text left (suc depth) branch some =
       let less : suc depth - 1 ≡ depth = omega arith in
       let own = line (at_version path (branch_name b branch)) in
       let versions = part_lines b path e (Versions depth branch 0) in
@@ -84,11 +84,11 @@ module _ (b : Base) (path : List ℕ) (e : ℕ) where
       ∙ ap (λ (bytes : List ℕ). text ++ ((own ++ bytes) ++ rest)) (sym (by_rows b path e depth branch))
 
   -- the line of a version; the branches that leave it and the versions behind it left to tell
-  pub version_told : (text : List ℕ) (left : List Part) (depth branch number version : ℕ) → drop number (rows_on b branch) ≡ version ∷ drop (number + 1) (rows_on b branch) →
+  pub version_is_written : (text : List ℕ) (left : List Part) (depth branch number version : ℕ) → drop number (rows_on b branch) ≡ version ∷ drop (number + 1) (rows_on b branch) →
       (text ++ line (at_version path (version_name b version) ++ in_brackets (labels_on b e version)))
       ++ left_lines b path e ((left ++ Versions depth branch (number + 1) ∷ []) ++ map (Branch depth) (branches_leaving version (tree b)))
       ≡ text ++ (part_lines b path e (Versions depth branch number) ++ left_lines b path e left)
-  version_told text left depth branch number version next =
+  version_is_written text left depth branch number version next =
       let own = line (at_version path (version_name b version) ++ in_brackets (labels_on b e version)) in
       let leaving = concat (map (branch_lines depth b path e) (reverse (branches_leaving version (tree b)))) in
       let behind = part_lines b path e (Versions depth branch (number + 1)) in

@@ -3,7 +3,7 @@ use Rattle.std.proofs.Common.{◌≡◌, refl, ap, ℕ, Some, List, [], ◌∷�
 use Rattle.std.specs.Option.{option_or}
 use Rattle.base_model.specs.Closures.{Inputs, closure}
 use Rattle.base_model.specs.Rows.{Base, only_where}
-use Rattle.base_model.specs.Objects.{uncovered, uncovered_among}
+use Rattle.base_model.specs.Objects.{uncovered_path, uncovered_among}
 use Rattle.view_lookup.specs.FirstInputs.{first_among, first_input}
 use Rattle.cleartool.specs.Covering.{differs}
 
@@ -11,5 +11,5 @@ among : (b : Base) (v : List ℕ) (inputs : Inputs) → first_among (differs b v
 among b v [] = refl
 among b v (input ∷ inputs) = ap (option_or (only_where (differs b v input.0.0 input.1) (Some input.0.0))) (among b v inputs)
 
-pub first_uncovered : (b : Base) (v : List ℕ) (id : ℕ) → first_input b (differs b v) id ≡ uncovered b v id
+pub first_uncovered : (b : Base) (v : List ℕ) (id : ℕ) → first_input b (differs b v) id ≡ uncovered_path b v id
 first_uncovered b v id = among b v (closure b id)

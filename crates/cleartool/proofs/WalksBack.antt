@@ -15,7 +15,7 @@ use Rattle.legal_history.specs.Queries.Merges.{Itself, Onward, Reaches, follows,
 use Rattle.base_model.proofs.Owned.{and_first, same_is_same}
 use Rattle.base_model.proofs.Either.{or_first, or_second}
 use Rattle.base_model.proofs.Tables.{same_number}
-use Rattle.cleartool.specs.Reached.{TakesIn}
+use Rattle.cleartool.specs.Reached.{AddsVersions}
 use Rattle.cleartool.specs.declared.reached.Walk.{Walk}
 use Rattle.cleartool.proofs.Leaders.{leader_below}
 
@@ -72,7 +72,7 @@ fewer_left most left old_left new_left seen new_seen one few count = omega (arit
 
 -- ---- its begin
 
-pub begun : (b : Base) (source target : ℕ) (empty walk : Walk) → empty.seen.keys ≡ [] → empty.left.items ≡ [] → IsStrictlySortedBy nat_cmp empty.seen.keys → TakesIn (λ n. is_number n (Some target)) empty walk → GoesBack b source target walk
+pub begun : (b : Base) (source target : ℕ) (empty walk : Walk) → empty.seen.keys ≡ [] → empty.left.items ≡ [] → IsStrictlySortedBy nat_cmp empty.seen.keys → AddsVersions (λ n. is_number n (Some target)) empty walk → GoesBack b source target walk
 begun b source target empty walk none_seen none_left ordered h = record {
   target_seen = seen_is target ∙ same_is_same target;
   reach = λ n is. subst (λ m. Reaches b m target) (sym (same_number n target (is_target n is))) Itself;
@@ -116,7 +116,7 @@ module _ (b : Base) (source target version : ℕ) (old popped : Walk) (h : GoesB
   pub found : ReachingIsByAWalkFound → is_base b ≡ true → version ≡ source → true ≡ reaches b source target
   found law base same = sym (law b source target base (subst (λ n. Reaches b n target) same (h.reach version was_seen)))
 
-  module _ (other : version ≡ source → ⊥) (new : Walk) (g : TakesIn (λ n. follows b n version) popped new) where
+  module _ (other : version ≡ source → ⊥) (new : Walk) (g : AddsVersions (λ n. follows b n version) popped new) where
     seen_is : (n : ℕ) → is_in n new.seen.keys ≡ (follows b n version || is_in n old.seen.keys)
     seen_is n = g.seen n ∙ ap (λ keys. follows b n version || is_in n keys) kept
 

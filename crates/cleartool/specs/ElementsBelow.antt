@@ -6,7 +6,7 @@ use Rattle.cc_names.specs.declared.selection.Seen.{Seen}
 use Rattle.cc_names.specs.declared.selection.Seen.TheVariants.{Element}
 use Rattle.base_model.specs.Rows.{Base}
 use Rattle.base_model.specs.Seen.{at, entries_of}
-use Rattle.legal_history.specs.Queries.ListingTexts.{catalog_or_none, path_in}
+use Rattle.legal_history.specs.Queries.DirectoryTexts.{catalog_or_none, path_in}
 
 -- whether it is an element of which a version is selected
 abbrev pub is_element : Seen → Bool

@@ -2,10 +2,10 @@
 use Rattle.std.specs.Prelude.{ℕ, true, List, []}
 use Rattle.std.specs.Option.{option_map_or}
 use Rattle.cc_names.specs.References.{held_at}
-use Rattle.base_model.specs.Changes.{held}
+use Rattle.base_model.specs.Changes.{objects_held}
 use Rattle.base_model.specs.Rows.{Base}
-use Rattle.legal_history.specs.Queries.ListingTexts.{held_line}
+use Rattle.legal_history.specs.Queries.DirectoryTexts.{held_line}
 
 -- the line of the object that a view holds at a path; nothing where it holds none
 abbrev pub line_at : Base → List ℕ → List ℕ → List ℕ
-line_at b v path = option_map_or (λ id. held_line (held b) v true path id) (held_at (held b) v path) []
+line_at b v path = option_map_or (λ id. held_line (objects_held b) v true path id) (held_at (objects_held b) v path) []

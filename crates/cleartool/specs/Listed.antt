@@ -12,12 +12,12 @@ use Rattle.cc_names.specs.declared.rows.Kind.TheVariants.{Directory}
 use Rattle.cc_names.specs.declared.selection.Picked.{Picked}
 use Rattle.cc_names.specs.declared.selection.Seen.{Seen}
 use Rattle.cc_names.specs.declared.selection.Seen.TheVariants.{Element, Nothing}
-use Rattle.base_model.specs.Changes.{held, tree}
+use Rattle.base_model.specs.Changes.{objects_held, tree}
 use Rattle.base_model.specs.Closures.{is_among}
 use Rattle.base_model.specs.Rows.{Base}
 use Rattle.base_model.specs.Seen.{at}
 use Rattle.legal_history.specs.Commands.Decisions.{Answers, answers}
-use Rattle.legal_history.specs.Queries.ListingTexts.{name_line, object_line}
+use Rattle.legal_history.specs.Queries.DirectoryTexts.{name_line, object_line}
 use Rattle.legal_history.specs.Queries.QueryLines.{ls_tests}
 use Rattle.legal_history.specs.Queries.VersionNames.{line}
 use Rattle.cleartool.specs.Owned.{is_name, was_given, was_named}
@@ -38,7 +38,7 @@ line_where b v directory name seen object = line_of b v directory name seen
 
 -- the same by the path of the name in the directory, which may be too long to be seen
 abbrev pub line_at : Base → List ℕ → List ℕ → List ℕ → Result (List ℕ) NameFault → List ℕ
-line_at b v directory name (Ok path) = line_where b v directory name (at b v path) (held_at (held b) v path)
+line_at b v directory name (Ok path) = line_where b v directory name (at b v path) (held_at (objects_held b) v path)
 line_at b v directory name (Err fault) = []
 
 -- whether a path is that of a name in a directory

@@ -24,12 +24,12 @@ name_of_new changes above name = behind_slashes (codes "main" ∷ (names_above c
 
 -- the version that the command of a row of this deed is replied, by the row's own number: what a checkout takes out, and what a
 -- branch or a checkin makes
-abbrev pub version_told : ℕ → Deed → Option ℕ
-version_told n (deeds.Checkout v e origin reserved) = Some origin
-version_told n (deeds.Branch v e origin name out) = Some n
-version_told n (deeds.Checkin v e) = Some n
-version_told n deed = None
+abbrev pub replied_version : ℕ → Deed → Option ℕ
+replied_version n (deeds.Checkout v e origin reserved) = Some origin
+replied_version n (deeds.Branch v e origin name out) = Some n
+replied_version n (deeds.Checkin v e) = Some n
+replied_version n deed = None
 
 -- the name that the command of the newest row of a base is replied
-abbrev pub name_told : Base → Deed → Option (List ℕ)
-name_told b deed = option_map (version_name b) (version_told (length b) deed)
+abbrev pub replied_name : Base → Deed → Option (List ℕ)
+replied_name b deed = option_map (version_name b) (replied_version (length b) deed)

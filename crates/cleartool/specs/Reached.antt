@@ -2,7 +2,7 @@
 use Rattle.std.specs.Prelude.{◌≡◌, ℕ, zero, suc, ◌+◌, Bool, not, ◌&&◌, ◌||◌, Option, Some, None, List, length, option_and_then}
 use Rattle.std.specs.List.Sorted.{IsStrictlySortedBy}
 use Rattle.std.specs.Ordering.{nat_cmp}
-use Rattle.cc_names.specs.Versions.{numbered, version_id}
+use Rattle.cc_names.specs.Versions.{version_of_number, version_id}
 use Rattle.cc_names.specs.declared.changes.TreeChange.{TreeChange}
 use Rattle.cc_names.specs.declared.rows.Deed.{Deed}
 use Rattle.cc_names.specs.declared.rows.Deed.TheVariants as deeds
@@ -13,7 +13,7 @@ use Rattle.cleartool.specs.declared.reached.Walk.{Walk}
 -- the version on a branch that comes before the one of a number
 abbrev pub numbered_before : List TreeChange → ℕ → ℕ → Option ℕ
 numbered_before changes branch zero = None
-numbered_before changes branch (suc number) = numbered changes branch number
+numbered_before changes branch (suc number) = version_of_number changes branch number
 
 -- the version before another one on its branch
 abbrev pub predecessor : List TreeChange → ℕ → Option ℕ
@@ -21,16 +21,16 @@ predecessor changes version =
     option_and_then (λ version_id. numbered_before changes version_id.branch version_id.number) (version_id changes version)
 
 -- the version from which an arrow leads
-abbrev pub tail_of : Deed → Option ℕ
-tail_of (deeds.Arrow e tail head) = Some tail
-tail_of deed = None
+abbrev pub arrow_source : Deed → Option ℕ
+arrow_source (deeds.Arrow e tail head) = Some tail
+arrow_source deed = None
 
 -- the same of the row of a number
-abbrev pub tail_at : Base → ℕ → Option ℕ
-tail_at b n = option_and_then tail_of (deed_at b n)
+abbrev pub arrow_source_at : Base → ℕ → Option ℕ
+arrow_source_at b n = option_and_then arrow_source (deed_at b n)
 
 -- A walk takes in the versions that pass a test: each has been seen, and where it was new it is left, once, to go on from.
-pub record TakesIn (taken : ℕ → Bool) (old new : Walk) : Type 0 where
+pub record AddsVersions (taken : ℕ → Bool) (old new : Walk) : Type 0 where
   pub seen : (n : ℕ) → is_in n new.seen.keys ≡ (taken n || is_in n old.seen.keys)
   pub left : (n : ℕ) → is_in n new.left.items ≡ (is_in n old.left.items || (taken n && not (is_in n old.seen.keys)))
   pub count : length new.left.items + length old.seen.keys ≡ length old.left.items + length new.seen.keys

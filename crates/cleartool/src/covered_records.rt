@@ -2,7 +2,7 @@
 
 ghost use Rattle.std.specs.Prelude.{◌≡◌, IfOk};
 ghost use Rattle.std.specs.Option.{option_copied};
-ghost use Rattle.base_model.specs.Objects.{agrees, uncovered};
+ghost use Rattle.base_model.specs.Objects.{agrees, uncovered_path};
 ghost use Rattle.legal_history.specs.Queries.QueryLines.{covers};
 ghost use Rattle.legal_history.specs.Queries.RecordTexts.{covers_text};
 ghost use Rattle.cleartool.specs.Answering.{AnswersAs};
@@ -29,12 +29,12 @@ fn agrees(row: u64, found: Option<u64>) -> bool
 
 /// What a view sees, with which the rows are compared on which an object rests.
 #[derive(Drop)]
-struct Sight<'a, 'b, 'c> {
+struct SeenRows<'a, 'b, 'c> {
     rows: &'a FirstRows<'b>,
     view: &'c Name,
 }
 
-impl InputTest for Sight<'_, '_, '_> {
+impl InputTest for SeenRows<'_, '_, '_> {
     ghost use Rattle.cleartool.specs.Covering.{differs};
 
     ghost passes = { λ it. differs it.rows.now it.view.now };
@@ -47,23 +47,23 @@ impl InputTest for Sight<'_, '_, '_> {
 
 /// The first path in byte order that an object rests on in the end, and at which the view sees another row. Each object that it
 /// rests on is walked once, from the newest on.
-fn uncovered<'a>(
+fn uncovered_path<'a>(
     alloc: Global,
     rows: &FirstRows<'a>,
     view: &Name,
     object: u64,
 ) -> Result<Option<&'a Path>, NoMemory>
-    ensures { IfOk result (λ path. option_copied path ≡ uncovered rows.now view.now object) }
+    ensures { IfOk result (λ path. option_copied path ≡ uncovered_path rows.now view.now object) }
 {
-    first_input(alloc, rows, object, &Sight { rows: &*rows, view })
+    first_input(alloc, rows, object, &SeenRows { rows: &*rows, view })
 }
 
 /// Whether a view covers a record of which this path is uncovered, or none.
-fn covers_text(alloc: Global, uncovered: Option<&Path>) -> Result<Text, NoMemory>
-    ensures { IfOk result (λ text. text ≡ covers_text (option_copied uncovered.entry)) }
+fn covers_text(alloc: Global, uncovered_path: Option<&Path>) -> Result<Text, NoMemory>
+    ensures { IfOk result (λ text. text ≡ covers_text (option_copied uncovered_path.entry)) }
 {
     let mut text = Vec::new(alloc);
-    match uncovered {
+    match uncovered_path {
         None => push_line(&mut text, b"covered", b"")?,
         Some(path) => push_line(&mut text, b"not covered ", path.as_bytes())?,
     }
@@ -89,6 +89,6 @@ pub fn covers(
         return Err(Or::Is(Refusal::NoView));
     }
     let object = find_object(alloc, rows, view, path)?;
-    let least = uncovered(alloc, rows, seer, object)?;
+    let least = uncovered_path(alloc, rows, seer, object)?;
     Ok(covers_text(alloc, least)?)
 }

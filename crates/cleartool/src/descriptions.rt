@@ -4,7 +4,7 @@ ghost use Rattle.std.specs.Prelude.{◌≡◌, ◌++◌, IfOk, OnOk, map};
 ghost use Rattle.std.specs.List.{concat};
 ghost use Rattle.base_model.specs.Views.{out};
 ghost use Rattle.legal_history.specs.Queries.ElementTexts.{describe_text, kind_word, selected_lines};
-ghost use Rattle.legal_history.specs.Queries.ListingTexts.{origin_name};
+ghost use Rattle.legal_history.specs.Queries.DirectoryTexts.{origin_name};
 ghost use Rattle.legal_history.specs.Queries.QueryLines.{describe};
 ghost use Rattle.cleartool.specs.Answering.{AnswersAs};
 ghost use Rattle.cleartool.specs.Descriptions.{label_line};

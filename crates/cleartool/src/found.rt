@@ -2,7 +2,7 @@
 
 ghost use Rattle.std.specs.Prelude.{◌≡◌};
 ghost use Rattle.cc_names.specs.References.{held_at};
-ghost use Rattle.base_model.specs.Changes.{held};
+ghost use Rattle.base_model.specs.Changes.{objects_held};
 ghost use Rattle.legal_history.specs.Commands.Found.{for_object};
 ghost use Rattle.legal_history.specs.Queries.QueryLines.{answers_of};
 ghost use Rattle.cleartool.specs.Answering.{FindsObject, FindsSelected};
@@ -42,7 +42,7 @@ pub(crate) fn find_object(
     view: &Name,
     path: &Path,
 ) -> Result<u64, Or<Refusal>>
-    ensures { FindsObject result (for_object path.now (held_at (held rows.now) view.now path.now)) }
+    ensures { FindsObject result (for_object path.now (held_at (objects_held rows.now) view.now path.now)) }
 {
     match held(rows, view, path) {
         Some(object) => Ok(object),

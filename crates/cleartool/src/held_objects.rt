@@ -1,7 +1,7 @@
 //! The query for the objects that a view holds.
 
 ghost use Rattle.std.specs.Prelude.{◌≡◌, ◌++◌, IfOk, OnOk};
-ghost use Rattle.legal_history.specs.Queries.ListingTexts.{lsdo_text};
+ghost use Rattle.legal_history.specs.Queries.DirectoryTexts.{lsdo_text};
 ghost use Rattle.legal_history.specs.Queries.QueryLines.{lsdo};
 ghost use Rattle.cleartool.specs.Answering.{AnswersAs};
 ghost use Rattle.cleartool.specs.HeldObjects.{line_at};

@@ -2,7 +2,7 @@
 
 ghost use Rattle.std.specs.Prelude.{◌≡◌, ◌≤◌, ◌++◌, map, IfOk, OnOk};
 ghost use Rattle.std.specs.List.{concat};
-ghost use Rattle.legal_history.specs.Queries.HistoryTexts.{dated, history_line, line_where, lshistory_text, placed_lines};
+ghost use Rattle.legal_history.specs.Queries.HistoryTexts.{dated_line, history_line, line_where, lshistory_text, placed_lines};
 ghost use Rattle.legal_history.specs.Queries.QueryLines.{lshistory};
 ghost use Rattle.cleartool.specs.Answering.{AnswersAs};
 ghost use Rattle.cleartool.specs.Histories.{label_text, row_lines};
@@ -30,7 +30,7 @@ fn push_line(
     requires { moment ≤ 253402300799 }
     ensures { OnOk result
         (text.new.items
-        ≡ text.old.items ++ line_where tells (dated moment (words.now ++ name.now))) }
+        ≡ text.old.items ++ line_where tells (dated_line moment (words.now ++ name.now))) }
 {
     if tells {
         text.extend_from_slice(print(moment).as_bytes())?;

@@ -1,7 +1,7 @@
 //! The answers to queries, and the names of versions.
 //!
 //! What it is for: `answer` answers a query's text, or its first refusal in the order of the tests of its line. `version_name`
-//! and `name_told` give the names by which texts and replies speak of versions.
+//! and `replied_name` give the names by which texts and replies speak of versions.
 //!
 //! What it promises: the answer is the model's decision on the query, and a name is the model's. A query makes no row.
 //!
@@ -14,6 +14,7 @@ mod bracketed;
 mod config_specs;
 mod covered_records;
 mod descriptions;
+mod directory_texts;
 mod elements_below;
 mod file_texts;
 mod found;
@@ -21,7 +22,6 @@ mod held_objects;
 mod histories;
 mod lines;
 mod listed_names;
-mod listings;
 mod merges;
 mod reached;
 mod record_differences;
@@ -34,4 +34,4 @@ mod version_texts;
 mod version_trees;
 
 pub use answers::answer;
-pub use version_names::{name_told, version_name};
+pub use version_names::{replied_name, version_name};

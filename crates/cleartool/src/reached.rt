@@ -3,7 +3,7 @@
 ghost use Rattle.std.specs.Prelude.{◌≡◌, IfOk};
 ghost use Rattle.base_model.specs.Changes.{tree};
 ghost use Rattle.legal_history.specs.Queries.Merges.{reaches};
-ghost use Rattle.cleartool.specs.Reached.{predecessor, tail_at};
+ghost use Rattle.cleartool.specs.Reached.{predecessor, arrow_source_at};
 
 use cc_names::memory::NoMemory;
 use cc_names::rows::Deed;
@@ -24,8 +24,8 @@ fn predecessor(rows: &FirstRows<'_>, version: u64) -> Option<u64>
 }
 
 /// The version from which the arrow leads that a row made.
-fn tail_at(rows: &FirstRows<'_>, number: u64) -> Option<u64>
-    ensures { result ≡ tail_at rows.now number }
+fn arrow_source_at(rows: &FirstRows<'_>, number: u64) -> Option<u64>
+    ensures { result ≡ arrow_source_at rows.now number }
 {
     let row = row_at(rows, number)?;
     match row.deed() {
@@ -47,11 +47,11 @@ impl Walk {
     ghost use Rattle.std.specs.Prelude.{OnOk};
     ghost use Rattle.cc_names.specs.Versions.{is_number};
     ghost use Rattle.legal_history.specs.Queries.Merges.{follows, is_arrow_between};
-    ghost use Rattle.cleartool.specs.Reached.{TakesIn};
+    ghost use Rattle.cleartool.specs.Reached.{AddsVersions};
 
     /// Comes to a version, where there is one.
     fn take(&mut self, version: Option<u64>) -> Result<(), NoMemory>
-        ensures { OnOk result (TakesIn (λ n. is_number n version) self.old self.new) }
+        ensures { OnOk result (AddsVersions (λ n. is_number n version) self.old self.new) }
     {
         match version {
             None => Ok(()),
@@ -65,18 +65,18 @@ impl Walk {
     }
 
     /// Comes to the versions from which arrows lead into a version.
-    fn take_tails(
+    fn add_arrow_sources(
         &mut self,
         alloc: Global,
         rows: &FirstRows<'_>,
         version: u64,
     ) -> Result<(), NoMemory>
         ensures { OnOk result
-            (TakesIn (λ n. is_arrow_between rows.now n version) self.old self.new) }
+            (AddsVersions (λ n. is_arrow_between rows.now n version) self.old self.new) }
     {
         let arrows = arrows_into(alloc, rows, version)?;
         for arrow in &arrows {
-            self.take(tail_at(rows, *arrow))?;
+            self.take(arrow_source_at(rows, *arrow))?;
         }
         Ok(())
     }
@@ -84,12 +84,12 @@ impl Walk {
     /// Comes to the versions that a version follows: the one before it on its branch, the one at which its branch leaves, where
     /// it begins one, and those from which arrows lead into it.
     fn go_on(&mut self, alloc: Global, rows: &FirstRows<'_>, version: u64) -> Result<(), NoMemory>
-        ensures { OnOk result (TakesIn (λ n. follows rows.now n version) self.old self.new) }
+        ensures { OnOk result (AddsVersions (λ n. follows rows.now n version) self.old self.new) }
     {
         rows.are_base();
         self.take(predecessor(rows, version))?;
         self.take(origin_of(rows, version))?;
-        self.take_tails(alloc, rows, version)?;
+        self.add_arrow_sources(alloc, rows, version)?;
         Ok(())
     }
 }

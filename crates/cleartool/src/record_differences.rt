@@ -136,7 +136,7 @@ fn push_listed(
     one: &[ReadOf],
     two: &[ReadOf],
 ) -> Result<(), NoMemory>
-    ensures told { OnOk result
+    ensures reported { OnOk result
         (text.new.items
         ≡ text.old.items
         ++ concat (map (path_lines rows.now one.now two.now) paths.keys)) }

@@ -7,7 +7,7 @@ ghost use Rattle.cc_names.specs.Versions.{element_of_branch, latest};
 ghost use Rattle.base_model.specs.Changes.{tree};
 ghost use Rattle.base_model.specs.Rows.{size, first_rows};
 ghost use Rattle.legal_history.specs.Queries.VersionNames.{behind_slashes, branch_name, version_name};
-ghost use Rattle.cleartool.specs.Naming.{names_above, name_of_new, name_on, name_told};
+ghost use Rattle.cleartool.specs.Naming.{names_above, name_of_new, name_on, replied_name};
 ghost use Rattle.cc_names.specs.declared.rows.Deed.TheVariants.{Checkin};
 
 use cc_names::memory::NoMemory;
@@ -121,7 +121,7 @@ pub(crate) fn branch_name(
 }
 
 /// A path of a branch and a number there, as `/main/fix/1`.
-fn numbered(alloc: Global, branch: Vec<u8>, number: u64) -> Result<Text, NoMemory>
+fn version_of_number(alloc: Global, branch: Vec<u8>, number: u64) -> Result<Text, NoMemory>
     ensures { IfOk result (λ text. text ≡ branch.items ++ 47 ∷ decimal number) }
 {
     let mut text = branch;
@@ -146,7 +146,7 @@ pub fn version_name(alloc: Global, rows: &FirstRows<'_>, version: u64) -> Result
         None => Ok(nothing(alloc)),
         Some(version_id) => {
             let branch = branch_text(alloc, rows, Some(version_id.branch))?;
-            numbered(alloc, branch, version_id.number)
+            name_with_number(alloc, branch, version_id.number)
         }
     }
 }
@@ -165,7 +165,7 @@ fn first_name(
     let mut branch = branch_text(alloc, rows, branch_of_version(rows, origin))?;
     branch.push(b'/')?;
     branch.extend_from_slice(name.as_bytes())?;
-    numbered(alloc, branch, 0)
+    name_with_number(alloc, branch, 0)
 }
 
 /// The name of the next version on a branch that there is.
@@ -182,7 +182,7 @@ fn name_on(alloc: Global, rows: &FirstRows<'_>, branch: u64) -> Result<Text, NoM
         None => Ok(nothing(alloc)),
         Some(version_id) => {
             let branch = branch_text(alloc, rows, Some(branch))?;
-            numbered(alloc, branch, version_id.number + 1)
+            name_with_number(alloc, branch, version_id.number + 1)
         }
     }
 }
@@ -210,10 +210,14 @@ fn next_name(
 /// The name that the command of a row of this deed is replied, as it is once the row is there: that of the version which a
 /// checkout takes out, or which a branch or a checkin makes; none for any other deed.
 /// Takes time linear in the name, and for each branch in it time logarithmic in the changes.
-pub fn name_told(alloc: Global, rows: &FirstRows<'_>, deed: &Deed) -> Result<Option<Text>, NoMemory>
+pub fn replied_name(
+    alloc: Global,
+    rows: &FirstRows<'_>,
+    deed: &Deed,
+) -> Result<Option<Text>, NoMemory>
     ensures { (row : Plain)
         → row.deed ≡ deed.now
-        → IfOk result (λ name. name ≡ name_told (row ∷ rows.now) deed.now) }
+        → IfOk result (λ name. name ≡ replied_name (row ∷ rows.now) deed.now) }
 {
     match deed {
         Deed::Checkout { origin, .. } => Ok(Some(version_name(alloc, rows, *origin)?)),

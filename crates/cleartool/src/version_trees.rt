@@ -96,7 +96,7 @@ fn tell_branch(
     depth: u64,
     branch: u64,
 ) -> Result<(), NoMemory>
-    ensures told { (e : ℕ) → OnOk result
+    ensures reported { (e : ℕ) → OnOk result
         (text.new.items ++ left_lines rows.now path.now e left.new.items
         ≡ text.old.items
         ++ (branch_lines depth rows.now path.now e branch
@@ -132,7 +132,7 @@ fn tell_version(
     branch: u64,
     number: u64,
 ) -> Result<(), NoMemory>
-    ensures told { (e : ℕ) → AreLabels labels.now rows.now e
+    ensures reported { (e : ℕ) → AreLabels labels.now rows.now e
         → OnOk result
         (text.new.items ++ left_lines rows.now path.now e left.new.items
         ≡ text.old.items
@@ -169,7 +169,7 @@ fn tell(
     labels: &VersionLabels,
     part: Part,
 ) -> Result<(), NoMemory>
-    ensures told { (e : ℕ) → AreLabels labels.now rows.now e
+    ensures reported { (e : ℕ) → AreLabels labels.now rows.now e
         → OnOk result
         (text.new.items ++ left_lines rows.now path.now e left.new.items
         ≡ text.old.items

@@ -7,7 +7,7 @@ use Rattle.std.proofs.lemmas.List.{take-append-drop, drop_all, take_more, get_or
 use Rattle.cc_names.specs.declared.rows.Extent.{Extent}
 use Rattle.container_store.specs.Extents.{behind, is_free, end_of, extent_at}
 use Rattle.container_store.specs.Places.{IsInPlace, last_behind, hole_before, FitsAt}
-use Rattle.container_store.proofs.InOrder.{last_behind-append, front_in_place, back_in_place, end_of-append, last_at_most, end_holds, places_rise, is_free-append, free_behind, free_before, behind_if_free, before_if_free}
+use Rattle.container_store.proofs.InOrder.{last_behind-append, prefix_in_place, back_in_place, end_of-append, last_at_most, end_holds, places_rise, is_free-append, free_behind, free_before, behind_if_free, before_if_free}
 
 -- places do not fall
 pub never_fall : (xs : List Extent) → IsInPlace 0 xs → IsNonDecreasingBy (λ (e : Extent). e.place) xs
@@ -22,8 +22,8 @@ module _ (xs : List Extent) (at : ℕ) where
   parts : take at xs ++ drop at xs ≡ xs
   parts = take-append-drop at xs
 
-  pub front_of : IsInPlace 0 xs → IsInPlace 0 (take at xs)
-  front_of h = front_in_place 0 (take at xs) (drop at xs) (subst (IsInPlace 0) (sym parts) h)
+  pub prefix_of : IsInPlace 0 xs → IsInPlace 0 (take at xs)
+  prefix_of h = prefix_in_place 0 (take at xs) (drop at xs) (subst (IsInPlace 0) (sym parts) h)
 
   pub back_of : IsInPlace 0 xs → IsInPlace (last_behind 0 (take at xs)) (drop at xs)
   back_of h = back_in_place 0 (take at xs) (drop at xs) (subst (IsInPlace 0) (sym parts) h)
@@ -50,11 +50,11 @@ module _ (xs : List Extent) (at : ℕ) where
   pub end_within : (e : Extent) → at < length xs → e ≡ get_or xs at e → e.place + e.length ≤ end_of xs
   end_within e within is = subst (λ (x : Extent). x.place + x.length ≤ end_of xs) (sym is) (end_holds xs at e within)
 
-  pub front_more : (e : Extent) → at < length xs → e ≡ get_or xs at e → take (at + 1) xs ≡ take at xs ++ e ∷ []
-  front_more e within is = take_more xs at e within ∙ ap (λ (x : Extent). take at xs ++ x ∷ []) (sym is)
+  pub prefix_more : (e : Extent) → at < length xs → e ≡ get_or xs at e → take (at + 1) xs ≡ take at xs ++ e ∷ []
+  prefix_more e within is = take_more xs at e within ∙ ap (λ (x : Extent). take at xs ++ x ∷ []) (sym is)
 
   pub last_more : (e : Extent) → at < length xs → e ≡ get_or xs at e → e.place + e.length ≡ last_behind 0 (take (at + 1) xs)
-  last_more e within is = sym (ap (last_behind 0) (front_more e within is) ∙ last_behind-append 0 (take at xs) (e ∷ []))
+  last_more e within is = sym (ap (last_behind 0) (prefix_more e within is) ∙ last_behind-append 0 (take at xs) (e ∷ []))
 
   -- the hole in front of it
   pub hole_is : (e : Extent) → at < length xs → e ≡ get_or xs at e → hole_before (last_behind 0 (take at xs)) (drop at xs) ≡ e.place - last_behind 0 (take at xs)
@@ -66,32 +66,32 @@ module _ (xs : List Extent) (at : ℕ) where
   -- an extent that fits there is free
   pub fits_free : (e : Extent) → IsInPlace 0 xs → FitsAt xs at e → is_free xs e ≡ true
   fits_free e h fits =
-      let front = free_behind 0 (take at xs) e (front_of h) fits.front in
+      let prefix = free_behind 0 (take at xs) e (prefix_of h) fits.prefix in
       let back = free_before (behind e) (drop at xs) e (omega arith) fits.back in
-      free_is e ∙ and_from (is_free (take at xs) e) (is_free (drop at xs) e) front back
+      free_is e ∙ and_from (is_free (take at xs) e) (is_free (drop at xs) e) prefix back
 
   -- it fits behind the last extent, and in front of another
   pub fits_last : (e : Extent) → at ≤ length xs → length xs ≤ at → last_behind 0 (take at xs) ≤ e.place → FitsAt xs at e
-  fits_last e within past front = record {
+  fits_last e within past prefix = record {
     within = within;
-    front = front;
+    prefix = prefix;
     back = subst (IsInPlace (behind e)) (sym (drop_all at xs past)) tt;
   }
 
   pub fits_before : (e next : Extent) → at < length xs → next ≡ get_or xs at next → IsInPlace 0 xs → last_behind 0 (take at xs) ≤ e.place → behind e ≤ next.place → FitsAt xs at e
-  fits_before e next within is h front before =
+  fits_before e next within is h prefix before =
       let rest = rest_of next within is h in
       record {
         within = omega arith;
-        front = front;
+        prefix = prefix;
         back = subst (IsInPlace (behind e)) (sym (rest_is next within is)) (before, rest.1, rest.2);
       }
 
 -- where the search by place ended
 module _ (xs : List Extent) (at : ℕ) (e : Extent) (h : IsInPlace 0 xs)
     (parted : IsPartitionPoint (λ (x : Extent). ltb x.place e.place ≡ true) (λ (x : Extent). ltb x.place e.place ≡ false) xs at) where
-  front_below : All (λ (x : Extent). x.place < e.place) (take at xs)
-  front_below k d within =
+  prefix_below : All (λ (x : Extent). x.place < e.place) (take at xs)
+  prefix_below k d within =
       let lt : k < at = omega (arith, length-take at xs) in
       let below : ltb (get_or xs k d).place e.place ≡ true = parted.0 k d (omega arith) lt in
       subst (λ (x : Extent). x.place < e.place) (sym (get_or-take at xs k d lt)) (ltb-true (get_or xs k d).place e.place below)
@@ -106,11 +106,11 @@ module _ (xs : List Extent) (at : ℕ) (e : Extent) (h : IsInPlace 0 xs)
   free_fits : 0 < e.length → is_free xs e ≡ true → (last_behind 0 (take at xs) ≤ e.place) × IsInPlace (behind e) (drop at xs)
   free_fits some free =
       let each = and_parts (is_free (take at xs) e) (is_free (drop at xs) e) (sym (free_is xs at e) ∙ free) in
-      (behind_if_free 0 (take at xs) e some (omega arith) front_below each.0, before_if_free (last_behind 0 (take at xs)) (drop at xs) e (back_of xs at h) back_above each.1)
+      (behind_if_free 0 (take at xs) e some (omega arith) prefix_below each.0, before_if_free (last_behind 0 (take at xs)) (drop at xs) e (back_of xs at h) back_above each.1)
 
   -- so one that does not fit is not free
-  pub blocked_front : 0 < e.length → e.place < last_behind 0 (take at xs) → is_free xs e ≡ false
-  blocked_front some lower = false_from_ne_true (is_free xs e) (λ free. let fits = free_fits some free in omega (arith, fits.0))
+  pub blocked_prefix : 0 < e.length → e.place < last_behind 0 (take at xs) → is_free xs e ≡ false
+  blocked_prefix some lower = false_from_ne_true (is_free xs e) (λ free. let fits = free_fits some free in omega (arith, fits.0))
 
   pub blocked_back : (next : Extent) → at < length xs → next ≡ get_or xs at next → 0 < e.length → next.place < behind e → is_free xs e ≡ false
   blocked_back next within is some lower = false_from_ne_true (is_free xs e) (λ free.

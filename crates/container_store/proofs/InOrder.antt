@@ -12,33 +12,33 @@ pub last_behind-append : (from : ℕ) (xs ys : List Extent) → last_behind from
 last_behind-append from [] ys = refl
 last_behind-append from (x ∷ xs) ys = last_behind-append (behind x) xs ys
 
-pub front_in_place : (from : ℕ) (xs ys : List Extent) → IsInPlace from (xs ++ ys) → IsInPlace from xs
-front_in_place from [] ys h = tt
-front_in_place from (x ∷ xs) ys h = (h.0, h.1, front_in_place (behind x) xs ys h.2)
+pub prefix_in_place : (from : ℕ) (xs ys : List Extent) → IsInPlace from (xs ++ ys) → IsInPlace from xs
+prefix_in_place from [] ys h = tt
+prefix_in_place from (x ∷ xs) ys h = (h.0, h.1, prefix_in_place (behind x) xs ys h.2)
 
 pub back_in_place : (from : ℕ) (xs ys : List Extent) → IsInPlace from (xs ++ ys) → IsInPlace (last_behind from xs) ys
 back_in_place from [] ys h = h
 back_in_place from (x ∷ xs) ys h = back_in_place (behind x) xs ys h.2
 
 pub joined_in_place : (from : ℕ) (xs ys : List Extent) → IsInPlace from xs → IsInPlace (last_behind from xs) ys → IsInPlace from (xs ++ ys)
-joined_in_place from [] ys front back = back
-joined_in_place from (x ∷ xs) ys front back = (front.0, front.1, joined_in_place (behind x) xs ys front.2 back)
+joined_in_place from [] ys prefix back = back
+joined_in_place from (x ∷ xs) ys prefix back = (prefix.0, prefix.1, joined_in_place (behind x) xs ys prefix.2 back)
 
 pub lower_in_place : (from low : ℕ) (xs : List Extent) → low ≤ from → IsInPlace from xs → IsInPlace low xs
 lower_in_place from low [] le h = tt
 lower_in_place from low (x ∷ xs) le h = (omega (arith, h.0), h.1, h.2)
 
-pub front_holes : (m from : ℕ) (xs ys : List Extent) → HasNoLonger m from (xs ++ ys) → HasNoLonger m from xs
-front_holes m from [] ys h = tt
-front_holes m from (x ∷ xs) ys h = (h.0, front_holes m (behind x) xs ys h.1)
+pub prefix_holes : (m from : ℕ) (xs ys : List Extent) → HasNoLonger m from (xs ++ ys) → HasNoLonger m from xs
+prefix_holes m from [] ys h = tt
+prefix_holes m from (x ∷ xs) ys h = (h.0, prefix_holes m (behind x) xs ys h.1)
 
 pub back_holes : (m from : ℕ) (xs ys : List Extent) → HasNoLonger m from (xs ++ ys) → HasNoLonger m (last_behind from xs) ys
 back_holes m from [] ys h = h
 back_holes m from (x ∷ xs) ys h = back_holes m (behind x) xs ys h.1
 
 pub joined_holes : (m from : ℕ) (xs ys : List Extent) → HasNoLonger m from xs → HasNoLonger m (last_behind from xs) ys → HasNoLonger m from (xs ++ ys)
-joined_holes m from [] ys front back = back
-joined_holes m from (x ∷ xs) ys front back = (front.0, joined_holes m (behind x) xs ys front.1 back)
+joined_holes m from [] ys prefix back = back
+joined_holes m from (x ∷ xs) ys prefix back = (prefix.0, joined_holes m (behind x) xs ys prefix.1 back)
 
 pub longer_holes : (m n from : ℕ) (xs : List Extent) → m ≤ n → HasNoLonger m from xs → HasNoLonger n from xs
 longer_holes m n from [] le h = tt

@@ -6,8 +6,8 @@ use Rattle.std.proofs.lemmas.List.{take-append-drop, length-take-le}
 use Rattle.cc_names.specs.declared.rows.Extent.{Extent}
 use Rattle.container_store.specs.Extents.{behind, end_of}
 use Rattle.container_store.specs.Places.{IsInPlace, last_behind, HasNoLonger, hole_before, FitsAt, IsKept}
-use Rattle.container_store.proofs.InOrder.{joined_in_place, lower_in_place, front_holes, back_holes, joined_holes, longer_holes, holes_from, end_of-append}
-use Rattle.container_store.proofs.Fitting.{front_of, rest_of, rest_is, end_is}
+use Rattle.container_store.proofs.InOrder.{joined_in_place, lower_in_place, prefix_holes, back_holes, joined_holes, longer_holes, holes_from, end_of-append}
+use Rattle.container_store.proofs.Fitting.{prefix_of, rest_of, rest_is, end_is}
 
 -- what a call that succeeded made
 pub on_ok : {T E X : Type 0} (result : Result T E) (x : T) (made done old : X) → made ≡ cond (is_ok result) done old → result ≡ Ok x → made ≡ done
@@ -39,7 +39,7 @@ module _ (xs : List Extent) (at longest : ℕ) (kept : IsKept xs longest) where
 
   -- put in: in order, its ends, the hole in front of it, and what is kept
   pub put_in_place : (e : Extent) → 0 < e.length → FitsAt xs at e → IsInPlace 0 (insert xs at e)
-  put_in_place e some fits = joined_in_place 0 (take at xs) (e ∷ drop at xs) (front_of xs at kept.in_place) (fits.front, some, fits.back)
+  put_in_place e some fits = joined_in_place 0 (take at xs) (e ∷ drop at xs) (prefix_of xs at kept.in_place) (fits.prefix, some, fits.back)
 
   pub put_end : (e : Extent) → behind e < 2 ^ 64 → end_of (insert xs at e) < 2 ^ 64
   put_end e small =
@@ -51,14 +51,14 @@ module _ (xs : List Extent) (at longest : ℕ) (kept : IsKept xs longest) where
   put_kept e hole some small fits is =
       let more = max longest hole in
       let here : hole ≡ e.place - last_behind 0 (take at xs) = is ∙ hole_at xs at fits.within (e ∷ drop at xs) in
-      let front = longer_holes longest more 0 (take at xs) (omega arith) (front_holes longest 0 (take at xs) (drop at xs) all_holes) in
+      let prefix = longer_holes longest more 0 (take at xs) (omega arith) (prefix_holes longest 0 (take at xs) (drop at xs) all_holes) in
       let first : e.place ≤ last_behind 0 (take at xs) + more = omega (arith, here) in
-      let back = higher_holes longest more (last_behind 0 (take at xs)) (behind e) (drop at xs) (omega arith) (omega (arith, fits.front))
+      let back = higher_holes longest more (last_behind 0 (take at xs)) (behind e) (drop at xs) (omega arith) (omega (arith, fits.prefix))
       (back_holes longest 0 (take at xs) (drop at xs) all_holes) in
       record {
         in_place = put_in_place e some fits;
         fits = put_end e small;
-        holes = joined_holes more 0 (take at xs) (e ∷ drop at xs) front (first, back);
+        holes = joined_holes more 0 (take at xs) (e ∷ drop at xs) prefix (first, back);
       }
 
   -- taken out
@@ -66,7 +66,7 @@ module _ (xs : List Extent) (at longest : ℕ) (kept : IsKept xs longest) where
     pub out_in_place : IsInPlace 0 (remove xs at)
     out_in_place =
         let rest = rest_of xs at e within is kept.in_place in
-        joined_in_place 0 (take at xs) (drop (suc at) xs) (front_of xs at kept.in_place)
+        joined_in_place 0 (take at xs) (drop (suc at) xs) (prefix_of xs at kept.in_place)
         (lower_in_place (behind e) (last_behind 0 (take at xs)) (drop (suc at) xs) (omega (arith, rest.0)) rest.2)
 
     pub out_end : end_of (remove xs at) < 2 ^ 64
@@ -79,12 +79,12 @@ module _ (xs : List Extent) (at longest : ℕ) (kept : IsKept xs longest) where
     out_kept hole is_hole =
         let more = max longest hole in
         let here : hole ≡ hole_before (last_behind 0 (take at xs)) (drop (suc at) xs) = is_hole ∙ hole_at xs at (omega arith) (drop (suc at) xs) in
-        let front = longer_holes longest more 0 (take at xs) (omega arith) (front_holes longest 0 (take at xs) (drop at xs) all_holes) in
+        let prefix = longer_holes longest more 0 (take at xs) (omega arith) (prefix_holes longest 0 (take at xs) (drop at xs) all_holes) in
         let old : HasNoLonger longest (last_behind 0 (take at xs)) (e ∷ drop (suc at) xs) =
         subst (HasNoLonger longest (last_behind 0 (take at xs))) (rest_is xs at e within is) (back_holes longest 0 (take at xs) (drop at xs) all_holes) in
         let back = holes_from longest more (behind e) (last_behind 0 (take at xs)) (drop (suc at) xs) (omega arith) (omega (arith, here)) old.1 in
         record {
           in_place = out_in_place;
           fits = out_end;
-          holes = joined_holes more 0 (take at xs) (drop (suc at) xs) front back;
+          holes = joined_holes more 0 (take at xs) (drop (suc at) xs) prefix back;
         }

@@ -7,7 +7,7 @@ use Rattle.container_store.specs.Extents.{is_free, end_of, extent_at, IsFirstFit
 use Rattle.container_store.specs.Places.{IsInPlace, last_behind, HasNoLonger}
 use Rattle.container_store.specs.Walks.{IsFirstAt}
 use Rattle.container_store.proofs.InOrder.{joined_holes, longer_holes, last_at_most, end_at_most, none_below}
-use Rattle.container_store.proofs.Fitting.{front_of, free_is, front_more, rest_of, fits_free, fits_last, fits_before}
+use Rattle.container_store.proofs.Fitting.{prefix_of, free_is, prefix_more, rest_of, fits_free, fits_last, fits_before}
 
 -- the last extent ends where they all end
 pub last_is_end : (xs : List Extent) → IsInPlace 0 xs → last_behind 0 (take (length xs) xs) ≡ end_of xs
@@ -22,9 +22,9 @@ module _ (xs : List Extent) (at : ℕ) (e : Extent) (from longest : ℕ) (within
   -- it goes on behind it
   pub walk_holes : HasNoLonger (max longest (e.place - from)) 0 (take (at + 1) xs)
   walk_holes =
-      let front = longer_holes longest (max longest (e.place - from)) 0 (take at xs) (omega arith) holes in
+      let prefix = longer_holes longest (max longest (e.place - from)) 0 (take at xs) (omega arith) holes in
       let first : e.place ≤ last_behind 0 (take at xs) + max longest (e.place - from) = omega (arith, is_from) in
-      subst (HasNoLonger (max longest (e.place - from)) 0) (sym (front_more xs at e within is)) (joined_holes (max longest (e.place - from)) 0 (take at xs) (e ∷ []) front (first, tt))
+      subst (HasNoLonger (max longest (e.place - from)) 0) (sym (prefix_more xs at e within is)) (joined_holes (max longest (e.place - from)) 0 (take at xs) (e ∷ []) prefix (first, tt))
 
   -- it ends in front of it
   pub walk_found : (n : ℕ) → IsInPlace 0 xs → longest < n → n ≤ e.place - from → IsFirstAt xs n at
@@ -48,6 +48,6 @@ first_fit xs at n h fit = record {
   long = refl;
   free = fits_free xs at (extent_at (last_behind 0 (take at xs)) n) h fit.1;
   first = λ place below.
-      let none = none_below fit.0.longest 0 place n (take at xs) (front_of xs at h) fit.0.holes fit.0.shorter (omega arith) below in
+      let none = none_below fit.0.longest 0 place n (take at xs) (prefix_of xs at h) fit.0.holes fit.0.shorter (omega arith) below in
       free_is xs at (extent_at place n) ∙ and_left (is_free (take at xs) (extent_at place n)) (is_free (drop at xs) (extent_at place n)) none;
 }

@@ -26,7 +26,7 @@ hole_before from (e ∷ more) = e.place - from
 -- an extent fits behind the first so many, and in front of the others
 pub record FitsAt (taken : List Extent) (at : ℕ) (e : Extent) : Type 0 where
   pub within : at ≤ length taken
-  pub front : last_behind 0 (take at taken) ≤ e.place
+  pub prefix : last_behind 0 (take at taken) ≤ e.place
   pub back : IsInPlace (behind e) (drop at taken)
 
 -- extents in order, whose ends fit, and a length that none of their holes passes

@@ -2,7 +2,7 @@
 
 ghost use Rattle.std.specs.Prelude.{◌≡◌, ◌≤◌, length, take, drop, Contains, IfOk, MatchResult};
 ghost use Rattle.disk_model.specs.Devices.{bytes_of, Writes, Tears};
-ghost use Rattle.disk_model.specs.Told.{IfTold, Both, Counted};
+ghost use Rattle.disk_model.specs.DiskStates.{IfModeled, Both, Counted};
 ghost use Rattle.container_store.specs.Extents.{behind};
 ghost use Rattle.container_store.specs.Getting.{Gets};
 
@@ -24,16 +24,16 @@ impl Store {
     ) -> Result<(), DiskFault>
         requires taken { Contains self.now.taken extent.now }
         requires long { length bytes.now ≡ extent.now.length }
-        requires within { IfTold (O.sight objects.old).told
+        requires within { IfModeled (O.ghost_state objects.old).modeled
             (λ d. extent.now.place ≤ length (bytes_of 1 d)) }
-        ensures told { MatchResult result
+        ensures modeled { MatchResult result
             (λ _.
-            Both (Writes 1 extent.now.place bytes.now) (O.sight objects.old).told
-            (O.sight objects.new).told)
+            Both (Writes 1 extent.now.place bytes.now) (O.ghost_state objects.old).modeled
+            (O.ghost_state objects.new).modeled)
             (λ _.
-            Both (Tears 1 extent.now.place (length bytes.now)) (O.sight objects.old).told
-            (O.sight objects.new).told) }
-        ensures counts { Counted result (O.sight objects.old) (O.sight objects.new) }
+            Both (Tears 1 extent.now.place (length bytes.now)) (O.ghost_state objects.old).modeled
+            (O.ghost_state objects.new).modeled) }
+        ensures counts { Counted result (O.ghost_state objects.old) (O.ghost_state objects.new) }
         ensures keeps { O.keeps objects.old objects.new }
     {
         objects.write_at(extent.place, bytes)
@@ -46,13 +46,13 @@ impl Store {
         objects: &mut O,
         extent: &Extent,
     ) -> Result<Text, Or<DiskFault>>
-        requires { IfTold (O.sight objects.old).told
+        requires { IfModeled (O.ghost_state objects.old).modeled
             (λ d. behind extent.now ≤ length (bytes_of 1 d)) }
         ensures bytes { IfOk result
             (λ text.
-            IfTold (O.sight objects.old).told
+            IfModeled (O.ghost_state objects.old).modeled
             (λ d. text ≡ take extent.now.length (drop extent.now.place (bytes_of 1 d)))) }
-        ensures told { Gets extent.now result (O.sight objects.old) (O.sight objects.new) }
+        ensures modeled { Gets extent.now result (O.ghost_state objects.old) (O.ghost_state objects.new) }
         ensures keeps { O.keeps objects.old objects.new }
     {
         let mut bytes = Vec::new(alloc);

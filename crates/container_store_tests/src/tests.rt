@@ -159,8 +159,8 @@ fn each_extent_goes_to_the_lowest_place(rt: HostRuntime) -> Result<(), Fail> {
     let mut store = None;
     for line in CALLS.lines() {
         let (call, wanted) = line.split_once(" => ").unwrap_or((line, ""));
-        let told = called(rt.alloc(), &mut store, call)?;
-        assert_eq!(rt; told.as_str(), wanted, "{line}");
+        let modeled = called(rt.alloc(), &mut store, call)?;
+        assert_eq!(rt; modeled.as_str(), wanted, "{line}");
     }
     Ok(())
 }

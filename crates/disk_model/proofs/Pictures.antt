@@ -2,8 +2,8 @@
 use Rattle.std.proofs.Common.{◌≡◌, ◌⊎◌, ◌+◌, ℕ, List, length, Result, Ok, Err, OnOk, slice_index, inl, inr, refl, sym, ◌∙◌, ap, subst, arith}
 use Rattle.std.proofs.lemmas.Bool.{eq-eqb}
 use Rattle.disk_model.specs.Files.{File, stable, overwritten, IsTorn}
-use Rattle.disk_model.specs.Devices.{Device, Wrote, Tore, added, file_of, bytes_of, written_to, during, Idles, Tears}
-use Rattle.disk_model.specs.Records.{event_of, called}
+use Rattle.disk_model.specs.Devices.{Device, Wrote, Tore, with_call, file_of, bytes_of, written_to, during, Idles, Tears}
+use Rattle.disk_model.specs.Records.{event_of, with_traced_call}
 use Rattle.disk_model.specs.declared.calls.Call.{Call}
 use Rattle.disk_model.specs.declared.calls.Call.TheVariants as calls
 use Rattle.disk_model.specs.Picks.{IsPicture}
@@ -71,15 +71,15 @@ picture_written (Ok done) call file other place whole piece bytes image bytes' i
 picture_written (Err fault) call file other place whole piece bytes image bytes' image' is same here wrote torn = tt
 
 -- what a write that failed leaves, a front of its piece having landed
-pub tears_front : (file place lost : ℕ) (piece landed : List ℕ) (d e : Device) → length landed + lost ≡ length piece
-    → Idles d e ⊎ (e ≡ called (calls.Tear file place landed lost) d) → Tears file place (length piece) d e
-tears_front file place lost piece landed d e size (inl idles) = inl idles
-tears_front file place lost piece landed d e size (inr made) =
+pub tears_prefix : (file place lost : ℕ) (piece landed : List ℕ) (d e : Device) → length landed + lost ≡ length piece
+    → Idles d e ⊎ (e ≡ with_traced_call (calls.Tear file place landed lost) d) → Tears file place (length piece) d e
+tears_prefix file place lost piece landed d e size (inl idles) = inl idles
+tears_prefix file place lost piece landed d e size (inr made) =
     let left = overwritten place landed (bytes_of file d) in
     inr (
       left,
       torn_overwritten place (length piece) landed (bytes_of file d) (omega arith),
-      subst (λ n. e ≡ added (Tore file place n left) d) size made,
+      subst (λ n. e ≡ with_call (Tore file place n left) d) size made,
     )
 
 pub stable_picture : (s : File) (bytes image : List ℕ) → bytes ≡ s.bytes → image ≡ s.bytes → IsPicture (stable s.bytes) bytes image

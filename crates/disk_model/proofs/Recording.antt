@@ -3,10 +3,10 @@ use Rattle.std.proofs.Common.{◌≡◌, ◌<◌, ◌≤◌, ◌+◌, ◌-◌, �
 use Rattle.std.proofs.lemmas.List.Sums.{fold-append}
 use Rattle.disk_model.specs.Contents.{IsReplayed}
 use Rattle.disk_model.specs.Counting.{next_count}
-use Rattle.disk_model.specs.Devices.{Device, Event, Tore, Failed, uncalled, added, bytes_of, is_failed, failures}
+use Rattle.disk_model.specs.Devices.{Device, Event, Tore, Failed, new_device, with_call, bytes_of, is_failed, failures}
 use Rattle.disk_model.specs.Files.{overwritten}
-use Rattle.disk_model.specs.Records.{failing, recorded, device_of, called}
-use Rattle.disk_model.specs.Told.{CountsFailures}
+use Rattle.disk_model.specs.Records.{failing, with_traced_calls, device_of, with_traced_call}
+use Rattle.disk_model.specs.DiskStates.{CountsFailures}
 use Rattle.disk_model.specs.declared.calls.Call.TheVariants as calls
 use Rattle.disk_model.specs.declared.calls.TracedCall.{TracedCall}
 
@@ -20,7 +20,7 @@ failures_most (event ∷ earlier) = omega (arith, at_most_one (is_failed event),
 
 -- a call that failed, with its tick
 pub failed_counts : (ticks faults : ℕ) (event : Event) (d : Device) → is_failed event ≡ true → CountsFailures ticks faults d → ticks ≡ length d.calls
-    → ticks < 2 ^ 64 - 1 → CountsFailures (ticks + 1) (next_count faults) (added event d)
+    → ticks < 2 ^ 64 - 1 → CountsFailures (ticks + 1) (next_count faults) (with_call event d)
 failed_counts ticks faults event d failed counts ticked more =
     let most = failures_most d.calls in
     let one : failures (event ∷ d.calls) ≡ 1 + failures d.calls = ap (λ b. (if b then 1 else 0) + failures d.calls) failed in
@@ -40,10 +40,10 @@ unmade_counts ticks faults d counts ticked end fits = record {
 
 -- the device of a trace with one call more, which names all calls that failed since the last
 pub recorded_more : (journal objects : List ℕ) (trace more : List TracedCall) (failed : ℕ) (traced : TracedCall) → more ≡ trace ++ traced ∷ [] → traced.failed_before ≡ failed
-    → device_of journal objects more 0 ≡ called traced.call (device_of journal objects trace failed)
+    → device_of journal objects more 0 ≡ with_traced_call traced.call (device_of journal objects trace failed)
 recorded_more journal objects trace more failed traced is before =
-    ap (fold recorded (uncalled journal objects)) is ∙ fold-append recorded (uncalled journal objects) trace (traced ∷ [])
-    ∙ ap (λ n. called traced.call (failing n (fold recorded (uncalled journal objects) trace))) before
+    ap (fold with_traced_calls (new_device journal objects)) is ∙ fold-append with_traced_calls (new_device journal objects) trace (traced ∷ [])
+    ∙ ap (λ n. with_traced_call traced.call (failing n (fold with_traced_calls (new_device journal objects) trace))) before
 
 -- a call more failed and changed nothing
 pub missed_replayed : (journal objects : List ℕ) (trace : List TracedCall) (failed : ℕ) (now_journal now_objects : List ℕ) (ticks faults faults' : ℕ)
@@ -52,21 +52,21 @@ pub missed_replayed : (journal objects : List ℕ) (trace : List TracedCall) (fa
 missed_replayed journal objects trace failed now_journal now_objects ticks faults faults' was rose more =
     let d = device_of journal objects trace failed in
     let number : failed + 1 ≡ suc failed = omega arith in
-    let one : device_of journal objects trace (failed + 1) ≡ added Failed d = ap (device_of journal objects trace) number in
+    let one : device_of journal objects trace (failed + 1) ≡ with_call Failed d = ap (device_of journal objects trace) number in
     subst (λ e. IsReplayed e now_journal now_objects (ticks + 1) faults') (sym one)
     (record {
       journal_reads = was.journal_reads;
       objects_read = was.objects_read;
       a_tick_each = omega (arith, was.a_tick_each);
-      a_fault_each = subst (λ n. CountsFailures (ticks + 1) n (added Failed d)) (sym rose) (failed_counts ticks faults Failed d refl was.a_fault_each was.a_tick_each more);
+      a_fault_each = subst (λ n. CountsFailures (ticks + 1) n (with_call Failed d)) (sym rose) (failed_counts ticks faults Failed d refl was.a_fault_each was.a_tick_each more);
       ticks_fit = omega (arith, more);
       faults_fit = omega (arith, rose);
     })
 
 -- what a torn write leaves of both files
 torn_files : (file place size : ℕ) (landed now_journal now_objects : List ℕ) (d : Device) → file ≤ 1 → now_journal ≡ bytes_of 0 d → now_objects ≡ bytes_of 1 d
-    → ((if file == 0 then overwritten place landed now_journal else now_journal) ≡ bytes_of 0 (added (Tore file place size (overwritten place landed (bytes_of file d))) d))
-    × ((if file == 0 then now_objects else overwritten place landed now_objects) ≡ bytes_of 1 (added (Tore file place size (overwritten place landed (bytes_of file d))) d))
+    → ((if file == 0 then overwritten place landed now_journal else now_journal) ≡ bytes_of 0 (with_call (Tore file place size (overwritten place landed (bytes_of file d))) d))
+    × ((if file == 0 then now_objects else overwritten place landed now_objects) ≡ bytes_of 1 (with_call (Tore file place size (overwritten place landed (bytes_of file d))) d))
 torn_files zero place size landed now_journal now_objects d within journal objects = (ap (overwritten place landed) journal, objects)
 torn_files (suc zero) place size landed now_journal now_objects d within journal objects = (journal, ap (overwritten place landed) objects)
 torn_files (suc (suc n)) place size landed now_journal now_objects d within journal objects = absurd (omega (arith, within))
@@ -83,14 +83,14 @@ torn_replayed journal objects trace more traced failed now_journal now_objects n
     let d = device_of journal objects trace failed in
     let event = Tore file place (length landed + lost) (overwritten place landed (bytes_of file d)) in
     let files = torn_files file place (length landed + lost) landed now_journal now_objects d within was.journal_reads was.objects_read in
-    let made : device_of journal objects more 0 ≡ added event d =
-    recorded_more journal objects trace more failed traced is before ∙ ap (λ c. called c d) call in
+    let made : device_of journal objects more 0 ≡ with_call event d =
+    recorded_more journal objects trace more failed traced is before ∙ ap (λ c. with_traced_call c d) call in
     subst (λ e. IsReplayed e now_journal' now_objects' (ticks + 1) faults') (sym made)
     (record {
       journal_reads = wrote ∙ files.0;
       objects_read = other ∙ files.1;
       a_tick_each = omega (arith, was.a_tick_each);
-      a_fault_each = subst (λ n. CountsFailures (ticks + 1) n (added event d)) (sym rose) (failed_counts ticks faults event d refl was.a_fault_each was.a_tick_each room);
+      a_fault_each = subst (λ n. CountsFailures (ticks + 1) n (with_call event d)) (sym rose) (failed_counts ticks faults event d refl was.a_fault_each was.a_tick_each room);
       ticks_fit = omega (arith, room);
       faults_fit = omega (arith, rose);
     })

@@ -3,8 +3,8 @@ use Rattle.std.proofs.Common.{◌≡◌, ◌<◌, ◌≤◌, ◌+◌, ◌⊎◌,
 use Rattle.std.proofs.lemmas.List.{take-append-drop, take_more, take_all}
 use Rattle.std.proofs.lemmas.List.Sums.{fold-append}
 use Rattle.disk_model.specs.Files.{IsImage}
-use Rattle.disk_model.specs.Devices.{Device, uncalled, file_of, during, after, Leaves, MayLeave}
-use Rattle.disk_model.specs.Records.{failing, event_of, recorded, device_of}
+use Rattle.disk_model.specs.Devices.{Device, new_device, file_of, during, after, Leaves, MayLeave}
+use Rattle.disk_model.specs.Records.{failing, event_of, with_traced_calls, device_of}
 use Rattle.disk_model.specs.Picks.{IsPicture}
 use Rattle.disk_model.specs.declared.calls.TracedCall.{TracedCall}
 
@@ -40,19 +40,19 @@ pub leaves_failing : (file n : ℕ) (d : Device) (k : ℕ) (image : List ℕ) �
 leaves_failing file zero d k image left = left
 leaves_failing file (suc n) d k image left = inr (leaves_failing file n d k image left)
 
-pub leaves_recorded : (file : ℕ) (traced : TracedCall) (d : Device) (k : ℕ) (image : List ℕ) → Leaves file d k image → Leaves file (recorded d traced) k image
+pub leaves_recorded : (file : ℕ) (traced : TracedCall) (d : Device) (k : ℕ) (image : List ℕ) → Leaves file d k image → Leaves file (with_traced_calls d traced) k image
 leaves_recorded file traced d k image left = inr (leaves_failing file traced.failed_before d k image left)
 
-pub leaves_later : (file : ℕ) (trace : List TracedCall) (d : Device) (k : ℕ) (image : List ℕ) → Leaves file d k image → Leaves file (fold recorded d trace) k image
+pub leaves_later : (file : ℕ) (trace : List TracedCall) (d : Device) (k : ℕ) (image : List ℕ) → Leaves file d k image → Leaves file (fold with_traced_calls d trace) k image
 leaves_later file [] d k image left = left
-leaves_later file (traced ∷ trace) d k image left = leaves_later file trace (recorded d traced) k image (leaves_recorded file traced d k image left)
+leaves_later file (traced ∷ trace) d k image left = leaves_later file trace (with_traced_calls d traced) k image (leaves_recorded file traced d k image left)
 
 -- the device of a trace, cut at a call of it
 pub cut_at : (journal objects : List ℕ) (trace : List TracedCall) (i failed : ℕ)
-    → device_of journal objects trace failed ≡ failing failed (fold recorded (device_of journal objects (take i trace) 0) (drop i trace))
+    → device_of journal objects trace failed ≡ failing failed (fold with_traced_calls (device_of journal objects (take i trace) 0) (drop i trace))
 cut_at journal objects trace i failed =
     ap (λ es. device_of journal objects es failed) (sym (take-append-drop i trace))
-    ∙ ap (failing failed) (fold-append recorded (uncalled journal objects) (take i trace) (drop i trace))
+    ∙ ap (failing failed) (fold-append with_traced_calls (new_device journal objects) (take i trace) (drop i trace))
 
 -- a stop among the first traced calls leaves what it left
 pub leaves_in_all : (file : ℕ) (journal objects : List ℕ) (trace : List TracedCall) (i failed k : ℕ) (image : List ℕ)
@@ -60,21 +60,21 @@ pub leaves_in_all : (file : ℕ) (journal objects : List ℕ) (trace : List Trac
 leaves_in_all file journal objects trace i failed k image left =
     let d = device_of journal objects (take i trace) 0 in
     inl (subst (λ e. Leaves file e k image) (sym (cut_at journal objects trace i failed))
-    (leaves_failing file failed (fold recorded d (drop i trace)) k image (leaves_later file (drop i trace) d k image left)))
+    (leaves_failing file failed (fold with_traced_calls d (drop i trace)) k image (leaves_later file (drop i trace) d k image left)))
 
 -- the device after one traced call more
 pub device_more : (journal objects : List ℕ) (trace : List TracedCall) (i : ℕ) (traced : TracedCall) → i < length trace → traced ≡ get_or trace i traced
-    → device_of journal objects (take (i + 1) trace) 0 ≡ recorded (device_of journal objects (take i trace) 0) traced
+    → device_of journal objects (take (i + 1) trace) 0 ≡ with_traced_calls (device_of journal objects (take i trace) 0) traced
 device_more journal objects trace i traced within is =
-    ap (fold recorded (uncalled journal objects)) (take_more trace i traced within)
-    ∙ fold-append recorded (uncalled journal objects) (take i trace) (get_or trace i traced ∷ [])
-    ∙ ap (recorded (device_of journal objects (take i trace) 0)) (sym is)
+    ap (fold with_traced_calls (new_device journal objects)) (take_more trace i traced within)
+    ∙ fold-append with_traced_calls (new_device journal objects) (take i trace) (get_or trace i traced ∷ [])
+    ∙ ap (with_traced_calls (device_of journal objects (take i trace) 0)) (sym is)
 
 module _ (file : ℕ) (journal objects : List ℕ) (trace : List TracedCall) (i failed call made : ℕ) (traced : TracedCall) (bytes image : List ℕ)
     (within : i < length trace) (is : traced ≡ get_or trace i traced)
     (picture : IsPicture (file_of file (device_of journal objects (take i trace) 0)) bytes image)
     (count : made ≡ length (device_of journal objects (take i trace) 0).calls) where
-  in_traced : (other : List ℕ) → Leaves file (recorded (device_of journal objects (take i trace) 0) traced) call other
+  in_traced : (other : List ℕ) → Leaves file (with_traced_calls (device_of journal objects (take i trace) 0) traced) call other
       → MayLeave file (device_of journal objects trace failed) call other
   in_traced other left = leaves_in_all file journal objects trace (i + 1) failed call other
       (subst (λ e. Leaves file e call other) (sym (device_more journal objects trace i traced within is)) left)

@@ -12,10 +12,10 @@ length_overwritten place piece bytes = simp (length-append, length-take, length-
 pub overwritten_below : (place : ℕ) (piece bytes : List ℕ) (i : ℕ) → i < length bytes → i < place
     → get_or (overwritten place piece bytes) i 0 ≡ get_or bytes i 0
 overwritten_below place piece bytes i within below =
-    let front : i < length (take place bytes) = simp length-take (omega arith) in
+    let prefix : i < length (take place bytes) = simp length-take (omega arith) in
     let more : i < length (take place bytes ++ piece) = simp length-append (omega arith) in
     get_or_append_left (take place bytes ++ piece) (drop (place + length piece) bytes) 0 i more
-    ∙ get_or_append_left (take place bytes) piece 0 i front
+    ∙ get_or_append_left (take place bytes) piece 0 i prefix
     ∙ get_or-take place bytes i 0 below
 
 pub overwritten_above : (place : ℕ) (piece bytes : List ℕ) (i : ℕ) → i < length bytes → place + length piece ≤ i

@@ -1,7 +1,7 @@
 -- What a disk in memory keeps true of its fields.
 use Rattle.std.specs.Prelude.{◌≡◌, ℕ, ◌^◌, ◌<◌, List, length}
 use Rattle.disk_model.specs.Devices.{Device, bytes_of}
-use Rattle.disk_model.specs.Told.{CountsFailures}
+use Rattle.disk_model.specs.DiskStates.{CountsFailures}
 
 -- both files read as the trace says, and there is a tick for each call of it, and a fault for each that failed
 pub record IsReplayed (d : Device) (journal objects : List ℕ) (ticks faults : ℕ) : Type 0 where

@@ -35,12 +35,12 @@ pub record Device : Type 0 where
   pub calls : List Event
 
 -- a device that no call was made on
-abbrev pub uncalled : List ℕ → List ℕ → Device
-uncalled journal objects = record { journal = journal; objects = objects; calls = [] }
+abbrev pub new_device : List ℕ → List ℕ → Device
+new_device journal objects = record { journal = journal; objects = objects; calls = [] }
 
 -- a device on which one more call was made
-abbrev pub added : Event → Device → Device
-added event d = record d { calls = event ∷ d.calls }
+abbrev pub with_call : Event → Device → Device
+with_call event d = record d { calls = event ∷ d.calls }
 
 -- a file after a call that may have written it
 abbrev pub written_to : File → ℕ → ℕ → List ℕ → File
@@ -66,9 +66,9 @@ during file (Synced other) s = s
 during file Failed s = s
 
 -- a file after all of these calls
-abbrev pub replayed : ℕ → List ℕ → List Event → File
-replayed file first [] = stable first
-replayed file first (event ∷ earlier) = after file event (replayed file first earlier)
+abbrev pub file_after : ℕ → List ℕ → List Event → File
+file_after file first [] = stable first
+file_after file first (event ∷ earlier) = after file event (file_after file first earlier)
 
 -- a file as it was handed in
 abbrev pub first_of : ℕ → Device → List ℕ
@@ -76,7 +76,7 @@ first_of file d = if file == 0 then d.journal else d.objects
 
 -- a file as it is now
 abbrev pub file_of : ℕ → Device → File
-file_of file d = replayed file (first_of file d) d.calls
+file_of file d = file_after file (first_of file d) d.calls
 
 -- a file as a read gives it now
 abbrev pub bytes_of : ℕ → Device → List ℕ
@@ -86,7 +86,7 @@ bytes_of file d = (file_of file d).bytes
 abbrev pub Stopped : ℕ → List ℕ → List Event → ℕ → List ℕ → Type 0
 Stopped file first [] k image = ⊥
 Stopped file first (event ∷ earlier) k image =
-    ((k ≡ length earlier + 1) × IsImage (during file event (replayed file first earlier)) image) ⊎ Stopped file first earlier k image
+    ((k ≡ length earlier + 1) × IsImage (during file event (file_after file first earlier)) image) ⊎ Stopped file first earlier k image
 
 -- Whether a stop at call number k may leave this of a file. What stops at earlier calls leave does not change.
 abbrev pub Leaves : ℕ → Device → ℕ → List ℕ → Type 0
@@ -102,25 +102,25 @@ MayLeave file d k image = Leaves file d k image ⊎ ((k ≡ length d.calls + 1) 
 
 -- what each call does, where it answers Ok
 abbrev pub Measures : ℕ → Device → Device → Type 0
-Measures file d e = e ≡ added (Measured file) d
+Measures file d e = e ≡ with_call (Measured file) d
 
 -- bytes are fetched
 abbrev pub Fetches : ℕ → ℕ → ℕ → Device → Device → Type 0
-Fetches file place size d e = e ≡ added (Fetched file place size) d
+Fetches file place size d e = e ≡ with_call (Fetched file place size) d
 
 -- a piece is written over what stood at its place
 abbrev pub Writes : ℕ → ℕ → List ℕ → Device → Device → Type 0
-Writes file place piece d e = e ≡ added (Wrote file place (length piece) (overwritten place piece (bytes_of file d))) d
+Writes file place piece d e = e ≡ with_call (Wrote file place (length piece) (overwritten place piece (bytes_of file d))) d
 
 -- a file is synced
 abbrev pub Syncs : ℕ → Device → Device → Type 0
-Syncs file d e = e ≡ added (Synced file) d
+Syncs file d e = e ≡ with_call (Synced file) d
 
 -- what a call does that fails and changes nothing: it may also not have been made at all
 abbrev pub Idles : Device → Device → Type 0
-Idles d e = (e ≡ d) ⊎ (e ≡ added Failed d)
+Idles d e = (e ≡ d) ⊎ (e ≡ with_call Failed d)
 
 -- what a failed write does: nothing, or it leaves the range torn
 abbrev pub Tears : ℕ → ℕ → ℕ → Device → Device → Type 0
 Tears file place size d e =
-    Idles d e ⊎ ((left : List ℕ) × IsTorn place size (bytes_of file d) left × (e ≡ added (Tore file place size left) d))
+    Idles d e ⊎ ((left : List ℕ) × IsTorn place size (bytes_of file d) left × (e ≡ with_call (Tore file place size left) d))

@@ -6,4 +6,4 @@ pub mod MemoryDisks
 pub mod Overwriting
 pub mod Picks
 pub mod Records
-pub mod Told
+pub mod DiskStates

@@ -9,6 +9,6 @@ pub record AreOverwritten (file place : ℕ) (piece : List ℕ) (old new : Conte
   pub objects : new.objects.items ≡ (if file == 0 then old.objects.items else overwritten place piece old.objects.items)
 
 -- both files are as they were
-pub record AreKept (old new : Contents) : Type 0 where
+pub record AreUnchanged (old new : Contents) : Type 0 where
   pub journal : new.journal.items ≡ old.journal.items
   pub objects : new.objects.items ≡ old.objects.items

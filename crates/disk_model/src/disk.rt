@@ -2,7 +2,7 @@
 
 ghost use Rattle.std.specs.Prelude.{◌≡◌, ◌≤◌, ◌+◌, ◌^◌, Bool, length, take, drop, is_some, IfOk, MatchResult};
 ghost use Rattle.disk_model.specs.Devices.{bytes_of, Measures, Fetches, Writes, Syncs, Idles, Tears};
-ghost use Rattle.disk_model.specs.Told.{Sight, IfTold, Both, Counted, IsCounted};
+ghost use Rattle.disk_model.specs.DiskStates.{DiskState, IfModeled, Both, Counted, IsCounted};
 
 use crate::Counts;
 use std::fmt;
@@ -28,7 +28,7 @@ impl std::error::Error for DiskFault {}
 /// and code over any disk has one body for those that tell and those that do not, so what it writes is the same on both.
 pub trait Disk {
     /// The device, where it is told, and the counts.
-    ghost sight: { Self → Sight };
+    ghost ghost_state: { Self → DiskState };
 
     /// Whether the disks of this type tell their device: those in memory do, those over real files do not.
     ghost tells: { Bool };
@@ -37,59 +37,59 @@ pub trait Disk {
     fn length(&mut self, file: u8) -> Result<u64, DiskFault>
         requires { file ≤ 1 }
         ensures length { IfOk result
-            (λ n. IfTold (sight self.old).told (λ d. n ≡ length (bytes_of file d))) }
+            (λ n. IfModeled (ghost_state self.old).modeled (λ d. n ≡ length (bytes_of file d))) }
         ensures most { IfOk result (λ n. n ≤ 2 ^ 62) }
-        ensures told { MatchResult result
-            (λ _. Both (Measures file) (sight self.old).told (sight self.new).told)
-            (λ _. Both Idles (sight self.old).told (sight self.new).told) }
-        ensures counts { Counted result (sight self.old) (sight self.new) };
+        ensures modeled { MatchResult result
+            (λ _. Both (Measures file) (ghost_state self.old).modeled (ghost_state self.new).modeled)
+            (λ _. Both Idles (ghost_state self.old).modeled (ghost_state self.new).modeled) }
+        ensures counts { Counted result (ghost_state self.old) (ghost_state self.new) };
 
     /// Fills `into` with the file's bytes from a place on. The range lies in the file.
     fn read_at(&mut self, file: u8, place: u64, into: &mut [u8]) -> Result<(), DiskFault>
         requires file { file ≤ 1 }
-        requires within { IfTold (sight self.old).told
+        requires within { IfModeled (ghost_state self.old).modeled
             (λ d. place + length into.old ≤ length (bytes_of file d)) }
         ensures bytes { IfOk result
             (λ _.
-            IfTold (sight self.old).told
+            IfModeled (ghost_state self.old).modeled
             (λ d. into.new ≡ take (length into.old) (drop place (bytes_of file d)))) }
-        ensures told { MatchResult result
+        ensures modeled { MatchResult result
             (λ _.
-            Both (Fetches file place (length into.old)) (sight self.old).told
-            (sight self.new).told)
-            (λ _. Both Idles (sight self.old).told (sight self.new).told) }
-        ensures counts { Counted result (sight self.old) (sight self.new) };
+            Both (Fetches file place (length into.old)) (ghost_state self.old).modeled
+            (ghost_state self.new).modeled)
+            (λ _. Both Idles (ghost_state self.old).modeled (ghost_state self.new).modeled) }
+        ensures counts { Counted result (ghost_state self.old) (ghost_state self.new) };
 
     /// Writes a piece over the file from a place on, which is at most its length. A write that would pass 2^62 bytes is
     /// a fault. After a fault the range may hold any bytes.
     fn write_at(&mut self, file: u8, place: u64, piece: &[u8]) -> Result<(), DiskFault>
         requires file { file ≤ 1 }
-        requires within { IfTold (sight self.old).told (λ d. place ≤ length (bytes_of file d)) }
+        requires within { IfModeled (ghost_state self.old).modeled (λ d. place ≤ length (bytes_of file d)) }
         ensures most { IfOk result (λ _. place + length piece.now ≤ 2 ^ 62) }
-        ensures told { MatchResult result
-            (λ _. Both (Writes file place piece.now) (sight self.old).told (sight self.new).told)
+        ensures modeled { MatchResult result
+            (λ _. Both (Writes file place piece.now) (ghost_state self.old).modeled (ghost_state self.new).modeled)
             (λ _.
-            Both (Tears file place (length piece.now)) (sight self.old).told
-            (sight self.new).told) }
-        ensures counts { Counted result (sight self.old) (sight self.new) };
+            Both (Tears file place (length piece.now)) (ghost_state self.old).modeled
+            (ghost_state self.new).modeled) }
+        ensures counts { Counted result (ghost_state self.old) (ghost_state self.new) };
 
     /// After Ok the file is on the disk as it reads.
     fn sync(&mut self, file: u8) -> Result<(), DiskFault>
         requires { file ≤ 1 }
-        ensures told { MatchResult result
-            (λ _. Both (Syncs file) (sight self.old).told (sight self.new).told)
-            (λ _. Both Idles (sight self.old).told (sight self.new).told) }
-        ensures counts { Counted result (sight self.old) (sight self.new) };
+        ensures modeled { MatchResult result
+            (λ _. Both (Syncs file) (ghost_state self.old).modeled (ghost_state self.new).modeled)
+            (λ _. Both Idles (ghost_state self.old).modeled (ghost_state self.new).modeled) }
+        ensures counts { Counted result (ghost_state self.old) (ghost_state self.new) };
 
     /// The device calls and the faults so far. It is no device call.
     fn counts(&self) -> Counts
-        ensures ticks { result.ticks ≡ (sight self.now).ticks }
-        ensures faults { result.faults ≡ (sight self.now).faults };
+        ensures ticks { result.ticks ≡ (ghost_state self.now).ticks }
+        ensures faults { result.faults ≡ (ghost_state self.now).faults };
 
     /// The counts fit, and there is a tick for each call that is told, and a fault for each of these that failed: no other, until
     /// ticks have come to their end.
-    ghost counted: { (disk : Self) → IsCounted (sight disk) };
+    ghost counted: { (disk : Self) → IsCounted (ghost_state disk) };
 
     /// A disk tells its device or not, as its type says, whatever was done to it.
-    ghost as_typed: { (disk : Self) → is_some (sight disk).told ≡ tells };
+    ghost as_typed: { (disk : Self) → is_some (ghost_state disk).modeled ≡ tells };
 }

@@ -2,7 +2,7 @@
 
 ghost use Rattle.std.specs.Prelude.{◌≡◌, ◌≤◌, ◌<◌, ◌+◌, ◌-◌, ◌^◌, ◌↔◌, None, IfOk, IsTrue};
 ghost use Rattle.disk_model.specs.Counting.{next_count};
-ghost use Rattle.disk_model.specs.Told.{Sight};
+ghost use Rattle.disk_model.specs.DiskStates.{DiskState};
 
 use crate::Counts;
 use crate::disk::{Disk, DiskFault};
@@ -41,17 +41,17 @@ pub struct Trouble<'a> {
 impl Trouble<'_> {
     /// `PLACE: WORDS`, where the words are the system's.
     pub fn words(&self, alloc: Global) -> Result<String, AllocError> {
-        let told = format!(in alloc; "{}", self.cause)?;
-        let words = without_number(told.as_str());
+        let modeled = format!(in alloc; "{}", self.cause)?;
+        let words = without_number(modeled.as_str());
         format!(in alloc; "{}: {words}", self.place)
     }
 }
 
 /// The system's words for a failure, from what std writes of it: behind the words it writes a number.
-fn without_number(told: &str) -> &str {
-    match told.split_once(" (os error ") {
+fn without_number(modeled: &str) -> &str {
+    match modeled.split_once(" (os error ") {
         Some((words, _)) => words,
-        None => told,
+        None => modeled,
     }
 }
 
@@ -272,16 +272,16 @@ impl<R: Files<File = File> + AllocGlobal> FileDisk<R> {
 
 impl<R: Files<File = File> + AllocGlobal> Disk for FileDisk<R> {
     ghost use Rattle.std.specs.Prelude.{None, false, refl};
-    ghost use Rattle.disk_model.specs.Told.{Sight};
+    ghost use Rattle.disk_model.specs.DiskStates.{DiskState};
 
-    ghost sight = { λ disk. record { told = None; ticks = disk.ticks; faults = disk.faults } };
+    ghost ghost_state = { λ disk. record { modeled = None; ticks = disk.ticks; faults = disk.faults } };
 
     ghost tells = { false };
 
     ghost as_typed = { λ disk. refl };
 
     ghost counted = { λ disk.
-        record { ticks = disk.ticks_fit; faults = disk.faults_fit; told = tt; failed = tt } };
+        record { ticks = disk.ticks_fit; faults = disk.faults_fit; modeled = tt; failed = tt } };
 
     fn length(&mut self, file: u8) -> Result<u64, DiskFault> {
         if self.begins()

@@ -2,7 +2,7 @@
 
 ghost use Rattle.std.specs.Prelude.{ℕ, List, ◌≡◌, ◌≤◌, ◌<◌, ◌+◌, length, take, IfOk, OnOk, OnErr, fold};
 ghost use Rattle.disk_model.specs.Files.{overwritten, IsImage};
-ghost use Rattle.disk_model.specs.Devices.{Device, uncalled, first_of, file_of, MayLeave};
+ghost use Rattle.disk_model.specs.Devices.{Device, new_device, first_of, file_of, MayLeave};
 ghost use Rattle.disk_model.specs.Records.{device_of};
 ghost use Rattle.disk_model.specs.Picks.{IsPicture};
 
@@ -181,7 +181,7 @@ pub(crate) fn image_of(
     ensures { IfOk result
         (λ image.
         (journal objects : List ℕ) (failed : ℕ)
-        → first_of file (uncalled journal objects) ≡ first.now
+        → first_of file (new_device journal objects) ≡ first.now
         → call ≤ length (device_of journal objects trace.now failed).calls + 1
         → MayLeave file (device_of journal objects trace.now failed) call image.items) }
 {

@@ -31,7 +31,7 @@ struct Contents {
 }
 
 impl Contents {
-    ghost use Rattle.disk_model.specs.Overwriting.{AreKept, AreOverwritten};
+    ghost use Rattle.disk_model.specs.Overwriting.{AreUnchanged, AreOverwritten};
 
     fn of(alloc: Global, journal: &[u8], objects: &[u8]) -> Result<Contents, NoMemory>
         ensures { IfOk result
@@ -48,7 +48,7 @@ impl Contents {
     fn overwrite(&mut self, file: u8, place: u64, piece: &[u8]) -> Result<(), AllocError>
         requires { file ≤ 1 }
         ensures ok { OnOk result (AreOverwritten file place piece.now self.old self.new) }
-        ensures err { OnErr result (AreKept self.old self.new) }
+        ensures err { OnErr result (AreUnchanged self.old self.new) }
     {
         if file == 0 {
             overwrite(&mut self.journal, place, piece)
@@ -79,9 +79,9 @@ pub struct MemoryDisk {
 impl MemoryDisk {
     ghost use Rattle.disk_model.specs.Files.{overwritten};
     ghost use Rattle.disk_model.specs.Devices.{bytes_of, Idles};
-    ghost use Rattle.disk_model.specs.Records.{called, ChangesNoBytes};
-    ghost use Rattle.disk_model.specs.Told.{Counted};
-    ghost use Rattle.disk_model.specs.MemoryDisks.{told_by, sight_of, handed_in, IsCrash};
+    ghost use Rattle.disk_model.specs.Records.{with_traced_call, ChangesNoBytes};
+    ghost use Rattle.disk_model.specs.DiskStates.{Counted};
+    ghost use Rattle.disk_model.specs.MemoryDisks.{modeled_device, ghost_state_of, handed_in, IsCrash};
     ghost use Rattle.disk_model.specs.declared.calls.Call.TheVariants as calls;
 
     /// A disk that holds these two files, stable, on which no call was made. A call fails where its number, counted from
@@ -92,7 +92,7 @@ impl MemoryDisk {
         objects: &[u8],
         fail: &[u64],
     ) -> Result<MemoryDisk, NoMemory>
-        ensures { IfOk result (λ disk. sight_of disk ≡ handed_in journal.now objects.now) }
+        ensures { IfOk result (λ disk. ghost_state_of disk ≡ handed_in journal.now objects.now) }
     {
         Ok(MemoryDisk {
             alloc,
@@ -111,8 +111,8 @@ impl MemoryDisk {
     /// another fills the ranges written since with its low byte. Takes time linear in all that was written.
     pub fn crash(&self, alloc: Global, call: u64, pick: u64) -> Result<MemoryDisk, NoMemory>
         requires from { 1 ≤ call }
-        requires to { call ≤ (sight_of self.now).ticks + 1 }
-        ensures { IfOk result (λ disk. IsCrash (told_by self.now) call (sight_of disk)) }
+        requires to { call ≤ (ghost_state_of self.now).ticks + 1 }
+        ensures { IfOk result (λ disk. IsCrash (modeled_device self.now) call (ghost_state_of disk)) }
     {
         let keep = Keep::of(pick);
         let trace = self.trace.as_slice();
@@ -131,7 +131,7 @@ impl MemoryDisk {
     /// A file as it reads.
     pub fn bytes(&self, file: u8) -> &[u8]
         requires { file ≤ 1 }
-        ensures { result.now ≡ bytes_of file (told_by self.now) }
+        ensures { result.now ≡ bytes_of file (modeled_device self.now) }
     {
         if file == 0 {
             self.current.journal.as_slice()
@@ -147,7 +147,7 @@ impl MemoryDisk {
 
     /// A call that fails and changes nothing.
     fn miss(&mut self) -> DiskFault
-        ensures told { Idles (told_by self.old) (told_by self.new) }
+        ensures modeled { Idles (modeled_device self.old) (modeled_device self.new) }
         ensures ticks { self.new.ticks ≡ next_count self.old.ticks }
         ensures faults { self.new.faults ≡ next_count self.old.faults }
     {
@@ -162,9 +162,9 @@ impl MemoryDisk {
     /// A call that changes no bytes.
     fn make(&mut self, call: Call) -> Result<(), DiskFault>
         requires { ChangesNoBytes call }
-        ensures told { MatchResult result (λ _. told_by self.new ≡ called call (told_by self.old))
-            (λ _. Idles (told_by self.old) (told_by self.new)) }
-        ensures counts { Counted result (sight_of self.old) (sight_of self.new) }
+        ensures modeled { MatchResult result (λ _. modeled_device self.new ≡ with_traced_call call (modeled_device self.old))
+            (λ _. Idles (modeled_device self.old) (modeled_device self.new)) }
+        ensures counts { Counted result (ghost_state_of self.old) (ghost_state_of self.new) }
     {
         if self.ticks == u64::MAX || self.is_planned() {
             return Err(self.miss());
@@ -185,11 +185,11 @@ impl MemoryDisk {
     /// A write of this piece.
     fn put(&mut self, file: u8, place: u64, piece: &[u8]) -> Result<(), DiskFault>
         requires { file ≤ 1 }
-        ensures told { MatchResult result
+        ensures modeled { MatchResult result
             (λ _.
-            told_by self.new ≡ called (calls.Write file place piece.now) (told_by self.old))
-            (λ _. Idles (told_by self.old) (told_by self.new)) }
-        ensures counts { Counted result (sight_of self.old) (sight_of self.new) }
+            modeled_device self.new ≡ with_traced_call (calls.Write file place piece.now) (modeled_device self.old))
+            (λ _. Idles (modeled_device self.old) (modeled_device self.new)) }
+        ensures counts { Counted result (ghost_state_of self.old) (ghost_state_of self.new) }
     {
         if self.ticks == u64::MAX {
             return Err(self.miss());
@@ -222,9 +222,9 @@ impl MemoryDisk {
     /// A write that fails: these bytes land, and so many behind them are lost.
     fn tear(&mut self, file: u8, place: u64, landed: &[u8], lost: u64) -> DiskFault
         requires { file ≤ 1 }
-        ensures told { Idles (told_by self.old) (told_by self.new)
-            ⊎ (told_by self.new
-            ≡ called (calls.Tear file place landed.now lost) (told_by self.old)) }
+        ensures modeled { Idles (modeled_device self.old) (modeled_device self.new)
+            ⊎ (modeled_device self.new
+            ≡ with_traced_call (calls.Tear file place landed.now lost) (modeled_device self.old)) }
         ensures ticks { self.new.ticks ≡ next_count self.old.ticks }
         ensures faults { self.new.faults ≡ next_count self.old.faults }
     {
@@ -261,9 +261,9 @@ impl MemoryDisk {
 
 impl Disk for MemoryDisk {
     ghost use Rattle.std.specs.Prelude.{true, refl};
-    ghost use Rattle.disk_model.specs.MemoryDisks.{sight_of};
+    ghost use Rattle.disk_model.specs.MemoryDisks.{ghost_state_of};
 
-    ghost sight = { sight_of };
+    ghost ghost_state = { ghost_state_of };
 
     ghost tells = { true };
 
@@ -273,7 +273,7 @@ impl Disk for MemoryDisk {
         record {
           ticks = disk.replayed.ticks_fit;
           faults = disk.replayed.faults_fit;
-          told = disk.replayed.a_tick_each;
+          modeled = disk.replayed.a_tick_each;
           failed = disk.replayed.a_fault_each;
         } };
 

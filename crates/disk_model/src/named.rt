@@ -25,7 +25,7 @@ pub(crate) struct NamedFile {
 
 /// Opens a file, made where it is absent. The handle is a copy, which the system numbers above 2: where a standard
 /// descriptor is closed the file would get its number, and what is printed would be written into the file.
-fn opened<R: Files<File = File>>(rt: &R, name: &str) -> io::Result<File> {
+fn open_file<R: Files<File = File>>(rt: &R, name: &str) -> io::Result<File> {
     let file = OpenOptions::new()
         .read(true)
         .write(true)
@@ -56,7 +56,7 @@ fn is_named<R: Files<File = File>>(rt: &R, name: &str, file: &File) -> io::Resul
 /// The open file of a name, with its exclusive lock, synced: what a program that was killed wrote there may not be on the disk
 /// yet.
 fn opened_alone<R: Files<File = File>>(rt: &R, name: &str) -> io::Result<File> {
-    let file = opened(rt, name)?;
+    let file = open_file(rt, name)?;
     lock(&file)?;
     if !is_named(rt, name, &file)? {
         return Err(io::Error::new(io::ErrorKind::ResourceBusy, "replaced as it was opened"));

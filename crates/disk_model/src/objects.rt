@@ -2,7 +2,7 @@
 
 ghost use Rattle.std.specs.Prelude.{◌≡◌, ◌≤◌, ◌+◌, ◌^◌, length, take, drop, IfOk, MatchResult};
 ghost use Rattle.disk_model.specs.Devices.{bytes_of, Measures, Fetches, Writes, Syncs, Idles, Tears};
-ghost use Rattle.disk_model.specs.Told.{Sight, IfTold, Both, Counted};
+ghost use Rattle.disk_model.specs.DiskStates.{DiskState, IfModeled, Both, Counted};
 
 use crate::Counts;
 use crate::disk::DiskFault;
@@ -11,7 +11,7 @@ use crate::disk::DiskFault;
 /// What else its holder knows of the disk, as where a journal ends on file 0, each call keeps.
 pub trait Objects {
     /// The device, where it is told, and the counts.
-    ghost sight: { Self → Sight };
+    ghost ghost_state: { Self → DiskState };
 
     /// What each call keeps, from before it to after it.
     ghost keeps: { Self → Self → Type 0 };
@@ -19,55 +19,55 @@ pub trait Objects {
     /// The file's length. A file longer than 2^62 bytes is a fault.
     fn length(&mut self) -> Result<u64, DiskFault>
         ensures length { IfOk result
-            (λ n. IfTold (sight self.old).told (λ d. n ≡ length (bytes_of 1 d))) }
+            (λ n. IfModeled (ghost_state self.old).modeled (λ d. n ≡ length (bytes_of 1 d))) }
         ensures most { IfOk result (λ n. n ≤ 2 ^ 62) }
-        ensures told { MatchResult result
-            (λ _. Both (Measures 1) (sight self.old).told (sight self.new).told)
-            (λ _. Both Idles (sight self.old).told (sight self.new).told) }
-        ensures counts { Counted result (sight self.old) (sight self.new) }
+        ensures modeled { MatchResult result
+            (λ _. Both (Measures 1) (ghost_state self.old).modeled (ghost_state self.new).modeled)
+            (λ _. Both Idles (ghost_state self.old).modeled (ghost_state self.new).modeled) }
+        ensures counts { Counted result (ghost_state self.old) (ghost_state self.new) }
         ensures keeps { keeps self.old self.new };
 
     /// Fills `into` with the file's bytes from a place on. The range lies in the file.
     fn read_at(&mut self, place: u64, into: &mut [u8]) -> Result<(), DiskFault>
-        requires { IfTold (sight self.old).told
+        requires { IfModeled (ghost_state self.old).modeled
             (λ d. place + length into.old ≤ length (bytes_of 1 d)) }
         ensures bytes { IfOk result
             (λ _.
-            IfTold (sight self.old).told
+            IfModeled (ghost_state self.old).modeled
             (λ d. into.new ≡ take (length into.old) (drop place (bytes_of 1 d)))) }
-        ensures told { MatchResult result
+        ensures modeled { MatchResult result
             (λ _.
-            Both (Fetches 1 place (length into.old)) (sight self.old).told
-            (sight self.new).told)
-            (λ _. Both Idles (sight self.old).told (sight self.new).told) }
-        ensures counts { Counted result (sight self.old) (sight self.new) }
+            Both (Fetches 1 place (length into.old)) (ghost_state self.old).modeled
+            (ghost_state self.new).modeled)
+            (λ _. Both Idles (ghost_state self.old).modeled (ghost_state self.new).modeled) }
+        ensures counts { Counted result (ghost_state self.old) (ghost_state self.new) }
         ensures keeps { keeps self.old self.new };
 
     /// Writes a piece over the file from a place on, which is at most its length. A write that would pass 2^62 bytes is
     /// a fault. After a fault the range may hold any bytes.
     fn write_at(&mut self, place: u64, piece: &[u8]) -> Result<(), DiskFault>
-        requires { IfTold (sight self.old).told (λ d. place ≤ length (bytes_of 1 d)) }
+        requires { IfModeled (ghost_state self.old).modeled (λ d. place ≤ length (bytes_of 1 d)) }
         ensures most { IfOk result (λ _. place + length piece.now ≤ 2 ^ 62) }
-        ensures told { MatchResult result
-            (λ _. Both (Writes 1 place piece.now) (sight self.old).told (sight self.new).told)
+        ensures modeled { MatchResult result
+            (λ _. Both (Writes 1 place piece.now) (ghost_state self.old).modeled (ghost_state self.new).modeled)
             (λ _.
-            Both (Tears 1 place (length piece.now)) (sight self.old).told
-            (sight self.new).told) }
-        ensures counts { Counted result (sight self.old) (sight self.new) }
+            Both (Tears 1 place (length piece.now)) (ghost_state self.old).modeled
+            (ghost_state self.new).modeled) }
+        ensures counts { Counted result (ghost_state self.old) (ghost_state self.new) }
         ensures keeps { keeps self.old self.new };
 
     /// After Ok the file is on the disk as it reads.
     fn sync(&mut self) -> Result<(), DiskFault>
-        ensures told { MatchResult result
-            (λ _. Both (Syncs 1) (sight self.old).told (sight self.new).told)
-            (λ _. Both Idles (sight self.old).told (sight self.new).told) }
-        ensures counts { Counted result (sight self.old) (sight self.new) }
+        ensures modeled { MatchResult result
+            (λ _. Both (Syncs 1) (ghost_state self.old).modeled (ghost_state self.new).modeled)
+            (λ _. Both Idles (ghost_state self.old).modeled (ghost_state self.new).modeled) }
+        ensures counts { Counted result (ghost_state self.old) (ghost_state self.new) }
         ensures keeps { keeps self.old self.new };
 
     /// The device calls and the faults so far, those on both files. It is no device call.
     fn counts(&self) -> Counts
-        ensures ticks { result.ticks ≡ (sight self.now).ticks }
-        ensures faults { result.faults ≡ (sight self.now).faults };
+        ensures ticks { result.ticks ≡ (ghost_state self.now).ticks }
+        ensures faults { result.faults ≡ (ghost_state self.now).faults };
 
     ghost reflexive: { (objects : Self) → keeps objects objects };
 

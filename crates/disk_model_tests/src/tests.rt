@@ -110,14 +110,14 @@ fn tell_trouble(
     trouble: Option<Trouble<'_>>,
     words: &str,
 ) -> Result<(), Fail> {
-    let told = trouble.ok_or("no trouble")?.words(alloc)?;
-    assert_eq!(rt; told.as_str(), words);
+    let reported = trouble.ok_or("no trouble")?.words(alloc)?;
+    assert_eq!(rt; reported.as_str(), words);
     Ok(())
 }
 
 /// A base that another disk holds is not touched, and a file that cannot be made is told.
 #[test]
-fn failures_are_told(rt: HostRuntime) -> Result<(), Fail> {
+fn failures_are_reported(rt: HostRuntime) -> Result<(), Fail> {
     let mut holder = files_of(&rt, "disk_model_held")?;
     assert_eq!(rt; holder.length(0), Ok(0));
     for (name, words) in [

@@ -1,7 +1,7 @@
 mod Added
 mod Entries
 mod Found
-mod Kept
+mod StoredMoves
 mod Newest
 pub mod Pairs
 mod Ready

@@ -7,7 +7,7 @@ use Rattle.std.proofs.lemmas.List.{reverse-append}
 use Rattle.std.proofs.lemmas.Bool.Decides.{Decides-eqb}
 use Rattle.std.proofs.lemmas.Slice.Eq.{bytes_eq-Decides}
 use Rattle.cc_names.specs.Labels.{row_of_label_change, labels_of_first_rows, label_effect, holder}
-use Rattle.cc_names.specs.Last.{left}
+use Rattle.cc_names.specs.Last.{value_after}
 use Rattle.cc_names.proofs.ByRows.{filter-reverse, filter_first}
 use Rattle.label_book.specs.Holding.{row_of_move, change_by, change_of_move}
 use Rattle.label_book.specs.declared.held.Move.{Move}
@@ -22,7 +22,7 @@ newest_version [] = None
 newest_version (move ∷ older) = move.version
 
 -- what one move leaves, whatever was before
-left_by : (l : List ℕ) (e row : ℕ) (version before : Option ℕ) → left (label_effect l e (change_by l e row version)) before ≡ version
+left_by : (l : List ℕ) (e row : ℕ) (version before : Option ℕ) → value_after (label_effect l e (change_by l e row version)) before ≡ version
 left_by l e row (Some version) before = rw (is_itself l e) refl
 left_by l e row None before = rw (is_itself l e) refl
 
@@ -50,10 +50,10 @@ moves_of_first_rows rows l e (move ∷ older) = rw (row_by l e move.row move.ver
 newest_of_first : (moves : List Move) (k : ℕ) (d : Move) → k < length moves → newest_version (reverse (take (suc k) moves)) ≡ (get_or moves k d).version
 newest_of_first [] k d within = absurd (omega arith)
 newest_of_first (m ∷ moves) zero d within = refl
-newest_of_first (m ∷ moves) (suc k) d within = rw (reverse-append (m ∷ []) (take (suc k) moves)) (in_front (reverse (take (suc k) moves)) (reversed_some moves k (omega arith)) ∙ newest_of_first moves k d (omega arith))
+newest_of_first (m ∷ moves) (suc k) d within = rw (reverse-append (m ∷ []) (take (suc k) moves)) (in_prefix (reverse (take (suc k) moves)) (reversed_some moves k (omega arith)) ∙ newest_of_first moves k d (omega arith))
   where
-    in_front : (xs : List Move) → (x : Move) × (rest : List Move) × (xs ≡ x ∷ rest) → newest_version (xs ++ m ∷ []) ≡ newest_version xs
-    in_front xs (x, rest, is) = rw is refl
+    in_prefix : (xs : List Move) → (x : Move) × (rest : List Move) × (xs ≡ x ∷ rest) → newest_version (xs ++ m ∷ []) ≡ newest_version xs
+    in_prefix xs (x, rest, is) = rw is refl
 
     reversed_some : (ys : List Move) (i : ℕ) → i < length ys → (x : Move) × (rest : List Move) × (reverse (take (suc i) ys) ≡ x ∷ rest)
     reversed_some [] i lt = absurd (omega arith)
@@ -68,8 +68,8 @@ module _ (l : List ℕ) (e rows count : ℕ) (moves : List Move) (within : count
   holder_searched : holder (labels_of_first_rows rows (map (change_of_move l e) (reverse moves))) l e ≡ newest_version (reverse (take count moves))
   holder_searched =
       let p : Move → Bool = λ m. ltb (row_of_move m) rows in
-      let front : filter p (reverse moves) ≡ reverse (take count moves) = filter-reverse p moves ∙ ap reverse (filter_first p moves count within parted) in
-      rw (moves_of_first_rows rows l e (reverse moves), front) (holder_by_moves l e (reverse (take count moves)))
+      let prefix : filter p (reverse moves) ≡ reverse (take count moves) = filter-reverse p moves ∙ ap reverse (filter_first p moves count within parted) in
+      rw (moves_of_first_rows rows l e (reverse moves), prefix) (holder_by_moves l e (reverse (take count moves)))
 
   -- there is none
   pub holder_none : count ≡ 0 → holder (labels_of_first_rows rows (map (change_of_move l e) (reverse moves))) l e ≡ None

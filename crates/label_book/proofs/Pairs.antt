@@ -6,7 +6,7 @@ use Rattle.std.proofs.lemmas.List.Elements.{filter-append}
 use Rattle.std.proofs.lemmas.Bool.Decides.{Decides-eqb}
 use Rattle.std.proofs.lemmas.Slice.Eq.{bytes_eq-Decides}
 use Rattle.cc_names.specs.Labels.{row_of_label_change, labels_of_first_rows, label_effect, holder}
-use Rattle.cc_names.specs.Last.{left}
+use Rattle.cc_names.specs.Last.{value_after}
 use Rattle.cc_names.specs.declared.changes.LabelChange.{LabelChange}
 use Rattle.cc_names.specs.declared.changes.LabelChange.TheVariants.{Put, Taken}
 use Rattle.label_book.specs.Marks.{is_about, of_pair}
@@ -36,7 +36,7 @@ holder_of_pair [] rows l e = refl
 holder_of_pair (change ∷ older) rows l e =
     at (ltb (row_of_label_change change) rows) (is_about l e change) refl refl (holder_of_pair older rows l e)
   where
-    effect_other : (c : LabelChange) (before : Option ℕ) → is_about l e c ≡ false → left (label_effect l e c) before ≡ before
+    effect_other : (c : LabelChange) (before : Option ℕ) → is_about l e c ≡ false → value_after (label_effect l e c) before ≡ before
     effect_other (Put row label element version) before other = rw other refl
     effect_other (Taken row label element) before other = rw other refl
 
@@ -44,7 +44,7 @@ holder_of_pair (change ∷ older) rows l e =
         → holder (labels_of_first_rows rows older) l e ≡ holder (labels_of_first_rows rows (of_pair l e older)) l e
         → holder (cond early (change ∷ labels_of_first_rows rows older) (labels_of_first_rows rows older)) l e
         ≡ holder (labels_of_first_rows rows (cond about (change ∷ of_pair l e older) (of_pair l e older))) l e
-    at true true early about rest = rw early (ap (left (label_effect l e change)) rest)
+    at true true early about rest = rw early (ap (value_after (label_effect l e change)) rest)
     at false true early about rest = rw early rest
     at true false early about rest = effect_other change (holder (labels_of_first_rows rows older) l e) about ∙ rest
     at false false early about rest = rest

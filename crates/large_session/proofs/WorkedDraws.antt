@@ -1,7 +1,7 @@
 -- Draws, worked out by computation: two of the seed 1, and the files of two sessions.
 use Rattle.std.proofs.Common.{◌≡◌, ℕ, [], ◌∷◌, ◌^◌, ◌-◌, refl}
 use Rattle.large_session.specs.declared.draws.SourceFile.{SourceFile}
-use Rattle.large_session.specs.Draws.{next_state, drawn, files_of}
+use Rattle.large_session.specs.Draws.{next_state, draw_of, files_of}
 
 abbrev file : ℕ → ℕ → ℕ → SourceFile
 file number content joined = record { number = number; content = content; joined = joined }
@@ -9,13 +9,13 @@ file number content joined = record { number = number; content = content; joined
 the_first_state : next_state 1 ≡ 7806831264735756412
 the_first_state = refl
 
-the_first_draw : drawn 7806831264735756412 ≡ 908834774
+the_first_draw : draw_of 7806831264735756412 ≡ 908834774
 the_first_draw = refl
 
 the_second_state : next_state 7806831264735756412 ≡ 9396908728118811419
 the_second_state = refl
 
-the_second_draw : drawn 9396908728118811419 ≡ 1093944153
+the_second_draw : draw_of 9396908728118811419 ≡ 1093944153
 the_second_draw = refl
 
 no_file : files_of 1 0 ≡ []

@@ -8,15 +8,15 @@ abbrev pub next_state : ℕ → ℕ
 next_state x = (x * 6364136223846793005 + 1442695040888963407) % 2 ^ 64
 
 -- what a draw gives, of the new x
-abbrev pub drawn : ℕ → ℕ
-drawn x = x / 2 ^ 33
+abbrev pub draw_of : ℕ → ℕ
+draw_of x = x / 2 ^ 33
 
 -- the file of this number, by two draws: the first gives its content, the second the file that it is joined with
 abbrev pub file_of : ℕ → ℕ → ℕ → SourceFile
 file_of size number x = record {
   number = number;
-  content = drawn (next_state x) % 1000;
-  joined = 1 + drawn (next_state (next_state x)) % size;
+  content = draw_of (next_state x) % 1000;
+  joined = 1 + draw_of (next_state (next_state x)) % size;
 }
 
 -- so many files, from this number on

@@ -39,12 +39,12 @@ abbrev pub rule : SourceFile → List ℕ
 rule file = rule_line file ++ script_line file
 
 -- the name of an object among those that the first goal wants
-abbrev pub wanted : SourceFile → List ℕ
-wanted file = codes " " ++ object_name file.number
+abbrev pub wanted_name : SourceFile → List ℕ
+wanted_name file = codes " " ++ object_name file.number
 
 -- the Makefile: a goal that wants all objects, and the rule of each
 abbrev pub makefile : List SourceFile → List ℕ
-makefile files = body_line (codes "all:" ++ flat_map wanted files) ++ flat_map rule files
+makefile files = body_line (codes "all:" ++ flat_map wanted_name files) ++ flat_map rule files
 
 -- the commands that make a file element in v0 with this text
 unfoldable pub made : List ℕ → List ℕ → List ℕ

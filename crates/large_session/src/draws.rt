@@ -1,7 +1,7 @@
 //! The numbers of the large session.
 
 ghost use Rattle.std.specs.Prelude.{◌≡◌, ◌<◌, IfOk};
-ghost use Rattle.large_session.specs.Draws.{next_state, drawn, file_of, files_of};
+ghost use Rattle.large_session.specs.Draws.{next_state, draw_of, file_of, files_of};
 
 use cc_names::memory::NoMemory;
 use std::alloc::Global;
@@ -22,8 +22,8 @@ fn next_state(state: u64) -> u64
         .wrapping_add(1_442_695_040_888_963_407)
 }
 
-fn drawn(state: u64) -> u64
-    ensures { result ≡ drawn state }
+fn draw_of(state: u64) -> u64
+    ensures { result ≡ draw_of state }
 {
     state >> 33
 }
@@ -37,8 +37,8 @@ fn file_of(size: u32, number: u32, state: u64) -> SourceFile
     let second = next_state(first);
     SourceFile {
         number: number as u64,
-        content: drawn(first) % 1000,
-        joined: 1 + drawn(second) % size as u64,
+        content: draw_of(first) % 1000,
+        joined: 1 + draw_of(second) % size as u64,
     }
 }
 

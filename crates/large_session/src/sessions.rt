@@ -3,7 +3,7 @@
 
 ghost use Rattle.std.specs.Prelude.{◌≡◌, ◌++◌, IfOk, OnOk, codes};
 ghost use Rattle.std.specs.List.{flat_map};
-ghost use Rattle.large_session.specs.LargeSession.{line, source_name, object_name, sources, rule_line, script_line, rule, wanted, makefile, made, source_text, made_source, making, session_of, large_session};
+ghost use Rattle.large_session.specs.LargeSession.{line, source_name, object_name, sources, rule_line, script_line, rule, wanted_name, makefile, made, source_text, made_source, making, session_of, large_session};
 
 use crate::draws::{SourceFile, files_of};
 use cc_names::memory::NoMemory;
@@ -75,7 +75,7 @@ fn push_script_line(alloc: Global, text: &mut Vec<u8>, file: &SourceFile) -> Res
 
 /// The names of all objects, each behind a blank.
 fn push_objects(alloc: Global, text: &mut Vec<u8>, files: &[SourceFile]) -> Result<(), NoMemory>
-    ensures { OnOk result (text.new.items ≡ text.old.items ++ flat_map wanted files.now) }
+    ensures { OnOk result (text.new.items ≡ text.old.items ++ flat_map wanted_name files.now) }
 {
     for file in files {
         text.extend_from_slice(b" ")?;

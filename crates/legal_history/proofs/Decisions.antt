@@ -6,7 +6,8 @@ pub mod DecidedIdle
 pub mod DecidedSays
 pub mod DirectoryFits
 pub mod DueObjects
-pub mod ElementFits
+pub mod LabelFits
+pub mod SaveFits
 pub mod FileFits
 pub mod Handed
 pub mod Passed

@@ -1,7 +1,7 @@
 -- What holds along legal stories.
 pub mod DecidedSteps
 pub mod Finishing
-pub mod Fronts
+pub mod Prefixes
 pub mod Goes
 pub mod GoingOn
 pub mod Grows
@@ -13,5 +13,5 @@ pub mod Leaving
 pub mod Rising
 pub mod Room
 pub mod Scrubs
-pub mod SoundStories
+pub mod ConsistentStories
 pub mod Started

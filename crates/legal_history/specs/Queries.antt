@@ -1,7 +1,7 @@
 -- What is answered to each query.
 pub mod ElementTexts
 pub mod HistoryTexts
-pub mod ListingTexts
+pub mod DirectoryTexts
 pub mod Merges
 pub mod QueryLines
 pub mod RecordTexts

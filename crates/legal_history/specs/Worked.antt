@@ -18,13 +18,13 @@ abbrev pub row : ℕ → Deed → Plain
 row n deed = record { tag = tag 1 1 n; moment = 1700000000; deed = deed }
 
 -- the base of these deeds, newest first, each made by the command with the number of its row
-abbrev pub made : List Deed → Base
-made [] = []
-made (deed ∷ older) = row (size (made older)) deed ∷ made older
+abbrev pub base_of_deeds : List Deed → Base
+base_of_deeds [] = []
+base_of_deeds (deed ∷ older) = row (size (base_of_deeds older)) deed ∷ base_of_deeds older
 
 -- the base of these deeds, oldest first
 abbrev pub base_of : List Deed → Base
-base_of deeds = made (reverse deeds)
+base_of deeds = base_of_deeds (reverse deeds)
 
 -- a base with the row of a decision, where it makes one
 abbrev pub with_decision : Base → Result Decision Refusal → Base

@@ -6,7 +6,7 @@ use Rattle.cc_names.specs.declared.refusals.MakeError.{MakeError}
 use Rattle.make_grammar.proofs.JoinedLaws.{joined_formed}
 use Rattle.make_grammar.proofs.RuleLineLaws.{AreLines, HasLines, lines_of_makefile}
 use Rattle.make_grammar.specs.Contents.{Contents, groups_of, is_suffix_rule}
-use Rattle.make_grammar.specs.Grammar.{checked, contents_of, fault_or, lines_read, macros_fault, makefile_of_text, phony_fault, unless_fault}
+use Rattle.make_grammar.specs.Grammar.{checked_contents, contents_of, fault_or, lines_read, macros_fault, makefile_of_text, phony_fault, unless_fault}
 use Rattle.make_grammar.specs.Statements.{Reading, macros_of}
 use Rattle.make_grammar.specs.UnitLaws.{IsFormed, MakefilesAreFormed}
 
@@ -20,7 +20,7 @@ without_fault : (fault : Option MakeError) (made make : Contents) → unless_fau
 without_fault None made make h = cc
 without_fault (Some fault) made make h = absurd (cc)
 
-checked_formed : (read : Result Reading MakeError) (make : Contents) → HasLines read → checked read ≡ Ok make → IsFormed make
+checked_formed : (read : Result Reading MakeError) (make : Contents) → HasLines read → checked_contents read ≡ Ok make → IsFormed make
 checked_formed (Err fault) make kept h = absurd (cc)
 checked_formed (Ok reading) make kept h =
     subst IsFormed

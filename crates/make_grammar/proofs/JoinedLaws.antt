@@ -59,10 +59,10 @@ without_target groups rule target are joined none path among = by (is_among (mad
     by false is = refl
 
 -- a rule without the target stays apart from rules to which a line is joined there
-apart_kept : (groups : List (List (List ℕ))) (line : RuleLine) (rule : MakeRule) (rules : List MakeRule) (target : List ℕ) → AreGroups groups → IsJoined groups rule → is_among rule.targets target ≡ false →
+apart_preserved : (groups : List (List (List ℕ))) (line : RuleLine) (rule : MakeRule) (rules : List MakeRule) (target : List ℕ) → AreGroups groups → IsJoined groups rule → is_among rule.targets target ≡ false →
     AllByRecursion (IsApartFrom rule) rules → AllByRecursion (IsApartFrom rule) (with_target groups line rules target)
-apart_kept groups line rule [] target are joined none h = (without_target groups rule target are joined none, tt)
-apart_kept groups line rule (other ∷ rules) target are joined none h = by (is_among other.targets target) (apart_kept groups line rule rules target are joined none h.1)
+apart_preserved groups line rule [] target are joined none h = (without_target groups rule target are joined none, tt)
+apart_preserved groups line rule (other ∷ rules) target are joined none h = by (is_among other.targets target) (apart_preserved groups line rule rules target are joined none h.1)
   where
     by : (t : Bool) → AllByRecursion (IsApartFrom rule) (with_target groups line rules target) → AllByRecursion (IsApartFrom rule) (if t then with_line line other ∷ rules else other ∷ with_target groups line rules target)
     by true more = (h.0, h.1)
@@ -74,7 +74,7 @@ target_joined groups line (rule ∷ rules) target are formed below h = by (is_am
   where
     by : (t : Bool) → is_among rule.targets target ≡ t → AreRules groups (with_target groups line rules target) → AreRules groups (if t then with_line line rule ∷ rules else rule ∷ with_target groups line rules target)
     by true is more = (with_line_joined groups line rule formed h.0, h.1, h.2)
-    by false is more = (h.0, apart_kept groups line rule rules target are h.0 is h.1, more)
+    by false is more = (h.0, apart_preserved groups line rule rules target are h.0 is h.1, more)
 
 targets_joined : (groups : List (List (List ℕ))) (line : RuleLine) (targets : List (List ℕ)) (rules : List MakeRule) → AreGroups groups → IsLine line → AllByRecursion IsBelowRoot targets → AreRules groups rules →
     AreRules groups (fold (with_target groups line) rules targets)

@@ -12,9 +12,9 @@ true_or_false false = inr refl
 
 -- ---- among lists that follow each other
 
-pub among_front : (path : List ℕ) (ps qs : List (List ℕ)) → is_among ps path ≡ true → is_among (ps ++ qs) path ≡ true
-among_front path [] qs h = absurd (cc)
-among_front path (p ∷ ps) qs h = by (bytes_eq path p) h (among_front path ps qs)
+pub among_prefix : (path : List ℕ) (ps qs : List (List ℕ)) → is_among ps path ≡ true → is_among (ps ++ qs) path ≡ true
+among_prefix path [] qs h = absurd (cc)
+among_prefix path (p ∷ ps) qs h = by (bytes_eq path p) h (among_prefix path ps qs)
   where
     by : (t : Bool) → (t || is_among ps path) ≡ true → (is_among ps path ≡ true → is_among (ps ++ qs) path ≡ true) → (t || is_among (ps ++ qs) path) ≡ true
     by true h more = refl
@@ -86,7 +86,7 @@ pub among_items : {A : Type 0} (targets : A → List (List ℕ)) (path : List �
 among_items targets path [] k x at has = absurd (cc)
 among_items targets path (y ∷ ys) zero x at has =
     let same : y ≡ x = cc in
-    among_front path (targets y) (flat_map targets ys) (ap (λ z. is_among (targets z) path) same ∙ has)
+    among_prefix path (targets y) (flat_map targets ys) (ap (λ z. is_among (targets z) path) same ∙ has)
 among_items targets path (y ∷ ys) (suc k) x at has = among_behind path (targets y) (flat_map targets ys) (among_items targets path ys k x at has)
 
 -- among distinct targets, the item that has the path has its number

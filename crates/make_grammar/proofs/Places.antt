@@ -14,10 +14,10 @@ same_or_not m n = by (m == n) refl
 
 -- ---- behind a list
 
-pub get_front : {A : Type 0} (xs ys : List A) (k : ℕ) (x : A) → slice_get xs k ≡ Some x → slice_get (xs ++ ys) k ≡ Some x
-get_front [] ys k x h = absurd (cc)
-get_front (y ∷ xs) ys zero x h = h
-get_front (y ∷ xs) ys (suc k) x h = get_front xs ys k x h
+pub get_prefix : {A : Type 0} (xs ys : List A) (k : ℕ) (x : A) → slice_get xs k ≡ Some x → slice_get (xs ++ ys) k ≡ Some x
+get_prefix [] ys k x h = absurd (cc)
+get_prefix (y ∷ xs) ys zero x h = h
+get_prefix (y ∷ xs) ys (suc k) x h = get_prefix xs ys k x h
 
 pub get_last : {A : Type 0} (xs : List A) (x : A) → slice_get (xs ++ x ∷ []) (length xs) ≡ Some x
 get_last [] x = refl

@@ -14,11 +14,11 @@ use Rattle.cc_names.specs.declared.refusals.MakeError.{MakeError}
 use Rattle.make_grammar.proofs.RuleWordLaws.{AreWords, or_false, plain_length, plain_below, plain_once, words_read}
 use Rattle.make_grammar.specs.Contents.{RuleLine}
 use Rattle.make_grammar.specs.Grammar.{nothing_read, with_overrides, lines_read}
-use Rattle.make_grammar.specs.LineKinds.{Kind, Blank, Include, Assignment, Rule, Unclosed, Neither, line_kind, without_comment, trimmed}
+use Rattle.make_grammar.specs.LineKinds.{Kind, Blank, Include, Assignment, Rule, Unclosed, Neither, line_kind, without_comment, trimmed_bytes}
 use Rattle.make_grammar.specs.Lines.{is_script_line, is_blank_line}
 use Rattle.make_grammar.specs.LogicalLines.{logical_lines}
 use Rattle.make_grammar.specs.Macros.{has_bad_dollar, is_among}
-use Rattle.make_grammar.specs.Statements.{Reading, line_limit, target_limit, file_limit, depth_limit, and_then, assignment, before_mark, cause_or, expanded_by, fault_at, has_twice, include_by_words, include_line, include_paths, include_words, included, is_grouped, is_scripted, is_second_script, line_of_kind, macro_fault, macros_of, or_cause, override, read_line, read_lines, rule_by_words, rule_fault, rule_line, script_line, script_line_of, unless_cause, where_so, with_definition, with_rule, with_script_line, with_text, within_limits}
+use Rattle.make_grammar.specs.Statements.{Reading, line_limit, target_limit, file_limit, depth_limit, and_then, assignment, before_mark, cause_or, expanded_by, fault_at, has_twice, include_by_words, include_line, include_paths, include_words, reading_of_include, is_grouped, is_scripted, is_second_script, line_of_kind, macro_fault, macros_of, or_cause, override, read_line, read_lines, rule_by_words, rule_fault, rule_line, script_line, script_line_of, unless_cause, where_so, with_definition, with_rule, with_script_line, with_text, within_limits}
 use Rattle.make_grammar.specs.declared.logical_lines.LogicalLine.{LogicalLine}
 use Rattle.make_grammar.specs.declared.rule_lines.RuleWords.{RuleWords}
 
@@ -62,8 +62,8 @@ line_formed file n words reading are h =
       h,
     )
 
-rule_kept : (file : List ℕ) (n : ℕ) (before behind : List ℕ) (reading : Reading) → AreLines reading.rules → HasLines (rule_line file n before behind reading)
-rule_kept file n before behind reading h = by (rule_fault macros before behind) refl
+rule_preserved : (file : List ℕ) (n : ℕ) (before behind : List ℕ) (reading : Reading) → AreLines reading.rules → HasLines (rule_line file n before behind reading)
+rule_preserved file n before behind reading h = by (rule_fault macros before behind) refl
   where
     macros : List Macro
     macros = macros_of reading.macros
@@ -104,114 +104,114 @@ script_added file n line rule older reading h = second (is_second_script rule ol
     second true is = tt
     second false is = first (cause_or (where_so rule.is_special BadLine) (where_so (has_bad_dollar line) BadMacro)) is
 
-script_kept : (file : List ℕ) (n : ℕ) (line : List ℕ) (takes_script : Bool) (rules : List RuleLine) (reading : Reading) → AreLines rules → AreLines reading.rules → HasLines (script_line file n line takes_script rules reading)
-script_kept file n line true (rule ∷ older) reading h k = by (is_blank_line line)
+script_preserved : (file : List ℕ) (n : ℕ) (line : List ℕ) (takes_script : Bool) (rules : List RuleLine) (reading : Reading) → AreLines rules → AreLines reading.rules → HasLines (script_line file n line takes_script rules reading)
+script_preserved file n line true (rule ∷ older) reading h k = by (is_blank_line line)
   where
     by : (t : Bool) → HasLines (if t then Ok reading else script_line_of file n line rule older reading)
     by true = k
     by false = script_added file n line rule older reading h
-script_kept file n line true [] reading h k = tt
-script_kept file n line false rules reading h k = tt
+script_preserved file n line true [] reading h k = tt
+script_preserved file n line false rules reading h k = tt
 
 -- ---- other lines
 
-then_kept : (read : Result Reading MakeError) (next : Reading → Result Reading MakeError) → HasLines read → ((reading : Reading) → AreLines reading.rules → HasLines (next reading)) → HasLines (and_then read next)
-then_kept (Ok reading) next h more = more reading h
-then_kept (Err fault) next h more = tt
+then_preserved : (read : Result Reading MakeError) (next : Reading → Result Reading MakeError) → HasLines read → ((reading : Reading) → AreLines reading.rules → HasLines (next reading)) → HasLines (and_then read next)
+then_preserved (Ok reading) next h more = more reading h
+then_preserved (Err fault) next h more = tt
 
-unless_kept : (file : List ℕ) (n : ℕ) (cause : Option MakeCause) (reading : Reading) → AreLines reading.rules → HasLines (unless_cause file n cause reading)
-unless_kept file n None reading h = h
-unless_kept file n (Some cause) reading h = tt
+unless_preserved : (file : List ℕ) (n : ℕ) (cause : Option MakeCause) (reading : Reading) → AreLines reading.rules → HasLines (unless_cause file n cause reading)
+unless_preserved file n None reading h = h
+unless_preserved file n (Some cause) reading h = tt
 
-within_kept : (file : List ℕ) (n : ℕ) (reading : Reading) → AreLines reading.rules → HasLines (within_limits file n reading)
-within_kept file n reading h = by (nat_lt line_limit reading.lines || nat_lt target_limit reading.targets || nat_lt file_limit reading.files)
+within_preserved : (file : List ℕ) (n : ℕ) (reading : Reading) → AreLines reading.rules → HasLines (within_limits file n reading)
+within_preserved file n reading h = by (nat_lt line_limit reading.lines || nat_lt target_limit reading.targets || nat_lt file_limit reading.files)
   where
     by : (t : Bool) → HasLines (if t then fault_at file n TooMany else Ok reading)
     by true = tt
     by false = h
 
-assignment_kept : (file : List ℕ) (n : ℕ) (name value : List ℕ) (reading : Reading) → AreLines reading.rules → HasLines (assignment file n name value reading)
-assignment_kept file n name value reading h =
-    unless_kept file n (macro_fault name value)
+assignment_preserved : (file : List ℕ) (n : ℕ) (name value : List ℕ) (reading : Reading) → AreLines reading.rules → HasLines (assignment file n name value reading)
+assignment_preserved file n name value reading h =
+    unless_preserved file n (macro_fault name value)
     (record reading {
       macros = with_definition (record { name = name; value = value; file = file; line = n; is_fixed = false }) reading.macros;
       takes_script = false;
     }) h
 
-paths_kept : (include : Reading → List ℕ → Result Reading MakeError) (paths : List (List ℕ)) (read : Result Reading MakeError) → KeepsLines include → HasLines read → HasLines (include_paths include paths read)
-paths_kept include [] read keeps h = h
-paths_kept include (path ∷ paths) read keeps h =
-    paths_kept include paths (and_then read (λ reading. include reading path)) keeps (then_kept read (λ reading. include reading path) h (λ reading. keeps reading path))
+paths_preserved : (include : Reading → List ℕ → Result Reading MakeError) (paths : List (List ℕ)) (read : Result Reading MakeError) → KeepsLines include → HasLines read → HasLines (include_paths include paths read)
+paths_preserved include [] read keeps h = h
+paths_preserved include (path ∷ paths) read keeps h =
+    paths_preserved include paths (and_then read (λ reading. include reading path)) keeps (then_preserved read (λ reading. include reading path) h (λ reading. keeps reading path))
 
-include_kept : (include : Reading → List ℕ → Result Reading MakeError) (file : List ℕ) (n : ℕ) (behind : List ℕ) (reading : Reading) → KeepsLines include → AreLines reading.rules → HasLines (include_line include file n behind reading)
-include_kept include file n behind reading keeps h = by (include_words (macros_of reading.macros) behind)
+include_preserved : (include : Reading → List ℕ → Result Reading MakeError) (file : List ℕ) (n : ℕ) (behind : List ℕ) (reading : Reading) → KeepsLines include → AreLines reading.rules → HasLines (include_line include file n behind reading)
+include_preserved include file n behind reading keeps h = by (include_words (macros_of reading.macros) behind)
   where
     by : (words : Result (List (List ℕ)) MakeCause) → HasLines (include_by_words include file n reading words)
     by (Err cause) = tt
-    by (Ok paths) = paths_kept include paths (within_limits file n (record reading { takes_script = false })) keeps (within_kept file n (record reading { takes_script = false }) h)
+    by (Ok paths) = paths_preserved include paths (within_limits file n (record reading { takes_script = false })) keeps (within_preserved file n (record reading { takes_script = false }) h)
 
 -- ---- all lines
 
-kind_kept : (include : Reading → List ℕ → Result Reading MakeError) (file : List ℕ) (n : ℕ) (kind : Kind) (reading : Reading) → KeepsLines include → AreLines reading.rules → HasLines (line_of_kind include file n kind reading)
-kind_kept include file n Blank reading keeps h = h
-kind_kept include file n (Include behind) reading keeps h = include_kept include file n behind reading keeps h
-kind_kept include file n (Assignment before behind) reading keeps h = assignment_kept file n (trimmed before) (trimmed behind) reading h
-kind_kept include file n (Rule before behind) reading keeps h = rule_kept file n before behind reading h
-kind_kept include file n Unclosed reading keeps h = tt
-kind_kept include file n Neither reading keeps h = tt
+kind_preserved : (include : Reading → List ℕ → Result Reading MakeError) (file : List ℕ) (n : ℕ) (kind : Kind) (reading : Reading) → KeepsLines include → AreLines reading.rules → HasLines (line_of_kind include file n kind reading)
+kind_preserved include file n Blank reading keeps h = h
+kind_preserved include file n (Include behind) reading keeps h = include_preserved include file n behind reading keeps h
+kind_preserved include file n (Assignment before behind) reading keeps h = assignment_preserved file n (trimmed_bytes before) (trimmed_bytes behind) reading h
+kind_preserved include file n (Rule before behind) reading keeps h = rule_preserved file n before behind reading h
+kind_preserved include file n Unclosed reading keeps h = tt
+kind_preserved include file n Neither reading keeps h = tt
 
-line_kept : (include : ℕ → Reading → List ℕ → Result Reading MakeError) (file : List ℕ) (line : LogicalLine) (reading : Reading) → ((n : ℕ) → KeepsLines (include n)) → AreLines reading.rules → HasLines (read_line include file line reading)
-line_kept include file line reading keeps h = by (is_script_line line.bytes)
+line_preserved : (include : ℕ → Reading → List ℕ → Result Reading MakeError) (file : List ℕ) (line : LogicalLine) (reading : Reading) → ((n : ℕ) → KeepsLines (include n)) → AreLines reading.rules → HasLines (read_line include file line reading)
+line_preserved include file line reading keeps h = by (is_script_line line.bytes)
   where
     by : (t : Bool) → HasLines (if t then script_line file line.number line.bytes reading.takes_script reading.rules reading
         else line_of_kind (include line.number) file line.number (line_kind (without_comment line.bytes)) reading)
-    by true = script_kept file line.number line.bytes reading.takes_script reading.rules reading h h
-    by false = kind_kept (include line.number) file line.number (line_kind (without_comment line.bytes)) reading (keeps line.number) h
+    by true = script_preserved file line.number line.bytes reading.takes_script reading.rules reading h h
+    by false = kind_preserved (include line.number) file line.number (line_kind (without_comment line.bytes)) reading (keeps line.number) h
 
-lines_kept : (include : ℕ → Reading → List ℕ → Result Reading MakeError) (file : List ℕ) (lines : List LogicalLine) (reading : Reading) → ((n : ℕ) → KeepsLines (include n)) → AreLines reading.rules → HasLines (read_lines include file lines reading)
-lines_kept include file [] reading keeps h = h
-lines_kept include file (line ∷ lines) reading keeps h =
+lines_preserved : (include : ℕ → Reading → List ℕ → Result Reading MakeError) (file : List ℕ) (lines : List LogicalLine) (reading : Reading) → ((n : ℕ) → KeepsLines (include n)) → AreLines reading.rules → HasLines (read_lines include file lines reading)
+lines_preserved include file [] reading keeps h = h
+lines_preserved include file (line ∷ lines) reading keeps h =
     let counted = record reading { lines = reading.lines + 1 } in
     let read = read_line include file line counted in
-    then_kept (and_then read (within_limits file line.number)) (read_lines include file lines)
-    (then_kept read (within_limits file line.number) (line_kept include file line counted keeps h) (within_kept file line.number))
-    (λ reading kept. lines_kept include file lines reading keeps kept)
+    then_preserved (and_then read (within_limits file line.number)) (read_lines include file lines)
+    (then_preserved read (within_limits file line.number) (line_preserved include file line counted keeps h) (within_preserved file line.number))
+    (λ reading kept. lines_preserved include file lines reading keeps kept)
 
-included_kept : (files : Files) (left : ℕ) (file : List ℕ) (n : ℕ) → KeepsLines (included files left file n)
-included_kept files zero file n reading path h = by (files path)
+included_preserved : (files : Files) (left : ℕ) (file : List ℕ) (n : ℕ) → KeepsLines (reading_of_include files left file n)
+included_preserved files zero file n reading path h = by (files path)
   where
     by : (text : Option (List ℕ)) → HasLines (with_text file n (λ text. fault_at file n IncludeDepth) text)
     by None = tt
     by (Some text) = tt
-included_kept files (suc left) file n reading path h = by (included_kept files left path) (files path)
+included_preserved files (suc left) file n reading path h = by (included_preserved files left path) (files path)
   where
     counted : Reading
     counted = record reading { files = reading.files + 1 }
 
     lines : List ℕ → Reading → Result Reading MakeError
-    lines text = read_lines (included files left path) path (logical_lines text)
+    lines text = read_lines (reading_of_include files left path) path (logical_lines text)
 
-    by : ((m : ℕ) → KeepsLines (included files left path m)) → (text : Option (List ℕ)) → HasLines (with_text file n (λ text. and_then (within_limits file n counted) (lines text)) text)
+    by : ((m : ℕ) → KeepsLines (reading_of_include files left path m)) → (text : Option (List ℕ)) → HasLines (with_text file n (λ text. and_then (within_limits file n counted) (lines text)) text)
     by keeps None = tt
     by keeps (Some text) =
-        then_kept (within_limits file n counted) (lines text) (within_kept file n counted h)
-        (λ reading kept. lines_kept (included files left path) path (logical_lines text) reading keeps kept)
+        then_preserved (within_limits file n counted) (lines text) (within_preserved file n counted h)
+        (λ reading kept. lines_preserved (reading_of_include files left path) path (logical_lines text) reading keeps kept)
 
-override_kept : (file : List ℕ) (reading : Reading) (macro : Macro) → AreLines reading.rules → HasLines (override file reading macro)
-override_kept file reading macro h =
-    unless_kept file 0 (macro_fault macro.name macro.value)
+override_preserved : (file : List ℕ) (reading : Reading) (macro : Macro) → AreLines reading.rules → HasLines (override file reading macro)
+override_preserved file reading macro h =
+    unless_preserved file 0 (macro_fault macro.name macro.value)
     (record reading {
       macros = with_definition (record { name = macro.name; value = macro.value; file = file; line = 0; is_fixed = true }) reading.macros;
     }) h
 
-overrides_kept : (file : List ℕ) (macros : List Macro) (reading : Reading) → AreLines reading.rules → HasLines (with_overrides file macros reading)
-overrides_kept file [] reading h = h
-overrides_kept file (macro ∷ macros) reading h =
-    then_kept (override file reading macro) (with_overrides file macros) (override_kept file reading macro h) (λ reading kept. overrides_kept file macros reading kept)
+overrides_preserved : (file : List ℕ) (macros : List Macro) (reading : Reading) → AreLines reading.rules → HasLines (with_overrides file macros reading)
+overrides_preserved file [] reading h = h
+overrides_preserved file (macro ∷ macros) reading h =
+    then_preserved (override file reading macro) (with_overrides file macros) (override_preserved file reading macro h) (λ reading kept. overrides_preserved file macros reading kept)
 
 -- The rule lines of a makefile are in their form.
 pub lines_of_makefile : (files : Files) (file text : List ℕ) (overrides : List Macro) → HasLines (lines_read files file text overrides)
 lines_of_makefile files file text overrides =
-    then_kept (with_overrides file overrides nothing_read) (read_lines (included files depth_limit file) file (logical_lines text))
-    (overrides_kept file overrides nothing_read tt)
-    (λ reading kept. lines_kept (included files depth_limit file) file (logical_lines text) reading (included_kept files depth_limit file) kept)
+    then_preserved (with_overrides file overrides nothing_read) (read_lines (reading_of_include files depth_limit file) file (logical_lines text))
+    (overrides_preserved file overrides nothing_read tt)
+    (λ reading kept. lines_preserved (reading_of_include files depth_limit file) file (logical_lines text) reading (included_preserved files depth_limit file) kept)

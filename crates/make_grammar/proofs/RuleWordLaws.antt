@@ -12,7 +12,7 @@ use Rattle.cc_names.specs.declared.commands.Macro.{Macro}
 use Rattle.cc_names.specs.declared.refusals.MakeCause.{MakeCause}
 use Rattle.cc_names.specs.declared.refusals.MakeCause.TheVariants.{BadPath, LineTooLong, MacroLoop}
 use Rattle.make_grammar.proofs.ServingLaws.{all_filter, below_root, same_path, once_distinct}
-use Rattle.make_grammar.specs.Macros.{Expansion, followed, plain, is_too_long}
+use Rattle.make_grammar.specs.Macros.{Expansion, one_after_other, plain, is_too_long}
 use Rattle.make_grammar.specs.WordPaths.{path_in, with_path}
 use Rattle.make_grammar.specs.Statements.{mark_of, before_mark, cause_or, expanded_by, expansion_fault, is_grouped, is_path, is_special, line_words_fault, plain_targets, rule_bytes_fault, rule_expansion, rule_fault, rule_words_fault, where_so}
 use Rattle.make_grammar.specs.declared.rule_lines.RuleWords.{RuleWords}
@@ -124,14 +124,14 @@ short_enough expansion h = by (is_too_long expansion) refl h
     by false test h = ltb-false _ _ test
 
 -- the first of two expansions is no longer than both
-followed_length : (first next : Expansion) → length first.bytes ≤ length (followed first next).bytes
+followed_length : (first next : Expansion) → length first.bytes ≤ length (one_after_other first next).bytes
 followed_length first next = let both = length-append first.bytes (if first.loops then [] else next.bytes) in omega (arith, both)
 
 -- so there are few targets
 few_targets : (macros : List Macro) (before behind : List ℕ) → expansion_fault (rule_expansion macros before behind) ≡ None → length (words_of (expanded_by macros (before_mark before)).bytes) < 2 ^ 32
 few_targets macros before behind h =
     let both = short_enough (rule_expansion macros before behind) h in
-    let first = followed_length (expanded_by macros (before_mark before)) (followed (plain (mark_of before)) (expanded_by macros behind)) in
+    let first = followed_length (expanded_by macros (before_mark before)) (one_after_other (plain (mark_of before)) (expanded_by macros behind)) in
     let words = words_length (expanded_by macros (before_mark before)).bytes in
     omega (arith, both, first, words)
 

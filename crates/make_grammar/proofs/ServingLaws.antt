@@ -13,7 +13,7 @@ use Rattle.make_grammar.proofs.NumberLaws.{not_twice}
 use Rattle.make_grammar.specs.Contents.{Contents}
 use Rattle.make_grammar.specs.WordPaths.{path_in, unless_root, with_path, each_once}
 use Rattle.make_grammar.specs.Macros.{is_among}
-use Rattle.make_grammar.specs.Serving.{prerequisites_of, stem_of, only_if, source_at, inference_at, first_inference, may_be_served, inference, with_first, by_suffix, helped, inference_for, serving_of, bare_rule, serving_alone, without_rule, servings}
+use Rattle.make_grammar.specs.Serving.{prerequisites_of, stem_of, only_if, source_at, inference_at, first_inference, may_be_served, inference, with_first, by_suffix, with_suffix_rule, inference_for, serving_of, bare_rule, serving_alone, without_rule, servings}
 use Rattle.make_grammar.specs.Rules.{Inference, MakeRule, Serving, SuffixRule}
 use Rattle.make_grammar.specs.Units.{targets_of, is_target}
 use Rattle.make_grammar.specs.UnitLaws.{ArePrerequisites, IsRule, IsFormed}
@@ -157,7 +157,7 @@ distinct_append (p ∷ ps) qs one two apart =
 
 -- ---- the targets of what serves
 
-helped_targets : (rule : MakeRule) (o : Option Inference) → (helped rule o).targets ≡ rule.targets
+helped_targets : (rule : MakeRule) (o : Option Inference) → (with_suffix_rule rule o).targets ≡ rule.targets
 helped_targets rule None = refl
 helped_targets rule (Some found) = refl
 
@@ -308,7 +308,7 @@ with_first_formed path ps below formed =
         by true is rest = rest
         by false is rest = (is, rest)
 
-helped_formed : (rule : MakeRule) (o : Option Inference) → IsRule rule → ((found : Inference) → o ≡ Some found → IsBelowRoot found.source) → IsServing (helped rule o)
+helped_formed : (rule : MakeRule) (o : Option Inference) → IsRule rule → ((found : Inference) → o ≡ Some found → IsBelowRoot found.source) → IsServing (with_suffix_rule rule o)
 helped_formed rule None formed below = record { targets = formed.0; prerequisites = formed.1 }
 helped_formed rule (Some found) formed below = record { targets = formed.0; prerequisites = with_first_formed found.source rule.prerequisites (below found refl) formed.1 }
 

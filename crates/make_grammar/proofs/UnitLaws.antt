@@ -8,7 +8,7 @@ use Rattle.make_grammar.proofs.NumberLaws.{IsNumbered, numbered, number_is}
 use Rattle.make_grammar.proofs.ServingLaws.{IsServing, servings_apart, servings_formed}
 use Rattle.make_grammar.proofs.WalkLaws.{IsSettled, walk_settles}
 use Rattle.make_grammar.specs.Contents.{Contents, unless_too_long, expansion}
-use Rattle.make_grammar.specs.Graphs.{first_of, first_target, script_for, unit_of, missing_goal, walked, unless_cycle, unless_missing}
+use Rattle.make_grammar.specs.Graphs.{first_of, first_target, script_for, unit_of, missing_goal, units_walked, unless_cycle, unless_missing}
 use Rattle.make_grammar.specs.declared.contents.Expanded.TheVariants.{TooLong, Lines}
 use Rattle.make_grammar.specs.Macros.{Expansion, is_among, expansion_of, in_script, expansion_limit, is_too_long}
 use Rattle.make_grammar.specs.Numbers.{number_from}
@@ -67,7 +67,7 @@ in_range units w settled j n at =
     some (u ∷ us) zero lt = (u, refl)
     some (u ∷ us) (suc m) lt = some us m (omega (arith, lt))
 
-walked_at : (make : Contents) (units : List Serving) (w : Walk) → IsSettled units w → (k : ℕ) (unit : Unit) → slice_get (walked make units w.order) k ≡ Some unit → IsWalked make units w.order k unit
+walked_at : (make : Contents) (units : List Serving) (w : Walk) → IsSettled units w → (k : ℕ) (unit : Unit) → slice_get (units_walked make units w.order) k ≡ Some unit → IsWalked make units w.order k unit
 walked_at make units w settled k unit h = by (slice_get (filter_map (slice_get units) w.order) k) refl (sym (slice_get-map (unit_of make) (filter_map (slice_get units) w.order) k) ∙ h)
   where
     by : (o : Option Serving) → slice_get (filter_map (slice_get units) w.order) k ≡ o → option_map (unit_of make) o ≡ Some unit → IsWalked make units w.order k unit
@@ -78,10 +78,10 @@ walked_at make units w settled k unit h = by (slice_get (filter_map (slice_get u
 
 -- ---- in order
 
-order_of : (make : Contents) (is_file : List ℕ → Bool) (goals : List (List ℕ)) (w : Walk) → IsFormed make → IsSettled (servings make is_file goals) w → InOrder (walked make (servings make is_file goals) w.order)
+order_of : (make : Contents) (is_file : List ℕ → Bool) (goals : List (List ℕ)) (w : Walk) → IsFormed make → IsSettled (servings make is_file goals) w → InOrder (units_walked make (servings make is_file goals) w.order)
 order_of make is_file goals w formed settled = record {
   one = λ n unit path at has. one n unit path has (walked_at make units w settled n unit at) at;
-  earlier = λ n m unit path at among found. earlier n m path unit among (walked_at make units w settled n unit at) (numbered made_by_unit 0 path (walked make units w.order) m found);
+  earlier = λ n m unit path at among found. earlier n m path unit among (walked_at make units w settled n unit at) (numbered made_by_unit 0 path (units_walked make units w.order) m found);
 }
   where
     units : List Serving
@@ -94,9 +94,9 @@ order_of make is_file goals w formed settled = record {
         (ap (λ (v : Unit). is_among v.targets path) u.is ∙ has)
         ∙ ap Some (zero-add u.number)
 
-    one : (n : ℕ) (unit : Unit) (path : List ℕ) → is_among unit.targets path ≡ true → IsWalked make units w.order n unit → slice_get (walked make units w.order) n ≡ Some unit → number_from made_by_unit 0 path (walked make units w.order) ≡ Some n
+    one : (n : ℕ) (unit : Unit) (path : List ℕ) → is_among unit.targets path ≡ true → IsWalked make units w.order n unit → slice_get (units_walked make units w.order) n ≡ Some unit → number_from made_by_unit 0 path (units_walked make units w.order) ≡ Some n
     one n unit path has u at =
-        first_number made_by_unit 0 path (walked make units w.order) n unit at has
+        first_number made_by_unit 0 path (units_walked make units w.order) n unit at has
         (λ j other lt at_j has_j.
         let v = walked_at make units w settled j other at_j in
         let same : v.number ≡ u.number = cc (number path j other has_j v, number path n unit has u) in
@@ -104,7 +104,7 @@ order_of make is_file goals w formed settled = record {
         omega (arith, both, lt))
         ∙ ap Some (zero-add n)
 
-    earlier : (n m : ℕ) (path : List ℕ) (unit : Unit) → is_among unit.prerequisites path ≡ true → IsWalked make units w.order n unit → IsNumbered made_by_unit 0 path (walked make units w.order) m → m < n
+    earlier : (n m : ℕ) (path : List ℕ) (unit : Unit) → is_among unit.prerequisites path ≡ true → IsWalked make units w.order n unit → IsNumbered made_by_unit 0 path (units_walked make units w.order) m → m < n
     earlier n m path unit among u found =
         let v = walked_at make units w settled found.place found.item found.at in
         let numbered_v = number path found.place found.item found.has v in
@@ -119,7 +119,7 @@ order_of make is_file goals w formed settled = record {
 record IsWalkOf (make : Contents) (units : List Serving) (goals : List (List ℕ)) (us : List Unit) : Type 0 where
   walk : Walk
   is : walk_of units goals ≡ Ok walk
-  made : walked make units walk.order ≡ us
+  made : units_walked make units walk.order ≡ us
 
 source_is : (o : Option (List ℕ)) (us made : List Unit) → unless_source o us ≡ Ok made → us ≡ made
 source_is None us made h = cc
@@ -128,7 +128,7 @@ source_is (Some target) us made h = absurd (cc)
 cycle_is : (make : Contents) (units : List Serving) (is_file : List ℕ → Bool) (goals : List (List ℕ)) (us : List Unit) (r : Result Walk (List ℕ)) → walk_of units goals ≡ r → unless_cycle make units is_file r ≡ Ok us → IsWalkOf make units goals us
 cycle_is make units is_file goals us (Err path) is h = absurd (cc)
 cycle_is make units is_file goals us (Ok w) is h =
-    record { walk = w; is = is; made = source_is (find is_file (flat_map made_by (walked make units w.order))) (walked make units w.order) us h }
+    record { walk = w; is = is; made = source_is (find is_file (flat_map made_by (units_walked make units w.order))) (units_walked make units w.order) us h }
 
 missing_is : (make : Contents) (units : List Serving) (is_file : List ℕ → Bool) (goals : List (List ℕ)) (us : List Unit) (o : Option (List ℕ)) → unless_missing make units is_file goals o ≡ Ok us → IsWalkOf make units goals us
 missing_is make units is_file goals us None h = cycle_is make units is_file goals us (walk_of units goals) refl h

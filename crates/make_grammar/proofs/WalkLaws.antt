@@ -4,11 +4,11 @@ use Rattle.std.proofs.lemmas.List.{length-replicate, get_or-replicate}
 use Rattle.std.proofs.lemmas.Option.{slice_get_within, slice_get-get_or, get_or_from_slice_get}
 use Rattle.std.proofs.lemmas.Slice.Eq.{bytes_eq-Decides}
 use Rattle.std.specs.Str.{bytes_eq}
-use Rattle.make_grammar.proofs.Places.{same_or_not, get_front, get_last, get_push, set_same, set_other, from_other}
+use Rattle.make_grammar.proofs.Places.{same_or_not, get_prefix, get_last, get_push, set_same, set_other, from_other}
 use Rattle.make_grammar.proofs.NumberLaws.{numbered}
 use Rattle.make_grammar.specs.Macros.{is_among}
 use Rattle.make_grammar.specs.Rules.{Serving}
-use Rattle.make_grammar.specs.Walks.{Walk, number_of, prerequisites_at, opened, closed, and_then, each_of, take_path, walk_of}
+use Rattle.make_grammar.specs.Walks.{Walk, number_of, prerequisites_at, with_open_unit, with_done_unit, and_then, each_of, take_path, walk_of}
 use Rattle.make_grammar.specs.declared.walks.Mark.{Mark}
 use Rattle.make_grammar.specs.declared.walks.Mark.TheVariants.{New, Open, Done}
 
@@ -39,13 +39,13 @@ two_steps a b c first second = record { open_still = λ n h. second.open_still n
 
 -- ---- a unit is opened
 
-later_opened : (units : List Serving) (w : Walk) (n : ℕ) → slice_get w.marks n ≡ Some New → IsLater w (opened n w)
+later_opened : (units : List Serving) (w : Walk) (n : ℕ) → slice_get w.marks n ≡ Some New → IsLater w (with_open_unit n w)
 later_opened units w n new = record {
   open_still = λ k h. set_other w.marks n k Open Open (λ same. let clash = ap (slice_get w.marks) same in cc) h;
   done_still = λ k h. set_other w.marks n k Open Done (λ same. let clash = ap (slice_get w.marks) same in cc) h;
 }
 
-settled_opened : (units : List Serving) (w : Walk) (n : ℕ) → slice_get w.marks n ≡ Some New → IsSettled units w → IsSettled units (opened n w)
+settled_opened : (units : List Serving) (w : Walk) (n : ℕ) → slice_get w.marks n ≡ Some New → IsSettled units w → IsSettled units (with_open_unit n w)
 settled_opened units w n new settled = record {
   size = length-set w.marks n Open ∙ settled.size;
   placed = λ k h. settled.placed k (earlier k h (same_or_not k n));
@@ -62,7 +62,7 @@ settled_opened units w n new settled = record {
 
 settled_closed : (units : List Serving) (w : Walk) (n : ℕ) → slice_get w.marks n ≡ Some Open → IsSettled units w →
     ((path : List ℕ) (q : ℕ) → is_among (prerequisites_at (slice_get units n)) path ≡ true → number_of units path ≡ Some q → slice_get w.marks q ≡ Some Done) →
-    IsSettled units (closed n w)
+    IsSettled units (with_done_unit n w)
 settled_closed units w n is_open settled ready = record {
   size = length-set w.marks n Done ∙ settled.size;
   placed = λ k h. placed k h (same_or_not k n);
@@ -75,7 +75,7 @@ settled_closed units w n is_open settled ready = record {
     placed k h (inl same) = (length w.order, get_last w.order n ∙ ap Some (sym same))
     placed k h (inr other) =
         let there = settled.placed k (from_other w.marks n k Done Done other h) in
-        (there.0, get_front w.order (n ∷ []) there.0 k there.1)
+        (there.0, get_prefix w.order (n ∷ []) there.0 k there.1)
 
     still : (m : ℕ) → slice_get w.marks m ≡ Some Done → (m ≡ n) ⊎ (m ≢ n) → slice_get (slice_set w.marks n Done) m ≡ Some Done
     still m h (inl same) = subst (λ (i : ℕ). slice_get (slice_set w.marks n Done) i ≡ Some Done) (sym same) (set_same w.marks n Open Done is_open)
@@ -98,14 +98,14 @@ settled_closed units w n is_open settled ready = record {
         (j : ℕ) × ((j < k) × (slice_get (w.order ++ n ∷ []) j ≡ Some q))
     behind k m q path (inl before) among is =
         let there = settled.behind k m q path before among is in
-        (there.0, (there.1.0, get_front w.order (n ∷ []) there.0 q there.1.1))
+        (there.0, (there.1.0, get_prefix w.order (n ∷ []) there.0 q there.1.1))
     behind k m q path (inr last) among is =
         let among_n = subst (λ (i : ℕ). is_among (prerequisites_at (slice_get units i)) path ≡ true) (sym last.1) among in
         let there = settled.placed q (ready path q among_n is) in
         let lt : there.0 < length w.order = slice_get_within w.order there.0 q there.1 in
-        (there.0, (subst (λ (i : ℕ). there.0 < i) (sym last.0) lt, get_front w.order (n ∷ []) there.0 q there.1))
+        (there.0, (subst (λ (i : ℕ). there.0 < i) (sym last.0) lt, get_prefix w.order (n ∷ []) there.0 q there.1))
 
-later_closed : (w0 w : Walk) (n : ℕ) → slice_get w0.marks n ≡ Some New → slice_get w.marks n ≡ Some Open → IsLater w0 w → IsLater w0 (closed n w)
+later_closed : (w0 w : Walk) (n : ℕ) → slice_get w0.marks n ≡ Some New → slice_get w.marks n ≡ Some Open → IsLater w0 w → IsLater w0 (with_done_unit n w)
 later_closed w0 w n new is_open later = record {
   open_still = λ k h. set_other w.marks n k Done Open (λ same. let clash = ap (slice_get w0.marks) same in cc) (later.open_still k h);
   done_still = λ k h. set_other w.marks n k Done Done (λ same. let clash = ap (slice_get w0.marks) same in cc) (later.done_still k h);
@@ -142,11 +142,11 @@ each_taken units take_one takes (path ∷ paths) w v settled h = by (take_one pa
         }
 
 -- what is left where a new unit was walked
-closed_taken : (units : List Serving) (w u : Walk) (n : ℕ) → IsSettled units w → slice_get w.marks n ≡ Some New → HasTaken units (prerequisites_at (slice_get units n)) (opened n w) u →
-    (IsSettled units (closed n u)) × (IsLater w (closed n u))
+closed_taken : (units : List Serving) (w u : Walk) (n : ℕ) → IsSettled units w → slice_get w.marks n ≡ Some New → HasTaken units (prerequisites_at (slice_get units n)) (with_open_unit n w) u →
+    (IsSettled units (with_done_unit n u)) × (IsLater w (with_done_unit n u))
 closed_taken units w u n settled new inner =
     let is_open = inner.later.open_still n (set_same w.marks n New Open new) in
-    (settled_closed units u n is_open inner.settled inner.taken, later_closed w u n new is_open (two_steps w (opened n w) u (later_opened units w n new) inner.later))
+    (settled_closed units u n is_open inner.settled inner.taken, later_closed w u n new is_open (two_steps w (with_open_unit n w) u (later_opened units w n new) inner.later))
 
 taken_path : (depth : ℕ) (units : List Serving) → Takes units (take_path depth units)
 taken_path zero units path w v settled h = absurd (cc)
@@ -165,15 +165,15 @@ taken_path (suc depth) units path w v settled h = by_number (number_of units pat
         subst (λ (x : Walk). (IsSettled units x) × ((IsLater w x) × ((q : ℕ) → number_of units path ≡ Some q → slice_get x.marks q ≡ Some Done))) same here
 
     entered : (n : ℕ) → number_of units path ≡ Some n → slice_get w.marks n ≡ Some New → (r : Result Walk (List ℕ)) →
-        ((u : Walk) → r ≡ Ok u → HasTaken units (prerequisites_at (slice_get units n)) (opened n w) u) →
-        and_then r (λ later. Ok (closed n later)) ≡ Ok v → By
+        ((u : Walk) → r ≡ Ok u → HasTaken units (prerequisites_at (slice_get units n)) (with_open_unit n w) u) →
+        and_then r (λ later. Ok (with_done_unit n later)) ≡ Ok v → By
     entered n is new (Err met) inner e = absurd (cc)
     entered n is new (Ok u) inner e =
-        let same : closed n u ≡ v = cc in
+        let same : with_done_unit n u ≡ v = cc in
         let all = closed_taken units w u n settled new (inner u refl) in
         let is_open = (inner u refl).later.open_still n (set_same w.marks n New Open new) in
-        let here : (IsSettled units (closed n u)) × ((IsLater w (closed n u)) × ((q : ℕ) → number_of units path ≡ Some q → slice_get (closed n u).marks q ≡ Some Done)) =
-        (all.0, (all.1, λ q number. let at : n ≡ q = cc in subst (λ (i : ℕ). slice_get (closed n u).marks i ≡ Some Done) at (set_same u.marks n Open Done is_open))) in
+        let here : (IsSettled units (with_done_unit n u)) × ((IsLater w (with_done_unit n u)) × ((q : ℕ) → number_of units path ≡ Some q → slice_get (with_done_unit n u).marks q ≡ Some Done)) =
+        (all.0, (all.1, λ q number. let at : n ≡ q = cc in subst (λ (i : ℕ). slice_get (with_done_unit n u).marks i ≡ Some Done) at (set_same u.marks n Open Done is_open))) in
         subst (λ (x : Walk). (IsSettled units x) × ((IsLater w x) × ((q : ℕ) → number_of units path ≡ Some q → slice_get x.marks q ≡ Some Done))) same here
 
     within : (n : ℕ) → number_of units path ≡ Some n → n < length w.marks
@@ -184,14 +184,14 @@ taken_path (suc depth) units path w v settled h = by_number (number_of units pat
 
     by_mark : (n : ℕ) → number_of units path ≡ Some n → (m : Option Mark) → slice_get w.marks n ≡ m → elim m as (λ x. Result Walk (List ℕ)) [
       | None ↦ Ok w
-      | Some New ↦ and_then (each_of (take_path depth units) (prerequisites_at (slice_get units n)) (opened n w)) (λ later. Ok (closed n later))
+      | Some New ↦ and_then (each_of (take_path depth units) (prerequisites_at (slice_get units n)) (with_open_unit n w)) (λ later. Ok (with_done_unit n later))
       | Some Open ↦ Err path
       | Some Done ↦ Ok w
     ] ≡ Ok v → Inner → By
     by_mark n is None mark e inner = absurd (let some = slice_get-get_or w.marks n New (within n is) in cc)
     by_mark n is (Some New) mark e inner =
-        entered n is mark (each_of (take_path depth units) (prerequisites_at (slice_get units n)) (opened n w))
-        (λ u made. inner (prerequisites_at (slice_get units n)) (opened n w) u (settled_opened units w n mark settled) made) e
+        entered n is mark (each_of (take_path depth units) (prerequisites_at (slice_get units n)) (with_open_unit n w))
+        (λ u made. inner (prerequisites_at (slice_get units n)) (with_open_unit n w) u (settled_opened units w n mark settled) made) e
     by_mark n is (Some Open) mark e inner = absurd (cc)
     by_mark n is (Some Done) mark e inner = passed (Some n) is (cc) (λ q same. let at : n ≡ q = cc in subst (λ (i : ℕ). slice_get w.marks i ≡ Some Done) at mark)
 
@@ -199,7 +199,7 @@ taken_path (suc depth) units path w v settled h = by_number (number_of units pat
       | None ↦ Ok w
       | Some n ↦ elim (slice_get w.marks n) as (λ x. Result Walk (List ℕ)) [
         | None ↦ Ok w
-        | Some New ↦ and_then (each_of (take_path depth units) (prerequisites_at (slice_get units n)) (opened n w)) (λ later. Ok (closed n later))
+        | Some New ↦ and_then (each_of (take_path depth units) (prerequisites_at (slice_get units n)) (with_open_unit n w)) (λ later. Ok (with_done_unit n later))
         | Some Open ↦ Err path
         | Some Done ↦ Ok w
       ]

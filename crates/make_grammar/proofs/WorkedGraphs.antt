@@ -130,8 +130,8 @@ no_chain : with_objects [] (codes "x.y" ∷ []) (codes "x.o" ∷ []) ≡ Err (No
 no_chain = refl
 
 -- the source comes to the front of the prerequisites of a rule without a script
-to_the_front : with_objects (bare (codes "x.o") (a ∷ codes "x.c" ∷ []) ∷ []) (a ∷ codes "x.c" ∷ []) [] ≡ Ok (unit_served (codes "x.o") (codes "x.c" ∷ a ∷ []) ∷ [])
-to_the_front = refl
+goes_first : with_objects (bare (codes "x.o") (a ∷ codes "x.c" ∷ []) ∷ []) (a ∷ codes "x.c" ∷ []) [] ≡ Ok (unit_served (codes "x.o") (codes "x.c" ∷ a ∷ []) ∷ [])
+goes_first = refl
 
 a_prerequisite : with_objects (made (a ∷ []) (codes "x.o" ∷ []) ∷ []) (codes "x.c" ∷ []) [] ≡ Ok (unit_served (codes "x.o") (codes "x.c" ∷ []) ∷ unit_made (a ∷ []) (codes "x.o" ∷ []) ∷ [])
 a_prerequisite = refl

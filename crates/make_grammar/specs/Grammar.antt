@@ -9,7 +9,7 @@ use Rattle.cc_names.specs.declared.refusals.MakeError.{MakeError}
 use Rattle.make_grammar.specs.LogicalLines.{logical_lines}
 use Rattle.make_grammar.specs.Macros.{is_among, no_automatic, reference_expansion}
 use Rattle.make_grammar.specs.Contents.{Contents, RuleLine, contents_from, groups_of, joined_rules}
-use Rattle.make_grammar.specs.Statements.{Definition, Reading, depth_limit, expansion_fault, included, macros_of, override, and_then, read_lines}
+use Rattle.make_grammar.specs.Statements.{Definition, Reading, depth_limit, expansion_fault, reading_of_include, macros_of, override, and_then, read_lines}
 
 -- the suffixes of a makefile that says nothing of them
 abbrev pub first_suffixes : List (List ℕ)
@@ -77,15 +77,15 @@ ending_fault reading =
     fault_or (macros_fault (macros_of reading.macros) reading.macros) (phony_fault reading.phony (reverse reading.rules))
 
 -- what a makefile says, by what was read of it, unless there is a fault behind its last line
-abbrev pub checked : Result Reading MakeError → Result Contents MakeError
-checked (Err fault) = Err fault
-checked (Ok reading) = unless_fault (ending_fault reading) (contents_of reading (reverse reading.rules))
+abbrev pub checked_contents : Result Reading MakeError → Result Contents MakeError
+checked_contents (Err fault) = Err fault
+checked_contents (Ok reading) = unless_fault (ending_fault reading) (contents_of reading (reverse reading.rules))
 
 -- the macros of the command line and then the lines of a makefile, read behind what was read
 abbrev pub lines_behind : Files → List ℕ → List ℕ → List Macro → Reading → Result Reading MakeError
 lines_behind files file text overrides reading =
     and_then (with_overrides file overrides reading)
-    (read_lines (included files depth_limit file) file (logical_lines text))
+    (read_lines (reading_of_include files depth_limit file) file (logical_lines text))
 
 -- the lines of a makefile, read behind the macros of the command line
 abbrev pub lines_read : Files → List ℕ → List ℕ → List Macro → Result Reading MakeError
@@ -93,8 +93,8 @@ lines_read files file text overrides = lines_behind files file text overrides no
 
 -- what a makefile of this text says
 abbrev pub makefile_of_text : Files → List ℕ → List Macro → Option (List ℕ) → Result Contents MakeError
-makefile_of_text files file overrides None = checked (lines_read files file [] overrides)
-makefile_of_text files file overrides (Some text) = checked (lines_read files file text overrides)
+makefile_of_text files file overrides None = checked_contents (lines_read files file [] overrides)
+makefile_of_text files file overrides (Some text) = checked_contents (lines_read files file text overrides)
 
 -- The makefile at a path, which has a text among these files, read with the macros of the command line; or the first line
 -- that fails, in its file, and why. Lines are counted from 1.

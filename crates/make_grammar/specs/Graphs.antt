@@ -46,14 +46,14 @@ missing_goal units is_file [] = Some root
 missing_goal units is_file (goal ∷ goals) = find (λ path. not (is_some (number_of units path) || is_file path)) (goal ∷ goals)
 
 -- the units that a walk was through with, in its order
-abbrev pub walked : Contents → List Serving → List ℕ → List Unit
-walked make units order = map (unit_of make) (filter_map (slice_get units) order)
+abbrev pub units_walked : Contents → List Serving → List ℕ → List Unit
+units_walked make units order = map (unit_of make) (filter_map (slice_get units) order)
 
 -- the units of a walk, unless it met a unit again
 abbrev pub unless_cycle : Contents → List Serving → (List ℕ → Bool) → Result Walk (List ℕ) → Result (List Unit) GraphFault
 unless_cycle make units is_file (Err path) = Err (graphs.Cycle path)
 unless_cycle make units is_file (Ok walk) =
-    unless_source (find is_file (flat_map made_by (walked make units walk.order))) (walked make units walk.order)
+    unless_source (find is_file (flat_map made_by (units_walked make units walk.order))) (units_walked make units walk.order)
 
 -- the units of a walk over goals, unless one of them is missing
 abbrev pub unless_missing : Contents → List Serving → (List ℕ → Bool) → List (List ℕ) → Option (List ℕ) → Result (List Unit) GraphFault

@@ -32,8 +32,8 @@ abbrev pub without_comment : List ℕ → List ℕ
 without_comment line = before_first is_hash line
 
 -- bytes without the blanks at both ends
-abbrev pub trimmed : List ℕ → List ℕ
-trimmed bytes = reverse (past_blanks (reverse (past_blanks bytes)))
+abbrev pub trimmed_bytes : List ℕ → List ℕ
+trimmed_bytes bytes = reverse (past_blanks (reverse (past_blanks bytes)))
 
 -- whether there is a byte, and it is a blank
 abbrev pub is_blank_byte : Option ℕ → Bool
@@ -61,8 +61,8 @@ abbrev pub decides : Position → ℕ → Bool
 decides position b = not (is_within position) && ((b == 61) || (b == 58))
 
 -- the kind that a byte decides, by what stands behind it
-abbrev pub decided : ℕ → List ℕ → Kind
-decided b behind = if b == 61 then Assignment [] behind else Rule [] behind
+abbrev pub kind_by_byte : ℕ → List ℕ → Kind
+kind_by_byte b behind = if b == 61 then Assignment [] behind else Rule [] behind
 
 -- a byte in front of what stands before the `=` or `:`
 abbrev pub with_byte : ℕ → Kind → Kind
@@ -74,7 +74,7 @@ with_byte b kind = kind
 abbrev pub kind_from : Position → List ℕ → Kind
 kind_from position [] = if is_within position then Unclosed else Neither
 kind_from position (b ∷ bs) =
-    if decides position b then decided b bs else with_byte b (kind_from (behind_byte position b) bs)
+    if decides position b then kind_by_byte b bs else with_byte b (kind_from (behind_byte position b) bs)
 
 -- the kind where the bytes may begin with `include`
 abbrev pub kind_or_include : Option (List ℕ) → List ℕ → Kind

@@ -41,8 +41,8 @@ single b =
     else Bad
 
 -- what a name between parentheses or braces is
-abbrev pub named : List ℕ → Piece
-named name = if is_macro_name name then Reference name else Bad
+abbrev pub piece_of_name : List ℕ → Piece
+piece_of_name name = if is_macro_name name then Reference name else Bad
 
 -- how far a reference is read: not begun, its `$`, or up to here in its name, with the byte that closes it
 pub data Scan : Type 0 where
@@ -61,7 +61,7 @@ pieces_from Dollar (b ∷ bs) =
     else if b == 123 then pieces_from (Name 125 []) bs
     else single b ∷ pieces_from Plain bs
 pieces_from (Name close name) (b ∷ bs) =
-    if b == close then named name ∷ pieces_from Plain bs
+    if b == close then piece_of_name name ∷ pieces_from Plain bs
     else pieces_from (Name close (name ++ (b ∷ []))) bs
 
 -- the pieces of a text: bytes, and `$(NAME)`, `${NAME}` or `$N` of one byte, or `$@`, `$<`, `$*`
@@ -91,8 +91,8 @@ abbrev pub loop : Expansion
 loop = record { bytes = []; loops = true }
 
 -- one expansion and then another, which a loop keeps from beginning
-abbrev pub followed : Expansion → Expansion → Expansion
-followed first next =
+abbrev pub one_after_other : Expansion → Expansion → Expansion
+one_after_other first next =
     record {
       bytes = first.bytes ++ (if first.loops then [] else next.bytes);
       loops = first.loops || next.loops;
@@ -109,7 +109,7 @@ piece_expansion refer automatic Bad = plain []
 abbrev pub pieces_expansion : (List ℕ → Expansion) → (ℕ → List ℕ) → List Piece → Expansion
 pieces_expansion refer automatic [] = plain []
 pieces_expansion refer automatic (piece ∷ pieces) =
-    followed (piece_expansion refer automatic piece) (pieces_expansion refer automatic pieces)
+    one_after_other (piece_expansion refer automatic piece) (pieces_expansion refer automatic pieces)
 
 -- the value of the macro of this name, where there is one
 abbrev pub value_in : List Macro → List ℕ → Option (List ℕ)

@@ -60,9 +60,9 @@ abbrev pub by_itself : MakeRule → Serving
 by_itself rule = record { targets = rule.targets; prerequisites = rule.prerequisites; script = rule.script; stem = [] }
 
 -- a rule with the help of a suffix rule, if there is any
-abbrev pub helped : MakeRule → Option Inference → Serving
-helped rule None = by_itself rule
-helped rule (Some found) = by_suffix rule found
+abbrev pub with_suffix_rule : MakeRule → Option Inference → Serving
+with_suffix_rule rule None = by_itself rule
+with_suffix_rule rule (Some found) = by_suffix rule found
 
 -- the inference for a rule of these targets and this script: a rule that has a script needs none
 abbrev pub inference_for : Contents → (List ℕ → Bool) → List (List ℕ) → Option (List ℕ) → Option Inference
@@ -72,7 +72,7 @@ inference_for make is_file (target ∷ targets) None = inference make is_file ta
 
 -- a rule of the makefile as it serves
 abbrev pub serving_of : Contents → (List ℕ → Bool) → MakeRule → Serving
-serving_of make is_file rule = helped rule (inference_for make is_file rule.targets rule.script)
+serving_of make is_file rule = with_suffix_rule rule (inference_for make is_file rule.targets rule.script)
 
 -- the rule that says nothing of its target
 abbrev pub bare_rule : List ℕ → MakeRule

@@ -11,8 +11,8 @@ use Rattle.cc_names.specs.declared.refusals.MakeCause.TheVariants.{BadLine, BadM
 use Rattle.cc_names.specs.declared.refusals.MakeError.{MakeError}
 use Rattle.make_grammar.specs.Lines.{is_byte, is_script_line, is_blank_line}
 use Rattle.make_grammar.specs.LogicalLines.{logical_lines, without_last}
-use Rattle.make_grammar.specs.LineKinds.{Kind, Blank, Include, Assignment, Rule, Unclosed, Neither, line_kind, without_comment, trimmed}
-use Rattle.make_grammar.specs.Macros.{Expansion, expansion_of, followed, plain, has_bad_dollar, is_macro_name, no_automatic, is_too_long, is_among}
+use Rattle.make_grammar.specs.LineKinds.{Kind, Blank, Include, Assignment, Rule, Unclosed, Neither, line_kind, without_comment, trimmed_bytes}
+use Rattle.make_grammar.specs.Macros.{Expansion, expansion_of, one_after_other, plain, has_bad_dollar, is_macro_name, no_automatic, is_too_long, is_among}
 use Rattle.make_grammar.specs.WordPaths.{path_in, with_path, each_once}
 use Rattle.make_grammar.specs.Contents.{RuleLine}
 use Rattle.make_grammar.specs.declared.logical_lines.LogicalLine.{LogicalLine}
@@ -182,7 +182,7 @@ mark_of before = if is_grouped before then codes "&:" else codes ":"
 -- the expansion of a rule line: both sides, with the mark between them
 abbrev pub rule_expansion : List Macro → List ℕ → List ℕ → Expansion
 rule_expansion macros before behind =
-    followed (expanded_by macros (before_mark before)) (followed (plain (mark_of before)) (expanded_by macros behind))
+    one_after_other (expanded_by macros (before_mark before)) (one_after_other (plain (mark_of before)) (expanded_by macros behind))
 
 -- a `;`
 abbrev pub is_semicolon : ℕ → Bool
@@ -334,7 +334,7 @@ include_line include file n behind reading =
 abbrev pub line_of_kind : (Reading → List ℕ → Result Reading MakeError) → List ℕ → ℕ → Kind → Reading → Result Reading MakeError
 line_of_kind include file n Blank reading = Ok reading
 line_of_kind include file n (Include behind) reading = include_line include file n behind reading
-line_of_kind include file n (Assignment before behind) reading = assignment file n (trimmed before) (trimmed behind) reading
+line_of_kind include file n (Assignment before behind) reading = assignment file n (trimmed_bytes before) (trimmed_bytes behind) reading
 line_of_kind include file n (Rule before behind) reading = rule_line file n before behind reading
 line_of_kind include file n Unclosed reading = fault_at file n BadMacro
 line_of_kind include file n Neither reading = fault_at file n BadLine
@@ -361,11 +361,11 @@ with_text file n read (Some text) = read text
 
 -- The file at a path, included at a line of another and read in place. The number is how many files can still be included
 -- inside each other.
-abbrev pub included : Files → ℕ → List ℕ → ℕ → Reading → List ℕ → Result Reading MakeError
-included files zero file n reading path = with_text file n (λ text. fault_at file n IncludeDepth) (files path)
-included files (suc left) file n reading path =
+abbrev pub reading_of_include : Files → ℕ → List ℕ → ℕ → Reading → List ℕ → Result Reading MakeError
+reading_of_include files zero file n reading path = with_text file n (λ text. fault_at file n IncludeDepth) (files path)
+reading_of_include files (suc left) file n reading path =
     with_text file n
     (λ text.
     and_then (within_limits file n (record reading { files = reading.files + 1 }))
-    (read_lines (included files left path) path (logical_lines text)))
+    (read_lines (reading_of_include files left path) path (logical_lines text)))
     (files path)

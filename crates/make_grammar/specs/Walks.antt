@@ -21,11 +21,11 @@ prerequisites_at None = []
 prerequisites_at (Some unit) = unit.prerequisites
 
 -- a walk that came to a unit, and one that is done with it
-abbrev pub opened : ℕ → Walk → Walk
-opened n walk = record { marks = slice_set walk.marks n Open; order = walk.order }
+abbrev pub with_open_unit : ℕ → Walk → Walk
+with_open_unit n walk = record { marks = slice_set walk.marks n Open; order = walk.order }
 
-abbrev pub closed : ℕ → Walk → Walk
-closed n walk = record { marks = slice_set walk.marks n Done; order = walk.order ++ n ∷ [] }
+abbrev pub with_done_unit : ℕ → Walk → Walk
+with_done_unit n walk = record { marks = slice_set walk.marks n Done; order = walk.order ++ n ∷ [] }
 
 -- a walk that goes on, unless a path was met again
 abbrev pub and_then : Result Walk (List ℕ) → (Walk → Result Walk (List ℕ)) → Result Walk (List ℕ)
@@ -48,7 +48,7 @@ take_path (suc depth) units path walk =
       | None ↦ Ok walk
       | Some n ↦ elim (slice_get walk.marks n) [
         | None ↦ Ok walk
-        | Some New ↦ and_then (each_of (take_path depth units) (prerequisites_at (slice_get units n)) (opened n walk)) (λ later. Ok (closed n later))
+        | Some New ↦ and_then (each_of (take_path depth units) (prerequisites_at (slice_get units n)) (with_open_unit n walk)) (λ later. Ok (with_done_unit n later))
         | Some Open ↦ Err path
         | Some Done ↦ Ok walk
       ]

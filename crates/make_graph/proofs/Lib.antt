@@ -9,5 +9,5 @@ pub mod StandingLaws
 mod Worked
 mod NumberSetLemmas
 mod ClosureSteps
-mod KeptLemmas
+mod CachedLemmas
 mod DependantLemmas

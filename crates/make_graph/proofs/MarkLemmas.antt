@@ -4,7 +4,7 @@ use Rattle.std.proofs.Math.Nat.{eq-or-lt_of_le}
 use Rattle.std.proofs.lemmas.Bool.Decides.{nat_tests}
 use Rattle.cc_names.specs.declared.units.Unit.{Unit}
 use Rattle.make_graph.specs.Marks.{AddsMarks, IsEnd}
-use Rattle.make_graph.specs.Waits.{makes_one, makers_of, needed, closure_of, prerequisites_at, is_in, is_marked}
+use Rattle.make_graph.specs.Waits.{makes_one, makers_of, needed_units, closure_of, prerequisites_at, is_in, is_marked}
 use Rattle.make_graph.proofs.MakerLemmas.{is_maker}
 use Rattle.make_graph.proofs.NeedLemmas.{same_number, makes_more, true_or_false}
 use Rattle.make_graph.proofs.StandingLaws.{when_made, when_not}
@@ -52,18 +52,18 @@ no_mark below number n old le = by (n == number) refl
 pub record HasMarks (units : List Unit) (unit number : ℕ) (marks : List Bool) : Type 0 where
   pub wanted : List (List ℕ)
   pub low : (n : ℕ) → n < number → is_marked marks n ≡ makes_one units wanted n
-  pub all : (n : ℕ) → is_in (closure_of units unit) n ≡ (is_in (needed units number wanted) n || (nat_le number n && is_marked marks n))
+  pub all : (n : ℕ) → is_in (closure_of units unit) n ≡ (is_in (needed_units units number wanted) n || (nat_le number n && is_marked marks n))
 
 added : (a b t m : Bool) → a ≡ b → t ≡ true → (a || (t && m)) ≡ (b || m)
 added a b true m e h = ap (λ x. x || m) e
 added a b false m e h = absurd (cc)
 
 -- no unit from the end on makes what is wanted
-pub none_behind : (units : List Unit) (wanted : List (List ℕ)) (end unit : ℕ) → end ≤ unit → IsEnd unit (makers_of units wanted) end → needed units unit wanted ≡ needed units end wanted
-none_behind units wanted end zero le ends = let same : zero ≡ end = omega (arith, le) in ap (λ k. needed units k wanted) same
+pub none_behind : (units : List Unit) (wanted : List (List ℕ)) (end unit : ℕ) → end ≤ unit → IsEnd unit (makers_of units wanted) end → needed_units units unit wanted ≡ needed_units units end wanted
+none_behind units wanted end zero le ends = let same : zero ≡ end = omega (arith, le) in ap (λ k. needed_units units k wanted) same
 none_behind units wanted end (suc k) le ends =
     elim (eq-or-lt_of_le {n = end} {m = suc k} le) [
-      | inl same ↦ ap (λ m. needed units m wanted) (sym same)
+      | inl same ↦ ap (λ m. needed_units units m wanted) (sym same)
       | inr below ↦
           elim (true_or_false (makes_one units wanted k)) [
             | inl made ↦ absurd (omega (arith, below, ends k (omega arith) (is_maker units wanted k ∙ made)))
@@ -83,13 +83,13 @@ first_marks units unit end clear marks unset le ends adds = record {
     made n = adds n ∙ ap (λ t. is_marked clear n || (nat_lt n end && t)) (is_maker units (prerequisites_at units unit) n)
 
     above : (n : ℕ) (t : Bool) → nat_lt n end ≡ t →
-        is_in (needed units end (prerequisites_at units unit)) n ≡ (is_in (needed units end (prerequisites_at units unit)) n || (nat_le end n && is_marked marks n))
+        is_in (needed_units units end (prerequisites_at units unit)) n ≡ (is_in (needed_units units end (prerequisites_at units unit)) n || (nat_le end n && is_marked marks n))
     above n true h =
         let behind : nat_le end n ≡ false = grind (arith, nat_tests) in
-        sym (ap (λ t. is_in (needed units end (prerequisites_at units unit)) n || (t && is_marked marks n)) behind ∙ or_false _)
+        sym (ap (λ t. is_in (needed_units units end (prerequisites_at units unit)) n || (t && is_marked marks n)) behind ∙ or_false _)
     above n false h =
         let unmarked : is_marked marks n ≡ false = made n ∙ (ap (λ t. is_marked clear n || (t && makes_one units (prerequisites_at units unit) n)) h ∙ (or_false _ ∙ unset n)) in
-        sym (ap (λ m. is_in (needed units end (prerequisites_at units unit)) n || (nat_le end n && m)) unmarked ∙ (ap (λ t. is_in (needed units end (prerequisites_at units unit)) n || t) (and_false (nat_le end n)) ∙ or_false _))
+        sym (ap (λ m. is_in (needed_units units end (prerequisites_at units unit)) n || (nat_le end n && m)) unmarked ∙ (ap (λ t. is_in (needed_units units end (prerequisites_at units unit)) n || t) (and_false (nat_le end n)) ∙ or_false _))
 
 step_bits : (n k : ℕ) (x a b m : Bool) → b ≡ (a || (nat_lt n k && m)) → ((n ≡ k) → a ≡ true) →
     (((n == k) || x) || (nat_le (suc k) n && a)) ≡ (x || (nat_le k n && b))
@@ -121,7 +121,7 @@ marks_more units unit k old new h set adds = record {
   all = λ n.
       h.all n
       ∙ (ap (λ l. is_in l n || (nat_le (suc k) n && is_marked old n)) (when_made units k h.wanted (sym (h.low k (omega arith)) ∙ set))
-      ∙ step_bits n k (is_in (needed units k (h.wanted ++ prerequisites_at units k)) n) (is_marked old n) (is_marked new n) _ (made n)
+      ∙ step_bits n k (is_in (needed_units units k (h.wanted ++ prerequisites_at units k)) n) (is_marked old n) (is_marked new n) _ (made n)
       (λ same. ap (is_marked old) same ∙ set));
 }
   where
@@ -141,21 +141,21 @@ marks_same units unit k marks h set = record {
 }
   where
     past : (n : ℕ) (e l : Bool) → (n == k) ≡ e → nat_lt n k ≡ l →
-        (is_in (needed units k h.wanted) n || (nat_le (suc k) n && is_marked marks n)) ≡ (is_in (needed units k h.wanted) n || (nat_le k n && is_marked marks n))
+        (is_in (needed_units units k h.wanted) n || (nat_le (suc k) n && is_marked marks n)) ≡ (is_in (needed_units units k h.wanted) n || (nat_le k n && is_marked marks n))
     past n true l same is_less =
         let one : nat_le (suc k) n ≡ false = grind (arith, nat_tests) in
         let two : nat_le k n ≡ true = grind (arith, nat_tests) in
         let none : is_marked marks n ≡ false = ap (is_marked marks) (same_number n k same) ∙ set in
-        ap (λ t. is_in (needed units k h.wanted) n || (t && is_marked marks n)) one
-        ∙ sym (ap (λ t. is_in (needed units k h.wanted) n || (t && is_marked marks n)) two ∙ ap (λ t. is_in (needed units k h.wanted) n || t) none)
+        ap (λ t. is_in (needed_units units k h.wanted) n || (t && is_marked marks n)) one
+        ∙ sym (ap (λ t. is_in (needed_units units k h.wanted) n || (t && is_marked marks n)) two ∙ ap (λ t. is_in (needed_units units k h.wanted) n || t) none)
     past n false true other is_less =
         let one : nat_le (suc k) n ≡ false = grind (arith, nat_tests) in
         let two : nat_le k n ≡ false = grind (arith, nat_tests) in
-        ap (λ t. is_in (needed units k h.wanted) n || (t && is_marked marks n)) (one ∙ sym two)
+        ap (λ t. is_in (needed_units units k h.wanted) n || (t && is_marked marks n)) (one ∙ sym two)
     past n false false other is_less =
         let one : nat_le (suc k) n ≡ true = grind (arith, nat_tests) in
         let two : nat_le k n ≡ true = grind (arith, nat_tests) in
-        ap (λ t. is_in (needed units k h.wanted) n || (t && is_marked marks n)) (one ∙ sym two)
+        ap (λ t. is_in (needed_units units k h.wanted) n || (t && is_marked marks n)) (one ∙ sym two)
 
 -- behind the last unit
 pub all_marked : (units : List Unit) (unit : ℕ) (marks : List Bool) → HasMarks units unit 0 marks → (n : ℕ) → is_marked marks n ≡ is_in (closure_of units unit) n

@@ -11,7 +11,7 @@ use Rattle.cc_names.specs.declared.names.NameFault.{NameFault}
 use Rattle.make_grammar.specs.WordPaths.{path_in, unless_root, with_path, each_once}
 use Rattle.make_grammar.specs.Contents.{Contents}
 use Rattle.make_grammar.specs.Rules.{Inference, MakeRule}
-use Rattle.make_grammar.specs.Serving.{helped, prerequisites_of, without_rule}
+use Rattle.make_grammar.specs.Serving.{with_suffix_rule, prerequisites_of, without_rule}
 use Rattle.make_grammar.specs.Units.{is_target}
 use Rattle.make_text.proofs.OnceLemmas.{with_joined}
 use Rattle.make_grammar.specs.Macros.{is_among}
@@ -35,7 +35,7 @@ path_is_read path fine = ap (λ (fault : Option NameFault). is_some (unless_root
     by false is = rw (is, unless_root) refl
 
 -- a rule keeps its targets, by whatever it serves
-pub helped_targets : (rule : MakeRule) (found : Option Inference) → (helped rule found).targets ≡ rule.targets
+pub helped_targets : (rule : MakeRule) (found : Option Inference) → (with_suffix_rule rule found).targets ≡ rule.targets
 helped_targets rule None = refl
 helped_targets rule (Some found) = refl
 

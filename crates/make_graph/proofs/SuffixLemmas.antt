@@ -24,17 +24,17 @@ dotted_alike a b (c ∷ bytes) h = by (c == 46) h (dotted_alike a b bytes)
     by true h more = refl
     by false h more = more h
 
-dotted_behind : (a b front bytes : List ℕ) → is_dotted bytes ≡ true → last_dotted a (front ++ bytes) ≡ last_dotted b bytes
+dotted_behind : (a b prefix bytes : List ℕ) → is_dotted bytes ≡ true → last_dotted a (prefix ++ bytes) ≡ last_dotted b bytes
 dotted_behind a b [] bytes h = dotted_alike a b bytes h
-dotted_behind a b (c ∷ front) bytes h = dotted_behind (if c == 46 then c ∷ (front ++ bytes) else a) b front bytes h
+dotted_behind a b (c ∷ prefix) bytes h = dotted_behind (if c == 46 then c ∷ (prefix ++ bytes) else a) b prefix bytes h
 
 -- bytes that end with others that have a `.` have the same key
 ends_alike : (dotted : Bool) (to path : List ℕ) → (dotted ≡ true → is_dotted to ≡ true) → ends_with nat_eq path to ≡ true → key_of dotted to ≡ key_of dotted path
 ends_alike false to path h ends = refl
 ends_alike true to path h ends =
-    let front = take (length path - length to) path in
-    let whole : path ≡ front ++ to = (ends_is Decides-eqb path to (ends_with nat_eq path to) refl).0 ends in
-    sym (ap suffix_of whole ∙ dotted_behind [] [] front to (h refl))
+    let prefix = take (length path - length to) path in
+    let whole : path ≡ prefix ++ to = (ends_is Decides-eqb path to (ends_with nat_eq path to) refl).0 ends in
+    sym (ap suffix_of whole ∙ dotted_behind [] [] prefix to (h refl))
 
 -- so a rule with another key does not serve a path
 no_stem : (dotted : Bool) (to path : List ℕ) → (dotted ≡ true → is_dotted to ≡ true) → bytes_eq (key_of dotted to) (key_of dotted path) ≡ false → stem_of to path ≡ None

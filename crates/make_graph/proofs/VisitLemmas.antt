@@ -1,10 +1,10 @@
 -- Steps of a walk that keeps its own stack.
 use Rattle.std.proofs.Common.{◌≡◌, refl, sym, ap, ◌∙◌, subst, ℕ, zero, suc, ◌+◌, ◌-◌, ◌<◌, ◌≤◌, Option, Some, None, Result, Ok, Err, List, [], ◌∷◌, ◌++◌, length, drop, set, slice_get, arith, add-zero}
-use Rattle.make_grammar.specs.Walks.{Walk, number_of, prerequisites_at, opened, closed, and_then, each_of, take_path}
+use Rattle.make_grammar.specs.Walks.{Walk, number_of, prerequisites_at, with_open_unit, with_done_unit, and_then, each_of, take_path}
 use Rattle.make_grammar.specs.Rules.{Serving}
 use Rattle.make_grammar.specs.declared.walks.Mark.{Mark}
 use Rattle.make_grammar.specs.declared.walks.Mark.TheVariants.{New, Open, Done}
-use Rattle.make_graph.specs.Visits.{meeting_at, meeting, entered, behind, next_of, finish, resume, new_one, news}
+use Rattle.make_graph.specs.Visits.{meeting_at, meeting, visit_of_unit, behind, next_of, finish, resume, new_one, news}
 use Rattle.make_graph.specs.declared.walks.Visit.{Visit}
 use Rattle.make_graph.specs.declared.walks.Meeting.{Meeting}
 use Rattle.make_graph.specs.declared.walks.Meeting.TheVariants.{Past, Again, Enter}
@@ -61,14 +61,14 @@ entered_new marks (Some m) n h = by (slice_get marks m) refl h
 abbrev pub came : ℕ → List Serving → List ℕ → Walk → Meeting → Result Walk (List ℕ)
 came depth units path walk Past = Ok walk
 came depth units path walk Again = Err path
-came depth units path walk (Enter n) = and_then (each_of (take_path depth units) (prerequisites_at (slice_get units n)) (opened n walk)) (λ later. Ok (closed n later))
+came depth units path walk (Enter n) = and_then (each_of (take_path depth units) (prerequisites_at (slice_get units n)) (with_open_unit n walk)) (λ later. Ok (with_done_unit n later))
 
 pub taken_as : (depth : ℕ) (units : List Serving) (path : List ℕ) (walk : Walk) → take_path (suc depth) units path walk ≡ came depth units path walk (meeting walk.marks (number_of units path))
 taken_as depth units path walk = by_number (number_of units path)
   where
     by_mark : (n : ℕ) (m : Option Mark) → elim m as (λ x. Result Walk (List ℕ)) [
       | None ↦ Ok walk
-      | Some New ↦ and_then (each_of (take_path depth units) (prerequisites_at (slice_get units n)) (opened n walk)) (λ later. Ok (closed n later))
+      | Some New ↦ and_then (each_of (take_path depth units) (prerequisites_at (slice_get units n)) (with_open_unit n walk)) (λ later. Ok (with_done_unit n later))
       | Some Open ↦ Err path
       | Some Done ↦ Ok walk
     ] ≡ came depth units path walk (meeting_at n m)
@@ -81,7 +81,7 @@ taken_as depth units path walk = by_number (number_of units path)
       | None ↦ Ok walk
       | Some n ↦ elim (slice_get walk.marks n) as (λ x. Result Walk (List ℕ)) [
         | None ↦ Ok walk
-        | Some New ↦ and_then (each_of (take_path depth units) (prerequisites_at (slice_get units n)) (opened n walk)) (λ later. Ok (closed n later))
+        | Some New ↦ and_then (each_of (take_path depth units) (prerequisites_at (slice_get units n)) (with_open_unit n walk)) (λ later. Ok (with_done_unit n later))
         | Some Open ↦ Err path
         | Some Done ↦ Ok walk
       ]
@@ -115,13 +115,13 @@ append_nil [] = refl
 append_nil (x ∷ xs) = ap (λ l. x ∷ l) (append_nil xs)
 
 -- a unit without further prerequisites is closed
-pub step_close : (units : List Serving) (stack : List Visit) (top : Visit) (w : Walk) → next_of top ≡ None → resume units 0 (stack ++ top ∷ []) w ≡ resume units 0 stack (closed top.unit w)
+pub step_close : (units : List Serving) (stack : List Visit) (top : Visit) (w : Walk) → next_of top ≡ None → resume units 0 (stack ++ top ∷ []) w ≡ resume units 0 stack (with_done_unit top.unit w)
 step_close units stack top w none =
     let rest = drop_none top.paths top.next none in
     let depth = length units - (0 + length stack) in
-    let here : resume units (0 + length stack) (top ∷ []) w ≡ resume units (0 + length stack) [] (closed top.unit w) =
-    ap (λ paths. and_then (each_of (take_path depth units) paths w) (λ later. Ok (closed top.unit later))) rest in
-    lift units 0 stack (top ∷ []) [] w (closed top.unit w) here ∙ ap (λ l. resume units 0 l (closed top.unit w)) (append_nil stack)
+    let here : resume units (0 + length stack) (top ∷ []) w ≡ resume units (0 + length stack) [] (with_done_unit top.unit w) =
+    ap (λ paths. and_then (each_of (take_path depth units) paths w) (λ later. Ok (with_done_unit top.unit later))) rest in
+    lift units 0 stack (top ∷ []) [] w (with_done_unit top.unit w) here ∙ ap (λ l. resume units 0 l (with_done_unit top.unit w)) (append_nil stack)
 
 -- what the top of the stack comes to, by what the walk does about its next prerequisite
 at_top : (units : List Serving) (below depth : ℕ) (top : Visit) (path : List ℕ) (w : Walk) → length units - below ≡ suc depth → next_of top ≡ Some path →
@@ -131,7 +131,7 @@ at_top units below depth top path w deep is =
     let more : suc top.next ≡ top.next + 1 = omega arith in
     let rest : drop top.next paths ≡ path ∷ drop (top.next + 1) paths = drop_some paths top.next path is ∙ ap (λ n. path ∷ drop n paths) more in
     let step = each_of (take_path (length units - below) units) in
-    let close : Walk → Result Walk (List ℕ) = λ later. Ok (closed top.unit later) in
+    let close : Walk → Result Walk (List ℕ) = λ later. Ok (with_done_unit top.unit later) in
     let first = ap (λ ps. and_then (step ps w) close) rest in
     let split = then_then (take_path (length units - below) units path w) (step (drop (top.next + 1) paths)) close in
     let taken : take_path (length units - below) units path w ≡ came depth units path w (meeting w.marks (number_of units path)) =
@@ -160,19 +160,19 @@ step_again units stack top path w room is again =
     ∙ ap (λ m. and_then (came (length units - suc below) units path w m) (λ v. resume units below (behind top ∷ []) v)) again)
 
 pub step_enter : (units : List Serving) (stack : List Visit) (top : Visit) (path : List ℕ) (w : Walk) (n : ℕ) → length stack < length units → next_of top ≡ Some path → meeting w.marks (number_of units path) ≡ Enter n →
-    resume units 0 (stack ++ top ∷ []) w ≡ resume units 0 (stack ++ behind top ∷ entered units n ∷ []) (opened n w)
+    resume units 0 (stack ++ top ∷ []) w ≡ resume units 0 (stack ++ behind top ∷ visit_of_unit units n ∷ []) (with_open_unit n w)
 step_enter units stack top path w n room is enter =
     let below = 0 + length stack in
     let lt : below < length units = omega (arith, room) in
-    lift units 0 stack (top ∷ []) (behind top ∷ entered units n ∷ []) w (opened n w)
+    lift units 0 stack (top ∷ []) (behind top ∷ visit_of_unit units n ∷ []) w (with_open_unit n w)
     (at_top units below (length units - suc below) top path w (depth_at units below lt) is
     ∙ ap (λ m. and_then (came (length units - suc below) units path w m) (λ v. resume units below (behind top ∷ []) v)) enter)
 
 -- a new unit is the first on the stack
 pub enter_first : (units : List Serving) (path : List ℕ) (w : Walk) (n : ℕ) → meeting w.marks (number_of units path) ≡ Enter n →
-    take_path (suc (length units)) units path w ≡ resume units 0 (entered units n ∷ []) (opened n w)
+    take_path (suc (length units)) units path w ≡ resume units 0 (visit_of_unit units n ∷ []) (with_open_unit n w)
 enter_first units path w n enter =
     let none : length units ≡ length units - 0 = omega arith in
     taken_as (length units) units path w
     ∙ (ap (came (length units) units path w) enter
-    ∙ ap (λ d. and_then (each_of (take_path d units) (prerequisites_at (slice_get units n)) (opened n w)) (λ later. Ok (closed n later))) none)
+    ∙ ap (λ d. and_then (each_of (take_path d units) (prerequisites_at (slice_get units n)) (with_open_unit n w)) (λ later. Ok (with_done_unit n later))) none)

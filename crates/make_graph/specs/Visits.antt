@@ -8,7 +8,7 @@ use Rattle.cc_names.specs.declared.memory.Or.{Or}
 use Rattle.cc_names.specs.declared.memory.Or.TheVariants.{NoMemory, Is}
 use Rattle.cc_names.specs.declared.refusals.GraphFault.{GraphFault}
 use Rattle.cc_names.specs.declared.refusals.GraphFault.TheVariants.{Cycle}
-use Rattle.make_grammar.specs.Walks.{Walk, number_of, prerequisites_at, closed, and_then, each_of, take_path}
+use Rattle.make_grammar.specs.Walks.{Walk, number_of, prerequisites_at, with_done_unit, and_then, each_of, take_path}
 use Rattle.make_grammar.specs.Rules.{Serving}
 use Rattle.make_grammar.specs.declared.walks.Mark.{Mark}
 use Rattle.make_grammar.specs.declared.walks.Mark.TheVariants.{New, Open, Done}
@@ -33,8 +33,8 @@ meeting marks None = Past
 meeting marks (Some n) = meeting_at n (slice_get marks n)
 
 -- a unit that is entered, and a visit whose next prerequisite is past
-abbrev pub entered : List Serving → ℕ → Visit
-entered units n = record { unit = n; paths = prerequisites_at (slice_get units n); next = 0 }
+abbrev pub visit_of_unit : List Serving → ℕ → Visit
+visit_of_unit units n = record { unit = n; paths = prerequisites_at (slice_get units n); next = 0 }
 
 abbrev pub behind : Visit → Visit
 behind visit = record { unit = visit.unit; paths = visit.paths; next = visit.next + 1 }
@@ -49,7 +49,7 @@ rest_of visit = drop visit.next visit.paths
 -- a unit that so many are open below is walked to its end
 abbrev pub finish : List Serving → ℕ → Visit → Walk → Result Walk (List ℕ)
 finish units below visit walk =
-    and_then (each_of (take_path (length units - below) units) (rest_of visit) walk) (λ later. Ok (closed visit.unit later))
+    and_then (each_of (take_path (length units - below) units) (rest_of visit) walk) (λ later. Ok (with_done_unit visit.unit later))
 
 -- a walk whose units on the stack are walked to their ends, the last one first
 abbrev pub resume : List Serving → ℕ → List Visit → Walk → Result Walk (List ℕ)

@@ -33,14 +33,14 @@ dependants_of units m = filter (λ n. makes_one units (prerequisites_at units n)
 
 -- The units below a number that make what is wanted, and what those are made of in turn: down the units, the last one first,
 -- since a unit stands behind its prerequisites.
-abbrev pub needed : List Unit → ℕ → List (List ℕ) → List ℕ
-needed units zero wanted = []
-needed units (suc n) wanted =
-    elim (makes_one units wanted n) [ true ↦ n ∷ needed units n (wanted ++ prerequisites_at units n) | false ↦ needed units n wanted ]
+abbrev pub needed_units : List Unit → ℕ → List (List ℕ) → List ℕ
+needed_units units zero wanted = []
+needed_units units (suc n) wanted =
+    elim (makes_one units wanted n) [ true ↦ n ∷ needed_units units n (wanted ++ prerequisites_at units n) | false ↦ needed_units units n wanted ]
 
 -- the units that a unit stands on, by their numbers, the last one first
 abbrev pub closure_of : List Unit → ℕ → List ℕ
-closure_of units number = needed units number (prerequisites_at units number)
+closure_of units number = needed_units units number (prerequisites_at units number)
 
 -- whether a number is one of these
 abbrev pub is_in : List ℕ → ℕ → Bool

@@ -34,7 +34,7 @@ impl Closure {
     }
 
     /// A copy of a closure that is kept. Takes time and memory linear in the words of its bits.
-    pub(crate) fn kept(alloc: Global, marks: &NumberSet) -> Result<Closure, NoMemory>
+    pub(crate) fn cached_copy(alloc: Global, marks: &NumberSet) -> Result<Closure, NoMemory>
         ensures { IfOk result (λ closure. closure ≡ marks.now) }
     {
         Ok(Closure {

@@ -12,10 +12,10 @@
 //! faults, `indexmap` for paths without a rule in their order, each once.
 #![tactic(auto)]
 
+mod cached_closures;
 pub mod closures;
 pub mod dependants;
 pub mod goals;
-mod kept_closures;
 mod makers;
 mod number_sets;
 mod numbers;

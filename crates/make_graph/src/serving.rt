@@ -3,7 +3,7 @@
 ghost use Rattle.std.specs.Prelude.{◌≡◌, [], ◌∷◌, ◌++◌, IfOk, OnOk, not, map, filter, fold, option_copied};
 ghost use Rattle.std.specs.List.{filter_map};
 ghost use Rattle.make_grammar.specs.WordPaths.{with_path};
-ghost use Rattle.make_grammar.specs.Serving.{stem_of, source_at, inference_at, first_inference, inference, may_be_served, with_first, by_suffix, by_itself, helped, inference_for, serving_of, bare_rule, serving_alone, without_rule, servings};
+ghost use Rattle.make_grammar.specs.Serving.{stem_of, source_at, inference_at, first_inference, inference, may_be_served, with_first, by_suffix, by_itself, with_suffix_rule, inference_for, serving_of, bare_rule, serving_alone, without_rule, servings};
 ghost use Rattle.make_grammar.specs.Units.{is_target};
 ghost use Rattle.make_graph.specs.Numbered.{KnowsRules};
 
@@ -52,11 +52,11 @@ pub(crate) struct Serving {
 
 impl Model for Serving {
     ghost use Rattle.make_grammar.specs.Rules.{Serving};
-    ghost use Rattle.make_grammar.specs.Serving.{helped};
+    ghost use Rattle.make_grammar.specs.Serving.{with_suffix_rule};
 
     ghost Value = { Serving };
 
-    ghost view = { λ serving. helped serving.rule serving.found };
+    ghost view = { λ serving. with_suffix_rule serving.rule serving.found };
 }
 
 impl Makes for Serving {
@@ -264,8 +264,12 @@ fn with_first(alloc: Global, first: &Path, paths: &[Path]) -> Result<List<Path>,
 }
 
 /// A rule by itself, or with the script and the source of a suffix rule.
-fn helped(alloc: Global, rule: &MakeRule, found: Option<Inference>) -> Result<Serving, NoMemory>
-    ensures { IfOk result (λ serving. serving ≡ helped rule.now found) }
+fn with_suffix_rule(
+    alloc: Global,
+    rule: &MakeRule,
+    found: Option<Inference>,
+) -> Result<Serving, NoMemory>
+    ensures { IfOk result (λ serving. serving ≡ with_suffix_rule rule.now found) }
 {
     Ok(Serving {
         rule: rule.copy(alloc)?,
@@ -313,7 +317,7 @@ fn own_servings<E: Exists>(
     let mut units = Vec::new(alloc);
     for rule in make.rules() {
         let found = infer_for(alloc, make, rules, suffixes, files, rule)?;
-        units.push(helped(alloc, rule, found)?)?;
+        units.push(with_suffix_rule(alloc, rule, found)?)?;
     }
     Ok(units)
 }

@@ -8,10 +8,10 @@ ghost use Rattle.make_grammar.specs.Numbers.{number_from};
 ghost use Rattle.make_grammar.specs.UnitLaws.{made_by_unit};
 ghost use Rattle.make_graph.specs.Waits.{closure_of, dependants_of, is_done, is_in, is_marked, is_ready, makers_of, prerequisites_at};
 
+use crate::cached_closures::cached_closures;
 use crate::closures::{Closure, of_unit};
 use crate::dependants::{Dependants, all_dependants};
 use crate::goals::Exists;
-use crate::kept_closures::kept_closures;
 use crate::makers::all_makers;
 use crate::number_sets::NumberSet;
 use crate::numbers::{Numbers, number, number_all};
@@ -64,7 +64,7 @@ fn with_numbers(alloc: Global, hashing: RandomState, units: Vec<Unit>) -> Result
     let numbers = number_all(alloc, hashing, units.as_slice())?;
     let makers = all_makers(alloc, &numbers, units.as_slice())?;
     let dependants = all_dependants(alloc, units.as_slice(), makers.as_slice())?;
-    let closures = kept_closures(alloc, units.as_slice(), makers.as_slice())?;
+    let closures = cached_closures(alloc, units.as_slice(), makers.as_slice())?;
     Ok(Graph {
         units,
         numbers,

@@ -4,7 +4,7 @@ ghost use Rattle.std.specs.Prelude.{◌≡◌, ◌<◌, ◌||◌, ◌∷◌, [],
 ghost use Rattle.cc_names.specs.Answers.{Gives};
 ghost use Rattle.cc_names.specs.Paths.{root};
 ghost use Rattle.make_grammar.specs.Contents.{expansion};
-ghost use Rattle.make_grammar.specs.Graphs.{first_of, first_target, script_for, unit_of, walked, graph_by, graph_of, unless_cycle};
+ghost use Rattle.make_grammar.specs.Graphs.{first_of, first_target, script_for, unit_of, units_walked, graph_by, graph_of, unless_cycle};
 ghost use Rattle.make_graph.specs.Items.{result_items};
 ghost use Rattle.make_grammar.specs.Serving.{servings};
 ghost use Rattle.make_grammar.specs.Walks.{number_of, walk_of};
@@ -93,7 +93,7 @@ fn script_for(
 }
 
 /// A copy of paths, in time and memory linear in them.
-fn copied(alloc: Global, paths: &[Path]) -> Result<List<Path>, NoMemory>
+fn copy_of_paths(alloc: Global, paths: &[Path]) -> Result<List<Path>, NoMemory>
     ensures { IfOk result (λ copy. copy ≡ paths.now) }
 {
     let mut copies = Vec::new(alloc);
@@ -112,7 +112,7 @@ fn unit_of(
     let prerequisites = serving.prerequisites(alloc, hashing)?;
     let script = script_for(alloc, make, serving, prerequisites.as_slice())?;
     Ok(Unit {
-        targets: copied(alloc, serving.targets())?,
+        targets: copy_of_paths(alloc, serving.targets())?,
         prerequisites,
         script,
     })
@@ -125,14 +125,14 @@ fn serving_at(units: &[Serving], number: u32) -> Option<&Serving>
 }
 
 /// The units that a walk was through with, in its order.
-fn walked(
+fn units_walked(
     alloc: Global,
     hashing: RandomState,
     make: &Makefile,
     units: &[Serving],
     order: &[u32],
 ) -> Result<Vec<Unit>, NoMemory>
-    ensures { IfOk result (λ made. made.items ≡ walked make.now units.now order.now) }
+    ensures { IfOk result (λ made. made.items ≡ units_walked make.now units.now order.now) }
 {
     let mut made = Vec::new(alloc);
     for number in order {
@@ -226,7 +226,7 @@ fn units_by<E: Exists>(
     ensures { Gives (result_items result)
         (unless_cycle make.now units.now (E.is_file files.now) (Ok walk.now)) }
 {
-    let made = walked(alloc, hashing, make, units, walk.order())?;
+    let made = units_walked(alloc, hashing, make, units, walk.order())?;
     if let Some(target) = first_source(files, made.as_slice()) {
         return Err(Or::Is(GraphFault::TargetIsSource(target.copy(alloc)?)));
     }

@@ -2,9 +2,9 @@
 
 ghost use Rattle.std.specs.Prelude.{◌≡◌, ◌≤◌, ◌+◌, ◌<◌, ◌++◌, [], ◌∷◌, ℕ, OnOk, IfOk, IfSome, ◌^◌, length, slice_get, slice_set, option_copied, suc, replicate, Ok};
 ghost use Rattle.cc_names.specs.Answers.{Gives};
-ghost use Rattle.make_grammar.specs.Walks.{number_of, prerequisites_at, closed, take_path, walk_of};
+ghost use Rattle.make_grammar.specs.Walks.{number_of, prerequisites_at, with_done_unit, take_path, walk_of};
 ghost use Rattle.make_grammar.specs.declared.walks.Mark.TheVariants.{New};
-ghost use Rattle.make_graph.specs.Visits.{KnowsUnits, meeting, entered, behind, next_of, resume, Goes, news};
+ghost use Rattle.make_graph.specs.Visits.{KnowsUnits, meeting, visit_of_unit, behind, next_of, resume, Goes, news};
 
 use crate::numbers::{Numbers, number};
 use crate::serving::Serving;
@@ -82,13 +82,13 @@ fn prerequisites(
 }
 
 /// A unit that is entered.
-fn entered(
+fn visit_of_unit(
     alloc: Global,
     hashing: RandomState,
     units: &[Serving],
     unit: u32,
 ) -> Result<Visit, NoMemory>
-    ensures { IfOk result (λ visit. visit ≡ entered units.now unit) }
+    ensures { IfOk result (λ visit. visit ≡ visit_of_unit units.now unit) }
 {
     Ok(Visit {
         unit,
@@ -131,7 +131,7 @@ impl Walk {
 
     /// Is done with a unit.
     fn close(&mut self, unit: u32) -> Result<(), NoMemory>
-        ensures { OnOk result (self.new ≡ closed unit self.old) }
+        ensures { OnOk result (self.new ≡ with_done_unit unit self.old) }
     {
         self.order.push(unit)?;
         self.mark(unit, Mark::Done);
@@ -164,7 +164,7 @@ fn advance(
         Meeting::Past => stack.push(behind(top))?,
         Meeting::Again => return Err(Or::Is(path.copy(alloc)?)),
         Meeting::Enter(unit) => {
-            let visit = entered(alloc, hashing, units, unit)?;
+            let visit = visit_of_unit(alloc, hashing, units, unit)?;
             stack.push(behind(top))?;
             stack.push(visit)?;
             walk.mark(unit, Mark::Open);
@@ -218,7 +218,7 @@ fn take(
         Meeting::Past => Ok(()),
         Meeting::Again => Err(Or::Is(path.copy(alloc)?)),
         Meeting::Enter(unit) => {
-            let first = entered(alloc, hashing, units, unit)?;
+            let first = visit_of_unit(alloc, hashing, units, unit)?;
             walk.mark(unit, Mark::Open);
             run(alloc, hashing, units, numbers, walk, first)
         }

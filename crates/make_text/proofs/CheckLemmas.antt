@@ -13,7 +13,7 @@ use Rattle.cc_names.specs.declared.commands.Macro.{Macro}
 use Rattle.cc_names.specs.declared.refusals.MakeCause.{MakeCause}
 use Rattle.cc_names.specs.declared.refusals.MakeCause.TheVariants.{LineTooLong, MacroLoop}
 use Rattle.make_text.specs.Expanding.{refer, goes_on, left_of, still, Admits}
-use Rattle.make_grammar.specs.Macros.{Reference, Expansion, plain, followed, is_too_long, no_automatic}
+use Rattle.make_grammar.specs.Macros.{Reference, Expansion, plain, one_after_other, is_too_long, no_automatic}
 use Rattle.make_text.specs.MacroChecks.{AtEndUnless, Finds, definition_at, macro_fault_of}
 use Rattle.make_text.specs.Runs.{Runs, HasNamesApart, macro_at, len_in, result_in, EndsIn}
 use Rattle.make_text.specs.States.{state_at}
@@ -31,14 +31,14 @@ module _ (macros : List Macro) (automatic : ℕ → List ℕ) where
   -- what there is in the end, where a reference is expanded behind what was written
   abbrev pub total_of : List ℕ → List ℕ → Expansion
   total_of written name =
-      followed (plain written)
-      (followed (goes_on macros automatic (left_of macros automatic []) [] (Reference name ∷ [])) (still macros automatic [] []))
+      one_after_other (plain written)
+      (one_after_other (goes_on macros automatic (left_of macros automatic []) [] (Reference name ∷ [])) (still macros automatic [] []))
 
-  pub total_is : (written name : List ℕ) → total_of written name ≡ followed (plain written) (refer macros automatic (length macros) [] name)
+  pub total_is : (written name : List ℕ) → total_of written name ≡ one_after_other (plain written) (refer macros automatic (length macros) [] name)
   total_is written name =
       let all : length macros - 0 ≡ length macros = omega arith in
-      ap (λ k. followed (plain written) (followed (followed (refer macros automatic k [] name) (plain [])) (plain []))) all
-      ∙ ap (followed (plain written)) (followed_nothing (followed (refer macros automatic (length macros) [] name) (plain [])) ∙ followed_nothing (refer macros automatic (length macros) [] name))
+      ap (λ k. one_after_other (plain written) (one_after_other (one_after_other (refer macros automatic k [] name) (plain [])) (plain []))) all
+      ∙ ap (one_after_other (plain written)) (followed_nothing (one_after_other (refer macros automatic (length macros) [] name) (plain [])) ∙ followed_nothing (refer macros automatic (length macros) [] name))
 
   -- an expansion at its end begins a reference
   pub begins : (e : Expanding) (name : List ℕ) → IsAtEnd macros automatic e → IsRunning macros automatic (total_of e.written.items name) (Reference name ∷ []) e
@@ -101,7 +101,7 @@ named_at (d ∷ definitions) (suc i) = named_at definitions i
 -- ---- the fault of a part of what there is
 
 -- a part behind what was written, by the whole
-pub part_of_whole : (written whole : List ℕ) (part : Expansion) (loops : Bool) → record { bytes = whole; loops = loops } ≡ followed (plain written) part →
+pub part_of_whole : (written whole : List ℕ) (part : Expansion) (loops : Bool) → record { bytes = whole; loops = loops } ≡ one_after_other (plain written) part →
     (length part.bytes ≡ length whole - length written) × (part.loops ≡ loops)
 part_of_whole written whole part loops h =
     let bytes : whole ≡ written ++ part.bytes = ap (λ (e : Expansion). e.bytes) h in
@@ -109,8 +109,8 @@ part_of_whole written whole part loops h =
     (omega (arith, len), sym (ap (λ (e : Expansion). e.loops) h))
 
 -- a part is too long where so much was written behind
-pub part_too_long : (written front : List ℕ) (total part : Expansion) → total ≡ followed (plain written) part → length front ≤ length total.bytes → 65536 < length front - length written → Some LineTooLong ≡ expansion_fault part
-part_too_long written front total part h front_le long =
+pub part_too_long : (written prefix : List ℕ) (total part : Expansion) → total ≡ one_after_other (plain written) part → length prefix ≤ length total.bytes → 65536 < length prefix - length written → Some LineTooLong ≡ expansion_fault part
+part_too_long written prefix total part h prefix_le long =
     let len : length total.bytes ≡ length written + length part.bytes = ap (λ (e : Expansion). length e.bytes) h ∙ length-append written part.bytes in
     let more : 65536 < length part.bytes = omega (arith, len) in
     sym (ap (λ b. if b then Some LineTooLong else if part.loops then Some MacroLoop else None) (lt-ltb 65536 (length part.bytes) more))

@@ -7,7 +7,7 @@ use Rattle.cc_names.specs.declared.memory.Or.{Or}
 use Rattle.cc_names.specs.declared.memory.Or.TheVariants.{NoMemory, Is}
 use Rattle.cc_names.specs.declared.refusals.MakeError.{MakeError}
 use Rattle.make_grammar.specs.Contents.{Contents}
-use Rattle.make_grammar.specs.Grammar.{checked, fault_or, unless_fault, lines_read, makefile_of_text}
+use Rattle.make_grammar.specs.Grammar.{checked_contents, fault_or, unless_fault, lines_read, makefile_of_text}
 use Rattle.make_text.specs.MacroChecks.{Finds}
 use Rattle.make_grammar.specs.Statements.{Reading}
 
@@ -26,11 +26,11 @@ none_found found later make none also =
     ap (λ (o : Option MakeError). unless_fault (fault_or o later) make) none ∙ ap (λ (o : Option MakeError). unless_fault o make) also
 
 -- a fault of the lines is one of the makefile
-pub checked_fault : (fault : Or MakeError) (read : Result Reading MakeError) → FaultIs fault read → FaultIs fault (checked read)
+pub checked_fault : (fault : Or MakeError) (read : Result Reading MakeError) → FaultIs fault read → FaultIs fault (checked_contents read)
 checked_fault NoMemory read h = tt
-checked_fault (Is fault) read h = ap checked h
+checked_fault (Is fault) read h = ap checked_contents h
 
 -- a makefile that is not there is read as one without lines
-pub makefile_is : (files : Files) (file : List ℕ) (overrides : List Macro) (text : Option (List ℕ)) → makefile_of_text files file overrides text ≡ checked (lines_read files file (unwrap_or text []) overrides)
+pub makefile_is : (files : Files) (file : List ℕ) (overrides : List Macro) (text : Option (List ℕ)) → makefile_of_text files file overrides text ≡ checked_contents (lines_read files file (unwrap_or text []) overrides)
 makefile_is files file overrides None = refl
 makefile_is files file overrides (Some text) = refl

@@ -9,23 +9,23 @@ use Rattle.cc_names.specs.declared.commands.Macro.{Macro}
 use Rattle.std.specs.List.{position}
 use Rattle.make_grammar.specs.Lines.{is_dollar}
 use Rattle.make_text.proofs.PieceLemmas.{plain_all}
-use Rattle.make_grammar.specs.Macros.{Piece, Byte, Reference, Expansion, plain, loop, followed, expansion_of, pieces_of, piece_expansion, pieces_expansion, value_in, is_among}
+use Rattle.make_grammar.specs.Macros.{Piece, Byte, Reference, Expansion, plain, loop, one_after_other, expansion_of, pieces_of, piece_expansion, pieces_expansion, value_in, is_among}
 use Rattle.make_text.specs.Expanding.{Memo, Opened, names_of, refer, goes_on, left_of, still, Admits, AreKnown, Gives, AllGive}
 
 -- ---- expansions one after the other
 
-followed_by : (loops : Bool) (bytes : List ℕ) (b c : Expansion) → followed (followed (record { bytes = bytes; loops = loops }) b) c ≡ followed (record { bytes = bytes; loops = loops }) (followed b c)
+followed_by : (loops : Bool) (bytes : List ℕ) (b c : Expansion) → one_after_other (one_after_other (record { bytes = bytes; loops = loops }) b) c ≡ one_after_other (record { bytes = bytes; loops = loops }) (one_after_other b c)
 followed_by true bytes b c = ap (λ v. record { bytes = v; loops = true }) (append-nil (bytes ++ []))
 followed_by false bytes b c = ap (λ v. record { bytes = v; loops = b.loops || c.loops }) (append_assoc bytes b.bytes (if b.loops then [] else c.bytes))
 
-pub followed_assoc : (a b c : Expansion) → followed (followed a b) c ≡ followed a (followed b c)
+pub followed_assoc : (a b c : Expansion) → one_after_other (one_after_other a b) c ≡ one_after_other a (one_after_other b c)
 followed_assoc a b c = followed_by a.loops a.bytes b c
 
-nothing_by : (loops : Bool) (bytes : List ℕ) → followed (record { bytes = bytes; loops = loops }) (plain []) ≡ record { bytes = bytes; loops = loops }
+nothing_by : (loops : Bool) (bytes : List ℕ) → one_after_other (record { bytes = bytes; loops = loops }) (plain []) ≡ record { bytes = bytes; loops = loops }
 nothing_by true bytes = ap (λ v. record { bytes = v; loops = true }) (append-nil bytes)
 nothing_by false bytes = ap (λ v. record { bytes = v; loops = false }) (append-nil bytes)
 
-pub followed_nothing : (a : Expansion) → followed a (plain []) ≡ a
+pub followed_nothing : (a : Expansion) → one_after_other a (plain []) ≡ a
 followed_nothing a = nothing_by a.loops a.bytes
 
 -- ---- names
@@ -73,18 +73,18 @@ neither false b h = (refl, h)
 -- ---- pieces
 
 module _ (macros : List Macro) (automatic : ℕ → List ℕ) where
-  pieces_append : (refer : List ℕ → Expansion) (ps qs : List Piece) → pieces_expansion refer automatic (ps ++ qs) ≡ followed (pieces_expansion refer automatic ps) (pieces_expansion refer automatic qs)
+  pieces_append : (refer : List ℕ → Expansion) (ps qs : List Piece) → pieces_expansion refer automatic (ps ++ qs) ≡ one_after_other (pieces_expansion refer automatic ps) (pieces_expansion refer automatic qs)
   pieces_append refer [] qs = refl
   pieces_append refer (p ∷ ps) qs =
-      ap (followed (piece_expansion refer automatic p)) (pieces_append refer ps qs)
+      ap (one_after_other (piece_expansion refer automatic p)) (pieces_append refer ps qs)
       ∙ sym (followed_assoc (piece_expansion refer automatic p) (pieces_expansion refer automatic ps) (pieces_expansion refer automatic qs))
 
   pub bytes_expansion : (refer : List ℕ → Expansion) (bytes : List ℕ) → pieces_expansion refer automatic (map Byte bytes) ≡ plain bytes
   bytes_expansion refer [] = refl
-  bytes_expansion refer (b ∷ bs) = ap (followed (plain (b ∷ []))) (bytes_expansion refer bs)
+  bytes_expansion refer (b ∷ bs) = ap (one_after_other (plain (b ∷ []))) (bytes_expansion refer bs)
 
   -- what some pieces give where others follow
-  pub goes_on_append : (left : ℕ) (begun : List (List ℕ)) (ps qs : List Piece) → goes_on macros automatic left begun (ps ++ qs) ≡ followed (goes_on macros automatic left begun ps) (goes_on macros automatic left begun qs)
+  pub goes_on_append : (left : ℕ) (begun : List (List ℕ)) (ps qs : List Piece) → goes_on macros automatic left begun (ps ++ qs) ≡ one_after_other (goes_on macros automatic left begun ps) (goes_on macros automatic left begun qs)
   goes_on_append left begun ps qs = pieces_append (refer macros automatic left begun) ps qs
 
   -- ---- results
@@ -124,7 +124,7 @@ module _ (macros : List Macro) (automatic : ℕ → List ℕ) where
     has_value = h.has_value;
     so_far = λ left begun a.
         h.so_far left begun a
-        ∙ ap (followed (plain written)) (goes_on_append left (name ∷ begun) ps later ∙ ap (λ v. followed v (goes_on macros automatic left (name ∷ begun) later)) (step left (name ∷ begun) (admits_more memo size left begun name h.value a h.unknown h.has_value)))
+        ∙ ap (one_after_other (plain written)) (goes_on_append left (name ∷ begun) ps later ∙ ap (λ v. one_after_other v (goes_on macros automatic left (name ∷ begun) later)) (step left (name ∷ begun) (admits_more memo size left begun name h.value a h.unknown h.has_value)))
         ∙ sym (followed_assoc (plain written) (plain bytes) (goes_on macros automatic left (name ∷ begun) later));
   }
 
@@ -161,7 +161,7 @@ module _ (macros : List Macro) (automatic : ℕ → List ℕ) where
   -- a reference to a macro that has a result
   pub known_expansion : (memo : Memo) (size : ℕ) (name bytes : List ℕ) → AreKnown macros automatic memo size → memo name ≡ Some bytes → (left : ℕ) (begun : List (List ℕ)) → Admits macros automatic memo size left begun → goes_on macros automatic left begun (Reference name ∷ []) ≡ plain bytes
   known_expansion memo size name bytes s h left begun a =
-      ap (λ v. followed v (plain [])) (s name bytes h left begun a) ∙ ap plain (append-nil bytes)
+      ap (λ v. one_after_other v (plain [])) (s name bytes h left begun a) ∙ ap plain (append-nil bytes)
 
   -- ---- the macros that are being expanded
 
@@ -200,7 +200,7 @@ module _ (macros : List Macro) (automatic : ℕ → List ℕ) where
       unknown = unknown;
       value = value;
       has_value = has;
-      so_far = λ left begun a. ap (λ v. followed (plain v) (goes_on macros automatic left (name ∷ begun) (pieces_of value))) (sym (drop_all (length written) written (omega arith)));
+      so_far = λ left begun a. ap (λ v. one_after_other (plain v) (goes_on macros automatic left (name ∷ begun) (pieces_of value))) (sym (drop_all (length written) written (omega arith)));
     },
     omega arith,
     apart,
@@ -224,23 +224,23 @@ module _ (macros : List Macro) (automatic : ℕ → List ℕ) where
   room_in opened = left_of macros automatic opened
 
   -- what is still to come is what the first pieces of the rest give, and then what is behind them
-  pub still_cut : (rest behind : List ℕ) (ps : List Piece) (opened : List Opened) → pieces_of rest ≡ ps ++ pieces_of behind → still macros automatic rest opened ≡ followed (goes_on macros automatic (room_in opened) (names_of opened) ps) (still macros automatic behind opened)
+  pub still_cut : (rest behind : List ℕ) (ps : List Piece) (opened : List Opened) → pieces_of rest ≡ ps ++ pieces_of behind → still macros automatic rest opened ≡ one_after_other (goes_on macros automatic (room_in opened) (names_of opened) ps) (still macros automatic behind opened)
   still_cut rest behind ps [] h =
       let all : length macros ≡ room_in [] = omega arith in
       ap (goes_on macros automatic (length macros) []) h ∙ goes_on_append (length macros) [] ps (pieces_of behind)
-      ∙ ap (λ n. followed (goes_on macros automatic n [] ps) (still macros automatic behind [])) all
+      ∙ ap (λ n. one_after_other (goes_on macros automatic n [] ps) (still macros automatic behind [])) all
   still_cut rest behind ps (o ∷ opened) h =
       let left = room_in (o ∷ opened) in
       let names = names_of (o ∷ opened) in
-      ap (λ v. followed (goes_on macros automatic left names v) (still macros automatic o.outer opened)) h
-      ∙ ap (λ v. followed v (still macros automatic o.outer opened)) (goes_on_append left names ps (pieces_of behind))
+      ap (λ v. one_after_other (goes_on macros automatic left names v) (still macros automatic o.outer opened)) h
+      ∙ ap (λ v. one_after_other v (still macros automatic o.outer opened)) (goes_on_append left names ps (pieces_of behind))
       ∙ followed_assoc (goes_on macros automatic left names ps) (goes_on macros automatic left names (pieces_of behind)) (still macros automatic o.outer opened)
 
   -- a macro whose expansion begins is what a reference to it gives
-  pub still_begun : (rest name value : List ℕ) (start : ℕ) (opened : List Opened) → value_in macros name ≡ Some value → is_among (names_of opened) name ≡ false → length opened < length macros → followed (goes_on macros automatic (room_in opened) (names_of opened) (Reference name ∷ [])) (still macros automatic rest opened) ≡ still macros automatic value (record { name = name; outer = rest; start = start } ∷ opened)
+  pub still_begun : (rest name value : List ℕ) (start : ℕ) (opened : List Opened) → value_in macros name ≡ Some value → is_among (names_of opened) name ≡ false → length opened < length macros → one_after_other (goes_on macros automatic (room_in opened) (names_of opened) (Reference name ∷ [])) (still macros automatic rest opened) ≡ still macros automatic value (record { name = name; outer = rest; start = start } ∷ opened)
   still_begun rest name value start opened has apart room =
       let left : room_in opened ≡ suc (length macros - suc (length opened)) = omega arith in
-      ap (λ v. followed v (still macros automatic rest opened))
+      ap (λ v. one_after_other v (still macros automatic rest opened))
       (followed_nothing (refer macros automatic (room_in opened) (names_of opened) name)
       ∙ ap (λ n. refer macros automatic n (names_of opened) name) left
       ∙ defined_expansion (length macros - suc (length opened)) (names_of opened) name value has apart)

@@ -52,10 +52,10 @@ suffix_bare suffixes groups rule h = by (is_some rule.script) rule.prerequisites
         absurd (cc)
     by false ps t h = absurd (cc)
 
-pub kept_prerequisites : (suffixes : List (List ℕ)) (groups : List (List (List ℕ))) (rules : List MakeRule) →
+pub preserved_prerequisites : (suffixes : List (List ℕ)) (groups : List (List (List ℕ))) (rules : List MakeRule) →
     flat_map prerequisites_of (filter (λ rule. not (is_suffix_rule suffixes groups rule)) rules) ≡ flat_map prerequisites_of rules
-kept_prerequisites suffixes groups [] = refl
-kept_prerequisites suffixes groups (rule ∷ rules) = by (is_suffix_rule suffixes groups rule) refl (kept_prerequisites suffixes groups rules)
+preserved_prerequisites suffixes groups [] = refl
+preserved_prerequisites suffixes groups (rule ∷ rules) = by (is_suffix_rule suffixes groups rule) refl (preserved_prerequisites suffixes groups rules)
   where
     by : (t : Bool) → is_suffix_rule suffixes groups rule ≡ t → flat_map prerequisites_of (filter (λ rule. not (is_suffix_rule suffixes groups rule)) rules) ≡ flat_map prerequisites_of rules →
         flat_map prerequisites_of (if not t then rule ∷ filter (λ rule. not (is_suffix_rule suffixes groups rule)) rules else filter (λ rule. not (is_suffix_rule suffixes groups rule)) rules) ≡ rule.prerequisites ++ flat_map prerequisites_of rules

@@ -58,16 +58,16 @@ joined_new groups line target (first ∷ rules) n h = by (is_among first.targets
 -- ---- rules as the numbers of their lines
 
 -- the targets of a rule stay as they are
-targets_kept : (lines : List RuleLine) (rule : MakeRule) (numbers : List ℕ) → (fold (joined_at lines) rule numbers).targets ≡ rule.targets
-targets_kept lines rule [] = refl
-targets_kept lines rule (n ∷ numbers) = targets_kept lines (joined_at lines rule n) numbers ∙ by (slice_get lines n)
+targets_preserved : (lines : List RuleLine) (rule : MakeRule) (numbers : List ℕ) → (fold (joined_at lines) rule numbers).targets ≡ rule.targets
+targets_preserved lines rule [] = refl
+targets_preserved lines rule (n ∷ numbers) = targets_preserved lines (joined_at lines rule n) numbers ∙ by (slice_get lines n)
   where
     by : (o : Option RuleLine) → (joined_with rule o).targets ≡ rule.targets
     by None = refl
     by (Some line) = refl
 
 pub rule_targets : (lines : List RuleLine) (rule : JoinedRule) → targets_of (rule_of lines rule) ≡ joined_targets rule
-rule_targets lines rule = targets_kept lines (rule_without rule.targets) rule.lines.items
+rule_targets lines rule = targets_preserved lines (rule_without rule.targets) rule.lines.items
 
 -- numbers are those by the targets alone
 pub numbers_mapped : {A B : Type 0} (f : A → B) (targets : A → List (List ℕ)) (others : B → List (List ℕ)) (n : ℕ) (path : List ℕ) (xs : List A) → ((x : A) → others (f x) ≡ targets x) →

@@ -95,8 +95,8 @@ first_last n text part h some = ap (lines_from false n) h ∙ last_whole n part 
 
 -- ---- the steps of the code, by what its calls gave
 
-pub joined_step : (text rest bytes : List ℕ) (m : ℕ) {line part front extended pushed : List ℕ} {next : ℕ} → slice_split is_newline text ≡ line ∷ slice_split is_newline rest → part ≡ past_blanks line → is_joined part ≡ true → front ≡ without_last part → extended ≡ bytes ++ front → pushed ≡ extended ++ (32 ∷ []) → next ≡ next_number m → (n : ℕ) → joined_onto n pushed (lines_from true next (slice_split is_newline rest)) ≡ joined_onto n bytes (lines_from true m (slice_split is_newline text))
-joined_step text rest bytes m {line} {part} {front} {extended} {pushed} {next} cut stripped joined back ext push number n =
+pub joined_step : (text rest bytes : List ℕ) (m : ℕ) {line part prefix extended pushed : List ℕ} {next : ℕ} → slice_split is_newline text ≡ line ∷ slice_split is_newline rest → part ≡ past_blanks line → is_joined part ≡ true → prefix ≡ without_last part → extended ≡ bytes ++ prefix → pushed ≡ extended ++ (32 ∷ []) → next ≡ next_number m → (n : ℕ) → joined_onto n pushed (lines_from true next (slice_split is_newline rest)) ≡ joined_onto n bytes (lines_from true m (slice_split is_newline text))
+joined_step text rest bytes m {line} {part} {prefix} {extended} {pushed} {next} cut stripped joined back ext push number n =
     let fits : is_joined (past_blanks line) ≡ true = ap is_joined (sym stripped) ∙ joined in
     let whole : pushed ≡ (bytes ++ without_last (past_blanks line)) ++ (32 ∷ []) = push ∙ ap (λ v. v ++ (32 ∷ [])) (ext ∙ ap (λ v. bytes ++ v) (back ∙ ap without_last stripped)) in
     ap (λ v. joined_onto n v (lines_from true next (slice_split is_newline rest))) whole
@@ -116,8 +116,8 @@ end_step text bytes m {line} {part} {extended} cut stripped ext n =
     onto_end n m text line bytes cut
     ∙ ap (λ v. record { number = n; bytes = v } ∷ []) (ap (λ v. bytes ++ v) (sym stripped) ∙ sym ext)
 
-pub first_joined_step : (text rest : List ℕ) (n : ℕ) {line front bytes pushed : List ℕ} {next : ℕ} {whole : List LogicalLine} → slice_split is_newline text ≡ line ∷ slice_split is_newline rest → is_joined line ≡ true → front ≡ without_last line → bytes ≡ front → pushed ≡ bytes ++ (32 ∷ []) → next ≡ next_number n → joined_onto n pushed (lines_from true next (slice_split is_newline rest)) ≡ whole → lines_from false n (slice_split is_newline text) ≡ whole
-first_joined_step text rest n {line} {front} {bytes} {pushed} {next} {whole} cut joined back first push number more =
+pub first_joined_step : (text rest : List ℕ) (n : ℕ) {line prefix bytes pushed : List ℕ} {next : ℕ} {whole : List LogicalLine} → slice_split is_newline text ≡ line ∷ slice_split is_newline rest → is_joined line ≡ true → prefix ≡ without_last line → bytes ≡ prefix → pushed ≡ bytes ++ (32 ∷ []) → next ≡ next_number n → joined_onto n pushed (lines_from true next (slice_split is_newline rest)) ≡ whole → lines_from false n (slice_split is_newline text) ≡ whole
+first_joined_step text rest n {line} {prefix} {bytes} {pushed} {next} {whole} cut joined back first push number more =
     let start : pushed ≡ without_last line ++ (32 ∷ []) = push ∙ ap (λ v. v ++ (32 ∷ [])) (first ∙ back) in
     first_joined n text line rest cut joined
     ∙ ap (λ v. joined_onto n v (lines_from true (next_number n) (slice_split is_newline rest))) (sym start)

@@ -19,7 +19,7 @@ use Rattle.make_grammar.specs.Macros.{is_among, has_bad_dollar}
 use Rattle.make_grammar.specs.WordPaths.{with_path}
 use Rattle.make_text.specs.ReadingSteps.{Leaves, counted_file, with_newest_line, newest_with}
 use Rattle.make_text.specs.Readers.{Keeps, older_of, open_rule, script_tested}
-use Rattle.make_grammar.specs.Statements.{Reading, fault_at, and_then, unless_cause, cause_or, where_so, has_twice, is_scripted, is_second_script, include_paths, script_line, script_line_of, with_script_line, included, read_lines, with_text, within_limits}
+use Rattle.make_grammar.specs.Statements.{Reading, fault_at, and_then, unless_cause, cause_or, where_so, has_twice, is_scripted, is_second_script, include_paths, script_line, script_line_of, with_script_line, reading_of_include, read_lines, with_text, within_limits}
 use Rattle.make_text.proofs.ExpansionLemmas.{same_bytes}
 
 -- ---- paths among others
@@ -131,11 +131,11 @@ on_ok (Err e) P Q h next = tt
 -- ---- what a line leaves
 
 -- where a line makes this or has a fault, what holds of the rule lines of this holds of those that it leaves
-pub left_kept : {U : Type 0} (result : Result U (Or MakeError)) (left made : Reading) (file : List ℕ) (n : ℕ) (cause : Option MakeCause) (P : List RuleLine → Type 0) →
+pub left_preserved : {U : Type 0} (result : Result U (Or MakeError)) (left made : Reading) (file : List ℕ) (n : ℕ) (cause : Option MakeCause) (P : List RuleLine → Type 0) →
     Leaves result left (unless_cause file n cause made) → P made.rules → OnOk result (P left.rules)
-left_kept (Err fault) left made file n cause P h holds = tt
-left_kept (Ok done) left made file n (Some cause) P h holds = absurd (cc)
-left_kept (Ok done) left made file n None P h holds =
+left_preserved (Err fault) left made file n cause P h holds = tt
+left_preserved (Ok done) left made file n (Some cause) P h holds = absurd (cc)
+left_preserved (Ok done) left made file n None P h holds =
     let same : made ≡ left = cc in
     subst (λ (r : Reading). P r.rules) same holds
 
@@ -186,10 +186,10 @@ script_line_is file n line rule reading open_ blank = by reading.takes_script re
 -- a file that is there and may be included is read line by line
 pub included_is : (files : Files) (left : ℕ) (file : List ℕ) (n : ℕ) (reading next : Reading) (path text : List ℕ) → (left ≡ 0 → ⊥) → Some text ≡ files path →
     within_limits file n (counted_file reading) ≡ Ok next →
-    included files left file n reading path ≡ read_lines (included files (left - 1) path) path (logical_lines text) next
+    reading_of_include files left file n reading path ≡ read_lines (reading_of_include files (left - 1) path) path (logical_lines text) next
 included_is files zero file n reading next path text some at within = absurd (some refl)
 included_is files (suc left) file n reading next path text some at within =
     let one : suc left - 1 ≡ left = omega arith in
-    ap (with_text file n (λ text. and_then (within_limits file n (counted_file reading)) (read_lines (included files left path) path (logical_lines text)))) (sym at)
-    ∙ (ap (λ (r : Result Reading MakeError). and_then r (read_lines (included files left path) path (logical_lines text))) within
-    ∙ ap (λ k. read_lines (included files k path) path (logical_lines text) next) (sym one))
+    ap (with_text file n (λ text. and_then (within_limits file n (counted_file reading)) (read_lines (reading_of_include files left path) path (logical_lines text)))) (sym at)
+    ∙ (ap (λ (r : Result Reading MakeError). and_then r (read_lines (reading_of_include files left path) path (logical_lines text))) within
+    ∙ ap (λ k. read_lines (reading_of_include files k path) path (logical_lines text) next) (sym one))

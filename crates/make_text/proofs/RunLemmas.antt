@@ -7,9 +7,9 @@ use Rattle.std.proofs.lemmas.List.Sums.{sum_by-cons, sum_by-set}
 use Rattle.std.proofs.lemmas.Bool.{cases_eq}
 use Rattle.std.proofs.lemmas.Slice.Eq.{bytes_eq-Decides}
 use Rattle.cc_names.specs.declared.commands.Macro.{Macro}
-use Rattle.make_grammar.specs.Macros.{Piece, Byte, Reference, Automatic, Bad, Expansion, plain, followed, pieces_of, expansion_of, value_in, is_among}
+use Rattle.make_grammar.specs.Macros.{Piece, Byte, Reference, Automatic, Bad, Expansion, plain, one_after_other, pieces_of, expansion_of, value_in, is_among}
 use Rattle.make_text.specs.Expanding.{Opened, names_of, refer, goes_on, left_of, still, Admits}
-use Rattle.make_text.specs.Runs.{macro_at, HasNamesApart, result_in, EndsIn, is_begun, untouched, Runs}
+use Rattle.make_text.specs.Runs.{macro_at, HasNamesApart, result_in, EndsIn, is_begun, count_untouched, Runs}
 use Rattle.make_text.specs.States.{state_at}
 use Rattle.make_text.specs.declared.states.State.{State}
 use Rattle.make_text.specs.declared.states.State.TheVariants.{Untouched, Begun, Expanded}
@@ -17,9 +17,9 @@ use Rattle.make_text.proofs.ExpansionLemmas.{neither, other_bytes, with_result, 
 
 -- ---- states
 
-all_untouched : (n : ℕ) → sum_by untouched (replicate n Untouched) ≡ n
+all_untouched : (n : ℕ) → sum_by count_untouched (replicate n Untouched) ≡ n
 all_untouched zero = refl
-all_untouched (suc n) = sum_by-cons untouched Untouched (replicate n Untouched) ∙ ap (λ v. 1 + v) (all_untouched n) ∙ one-add n
+all_untouched (suc n) = sum_by-cons count_untouched Untouched (replicate n Untouched) ∙ ap (λ v. 1 + v) (all_untouched n) ∙ one-add n
 
 longer_result : (written bytes : List ℕ) (state : State) → EndsIn written state → result_in (written ++ bytes) state ≡ result_in written state
 longer_result written bytes Untouched h = refl
@@ -34,7 +34,7 @@ longer_ends written bytes Untouched h = tt
 longer_ends written bytes Begun h = tt
 longer_ends written bytes (Expanded start len) h = omega (arith, length-append written bytes)
 
-pub begun_is_touched : (state : State) → is_begun state ≡ true → untouched state ≡ 0
+pub begun_is_touched : (state : State) → is_begun state ≡ true → count_untouched state ≡ 0
 begun_is_touched Untouched h = absurd cc
 begun_is_touched Begun h = refl
 begun_is_touched (Expanded start len) h = refl
@@ -51,7 +51,7 @@ module _ (macros : List Macro) (automatic : ℕ → List ℕ) where
   runs_cut total rest behind written ps opened states r cut = record {
     memo = r.memo;
     size = r.size;
-    whole = ap (followed (plain written)) (sym (still_cut macros automatic rest behind ps opened cut)) ∙ r.whole;
+    whole = ap (one_after_other (plain written)) (sym (still_cut macros automatic rest behind ps opened cut)) ∙ r.whole;
     gives = all_cut macros automatic r.memo r.size written rest behind ps opened r.gives cut;
     settled = r.settled;
     known = r.known;
@@ -69,7 +69,7 @@ module _ (macros : List Macro) (automatic : ℕ → List ℕ) where
     size = r.size;
     whole =
         followed_assoc (plain written) (plain bytes) (still macros automatic rest opened)
-        ∙ ap (λ v. followed (plain written) (followed v (still macros automatic rest opened))) (sym (step (left_of macros automatic opened) (names_of opened) (admits_now r)))
+        ∙ ap (λ v. one_after_other (plain written) (one_after_other v (still macros automatic rest opened))) (sym (step (left_of macros automatic opened) (names_of opened) (admits_now r)))
         ∙ r.whole;
     gives = all_step macros automatic r.memo r.size written bytes ps rest opened r.gives step;
     settled = r.settled;
@@ -98,7 +98,7 @@ module _ (macros : List Macro) (automatic : ℕ → List ℕ) where
   runs_undefined total rest written name opened states r none =
       subst (λ w. Runs macros automatic total [] rest w opened states) (append-nil written)
       (runs_write total rest written [] (Reference name ∷ []) opened states r
-      (λ left begun a. ap (λ v. followed v (plain [])) (undefined_expansion macros automatic left begun name none (a.defined name none))))
+      (λ left begun a. ap (λ v. one_after_other v (plain [])) (undefined_expansion macros automatic left begun name none (a.defined name none))))
 
   pub runs_known : (total : Expansion) (rest written : List ℕ) (i start len : ℕ) (opened : List Opened) (states : List State) → Runs macros automatic total (Reference (macro_at macros i).name ∷ []) rest written opened states → i < length macros → state_at states i ≡ Expanded start len → Runs macros automatic total [] rest (written ++ take len (drop start written)) opened states
   runs_known total rest written i start len opened states r l e =
@@ -115,14 +115,14 @@ module _ (macros : List Macro) (automatic : ℕ → List ℕ) where
       let k : i < length states = rw r.known l in
       let unknown : r.memo name ≡ None = r.results i l ∙ ap (result_in written) e in
       let here : is_among (names_of opened) name ≡ false = r.begun i l ∙ ap is_begun e in
-      let fewer : sum_by untouched (set states i Begun) + untouched (state_at states i) ≡ sum_by untouched states + 0 = sum_by-set untouched states i Begun Untouched k in
-      let one : untouched (state_at states i) ≡ 1 = ap untouched e in
+      let fewer : sum_by count_untouched (set states i Begun) + count_untouched (state_at states i) ≡ sum_by count_untouched states + 0 = sum_by-set count_untouched states i Begun Untouched k in
+      let one : count_untouched (state_at states i) ≡ 1 = ap count_untouched e in
       let all = r.counted in
       let room : length opened < length macros = omega arith in
       record {
         memo = r.memo;
         size = r.size;
-        whole = ap (followed (plain written)) (sym (still_begun macros automatic rest name value (length written) opened has here room)) ∙ r.whole;
+        whole = ap (one_after_other (plain written)) (sym (still_begun macros automatic rest name value (length written) opened has here room)) ∙ r.whole;
         gives = all_begun macros automatic r.memo r.size written name value rest opened r.gives unknown has here;
         settled = r.settled;
         known = length-set states i Begun ∙ r.known;
@@ -153,8 +153,8 @@ module _ (macros : List Macro) (automatic : ℕ → List ℕ) where
       let within : start ≤ length written = r.gives.1 in
       let own : is_among (name ∷ names_of opened) name ≡ true = ap (λ b. b || is_among (names_of opened) name) ((bytes_eq-Decides name name).1 refl) in
       let was : is_begun (state_at states i) ≡ true = sym (r.begun i l) ∙ own in
-      let none : untouched (state_at states i) ≡ 0 = begun_is_touched (state_at states i) was in
-      let same : sum_by untouched (set states i ended) + untouched (state_at states i) ≡ sum_by untouched states + 0 = sum_by-set untouched states i ended Untouched k in
+      let none : count_untouched (state_at states i) ≡ 0 = begun_is_touched (state_at states i) was in
+      let same : sum_by count_untouched (set states i ended) + count_untouched (state_at states i) ≡ sum_by count_untouched states + 0 = sum_by-set count_untouched states i ended Untouched k in
       let all = r.counted in
       let next = all_finished macros automatic r.memo r.size written o opened r.gives r.settled in
       let result = with_result name (drop start written) r.memo in
@@ -192,7 +192,7 @@ module _ (macros : List Macro) (automatic : ℕ → List ℕ) where
       let name = (macro_at macros i).name in
       let here : is_among (names_of opened) name ≡ true = r.begun i l ∙ ap is_begun e in
       sym r.whole
-      ∙ ap (λ v. followed (plain written) (followed (followed v (plain [])) (still macros automatic rest opened))) (loop_expansion macros automatic (left_of macros automatic opened) (names_of opened) name (macro_at macros i).value has here)
+      ∙ ap (λ v. one_after_other (plain written) (one_after_other (one_after_other v (plain [])) (still macros automatic rest opened))) (loop_expansion macros automatic (left_of macros automatic opened) (names_of opened) name (macro_at macros i).value has here)
       ∙ ap (λ v. record { bytes = v; loops = true }) (append-nil written)
 
   -- nothing is left

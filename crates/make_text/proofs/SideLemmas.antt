@@ -9,7 +9,7 @@ use Rattle.cc_names.specs.declared.memory.Or.{Or}
 use Rattle.cc_names.specs.declared.memory.Or.TheVariants.{NoMemory, Is}
 use Rattle.cc_names.specs.declared.refusals.MakeCause.{MakeCause}
 use Rattle.cc_names.specs.declared.refusals.MakeCause.TheVariants.{LineTooLong, MacroLoop}
-use Rattle.make_grammar.specs.Macros.{Expansion, plain, followed, is_too_long}
+use Rattle.make_grammar.specs.Macros.{Expansion, plain, one_after_other, is_too_long}
 use Rattle.make_text.specs.RuleLines.{rule_of_sides, expanded_sides}
 use Rattle.make_grammar.specs.Statements.{or_cause, cause_or, expansion_fault, expanded_by, before_mark, mark_of, is_grouped, rule_expansion, rule_bytes_fault, rule_words_fault, rule_words}
 use Rattle.make_grammar.specs.declared.rule_lines.RuleWords.{RuleWords}
@@ -33,7 +33,7 @@ no_fault total h = by (is_too_long total) total.loops refl h
     by false false is h = ap (λ (b : Bool). record { bytes = total.bytes; loops = b }) is
 
 -- the fault of an expansion is that of what begins with it
-fault_follows : (one rest : Expansion) (cause : MakeCause) → expansion_fault one ≡ Some cause → expansion_fault (followed one rest) ≡ Some cause
+fault_follows : (one rest : Expansion) (cause : MakeCause) → expansion_fault one ≡ Some cause → expansion_fault (one_after_other one rest) ≡ Some cause
 fault_follows one rest cause h = by (is_too_long one) one.loops refl refl h
   where
     longer : nat_lt 65536 (length one.bytes) ≡ true → (more : List ℕ) → nat_lt 65536 (length (one.bytes ++ more)) ≡ true
@@ -42,7 +42,7 @@ fault_follows one rest cause h = by (is_too_long one) one.loops refl refl h
         let all : length (one.bytes ++ more) ≡ length one.bytes + length more = length-append one.bytes more in
         lt-ltb _ _ (omega (arith, before, all))
 
-    by : (long loops : Bool) → is_too_long one ≡ long → one.loops ≡ loops → (if long then Some LineTooLong else if loops then Some MacroLoop else None) ≡ Some cause → expansion_fault (followed one rest) ≡ Some cause
+    by : (long loops : Bool) → is_too_long one ≡ long → one.loops ≡ loops → (if long then Some LineTooLong else if loops then Some MacroLoop else None) ≡ Some cause → expansion_fault (one_after_other one rest) ≡ Some cause
     by true loops l is h =
         ap (λ b. if b then Some LineTooLong else if one.loops || rest.loops then Some MacroLoop else None) (longer l (if one.loops then [] else rest.bytes)) ∙ h
     by false true l is h =
@@ -54,25 +54,25 @@ fault_follows one rest cause h = by (is_too_long one) one.loops refl refl h
 -- the expansion of a rule line whose first side has no fault
 first_side : (macros : List Macro) (before behind : List ℕ) (first : List ℕ) →
     Ok first ≡ or_cause (expansion_fault (expanded_by macros (before_mark before))) (expanded_by macros (before_mark before)).bytes →
-    rule_expansion macros before behind ≡ followed (plain first) (followed (plain (mark_of before)) (expanded_by macros behind))
+    rule_expansion macros before behind ≡ one_after_other (plain first) (one_after_other (plain (mark_of before)) (expanded_by macros behind))
 first_side macros before behind first h =
     let one = expanded_by macros (before_mark before) in
     let fine = no_cause (expansion_fault one) one.bytes first h in
-    ap (λ (e : Expansion). followed e (followed (plain (mark_of before)) (expanded_by macros behind)))
+    ap (λ (e : Expansion). one_after_other e (one_after_other (plain (mark_of before)) (expanded_by macros behind)))
     (no_fault one fine.0 ∙ ap plain (sym fine.1))
 
 -- both sides, where the first has no fault
 pub second_sides : (macros : List Macro) (before behind first mark : List ℕ) (read : Result (List ℕ × List ℕ) MakeCause) →
     Ok first ≡ or_cause (expansion_fault (expanded_by macros (before_mark before))) (expanded_by macros (before_mark before)).bytes →
     mark ≡ mark_of before →
-    read ≡ or_cause (expansion_fault (followed (plain first) (followed (plain mark) (expanded_by macros behind)))) (first, (expanded_by macros behind).bytes) →
+    read ≡ or_cause (expansion_fault (one_after_other (plain first) (one_after_other (plain mark) (expanded_by macros behind)))) (first, (expanded_by macros behind).bytes) →
     expanded_sides macros before behind ≡ read
 second_sides macros before behind first mark read h m r =
     let one = expanded_by macros (before_mark before) in
     let fine = no_cause (expansion_fault one) one.bytes first h in
     ap (λ (e : Expansion). or_cause (expansion_fault e) (one.bytes, (expanded_by macros behind).bytes)) (first_side macros before behind first h)
-    ∙ ap (λ (x : List ℕ × List ℕ). or_cause (expansion_fault (followed (plain x.0) (followed (plain x.1) (expanded_by macros behind)))) (one.bytes, (expanded_by macros behind).bytes)) (ap (λ (b : List ℕ). (first, b)) (sym m))
-    ∙ ap (λ (b : List ℕ). or_cause (expansion_fault (followed (plain first) (followed (plain mark) (expanded_by macros behind)))) (b, (expanded_by macros behind).bytes)) (sym fine.1)
+    ∙ ap (λ (x : List ℕ × List ℕ). or_cause (expansion_fault (one_after_other (plain x.0) (one_after_other (plain x.1) (expanded_by macros behind)))) (one.bytes, (expanded_by macros behind).bytes)) (ap (λ (b : List ℕ). (first, b)) (sym m))
+    ∙ ap (λ (b : List ℕ). or_cause (expansion_fault (one_after_other (plain first) (one_after_other (plain mark) (expanded_by macros behind)))) (b, (expanded_by macros behind).bytes)) (sym fine.1)
     ∙ sym r
 
 -- a fault of the first side is one of the line
@@ -81,7 +81,7 @@ pub first_fault : (macros : List Macro) (before behind : List ℕ) (cause : Make
     expanded_sides macros before behind ≡ Err cause
 first_fault macros before behind cause h =
     let one = expanded_by macros (before_mark before) in
-    let rest = followed (plain (mark_of before)) (expanded_by macros behind) in
+    let rest = one_after_other (plain (mark_of before)) (expanded_by macros behind) in
     ap (λ (o : Option MakeCause). or_cause o (one.bytes, (expanded_by macros behind).bytes))
     (fault_follows one rest cause (a_cause (expansion_fault one) one.bytes cause h))
 

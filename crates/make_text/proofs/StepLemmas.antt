@@ -7,7 +7,7 @@ use Rattle.std.proofs.lemmas.Bool.{cases_eq, lt-ltb}
 use Rattle.cc_names.specs.declared.commands.Macro.{Macro}
 use Rattle.make_grammar.specs.Macros.{Piece, Reference, Expansion, expansion_of, is_too_long, plain, pieces_of, value_in}
 use Rattle.make_text.specs.Expanding.{Opened}
-use Rattle.make_text.specs.Runs.{macro_at, HasNamesApart, untouched, Runs, work}
+use Rattle.make_text.specs.Runs.{macro_at, HasNamesApart, count_untouched, Runs, work}
 use Rattle.make_text.specs.States.{state_at}
 use Rattle.make_text.specs.Scanning.{pieces_in}
 use Rattle.make_text.specs.Steps.{opened_in, opened_of, IsRunning, work_of, EndsSafely, MacroEnded, RefersSafely, Referred, Undefined, Known, Begins, Meets, Took, Went, FallsBelow}
@@ -23,32 +23,32 @@ use Rattle.make_text.proofs.RunLemmas.{runs_cut, runs_bytes, runs_automatic, run
 
 -- ---- the innermost macro
 
-last_opened : (macros : List Macro) (front : List lent.Opened) (o : lent.Opened) → opened_of macros (front ++ (o ∷ [])) ≡ opened_in macros o ∷ opened_of macros front
-last_opened macros front o = ap (map (opened_in macros)) (reverse-append front (o ∷ []))
+last_opened : (macros : List Macro) (prefix : List lent.Opened) (o : lent.Opened) → opened_of macros (prefix ++ (o ∷ [])) ≡ opened_in macros o ∷ opened_of macros prefix
+last_opened macros prefix o = ap (map (opened_in macros)) (reverse-append prefix (o ∷ []))
 
 -- macros that are being expanded stand among so many
 abbrev pub Within : ℕ → List lent.Opened → Type 0
 Within n items = All (λ o. o.index < n) items
 
-front_within : (n : ℕ) (front : List lent.Opened) (o : lent.Opened) → Within n (front ++ (o ∷ [])) → Within n front
-front_within n front o h k d l =
-    let m : k < length (front ++ (o ∷ [])) = rw (length-append front (o ∷ [])) (omega arith) in
-    let same : get_or (front ++ (o ∷ [])) k d ≡ get_or front k d = get_or_append_left front (o ∷ []) d k l in
+prefix_within : (n : ℕ) (prefix : List lent.Opened) (o : lent.Opened) → Within n (prefix ++ (o ∷ [])) → Within n prefix
+prefix_within n prefix o h k d l =
+    let m : k < length (prefix ++ (o ∷ [])) = rw (length-append prefix (o ∷ [])) (omega arith) in
+    let same : get_or (prefix ++ (o ∷ [])) k d ≡ get_or prefix k d = get_or_append_left prefix (o ∷ []) d k l in
     subst (λ v. v.index < n) same (h k d m)
 
-last_within : (n : ℕ) (front : List lent.Opened) (o : lent.Opened) → Within n (front ++ (o ∷ [])) → o.index < n
-last_within n front o h =
-    let m : length front < length (front ++ (o ∷ [])) = rw (length_push front o) (omega arith) in
-    let same : get_or (front ++ (o ∷ [])) (length front) o ≡ o = get_or_push front o o (length front) refl in
-    subst (λ v. v.index < n) same (h (length front) o m)
+last_within : (n : ℕ) (prefix : List lent.Opened) (o : lent.Opened) → Within n (prefix ++ (o ∷ [])) → o.index < n
+last_within n prefix o h =
+    let m : length prefix < length (prefix ++ (o ∷ [])) = rw (length_push prefix o) (omega arith) in
+    let same : get_or (prefix ++ (o ∷ [])) (length prefix) o ≡ o = get_or_push prefix o o (length prefix) refl in
+    subst (λ v. v.index < n) same (h (length prefix) o m)
 
-within_push : (n : ℕ) (front : List lent.Opened) (o : lent.Opened) → Within n front → o.index < n → Within n (front ++ (o ∷ []))
-within_push n front o h p k d l =
-    elim (cases_eq k (length front)) [
-      | inl e ↦ subst (λ v. v.index < n) (sym (get_or_push front o d k (sym e))) p
+within_push : (n : ℕ) (prefix : List lent.Opened) (o : lent.Opened) → Within n prefix → o.index < n → Within n (prefix ++ (o ∷ []))
+within_push n prefix o h p k d l =
+    elim (cases_eq k (length prefix)) [
+      | inl e ↦ subst (λ v. v.index < n) (sym (get_or_push prefix o d k (sym e))) p
       | inr ne ↦
-          let m : k < length front = omega (arith, length_push front o) in
-          subst (λ v. v.index < n) (sym (get_or_append_left front (o ∷ []) d k m)) (h k d m)
+          let m : k < length prefix = omega (arith, length_push prefix o) in
+          subst (λ v. v.index < n) (sym (get_or_append_left prefix (o ∷ []) d k m)) (h k d m)
     ]
 
 -- ---- how much is left to do
@@ -83,10 +83,10 @@ module _ (macros : List Macro) (automatic : ℕ → List ℕ) where
       (subst (λ v. Runs macros automatic total ps v written opened states) a r)))
 
   pub ends_safely : (total : Expansion) (e : Expanding) → IsRunning macros automatic total [] e → EndsSafely e
-  ends_safely total e h front o items =
-      let within : o.index < length macros = last_within (length macros) front o (subst (Within (length macros)) items h.within) in
+  ends_safely total e h prefix o items =
+      let within : o.index < length macros = last_within (length macros) prefix o (subst (Within (length macros)) items h.within) in
       let states : length e.states ≡ length macros = h.runs.known in
-      let r = runs_same total [] refl refl (ap (opened_of macros) items ∙ last_opened macros front o) refl h.runs in
+      let r = runs_same total [] refl refl (ap (opened_of macros) items ∙ last_opened macros prefix o) refl h.runs in
       (omega arith, r.gives.1)
 
   pub refers_safely : (total : Expansion) (e : Expanding) → IsRunning macros automatic total [] e → RefersSafely macros e
@@ -100,7 +100,7 @@ module _ (macros : List Macro) (automatic : ℕ → List ℕ) where
       record {
         runs = runs_same total [] (sym rest) (sym written) refl (sym states)
             (runs_end macros automatic total old.written.items o.outer.now o.index o.start (opened_of macros new.opened.items) old.states distinct r (last_within (length macros) new.opened.items o all));
-        within = front_within (length macros) new.opened.items o all;
+        within = prefix_within (length macros) new.opened.items o all;
       }
   ended_went total old new Ends distinct h end (items, none, rest, states, written) =
       let done = runs_done macros automatic total old.written.items old.states (runs_same total [] end refl (ap (opened_of macros) items) refl h.runs) ∙ ap plain (sym written) in
@@ -183,15 +183,15 @@ module _ (macros : List Macro) (automatic : ℕ → List ℕ) where
       let all = subst (Within (length macros)) items h.within in
       let index : o.index < length macros = last_within (length macros) new.opened.items o all in
       let known : length old.states ≡ length macros = h.runs.known in
-      let fewer : sum_by untouched (set old.states o.index (Expanded o.start (length old.written.items - o.start))) + untouched (state_at old.states o.index) ≡ sum_by untouched old.states + 0 =
-      sum_by-set untouched old.states o.index (Expanded o.start (length old.written.items - o.start)) Untouched (omega arith) in
-      let touched : sum_by untouched new.states ≡ sum_by untouched (set old.states o.index (Expanded o.start (length old.written.items - o.start))) = ap (sum_by untouched) states in
+      let fewer : sum_by count_untouched (set old.states o.index (Expanded o.start (length old.written.items - o.start))) + count_untouched (state_at old.states o.index) ≡ sum_by count_untouched old.states + 0 =
+      sum_by-set count_untouched old.states o.index (Expanded o.start (length old.written.items - o.start)) Untouched (omega arith) in
+      let touched : sum_by count_untouched new.states ≡ sum_by count_untouched (set old.states o.index (Expanded o.start (length old.written.items - o.start))) = ap (sum_by count_untouched) states in
       let inner : sum_by outside (opened_of macros old.opened.items) ≡ (length o.outer.now + 1) + sum_by outside (opened_of macros new.opened.items) =
       ap (sum_by outside) (ap (opened_of macros) items ∙ last_opened macros new.opened.items o) ∙ sum_by-cons outside (opened_in macros o) (opened_of macros new.opened.items) in
       let now : length new.rest.now ≡ length o.outer.now = ap length rest in
       let none : length old.rest.now ≡ 0 = ap length end in
-      let less : sum_by untouched new.states * steps_in macros ≤ sum_by untouched old.states * steps_in macros =
-      times_le (sum_by untouched new.states) (sum_by untouched old.states) (steps_in macros) (omega arith) in
+      let less : sum_by count_untouched new.states * steps_in macros ≤ sum_by count_untouched old.states * steps_in macros =
+      times_le (sum_by count_untouched new.states) (sum_by count_untouched old.states) (steps_in macros) (omega arith) in
       omega arith
   ended_falls total old new Ends h end e = tt
   ended_falls total old new Loops h end e = tt
@@ -207,17 +207,17 @@ module _ (macros : List Macro) (automatic : ℕ → List ℕ) where
   referred_falls name old new step before known (Known i start len found state rest opened states written) l = rw (same_work old new rest opened states) l
   referred_falls name old new step before known (Begins i o found state index outer start rest opened states written) l =
       let within : i < length old.states = omega (arith, found.0) in
-      let fewer : sum_by untouched (set old.states i Begun) + untouched (state_at old.states i) ≡ sum_by untouched old.states + 0 =
-      sum_by-set untouched old.states i Begun Untouched within in
-      let one : untouched (state_at old.states i) ≡ 1 = ap untouched state in
-      let touched : sum_by untouched new.states ≡ sum_by untouched (set old.states i Begun) = ap (sum_by untouched) states in
+      let fewer : sum_by count_untouched (set old.states i Begun) + count_untouched (state_at old.states i) ≡ sum_by count_untouched old.states + 0 =
+      sum_by-set count_untouched old.states i Begun Untouched within in
+      let one : count_untouched (state_at old.states i) ≡ 1 = ap count_untouched state in
+      let touched : sum_by count_untouched new.states ≡ sum_by count_untouched (set old.states i Begun) = ap (sum_by count_untouched) states in
       let inner : sum_by outside (opened_of macros new.opened.items) ≡ (length o.outer.now + 1) + sum_by outside (opened_of macros old.opened.items) =
       ap (sum_by outside) (ap (opened_of macros) opened ∙ last_opened macros old.opened.items o) ∙ sum_by-cons outside (opened_in macros o) (opened_of macros old.opened.items) in
       let now : length new.rest.now ≡ length (macro_at macros i).value = ap length rest in
       let out : length o.outer.now ≡ length old.rest.now = ap length outer in
       let value : length (macro_at macros i).value ≤ sum_by length_of macros = value_le macros i found.0 in
-      let less : (sum_by untouched new.states + 1) * steps_in macros ≤ sum_by untouched old.states * steps_in macros =
-      times_le (sum_by untouched new.states + 1) (sum_by untouched old.states) (steps_in macros) (omega arith) in
+      let less : (sum_by count_untouched new.states + 1) * steps_in macros ≤ sum_by count_untouched old.states * steps_in macros =
+      times_le (sum_by count_untouched new.states + 1) (sum_by count_untouched old.states) (steps_in macros) (omega arith) in
       omega arith
   referred_falls name old new step before known (Meets i found state written) l = tt
 

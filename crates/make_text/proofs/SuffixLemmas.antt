@@ -7,35 +7,35 @@ use Rattle.std.specs.Str.{bytes_eq}
 use Rattle.std.specs.List.{list_any}
 use Rattle.make_grammar.specs.Contents.{suffix_rule_of}
 use Rattle.make_grammar.specs.Macros.{is_among}
-use Rattle.make_text.specs.SuffixRules.{begins_with, behind_front, begins_from, is_pair_from, suffix_rules_from}
+use Rattle.make_text.specs.SuffixRules.{begins_with, behind_prefix, begins_from, is_pair_from, suffix_rules_from}
 use Rattle.make_grammar.specs.Rules.{MakeRule, SuffixRule}
 use Rattle.make_text.proofs.ExpansionLemmas.{same_bytes, neither}
 use Rattle.make_text.proofs.ReaderLemmas.{bytes_eq_swapped}
 
 -- bytes that begin with others are these and the rest
-fronted : (bytes front : List ℕ) → begins_with bytes front ≡ true → bytes ≡ front ++ drop (length front) bytes
-fronted bytes front h =
-    sym (take-append-drop (length front) bytes) ∙ ap (λ (f : List ℕ). f ++ drop (length front) bytes) (same_bytes (take (length front) bytes) front h)
+fronted : (bytes prefix : List ℕ) → begins_with bytes prefix ≡ true → bytes ≡ prefix ++ drop (length prefix) bytes
+fronted bytes prefix h =
+    sym (take-append-drop (length prefix) bytes) ∙ ap (λ (f : List ℕ). f ++ drop (length prefix) bytes) (same_bytes (take (length prefix) bytes) prefix h)
 
 same_ways : (a b : Bool) → (a ≡ true → b ≡ true) → (b ≡ true → a ≡ true) → a ≡ b
 same_ways true b h k = sym (h refl)
 same_ways false true h k = k refl
 same_ways false false h k = refl
 
-taken : (front rest : List ℕ) → take (length front) (front ++ rest) ≡ front
+taken : (prefix rest : List ℕ) → take (length prefix) (prefix ++ rest) ≡ prefix
 taken [] rest = refl
-taken (b ∷ front) rest = ap (λ (l : List ℕ). b ∷ l) (taken front rest)
+taken (b ∷ prefix) rest = ap (λ (l : List ℕ). b ∷ l) (taken prefix rest)
 
-dropped : (front rest : List ℕ) → drop (length front) (front ++ rest) ≡ rest
+dropped : (prefix rest : List ℕ) → drop (length prefix) (prefix ++ rest) ≡ rest
 dropped [] rest = refl
-dropped (b ∷ front) rest = dropped front rest
+dropped (b ∷ prefix) rest = dropped prefix rest
 
 -- too few bytes begin with nothing longer
-pub too_few : (bytes front : List ℕ) → length bytes < length front → begins_with bytes front ≡ false
-too_few bytes front less =
-    false_from_ne_true (begins_with bytes front)
+pub too_few : (bytes prefix : List ℕ) → length bytes < length prefix → begins_with bytes prefix ≡ false
+too_few bytes prefix less =
+    false_from_ne_true (begins_with bytes prefix)
     (λ h.
-    let len : length bytes ≡ length front + length (drop (length front) bytes) = ap length (fronted bytes front h) ∙ length-append front (drop (length front) bytes) in
+    let len : length bytes ≡ length prefix + length (drop (length prefix) bytes) = ap length (fronted bytes prefix h) ∙ length-append prefix (drop (length prefix) bytes) in
     absurd (omega (arith, len)))
 
 -- bytes that are two others put together begin with the first, and the second is the rest
@@ -61,28 +61,28 @@ not_begun (to ∷ suffixes) bytes from h =
     ap (λ b. b || is_pair_from suffixes bytes from) (pair_is bytes from to ∙ ap (λ b. b && bytes_eq (drop (length from) bytes) to) h)
     ∙ not_begun suffixes bytes from h
 
-pub pair_some : (bytes from to rest : List ℕ) → Some rest ≡ behind_front bytes from → bytes_eq rest to ≡ bytes_eq bytes (from ++ to)
+pub pair_some : (bytes from to rest : List ℕ) → Some rest ≡ behind_prefix bytes from → bytes_eq rest to ≡ bytes_eq bytes (from ++ to)
 pair_some bytes from to rest h = by (begins_with bytes from) h ∙ sym (pair_is bytes from to)
   where
     by : (b : Bool) → Some rest ≡ (if b then Some (drop (length from) bytes) else None) → bytes_eq rest to ≡ (b && bytes_eq (drop (length from) bytes) to)
     by true h = let same : rest ≡ drop (length from) bytes = cc in ap (λ (r : List ℕ). bytes_eq r to) same
     by false h = absurd (cc)
 
-pub fronted_so : (bytes from rest : List ℕ) → Some rest ≡ behind_front bytes from → true ≡ begins_with bytes from
+pub fronted_so : (bytes from rest : List ℕ) → Some rest ≡ behind_prefix bytes from → true ≡ begins_with bytes from
 fronted_so bytes from rest h = by (begins_with bytes from) h
   where
     by : (b : Bool) → Some rest ≡ (if b then Some (drop (length from) bytes) else None) → true ≡ b
     by true h = refl
     by false h = absurd (cc)
 
-pub not_fronted : (bytes from : List ℕ) → None ≡ behind_front bytes from → begins_with bytes from ≡ false
+pub not_fronted : (bytes from : List ℕ) → None ≡ behind_prefix bytes from → begins_with bytes from ≡ false
 not_fronted bytes from h = by (begins_with bytes from) h
   where
     by : (b : Bool) → None ≡ (if b then Some (drop (length from) bytes) else None) → b ≡ false
     by true h = absurd (cc)
     by false h = refl
 
-pub pair_none : (bytes from to : List ℕ) → None ≡ behind_front bytes from → false ≡ bytes_eq bytes (from ++ to)
+pub pair_none : (bytes from to : List ℕ) → None ≡ behind_prefix bytes from → false ≡ bytes_eq bytes (from ++ to)
 pair_none bytes from to h = sym (pair_is bytes from to ∙ ap (λ b. b && bytes_eq (drop (length from) bytes) to) (not_fronted bytes from h))
 
 -- no rule is no suffix rule

@@ -2,7 +2,7 @@
 -- that were.
 use Rattle.std.specs.Prelude.{◌≡◌, ℕ, ◌-◌, ◌≤◌, false, Option, Some, None, List, [], ◌∷◌, ◌++◌, length, map, take, drop}
 use Rattle.cc_names.specs.declared.commands.Macro.{Macro}
-use Rattle.make_grammar.specs.Macros.{Piece, Reference, Expansion, plain, followed, pieces_of, pieces_expansion, reference_expansion, value_in, is_among}
+use Rattle.make_grammar.specs.Macros.{Piece, Reference, Expansion, plain, one_after_other, pieces_of, pieces_expansion, reference_expansion, value_in, is_among}
 
 -- what is known of the macros whose expansion came to an end: its bytes
 abbrev pub Memo : Type 0
@@ -35,7 +35,7 @@ module _ (macros : List Macro) (automatic : ℕ → List ℕ) where
   abbrev pub still : List ℕ → List Opened → Expansion
   still rest [] = goes_on (length macros) [] (pieces_of rest)
   still rest (o ∷ opened) =
-      followed (goes_on (left_of (o ∷ opened)) (names_of (o ∷ opened)) (pieces_of rest)) (still o.outer opened)
+      one_after_other (goes_on (left_of (o ∷ opened)) (names_of (o ∷ opened)) (pieces_of rest)) (still o.outer opened)
 
   -- some names may be those of the macros that are being expanded, for results of so many macros: there is room for those,
   -- none of them is among the names, and each name is defined
@@ -56,7 +56,7 @@ module _ (macros : List Macro) (automatic : ℕ → List ℕ) where
     pub value : List ℕ
     pub has_value : value_in macros name ≡ Some value
     pub so_far : (left : ℕ) (begun : List (List ℕ)) → Admits memo size left begun
-        → goes_on left (name ∷ begun) (pieces_of value) ≡ followed (plain written) (goes_on left (name ∷ begun) later)
+        → goes_on left (name ∷ begun) (pieces_of value) ≡ one_after_other (plain written) (goes_on left (name ∷ begun) later)
 
   -- the macros that are being expanded, the innermost first, gave what was written since each was begun; some pieces and
   -- this rest of the innermost are still to come

@@ -16,7 +16,7 @@ CutsLine text line (Some rest) =
 -- a line is cut before the backslash at its end, if there is one
 abbrev pub CutsBackslash : List ℕ → Option (Bor (List ℕ)) → Type 0
 CutsBackslash line None = is_joined line ≡ false
-CutsBackslash line (Some front) = (is_joined line ≡ true) × (front.now ≡ without_last line)
+CutsBackslash line (Some prefix) = (is_joined line ≡ true) × (prefix.now ≡ without_last line)
 
 -- bytes in front of the first of some lines
 abbrev pub joined_onto : ℕ → List ℕ → List LogicalLine → List LogicalLine

@@ -4,7 +4,7 @@ use Rattle.cc_names.specs.declared.commands.Macro.{Macro}
 use Rattle.cc_names.specs.declared.memory.Or.{Or}
 use Rattle.cc_names.specs.declared.memory.Or.TheVariants.{NoMemory, Is}
 use Rattle.cc_names.specs.declared.refusals.MakeCause.{MakeCause}
-use Rattle.make_grammar.specs.Macros.{Expansion, plain, followed, reference_expansion}
+use Rattle.make_grammar.specs.Macros.{Expansion, plain, one_after_other, reference_expansion}
 use Rattle.make_grammar.specs.Statements.{Definition, expansion_fault}
 use Rattle.make_text.specs.Steps.{IsAtEnd}
 use Rattle.make_text.specs.declared.expansions.Expanding.{Expanding}
@@ -25,7 +25,7 @@ AtEndUnless macros automatic (Some cause) e = Unit {0}
 -- an expansion that gives a total in the end ran, and told the fault of what the total has behind so many bytes
 abbrev pub RunsTo : List Macro → (ℕ → List ℕ) → Expansion → ℕ → Option MakeCause → Expanding → Type 0
 RunsTo macros automatic total start cause e =
-    (written : List ℕ) (part : Expansion) → length written ≡ start → total ≡ followed (plain written) part
+    (written : List ℕ) (part : Expansion) → length written ≡ start → total ≡ one_after_other (plain written) part
     → (cause ≡ expansion_fault part) × AtEndUnless macros automatic cause e
 
 -- unless memory ran out, a test found nothing where there is no fault, and else the fault

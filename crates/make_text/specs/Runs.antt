@@ -2,7 +2,7 @@
 -- macro, and the bytes that were written.
 use Rattle.std.specs.Prelude.{◌≡◌, ℕ, ◌+◌, ◌*◌, ◌≤◌, ◌<◌, Bool, true, false, Option, Some, None, List, [], length, take, drop, sum_by, slice_index_or}
 use Rattle.cc_names.specs.declared.commands.Macro.{Macro}
-use Rattle.make_grammar.specs.Macros.{Piece, Expansion, plain, followed, value_in, is_among, no_automatic}
+use Rattle.make_grammar.specs.Macros.{Piece, Expansion, plain, one_after_other, value_in, is_among, no_automatic}
 use Rattle.make_text.specs.Expanding.{Memo, Opened, names_of, goes_on, left_of, still, AreKnown, AllGive}
 use Rattle.make_text.specs.States.{state_at}
 use Rattle.make_text.specs.declared.states.State.{State}
@@ -47,15 +47,15 @@ is_begun Begun = true
 is_begun (Expanded start len) = false
 
 -- one for each macro whose expansion was not begun
-abbrev pub untouched : State → ℕ
-untouched Untouched = 1
-untouched Begun = 0
-untouched (Expanded start len) = 0
+abbrev pub count_untouched : State → ℕ
+count_untouched Untouched = 1
+count_untouched Begun = 0
+count_untouched (Expanded start len) = 0
 
 -- how much is left to do: it falls with each step
 abbrev pub work : List Macro → List ℕ → List Opened → List State → ℕ
 work macros rest opened states =
-    sum_by untouched states * (sum_by (λ m. length m.value) macros + 2) + length rest + sum_by (λ o. length o.outer + 1) opened
+    sum_by count_untouched states * (sum_by (λ m. length m.value) macros + 2) + length rest + sum_by (λ o. length o.outer + 1) opened
 
 module _ (macros : List Macro) (automatic : ℕ → List ℕ) where
   -- An expansion that gives a total in the end: what was written, then these pieces, then what is still to come. The
@@ -64,8 +64,8 @@ module _ (macros : List Macro) (automatic : ℕ → List ℕ) where
     pub memo : Memo
     pub size : ℕ
     pub whole :
-        followed (plain written)
-        (followed (goes_on macros automatic (left_of macros automatic opened) (names_of opened) pieces) (still macros automatic rest opened))
+        one_after_other (plain written)
+        (one_after_other (goes_on macros automatic (left_of macros automatic opened) (names_of opened) pieces) (still macros automatic rest opened))
         ≡ total
     pub gives : AllGive macros automatic memo size written pieces rest opened
     pub settled : AreKnown macros automatic memo size
@@ -75,7 +75,7 @@ module _ (macros : List Macro) (automatic : ℕ → List ℕ) where
     pub begun : (i : ℕ) → i < length macros → is_among (names_of opened) (macro_at macros i).name ≡ is_begun (state_at states i)
     pub apart : (x bytes : List ℕ) → memo x ≡ Some bytes → is_among (names_of opened) x ≡ false
     pub defined : (x : List ℕ) → value_in macros x ≡ None → is_among (names_of opened) x ≡ false
-    pub counted : sum_by untouched states + (size + length opened) ≡ length macros
+    pub counted : sum_by count_untouched states + (size + length opened) ≡ length macros
 
 -- what was written outside scripts has the results of the macros that were expanded, which stand there by these states
 abbrev pub AreResults : List Macro → List ℕ → List State → Type 0

@@ -6,13 +6,13 @@ use Rattle.make_text.specs.declared.line_kinds.Kind as lent
 use Rattle.make_text.specs.declared.line_kinds.Kind.TheVariants as variants
 
 -- a kind by the bytes that it lends
-abbrev pub seen : lent.Kind → Kind
-seen variants.Blank = Blank
-seen (variants.Include behind) = Include behind.now
-seen (variants.Assignment before behind) = Assignment before.now behind.now
-seen (variants.Rule before behind) = Rule before.now behind.now
-seen variants.Unclosed = Unclosed
-seen variants.Neither = Neither
+abbrev pub kind_of_lent : lent.Kind → Kind
+kind_of_lent variants.Blank = Blank
+kind_of_lent (variants.Include behind) = Include behind.now
+kind_of_lent (variants.Assignment before behind) = Assignment before.now behind.now
+kind_of_lent (variants.Rule before behind) = Rule before.now behind.now
+kind_of_lent variants.Unclosed = Unclosed
+kind_of_lent variants.Neither = Neither
 
 -- bytes in front of what stands before the `=` or `:`
 abbrev pub onto : List ℕ → Kind → Kind

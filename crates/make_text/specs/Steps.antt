@@ -41,7 +41,7 @@ work_of macros e = work macros e.rest.now (opened_of macros e.opened.items) e.st
 -- where a macro is being expanded, the innermost has a state, and was begun in what was written
 abbrev pub EndsSafely : expandings.Expanding → Type 0
 EndsSafely e =
-    (front : List lent.Opened) (o : lent.Opened) → e.opened.items ≡ front ++ (o ∷ [])
+    (prefix : List lent.Opened) (o : lent.Opened) → e.opened.items ≡ prefix ++ (o ∷ [])
     → (o.index < length e.states) × (o.start ≤ length e.written.items)
 
 -- the innermost macro came to its end, and its result is known; or there was none

@@ -8,11 +8,11 @@ use Rattle.make_grammar.specs.Rules.{MakeRule, SuffixRule}
 
 -- whether bytes begin with others
 abbrev pub begins_with : List ℕ → List ℕ → Bool
-begins_with bytes front = bytes_eq (take (length front) bytes) front
+begins_with bytes prefix = bytes_eq (take (length prefix) bytes) prefix
 
 -- what stands behind a front, where bytes begin with it
-abbrev pub behind_front : List ℕ → List ℕ → Option (List ℕ)
-behind_front bytes front = if begins_with bytes front then Some (drop (length front) bytes) else None
+abbrev pub behind_prefix : List ℕ → List ℕ → Option (List ℕ)
+behind_prefix bytes prefix = if begins_with bytes prefix then Some (drop (length prefix) bytes) else None
 
 -- whether bytes are this suffix and then another
 abbrev pub is_pair_from : List (List ℕ) → List ℕ → List ℕ → Bool

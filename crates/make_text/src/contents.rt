@@ -10,7 +10,7 @@ ghost use Rattle.make_grammar.specs.WordPaths.{each_once};
 ghost use Rattle.make_grammar.specs.Macros.{Expansion, is_among, in_script};
 ghost use Rattle.make_text.specs.Steps.{automatic_of, IsExpandedText};
 
-use crate::endings::checked;
+use crate::endings::checked_contents;
 use crate::expansions::{Automatic, ExpandedText, expand};
 use crate::including::read_all;
 use crate::macros::MacroTable;
@@ -87,7 +87,7 @@ impl Makefile {
         let text = text_at(texts, file);
         let file = Rc::new(alloc, file.copy(alloc)?)?;
         match read_all(alloc, hashing, &file, texts, text, overrides) {
-            Ok(reading) => checked(alloc, hashing, reading),
+            Ok(reading) => checked_contents(alloc, hashing, reading),
             Err(fault) => Err(fault),
         }
     }

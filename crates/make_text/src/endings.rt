@@ -13,7 +13,7 @@ ghost use Rattle.make_grammar.specs.WordPaths.{each_once};
 use crate::contents::Makefile;
 use crate::gathering::gather;
 use crate::joining::{JoinedRule, join_rules, number_groups};
-use crate::kept_lines::RuleLine;
+use crate::line_cache::RuleLine;
 use crate::macro_checks::test_macros;
 use crate::numbers::Numbers;
 use crate::readings::{Parts, Reading, fault_at};
@@ -159,7 +159,7 @@ fn test_ending(alloc: Global, reading: &Reading) -> Result<(), Or<MakeError>>
 }
 
 /// What a makefile says, or the first fault behind its last line.
-pub(crate) fn checked(
+pub(crate) fn checked_contents(
     alloc: Global,
     hashing: RandomState,
     reading: Reading,

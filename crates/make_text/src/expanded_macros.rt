@@ -7,7 +7,7 @@ ghost use Rattle.make_text.specs.Steps.{IsExpandedText};
 ghost use Rattle.make_grammar.specs.Statements.{expanded_by, macros_of, with_definition};
 
 use crate::expansions::{
-    Automatic, EXPANSION_LIMIT, ExpandedText, Expanding, Step, bounded, plain_outcome,
+    Automatic, EXPANSION_LIMIT, ExpandedText, Expanding, Step, plain_outcome, unless_too_long,
 };
 use crate::macro_checks::RESULTS_LIMIT;
 use crate::macros::{Defined, MacroTable};
@@ -94,7 +94,7 @@ fn outcome_behind(
         IsExpandedText (record { bytes = drop start written.now; loops = loops }) outcome) }
 {
     let part = Vec::from_slice(alloc, &written[start..])?;
-    Ok(bounded(part, loops))
+    Ok(unless_too_long(part, loops))
 }
 
 /// An outcome behind which no results are known.

@@ -252,7 +252,7 @@ impl<'a> Expanding<'a> {
 }
 
 /// The bytes of an expansion, unless they are too many; a loop may have ended it.
-pub(crate) fn bounded(written: Vec<u8>, loops: bool) -> ExpandedText
+pub(crate) fn unless_too_long(written: Vec<u8>, loops: bool) -> ExpandedText
     ensures { IsExpandedText (record { bytes = written.items; loops = loops }) result }
 {
     if written.len() > EXPANSION_LIMIT {
@@ -297,8 +297,8 @@ pub(crate) fn expand<'a>(
     'steps: loop {
         match expanding.step(alloc, macros, automatic)? {
             Step::Goes => {}
-            Step::Ends => return Ok(bounded(expanding.written, false)),
-            Step::Loops => return Ok(bounded(expanding.written, true)),
+            Step::Ends => return Ok(unless_too_long(expanding.written, false)),
+            Step::Loops => return Ok(unless_too_long(expanding.written, true)),
         }
         if expanding.written.len() > EXPANSION_LIMIT {
             return Ok(ExpandedText::TooLong);

@@ -7,7 +7,7 @@ ghost use Rattle.make_grammar.specs.Serving.{prerequisites_of};
 ghost use Rattle.make_grammar.specs.WordPaths.{with_path, each_once};
 
 use crate::joining::JoinedRule;
-use crate::kept_lines::RuleLine;
+use crate::line_cache::RuleLine;
 use crate::special_targets::put_paths;
 use cc_names::memory::NoMemory;
 use cc_names::paths::Path;

@@ -6,10 +6,10 @@ ghost use Rattle.make_grammar.specs.Grammar.{lines_behind, lines_read};
 ghost use Rattle.make_grammar.specs.LogicalLines.{logical_lines};
 ghost use Rattle.make_text.specs.ReadingSteps.{Leaves, counted_line_read};
 ghost use Rattle.make_text.specs.Readers.{Keeps};
-ghost use Rattle.make_grammar.specs.Statements.{included, include_line, read_line, read_lines};
+ghost use Rattle.make_grammar.specs.Statements.{reading_of_include, include_line, read_line, read_lines};
 
 use crate::contents::Texts;
-use crate::line_kinds::{Kind, line_kind, trimmed, without_comment};
+use crate::line_kinds::{Kind, line_kind, trimmed_bytes, without_comment};
 use crate::logical_lines::LogicalLines;
 use crate::readers::Reader;
 use crate::readings::{Reading, fault_at};
@@ -29,7 +29,7 @@ const DEPTH_LIMIT: u32 = 16;
 /// Reads the file at a path, which a line of another file includes, in place. So many files can still be included inside
 /// each other.
 #[cycle(files)]
-fn included<X: Texts>(
+fn reading_of_include<X: Texts>(
     reader: &mut Reader,
     alloc: Global,
     texts: &X,
@@ -40,7 +40,7 @@ fn included<X: Texts>(
 ) -> Result<(), Or<MakeError>>
     requires { Keeps reader.old.scripted.keys reader.old.reading.rules }
     ensures read { Leaves result reader.new.reading
-        (included (X.texts texts.now) left file.now.value line reader.old.reading path.now) }
+        (reading_of_include (X.texts texts.now) left file.now.value line reader.old.reading path.now) }
     ensures kept { OnOk result (Keeps reader.new.scripted.keys reader.new.reading.rules) }
 {
     let Some(text) = texts.text(path) else {
@@ -70,7 +70,7 @@ pub(crate) fn read_lines<X: Texts>(
 ) -> Result<(), Or<MakeError>>
     requires { Keeps reader.old.scripted.keys reader.old.reading.rules }
     ensures read { Leaves result reader.new.reading
-        (read_lines (included (X.texts texts.now) left file.now.value) file.now.value
+        (read_lines (reading_of_include (X.texts texts.now) left file.now.value) file.now.value
         (logical_lines text.now) reader.old.reading) }
     ensures kept { OnOk result (Keeps reader.new.scripted.keys reader.new.reading.rules) }
 {
@@ -96,7 +96,7 @@ fn counted_line<X: Texts>(
 ) -> Result<(), Or<MakeError>>
     requires { Keeps reader.old.scripted.keys reader.old.reading.rules }
     ensures read { Leaves result reader.new.reading
-        (counted_line_read (included (X.texts texts.now) left file.now.value) file.now.value
+        (counted_line_read (reading_of_include (X.texts texts.now) left file.now.value) file.now.value
         line.now reader.old.reading) }
     ensures kept { OnOk result (Keeps reader.new.scripted.keys reader.new.reading.rules) }
 {
@@ -119,7 +119,7 @@ fn read_line<X: Texts>(
 ) -> Result<(), Or<MakeError>>
     requires { Keeps reader.old.scripted.keys reader.old.reading.rules }
     ensures read { Leaves result reader.new.reading
-        (read_line (included (X.texts texts.now) left file.now.value) file.now.value line.now
+        (read_line (reading_of_include (X.texts texts.now) left file.now.value) file.now.value line.now
         reader.old.reading) }
     ensures kept { OnOk result (Keeps reader.new.scripted.keys reader.new.reading.rules) }
 {
@@ -131,7 +131,13 @@ fn read_line<X: Texts>(
         Kind::Blank => Ok(()),
         Kind::Include(behind) => include_line(reader, alloc, texts, left, file, number, behind),
         Kind::Assignment(before, behind) => {
-            reader.assign(alloc, file, number, trimmed(before), trimmed(behind))
+            reader.assign(
+                alloc,
+                file,
+                number,
+                trimmed_bytes(before),
+                trimmed_bytes(behind),
+            )
         }
         Kind::Rule(before, behind) => reader.rule_line(alloc, file, number, before, behind),
         Kind::Unclosed => Err(fault_at(alloc, file, number, MakeCause::BadMacro)),
@@ -152,7 +158,7 @@ fn include_line<X: Texts>(
 ) -> Result<(), Or<MakeError>>
     requires { Keeps reader.old.scripted.keys reader.old.reading.rules }
     ensures read { Leaves result reader.new.reading
-        (include_line (included (X.texts texts.now) left file.now.value line) file.now.value
+        (include_line (reading_of_include (X.texts texts.now) left file.now.value line) file.now.value
         line behind.now reader.old.reading) }
     ensures kept { OnOk result (Keeps reader.new.scripted.keys reader.new.reading.rules) }
 {
@@ -161,7 +167,7 @@ fn include_line<X: Texts>(
         Err(fault) => return Err(fault),
     };
     for path in paths.as_slice() {
-        match included(reader, alloc, texts, left, file, line, path) {
+        match reading_of_include(reader, alloc, texts, left, file, line, path) {
             Ok(()) => {}
             Err(fault) => return Err(fault),
         }

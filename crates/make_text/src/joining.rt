@@ -5,7 +5,7 @@ ghost use Rattle.make_grammar.specs.Contents.{groups_of, made_with, with_rule_li
 ghost use Rattle.make_text.specs.Joining.{joined_at, rule_of, rules_of, KnowsJoined, made_together, KnowsGroups, HasJoined, HasNew, HasLonger, HasTarget};
 ghost use Rattle.make_grammar.specs.Macros.{is_among};
 
-use crate::kept_lines::RuleLine;
+use crate::line_cache::RuleLine;
 use crate::numbers::{Numbers, number, number_all, put};
 use crate::rules::MakeRule;
 use cc_names::copies::Copied;

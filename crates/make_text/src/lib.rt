@@ -17,7 +17,7 @@ mod expansions;
 mod gathering;
 mod including;
 mod joining;
-mod kept_lines;
+mod line_cache;
 mod line_kinds;
 mod logical_lines;
 mod macro_checks;

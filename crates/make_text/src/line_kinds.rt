@@ -2,9 +2,9 @@
 
 ghost use Rattle.std.specs.Prelude.{◌≡◌, ◌<◌, ◌+◌, [], option_copied, IfSome, length, take, drop, slice_index};
 ghost use Rattle.std.specs.List.{position};
-ghost use Rattle.make_grammar.specs.LineKinds.{is_hash, without_comment, trimmed, behind_include, behind_byte, is_within, decides, decided, kind_from, line_kind};
+ghost use Rattle.make_grammar.specs.LineKinds.{is_hash, without_comment, trimmed_bytes, behind_include, behind_byte, is_within, decides, kind_by_byte, kind_from, line_kind};
 ghost use Rattle.make_grammar.specs.declared.line_kinds.Position.TheVariants.{Outside};
-ghost use Rattle.make_text.specs.SeenKinds.{seen, onto, past_end_blanks};
+ghost use Rattle.make_text.specs.SeenKinds.{kind_of_lent, onto, past_end_blanks};
 
 use crate::logical_lines::past_blanks;
 use crate::words::is_blank_line;
@@ -50,18 +50,18 @@ fn past_end_blanks(bytes: &[u8]) -> &[u8]
     ensures { result.now ≡ past_end_blanks bytes.now }
 {
     let mut rest = bytes;
-    while let Some((byte, front)) = rest.split_last() {
+    while let Some((byte, prefix)) = rest.split_last() {
         if !is_blank(*byte) {
             break;
         }
-        rest = front;
+        rest = prefix;
     }
     rest
 }
 
 /// Bytes without the blanks at both ends.
-pub(crate) fn trimmed(bytes: &[u8]) -> &[u8]
-    ensures { result.now ≡ trimmed bytes.now }
+pub(crate) fn trimmed_bytes(bytes: &[u8]) -> &[u8]
+    ensures { result.now ≡ trimmed_bytes bytes.now }
 {
     past_end_blanks(past_blanks(bytes))
 }
@@ -109,8 +109,8 @@ fn decides(position: Position, byte: u8) -> bool
 }
 
 /// The kind of a line that no byte decides, by the position behind its last byte.
-fn undecided(position: Position) -> Kind<'static>
-    ensures { seen result ≡ kind_from position [] }
+fn kind_at_end(position: Position) -> Kind<'static>
+    ensures { kind_of_lent result ≡ kind_from position [] }
 {
     if is_within(position) {
         Kind::Unclosed
@@ -120,11 +120,11 @@ fn undecided(position: Position) -> Kind<'static>
 }
 
 /// The kind that the byte at a place decides.
-fn decided(line: &[u8], index: usize) -> Kind<'_>
+fn kind_by_byte(line: &[u8], index: usize) -> Kind<'_>
     requires { index < length line.now }
-    ensures { seen result
+    ensures { kind_of_lent result
         ≡ onto (take index line.now)
-        (decided (slice_index line.now index) (drop (index + 1) line.now)) }
+        (kind_by_byte (slice_index line.now index) (drop (index + 1) line.now)) }
 {
     let (before, behind) = (&line[..index], &line[index + 1..]);
     if line[index] == b'=' {
@@ -136,21 +136,21 @@ fn decided(line: &[u8], index: usize) -> Kind<'_>
 
 /// The kind by the first `=` or `:` outside a macro reference. Takes time linear in the line.
 fn kind_by_marks(line: &[u8]) -> Kind<'_>
-    ensures { seen result ≡ kind_from Outside line.now }
+    ensures { kind_of_lent result ≡ kind_from Outside line.now }
 {
     let mut position = Position::Outside;
     for (index, byte) in line.iter().enumerate() {
         if decides(position, *byte) {
-            return decided(line, index);
+            return kind_by_byte(line, index);
         }
         position = behind_byte(position, *byte);
     }
-    undecided(position)
+    kind_at_end(position)
 }
 
 /// The kind of a line without its comment. Takes time linear in the line.
 pub(crate) fn line_kind(line: &[u8]) -> Kind<'_>
-    ensures { seen result ≡ line_kind line.now }
+    ensures { kind_of_lent result ≡ line_kind line.now }
 {
     if is_blank_line(line) {
         return Kind::Blank;

@@ -84,11 +84,11 @@ fn first_line<'a>(
     let Some(rest) = behind else {
         return Ok((Text::from_bytes(alloc, line)?, &[], number));
     };
-    let Some(front) = cut_backslash(line) else {
+    let Some(prefix) = cut_backslash(line) else {
         let bytes = Text::from_bytes(alloc, line)?;
         return Ok((bytes, rest, next_number(number)));
     };
-    let mut bytes = Vec::from_slice(alloc, front)?;
+    let mut bytes = Vec::from_slice(alloc, prefix)?;
     bytes.push(b' ')?;
     let (rest, after) = join_lines(&mut bytes, rest, next_number(number))?;
     Ok((Text::of(bytes), rest, after))
@@ -115,7 +115,7 @@ fn cut_backslash(line: &[u8]) -> Option<&[u8]>
     ensures { CutsBackslash line.now result }
 {
     match line.split_last() {
-        Some((b'\\', front)) => Some(front),
+        Some((b'\\', prefix)) => Some(prefix),
         _ => None,
     }
 }
@@ -157,11 +157,11 @@ fn join_lines<'a>(
         };
         rest = more;
         number = next_number(number);
-        let Some(front) = cut_backslash(part) else {
+        let Some(prefix) = cut_backslash(part) else {
             bytes.extend_from_slice(part)?;
             return Ok((rest, number));
         };
-        bytes.extend_from_slice(front)?;
+        bytes.extend_from_slice(prefix)?;
         bytes.push(b' ')?;
     }
 }

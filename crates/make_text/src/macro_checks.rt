@@ -100,7 +100,7 @@ impl<'a> Expanding<'a> {
 }
 
 /// An expansion at its end, without its results where they are too many.
-fn renewed<'a>(
+fn without_results<'a>(
     alloc: Global,
     macros: &'a MacroTable,
     automatic: &Automatic<'a>,
@@ -112,11 +112,15 @@ fn renewed<'a>(
     if expanding.written.len() <= RESULTS_LIMIT {
         return expanding;
     }
-    begun(alloc, macros, automatic)
+    new_expansion(alloc, macros, automatic)
 }
 
 /// An expansion at its end, of which nothing was done.
-fn begun<'a>(alloc: Global, macros: &'a MacroTable, _automatic: &Automatic<'a>) -> Expanding<'a>
+fn new_expansion<'a>(
+    alloc: Global,
+    macros: &'a MacroTable,
+    _automatic: &Automatic<'a>,
+) -> Expanding<'a>
     ensures { IsAtEnd (macros_of macros.now) (automatic_of _automatic.now) result }
 {
     Expanding::of(alloc, macros.len(), &[])
@@ -131,9 +135,9 @@ pub(crate) fn test_macros(alloc: Global, macros: &MacroTable) -> Result<(), Or<M
         first: None,
         stem: &[],
     };
-    let mut expanding = begun(alloc, macros, &automatic);
+    let mut expanding = new_expansion(alloc, macros, &automatic);
     for index in 0..macros.len() {
-        expanding = renewed(alloc, macros, &automatic, expanding);
+        expanding = without_results(alloc, macros, &automatic, expanding);
         let (name, file, line) = macros.definition(index);
         if let Some(cause) = expanding.test(alloc, macros, &automatic, index, name)? {
             return Err(fault_at(alloc, file, line, cause));

@@ -7,7 +7,7 @@ ghost use Rattle.make_text.specs.Joining.{made_together};
 ghost use Rattle.make_grammar.specs.Numbers.{number_from};
 ghost use Rattle.make_text.specs.Numbered.{with_number, with_numbers};
 
-use crate::kept_lines::RuleLine;
+use crate::line_cache::RuleLine;
 use crate::rules::MakeRule;
 use cc_names::memory::NoMemory;
 use cc_names::paths::Path;

@@ -3,7 +3,7 @@
 ghost use Rattle.std.specs.Prelude.{◌≡◌, ◌<◌, ◌==◌, ◌∷◌, [], IfSome, length, slice_index};
 ghost use Rattle.std.specs.List.{list_all, position};
 ghost use Rattle.make_grammar.specs.Lines.{is_dollar};
-ghost use Rattle.make_grammar.specs.Macros.{is_word_byte, is_macro_byte, is_macro_name, is_automatic, single, named, Dollar, Name, has_bad_dollar};
+ghost use Rattle.make_grammar.specs.Macros.{is_word_byte, is_macro_byte, is_macro_name, is_automatic, single, piece_of_name, Dollar, Name, has_bad_dollar};
 ghost use Rattle.make_text.specs.Scanning.{pieces_in, CutsFrom, CutsPart};
 
 /// A part of a text: bytes that stand for themselves, or a reference.
@@ -66,8 +66,8 @@ fn first_of(text: &[u8], close: u8) -> Option<usize>
 }
 
 /// What a name between parentheses or braces is.
-fn named(name: &[u8]) -> Part<'_>
-    ensures { pieces_in result ≡ named name.now ∷ [] }
+fn piece_of_name(name: &[u8]) -> Part<'_>
+    ensures { pieces_in result ≡ piece_of_name name.now ∷ [] }
 {
     if is_macro_name(name) {
         Part::Reference(name)
@@ -81,7 +81,7 @@ fn cut_name(text: &[u8], close: u8) -> (Part<'_>, &[u8])
     ensures { CutsFrom (Name close []) text.now result.0 result.1.now }
 {
     match first_of(text, close) {
-        Some(end) => (named(&text[..end]), &text[end + 1..]),
+        Some(end) => (piece_of_name(&text[..end]), &text[end + 1..]),
         None => (Part::Bad, &[]),
     }
 }

@@ -7,7 +7,7 @@ ghost use Rattle.make_text.specs.ReadingSteps.{Leaves, counted_file};
 ghost use Rattle.make_text.specs.Readers.{Keeps, older_of, open_rule, script_tested, OpensInclude};
 ghost use Rattle.make_grammar.specs.Statements.{assignment, override, has_twice, is_scripted, is_second_script, rule_line, script_line, with_rule, within_limits};
 
-use crate::kept_lines::RuleLine;
+use crate::line_cache::RuleLine;
 use crate::pieces::has_bad_dollar;
 use crate::readings::{Reading, fault_at};
 use crate::special_targets::{has_some, put_paths};

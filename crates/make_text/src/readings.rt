@@ -9,7 +9,7 @@ ghost use Rattle.make_text.specs.ReadingSteps.{Leaves, counted_line, counted_fil
 ghost use Rattle.make_grammar.specs.Statements.{fault_at, assignment, include_words, macros_of, override, rule_words, with_rule, within_limits};
 
 use crate::expanded_macros::ExpandedMacros;
-use crate::kept_lines::RuleLine;
+use crate::line_cache::RuleLine;
 use crate::macros::{Defined, MacroTable};
 use crate::rule_lines::{macro_fault, read_include_line, read_rule_line};
 use crate::special_targets::{

@@ -7,7 +7,7 @@ ghost use Rattle.cc_names.specs.Answers.{Gives};
 ghost use Rattle.cc_names.specs.Cuts.{words_of};
 ghost use Rattle.cc_names.specs.declared.refusals.MakeCause.TheVariants as causes;
 ghost use Rattle.make_grammar.specs.Lines.{is_byte};
-ghost use Rattle.make_grammar.specs.Macros.{Expansion, followed, plain, is_among, is_macro_name, has_bad_dollar};
+ghost use Rattle.make_grammar.specs.Macros.{Expansion, one_after_other, plain, is_among, is_macro_name, has_bad_dollar};
 ghost use Rattle.make_text.specs.Steps.{IsExpandedText};
 ghost use Rattle.make_grammar.specs.Statements.{macros_of, or_cause, macro_fault, expansion_fault, is_special, suffixes_name, is_suffix_byte, is_suffix, is_grouped, before_mark, mark_of, is_semicolon, rule_bytes_fault, line_words_fault, rule_words, include_words_fault, include_words};
 ghost use Rattle.make_text.specs.RuleLines.{below_root, rule_of_paths, rule_of_words, rule_of_sides, expanded_sides};
@@ -239,7 +239,7 @@ fn bytes_behind(before: &Text, mark: &[u8], outcome: ExpandedText) -> Result<Tex
         → IsExpandedText total outcome
         → result
         ≡ or_cause
-        (expansion_fault (followed (plain before.now) (followed (plain mark.now) total)))
+        (expansion_fault (one_after_other (plain before.now) (one_after_other (plain mark.now) total)))
         total.bytes }
 {
     let (before, mark) = (before.as_bytes().len(), mark.len());
@@ -256,7 +256,7 @@ fn before_mark(before: &[u8]) -> &[u8]
     ensures { result.now ≡ before_mark before.now }
 {
     match before.split_last() {
-        Some((b'&', front)) => front,
+        Some((b'&', prefix)) => prefix,
         _ => before,
     }
 }
@@ -279,7 +279,7 @@ fn both_sides(first: Text, mark: &[u8], outcome: ExpandedText) -> Result<(Text, 
     ensures { (total : Expansion)
         → IsExpandedText total outcome
         → result
-        ≡ or_cause (expansion_fault (followed (plain first) (followed (plain mark.now) total)))
+        ≡ or_cause (expansion_fault (one_after_other (plain first) (one_after_other (plain mark.now) total)))
         (first, total.bytes) }
 {
     match bytes_behind(&first, mark, outcome) {

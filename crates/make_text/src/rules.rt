@@ -3,7 +3,7 @@
 ghost use Rattle.std.specs.Prelude.{◌≡◌, ◌==◌, ◌&&◌, [], IfOk, OnOk, is_some, length, option_copied, option_map};
 ghost use Rattle.make_grammar.specs.Contents.{rule_without, with_line};
 
-use crate::kept_lines::RuleLine;
+use crate::line_cache::RuleLine;
 use crate::special_targets::put_paths;
 use cc_names::copies::Copied;
 use cc_names::lists::List;
@@ -61,8 +61,8 @@ impl Model for SuffixRule {
 }
 
 /// The paths of a set as a list.
-fn listed(alloc: Global, paths: IndexSet<Path, RandomState>) -> Result<List<Path>, AllocError>
-    ensures { IfOk result (λ listed. listed ≡ paths.keys) }
+fn list_of_set(alloc: Global, paths: IndexSet<Path, RandomState>) -> Result<List<Path>, AllocError>
+    ensures { IfOk result (λ list_of_set. list_of_set ≡ paths.keys) }
 {
     Ok(List::of(paths.into_iter().collect(alloc)?))
 }
@@ -151,7 +151,7 @@ impl MakeRule {
     {
         let mut paths = IndexSet::with_hasher(alloc, hashing);
         self.put_prerequisites(alloc, &mut paths)?;
-        Ok(listed(alloc, paths)?)
+        Ok(list_of_set(alloc, paths)?)
     }
 
     /// Puts those of the prerequisites that are not there behind paths.

@@ -43,7 +43,7 @@ impl Model for States {
 
 impl States {
     /// Those of so many macros, none of which was touched. Takes no memory.
-    pub(crate) fn untouched(alloc: Global, count: usize) -> States
+    pub(crate) fn none_touched(alloc: Global, count: usize) -> States
         ensures { result ≡ replicate count variants.Untouched }
     {
         States {

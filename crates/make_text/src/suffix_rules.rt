@@ -5,11 +5,11 @@ ghost use Rattle.std.specs.List.{list_any};
 ghost use Rattle.std.specs.Str.{bytes_eq};
 ghost use Rattle.make_grammar.specs.Contents.{groups_of, is_pair_of, is_suffix_rule, suffix_rule_of, suffix_rules_of};
 ghost use Rattle.make_text.specs.Joining.{KnowsGroups};
-ghost use Rattle.make_text.specs.SuffixRules.{is_pair_from, is_in_group, is_suffix_target, behind_front, begins_from, begins_with, suffix_rules_from};
+ghost use Rattle.make_text.specs.SuffixRules.{is_pair_from, is_in_group, is_suffix_target, behind_prefix, begins_from, begins_with, suffix_rules_from};
 ghost use Rattle.make_grammar.specs.Macros.{is_among};
 
 use crate::joining::group;
-use crate::kept_lines::RuleLine;
+use crate::line_cache::RuleLine;
 use crate::numbers::Numbers;
 use crate::rules::{MakeRule, SuffixRule};
 use cc_names::memory::NoMemory;
@@ -19,21 +19,21 @@ use std::alloc::Global;
 use std::rc::Rc;
 
 /// What stands behind a front, where bytes begin with it.
-fn cut_front<'a>(bytes: &'a [u8], front: &[u8]) -> Option<&'a [u8]>
-    ensures { option_copied result ≡ behind_front bytes.now front.now }
+fn cut_prefix<'a>(bytes: &'a [u8], prefix: &[u8]) -> Option<&'a [u8]>
+    ensures { option_copied result ≡ behind_prefix bytes.now prefix.now }
 {
-    if bytes.len() < front.len() {
+    if bytes.len() < prefix.len() {
         return None;
     }
-    let (start, rest) = bytes.split_at(front.len());
-    if start == front { Some(rest) } else { None }
+    let (start, rest) = bytes.split_at(prefix.len());
+    if start == prefix { Some(rest) } else { None }
 }
 
 /// Whether bytes are two others put together.
 fn is_pair(bytes: &[u8], from: &[u8], to: &[u8]) -> bool
     ensures { result ≡ bytes_eq bytes.now (from.now ++ to.now) }
 {
-    match cut_front(bytes, from) {
+    match cut_prefix(bytes, from) {
         Some(rest) => rest == to,
         None => false,
     }
@@ -55,7 +55,7 @@ fn is_pair_from(suffixes: &[Path], from: &Path, bytes: &[u8]) -> bool
 fn begins_and_ends(suffixes: &[Path], from: &Path, bytes: &[u8]) -> bool
     ensures { result ≡ is_pair_from suffixes.now bytes.now from.now }
 {
-    match cut_front(bytes, from.as_bytes()) {
+    match cut_prefix(bytes, from.as_bytes()) {
         Some(_) => is_pair_from(suffixes, from, bytes),
         None => false,
     }
@@ -180,7 +180,7 @@ fn put_pair(
 fn begins_with(target: &Path, from: &Path) -> bool
     ensures { result ≡ begins_with target.now from.now }
 {
-    match cut_front(target.as_bytes(), from.as_bytes()) {
+    match cut_prefix(target.as_bytes(), from.as_bytes()) {
         Some(_) => true,
         None => false,
     }

@@ -21,9 +21,9 @@ pub row_more : (entries : List ReadOf) (i : ℕ) (entry : ReadOf) (key path : Li
     old ≡ row_in (drop i entries) path → new ≡ cond (is_at (slice_cmp nat_cmp key) path) (Some entry.row) old → new ≡ row_in (drop (i - 1) entries) path
 row_more entries i entry key path old new within some at same stood put_in =
     let next : suc (i - 1) ≡ i = omega arith in
-    let front : drop (i - 1) entries ≡ entry ∷ drop i entries =
+    let prefix : drop (i - 1) entries ≡ entry ∷ drop i entries =
     drop-cons entries (i - 1) entry within ∙ ap (λ e. e ∷ drop (suc (i - 1)) entries) (sym at) ∙ ap (λ n. entry ∷ drop n entries) next in
     put_in
     ∙ ap (λ t. cond t (Some entry.row) old) (is_eq-slice_cmp key path ∙ ap (λ p. bytes_eq p path) same)
     ∙ ap (cond (bytes_eq entry.path path) (Some entry.row)) stood
-    ∙ sym (ap (λ (left : List ReadOf). row_in left path) front ∙ row_first entry (drop i entries) path)
+    ∙ sym (ap (λ (left : List ReadOf). row_in left path) prefix ∙ row_first entry (drop i entries) path)

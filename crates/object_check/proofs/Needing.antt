@@ -9,7 +9,7 @@ use Rattle.std.specs.Prelude.{is_some}
 use Rattle.cc_names.specs.Formed.{Plain}
 use Rattle.cc_names.specs.declared.rows.ReadOf.{ReadOf}
 use Rattle.base_model.specs.Rows.{Base, size, row_at, deed_of}
-use Rattle.base_model.specs.Changes.{live}
+use Rattle.base_model.specs.Changes.{live_row}
 use Rattle.base_model.specs.Closures.{entries_of_deed, is_publish}
 use Rattle.base_model.specs.Conditions.{is_entry}
 use Rattle.base_model.specs.Fits.{is_base}
@@ -59,13 +59,13 @@ names_before b (row ∷ older) id r base h = by (size older == id) refl h (names
 
 module _ (b : Base) (k : ℕ) (old : ℕ → Bool) (before : NeedsFrom b (suc k) old) where
   -- an object that is not needed
-  pub needs_same : old k ≡ false → is_some (live b k) ≡ false → NeedsFrom b k old
+  pub needs_same : old k ≡ false → is_some (live_row b k) ≡ false → NeedsFrom b k old
   needs_same unneeded dead = record {
     lives = λ id from within lives. by_live id (k == id) refl from within lives;
     closed = λ id object from needs names. by_closed id object (k == id) refl from needs names;
   }
     where
-      by_live : (id : ℕ) (t : Bool) → (k == id) ≡ t → k ≤ id → id < size b → is_some (live b id) ≡ true → old id ≡ true
+      by_live : (id : ℕ) (t : Bool) → (k == id) ≡ t → k ≤ id → id < size b → is_some (live_row b id) ≡ true → old id ≡ true
       by_live id true at from within lives = let same : k ≡ id = grind (arith, nat_tests) in absurd (cc (dead, lives, same))
       by_live id false at from within lives = let past : suc k ≤ id = grind (arith, nat_tests, from) in before.lives id past within lives
 
@@ -104,7 +104,7 @@ module _ (b : Base) (k : ℕ) (old : ℕ → Bool) (before : NeedsFrom b (suc k)
           by false names true unlike h = absurd (cc)
           by false names false unlike h = h
 
-      by_live : (id : ℕ) (t : Bool) → (k == id) ≡ t → k ≤ id → id < size b → is_some (live b id) ≡ true → new id ≡ true
+      by_live : (id : ℕ) (t : Bool) → (k == id) ≡ t → k ≤ id → id < size b → is_some (live_row b id) ≡ true → new id ≡ true
       by_live id true at from within lives = own id at
       by_live id false at from within lives = let past : suc k ≤ id = grind (arith, nat_tests, from) in stays id (before.lives id past within lives)
 
@@ -134,9 +134,9 @@ needs_none b n needed past none = record {
     by object id needs = let not_needed = none id in absurd (cc)
 
 -- what is not needed is no live object
-pub dead_unneeded : (b : Base) (needed : ℕ → Bool) (id : ℕ) → HasLive b needed → id < size b → needed id ≡ false → is_some (live b id) ≡ false
-dead_unneeded b needed id has within is = by (is_some (live b id)) refl
+pub dead_unneeded : (b : Base) (needed : ℕ → Bool) (id : ℕ) → HasLive b needed → id < size b → needed id ≡ false → is_some (live_row b id) ≡ false
+dead_unneeded b needed id has within is = by (is_some (live_row b id)) refl
   where
-    by : (t : Bool) → is_some (live b id) ≡ t → t ≡ false
+    by : (t : Bool) → is_some (live_row b id) ≡ t → t ≡ false
     by true lives = let needs = has id within lives in absurd (cc (needs, is))
     by false lives = refl

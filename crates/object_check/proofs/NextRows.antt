@@ -7,7 +7,7 @@ use Rattle.cc_names.specs.Formed.{Plain}
 use Rattle.cc_names.specs.References.{one_where}
 use Rattle.cc_names.specs.declared.rows.Deed.{Deed}
 use Rattle.base_model.specs.Rows.{Base, size, first_rows, row_at, deed_at, deed_of, only_where}
-use Rattle.base_model.specs.Changes.{live}
+use Rattle.base_model.specs.Changes.{live_row}
 use Rattle.base_model.specs.Closures.{entries_of_deed}
 use Rattle.base_model.specs.Fits.{is_base}
 use Rattle.legal_history.specs.Builds.Values.{first_unsound, is_dead_or_true, is_true, live_among, live_count, unsound_among}
@@ -71,7 +71,7 @@ first_stays b (row ∷ older) t id h = by (nat_lt (size older) t) h (first_stays
     by false h rest = ap (λ first. option_or first (only_where (not (is_dead_or_true b (size older))) (Some (size older)))) (rest h)
 
 -- a live object that is not true, where none before it is so
-pub found_untrue : (b : Base) (id : ℕ) → 0 < id → id < size b → unsound_among b (first_rows id b) ≡ None → is_some (live b id) ≡ true → is_true b id ≡ false → first_unsound b ≡ Some id
+pub found_untrue : (b : Base) (id : ℕ) → 0 < id → id < size b → unsound_among b (first_rows id b) ≡ None → is_some (live_row b id) ≡ true → is_true b id ≡ false → first_unsound b ≡ Some id
 found_untrue b id some within none lives untrue =
     let next = next_row b id some within in
     first_stays b b (suc id) id
@@ -84,14 +84,14 @@ pub record SoundBefore (b : Base) (id n : ℕ) : Type 0 where
   pub none : unsound_among b (first_rows id b) ≡ None
   pub count : n ≡ live_among b (first_rows id b)
 
-one_more : (b : Base) (id count more : ℕ) → 0 < id → id < size b → SoundBefore b id count → is_dead_or_true b id ≡ true → one_where (is_some (live b id)) ≡ more → SoundBefore b (suc id) (more + count)
+one_more : (b : Base) (id count more : ℕ) → 0 < id → id < size b → SoundBefore b id count → is_dead_or_true b id ≡ true → one_where (is_some (live_row b id)) ≡ more → SoundBefore b (suc id) (more + count)
 one_more b id count more some within before is one =
     let next = next_row b id some within in
     record {
       none = ap (unsound_among b) next.rows
           ∙ ap₂ (λ first n. option_or first (only_where (not (is_dead_or_true b n)) (Some n))) before.none next.number
           ∙ ap (λ t. option_or None (only_where (not t) (Some id))) is;
-      count = sym (ap (live_among b) next.rows ∙ ap₂ (λ n others. one_where (is_some (live b n)) + others) next.number (sym before.count) ∙ ap (λ n. n + count) one);
+      count = sym (ap (live_among b) next.rows ∙ ap₂ (λ n others. one_where (is_some (live_row b n)) + others) next.number (sym before.count) ∙ ap (λ n. n + count) one);
     }
 
 pub dead_more : (b : Base) (id count : ℕ) → 0 < id → id < size b → SoundBefore b id count → IsFound b id Dead → SoundBefore b (suc id) count

@@ -1,7 +1,7 @@
 -- What a check of all live objects answers.
 use Rattle.std.specs.Prelude.{◌≡◌, ℕ, Option, true, false, is_some, Some, None}
 use Rattle.base_model.specs.Rows.{Base}
-use Rattle.base_model.specs.Changes.{live}
+use Rattle.base_model.specs.Changes.{live_row}
 use Rattle.legal_history.specs.Builds.Values.{first_unsound, is_true, live_count}
 use Rattle.object_check.specs.declared.verdicts.Verdict.{Verdict}
 use Rattle.object_check.specs.declared.verdicts.Verdict.TheVariants.{Sound, Unsound}
@@ -15,9 +15,9 @@ IsVerdict b (Unsound id) = first_unsound b ≡ Some id
 
 -- what a number was found to be: no live object, one that is true, or one that is not
 abbrev pub IsFound : Base → ℕ → Found → Type 0
-IsFound b id Dead = is_some (live b id) ≡ false
-IsFound b id Same = (is_some (live b id) ≡ true) × (is_true b id ≡ true)
-IsFound b id Other = (is_some (live b id) ≡ true) × (is_true b id ≡ false)
+IsFound b id Dead = is_some (live_row b id) ≡ false
+IsFound b id Same = (is_some (live_row b id) ≡ true) × (is_true b id ≡ true)
+IsFound b id Other = (is_some (live_row b id) ≡ true) × (is_true b id ≡ false)
 
 -- how many live objects a row is, where it is none that is not true
 abbrev pub live_objects : Found → Option ℕ

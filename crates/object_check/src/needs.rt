@@ -3,7 +3,7 @@
 ghost use Rattle.std.specs.Prelude.{◌≡◌, ◌||◌, ℕ, IfOk, OnOk, is_some, suc};
 ghost use Rattle.std.specs.BTreeSet.{contains};
 ghost use Rattle.std.specs.Ordering.{nat_cmp};
-ghost use Rattle.base_model.specs.Changes.{live};
+ghost use Rattle.base_model.specs.Changes.{live_row};
 ghost use Rattle.base_model.specs.Objects.{record_of};
 ghost use Rattle.object_check.specs.Needed.{is_object_of, name_object, HasLive, IsClosed, NeedsFrom};
 
@@ -61,7 +61,7 @@ fn add_named(
 
 /// Whether a row is a live object, or needed already.
 fn is_needed(rows: &FirstRows<'_>, needed: &BTreeSet<u64>, id: u64) -> bool
-    ensures { result ≡ (contains nat_cmp needed.now id || is_some (live rows.now id)) }
+    ensures { result ≡ (contains nat_cmp needed.now id || is_some (live_row rows.now id)) }
 {
     needed.contains(&id) || live(rows, id).is_some()
 }
@@ -83,7 +83,7 @@ fn take(rows: &FirstRows<'_>, needed: &mut BTreeSet<u64>, id: u64) -> Result<(),
 /// The objects that have to be run again. An object that was scrubbed is one of them where an entry names it. Takes for each
 /// row the time of `live`, and for each entry of these objects time logarithmic in their number.
 pub(crate) fn needed(alloc: Global, rows: &FirstRows<'_>) -> Result<BTreeSet<u64>, NoMemory>
-    ensures live { IfOk result (λ needed. HasLive rows.now (contains nat_cmp needed)) }
+    ensures live_row { IfOk result (λ needed. HasLive rows.now (contains nat_cmp needed)) }
     ensures closed { IfOk result (λ needed. IsClosed rows.now (contains nat_cmp needed)) }
 {
     let mut needed = BTreeSet::new(alloc);

@@ -13,7 +13,7 @@ use Rattle.cc_names.specs.declared.replies.UnitWord.TheVariants as words
 use Rattle.cc_names.specs.declared.replies.UnitLine.{UnitLine}
 use Rattle.cc_names.specs.declared.replies.Reply.{Reply}
 use Rattle.cc_names.specs.declared.replies.Reply.TheVariants as replies
-use Rattle.reply_text.specs.Words.{spaced, shown, lane_at}
+use Rattle.reply_text.specs.Words.{spaced_words, marked_text, lane_at}
 use Rattle.reply_text.specs.Refusals.{refusal_words, fault_words}
 
 -- the length and the digest of an output as words
@@ -31,7 +31,7 @@ unit_words (words.Blocked path) = codes "blocked" ∷ path ∷ []
 
 -- the line of a unit, two spaces before it
 abbrev pub unit_line : UnitLine → List ℕ
-unit_line unit = 32 ∷ 32 ∷ unit.path ++ spaced (unit_words unit.word) ++ 10 ∷ []
+unit_line unit = 32 ∷ 32 ∷ unit.path ++ spaced_words (unit_words unit.word) ++ 10 ∷ []
 
 -- whether a unit is made
 abbrev pub is_made : UnitWord → Bool
@@ -59,14 +59,14 @@ reply_words phase (replies.Built units) = build_word units ∷ []
 
 -- the lines that follow the line of a reply
 abbrev pub lines_behind : Reply → List ℕ
-lines_behind (replies.Answer text) = shown text
+lines_behind (replies.Answer text) = marked_text text
 lines_behind (replies.Built units) = flat_map unit_line units
 lines_behind _ = []
 
 -- the lines of the command of this number, which has this word
 abbrev pub command_lines : PhaseWords → ℕ → List ℕ → Reply → List ℕ
 command_lines phase number word reply =
-    decimal number ++ spaced (word ∷ reply_words phase reply) ++ 10 ∷ lines_behind reply
+    decimal number ++ spaced_words (word ∷ reply_words phase reply) ++ 10 ∷ lines_behind reply
 
 -- the lines of the commands of these words, which are numbered from this number on, each with its reply
 abbrev pub lines_from : PhaseWords → ℕ → List (List ℕ) → List Reply → List ℕ

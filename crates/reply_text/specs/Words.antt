@@ -10,16 +10,16 @@ abbrev pub spaced_word : List ℕ → List ℕ
 spaced_word word = 32 ∷ word
 
 -- words behind another one
-abbrev pub spaced : List (List ℕ) → List ℕ
-spaced words = flat_map spaced_word words
+abbrev pub spaced_words : List (List ℕ) → List ℕ
+spaced_words words = flat_map spaced_word words
 
 -- a line of a text that is shown
 abbrev pub shown_line : List ℕ → List ℕ
 shown_line line = 124 ∷ line ++ 10 ∷ []
 
 -- a text that is shown: each of its lines with `|` before it and a newline behind it
-abbrev pub shown : List ℕ → List ℕ
-shown text = flat_map shown_line (lines_of text)
+abbrev pub marked_text : List ℕ → List ℕ
+marked_text text = flat_map shown_line (lines_of text)
 
 -- the lane of this number, counted from 1
 abbrev pub lane_at : PhaseWords → ℕ → Option LaneWords

@@ -2,7 +2,7 @@
 
 ghost use Rattle.std.specs.Prelude.{◌≡◌, ◌++◌, ◌∷◌, [], OnOk};
 ghost use Rattle.std.specs.Fmt.{decimal};
-ghost use Rattle.reply_text.specs.Words.{spaced_word, spaced, shown};
+ghost use Rattle.reply_text.specs.Words.{spaced_word, spaced_words, marked_text};
 
 use cc_names::cuts::Lines;
 use cc_names::memory::NoMemory;
@@ -48,7 +48,7 @@ pub(crate) fn push_number_word(
 
 /// Writes a text that is shown: each of its lines with `|` before it and a newline behind it.
 pub(crate) fn push_shown(text: &mut Vec<u8>, shown_text: &[u8]) -> Result<(), NoMemory>
-    ensures { OnOk result (text.new.items ≡ text.old.items ++ shown shown_text.now) }
+    ensures { OnOk result (text.new.items ≡ text.old.items ++ marked_text shown_text.now) }
 {
     let mut lines = Lines::of(shown_text);
     while let Some(line) = lines.next() {

@@ -2,7 +2,7 @@
 
 ghost use Rattle.std.specs.Prelude.{◌≡◌, ◌++◌, ◌∷◌, [], OnOk, MatchOption, Some, None};
 ghost use Rattle.std.specs.Fmt.{decimal};
-ghost use Rattle.reply_text.specs.Words.{spaced, lane_at};
+ghost use Rattle.reply_text.specs.Words.{spaced_words, lane_at};
 ghost use Rattle.reply_text.specs.Refusals.{refusal_arguments, refusal_words, script_words, fault_words, name_of_lane};
 
 use crate::names::{make_cause, refusal_name, spec_cause};
@@ -37,7 +37,7 @@ fn push_arguments(
     refusal: &Refusal,
 ) -> Result<(), NoMemory>
     ensures { OnOk result
-        (text.new.items ≡ text.old.items ++ spaced (refusal_arguments phase.now refusal.now)) }
+        (text.new.items ≡ text.old.items ++ spaced_words (refusal_arguments phase.now refusal.now)) }
 {
     match refusal {
         Refusal::NoView | Refusal::ViewExists => Ok(()),
@@ -95,7 +95,7 @@ pub(crate) fn push_refusal(
     refusal: &Refusal,
 ) -> Result<(), NoMemory>
     ensures { OnOk result
-        (text.new.items ≡ text.old.items ++ spaced (refusal_words phase.now refusal.now)) }
+        (text.new.items ≡ text.old.items ++ spaced_words (refusal_words phase.now refusal.now)) }
 {
     push_word(text, refusal_name(refusal))?;
     push_arguments(alloc, text, phase, refusal)
@@ -103,7 +103,7 @@ pub(crate) fn push_refusal(
 
 fn push_named(text: &mut Vec<u8>, name: &[u8], argument: &[u8]) -> Result<(), NoMemory>
     ensures { OnOk result
-        (text.new.items ≡ text.old.items ++ spaced (name.now ∷ argument.now ∷ [])) }
+        (text.new.items ≡ text.old.items ++ spaced_words (name.now ∷ argument.now ∷ [])) }
 {
     push_word(text, name)?;
     push_word(text, argument)
@@ -116,14 +116,14 @@ fn push_numbered(
     number: u32,
 ) -> Result<(), NoMemory>
     ensures { OnOk result
-        (text.new.items ≡ text.old.items ++ spaced (name.now ∷ decimal number ∷ [])) }
+        (text.new.items ≡ text.old.items ++ spaced_words (name.now ∷ decimal number ∷ [])) }
 {
     push_word(text, name)?;
     push_number_word(alloc, text, u64::from(number))
 }
 
 fn push_script_fault(alloc: Global, text: &mut Vec<u8>, fault: &ScriptFault) -> Result<(), NoMemory>
-    ensures { OnOk result (text.new.items ≡ text.old.items ++ spaced (script_words fault.now)) }
+    ensures { OnOk result (text.new.items ≡ text.old.items ++ spaced_words (script_words fault.now)) }
 {
     match fault {
         ScriptFault::Absent(path) => push_named(text, b"X1 Absent", path.as_bytes()),
@@ -142,7 +142,7 @@ pub(crate) fn push_fault(
     text: &mut Vec<u8>,
     fault: &UnitFault,
 ) -> Result<(), NoMemory>
-    ensures { OnOk result (text.new.items ≡ text.old.items ++ spaced (fault_words fault.now)) }
+    ensures { OnOk result (text.new.items ≡ text.old.items ++ spaced_words (fault_words fault.now)) }
 {
     match fault {
         UnitFault::NoRule(path) => push_named(text, b"U1 NoRule", path.as_bytes()),

@@ -2,7 +2,7 @@
 
 ghost use Rattle.std.specs.Prelude.{◌≡◌, ◌++◌, ◌∷◌, [], OnOk, IfOk, Some};
 ghost use Rattle.std.specs.List.{flat_map, list_all};
-ghost use Rattle.reply_text.specs.Words.{spaced};
+ghost use Rattle.reply_text.specs.Words.{spaced_words};
 ghost use Rattle.reply_text.specs.Replies.{digest_words, unit_words, unit_line, is_made, is_made_line, build_word, reply_words, lines_behind, command_lines, lines_from, lane_lines, render_words};
 
 use crate::pieces::{push_bytes, push_newline, push_number_word, push_shown, push_word};
@@ -21,7 +21,7 @@ fn push_digest(
     digest: &Digest,
 ) -> Result<(), NoMemory>
     ensures { OnOk result
-        (text.new.items ≡ text.old.items ++ spaced (word.now ∷ digest_words digest.now)) }
+        (text.new.items ≡ text.old.items ++ spaced_words (word.now ∷ digest_words digest.now)) }
 {
     push_word(text, word)?;
     push_number_word(alloc, text, digest.length)?;
@@ -30,7 +30,7 @@ fn push_digest(
 }
 
 fn push_unit_word(alloc: Global, text: &mut Vec<u8>, word: &UnitWord) -> Result<(), NoMemory>
-    ensures { OnOk result (text.new.items ≡ text.old.items ++ spaced (unit_words word.now)) }
+    ensures { OnOk result (text.new.items ≡ text.old.items ++ spaced_words (unit_words word.now)) }
 {
     match word {
         UnitWord::Kept(digest) => push_digest(alloc, text, b"kept", digest),
@@ -96,7 +96,7 @@ fn push_reply(
     reply: &Reply,
 ) -> Result<(), NoMemory>
     ensures { OnOk result
-        (text.new.items ≡ text.old.items ++ spaced (reply_words phase.now reply.now)) }
+        (text.new.items ≡ text.old.items ++ spaced_words (reply_words phase.now reply.now)) }
 {
     match reply {
         Reply::Good | Reply::Answer(_) => push_word(text, b"ok"),

@@ -9,12 +9,12 @@ use Rattle.cc_names.specs.declared.rows.Stored.{Stored}
 use Rattle.cc_names.specs.declared.rows.Stored.TheVariants.{Here, There}
 use Rattle.cc_names.specs.declared.rows.Deed.{Deed}
 use Rattle.cc_names.specs.declared.rows.Deed.TheVariants as deeds
-use Rattle.row_form.specs.Fields.{long, text, listed, entry, stored}
-use Rattle.row_form.specs.Readers.{Reading, Reader, then_read, chosen, made, read_long, read_text}
+use Rattle.row_form.specs.Fields.{long, text, list_bytes, entry, stored_bytes}
+use Rattle.row_form.specs.Readers.{Reading, Reader, then_read, reader_of_some, reader_of, read_long, read_text}
 use Rattle.row_form.specs.FieldReaders.{may_begin, may_have, extent_of, read_place, read_extent, read_stored}
 use Rattle.row_form.specs.DeedReaders.{Line, Record, read_record, read_outputs, read_published, read_stored_outputs, read_published_at, plain_deeds, deeds_under, read_fields, read_deed}
 use Rattle.row_form.specs.Spelled.{code_of, fields_of, form_of, first_byte}
-use Rattle.row_form.proofs.Exact.{AreBytes, IsExact, exact_both, exact_chosen, exact_tested, exact_as, exact_then, made_back, made_told, chosen_if}
+use Rattle.row_form.proofs.Exact.{AreBytes, IsExact, exact_both, exact_chosen, exact_tested, exact_as, exact_then, made_back, made_read_back, chosen_if}
 use Rattle.row_form.proofs.ExactFields.{exact_long, exact_text, exact_name, exact_path, exact_type_name, exact_flag, exact_kind, exact_type_kind, exact_out}
 use Rattle.row_form.proofs.ExactLists.{AreOutputsOf, exact_list, exact_targets, exact_entries, exact_objects, exact_places, exact_outputs}
 
@@ -54,7 +54,7 @@ may_only place size a b c =
 abbrev IsExtentAt : ℕ → Extent → Type 0
 IsExtentAt place x = IsExtent x × (x.place ≡ place)
 
-exact_length : (place : ℕ) → IsExact (chosen (extent_of place) read_long) (λ x. long x.length) (IsExtentAt place)
+exact_length : (place : ℕ) → IsExact (reader_of_some (extent_of place) read_long) (λ x. long x.length) (IsExtentAt place)
 exact_length place =
     exact_chosen (extent_of place) (λ x. x.length) (IsExtentAt place) exact_long
     (λ x h. (
@@ -68,10 +68,10 @@ exact_length place =
 
 exact_extent : IsExact read_extent (λ x. long x.place ++ long x.length) IsExtent
 exact_extent =
-    exact_then (λ place. chosen (extent_of place) read_long) (λ x. long x.length) IsExtent (λ x. x.place) exact_place (λ place g. exact_length place)
+    exact_then (λ place. reader_of_some (extent_of place) read_long) (λ x. long x.length) IsExtent (λ x. x.place) exact_place (λ place g. exact_length place)
     (λ x h. omega (arith, h.0, h.2))
 
-stored_back : (a : Stored) (rest : List ℕ) → IsStored a → read_stored (stored a ++ rest) ≡ Ok (a, rest)
+stored_back : (a : Stored) (rest : List ℕ) → IsStored a → read_stored (stored_bytes a ++ rest) ≡ Ok (a, rest)
 stored_back (Here bytes) rest h = made_back Here exact_text bytes rest h
 stored_back (There x) rest h = made_back There exact_extent x rest h
 
@@ -79,24 +79,24 @@ split : {A : Type 0} (t : Bool) (x y z : Reading A) → (if t then x else y) ≡
 split true x y z e = inl (refl, e)
 split false x y z e = inr (refl, e)
 
-stored_told : (bytes : List ℕ) (a : Stored) (rest : List ℕ) → AreBytes bytes → read_stored bytes ≡ Ok (a, rest) → IsStored a × (bytes ≡ stored a ++ rest)
-stored_told [] a rest hb e = absurd (cc)
-stored_told (k ∷ bs) a rest hb e =
-    let P : Stored → Type 0 = λ z. IsStored z × (k ∷ bs ≡ stored z ++ rest) in
-    elim (split (k == 0) (made Here read_text bs) (if k == 1 then made There read_extent bs else Err (k ∷ bs)) (Ok (a, rest)) e) [
-      | inl h ↦ let m = made_told Here exact_text bs a rest hb.1 h.1 in subst P m.2 (m.1, ap (λ n. n ∷ bs) (eqb-true k 0 h.0) ∙ ap (λ z. 0 ∷ z) m.3)
-      | inr h ↦ elim (split (k == 1) (made There read_extent bs) (Err (k ∷ bs)) (Ok (a, rest)) h.1) [
-        | inl g ↦ let m = made_told There exact_extent bs a rest hb.1 g.1 in subst P m.2 (m.1, ap (λ n. n ∷ bs) (eqb-true k 1 g.0) ∙ ap (λ z. 1 ∷ z) m.3)
+stored_read_back : (bytes : List ℕ) (a : Stored) (rest : List ℕ) → AreBytes bytes → read_stored bytes ≡ Ok (a, rest) → IsStored a × (bytes ≡ stored_bytes a ++ rest)
+stored_read_back [] a rest hb e = absurd (cc)
+stored_read_back (k ∷ bs) a rest hb e =
+    let P : Stored → Type 0 = λ z. IsStored z × (k ∷ bs ≡ stored_bytes z ++ rest) in
+    elim (split (k == 0) (reader_of Here read_text bs) (if k == 1 then reader_of There read_extent bs else Err (k ∷ bs)) (Ok (a, rest)) e) [
+      | inl h ↦ let m = made_read_back Here exact_text bs a rest hb.1 h.1 in subst P m.2 (m.1, ap (λ n. n ∷ bs) (eqb-true k 0 h.0) ∙ ap (λ z. 0 ∷ z) m.3)
+      | inr h ↦ elim (split (k == 1) (reader_of There read_extent bs) (Err (k ∷ bs)) (Ok (a, rest)) h.1) [
+        | inl g ↦ let m = made_read_back There exact_extent bs a rest hb.1 g.1 in subst P m.2 (m.1, ap (λ n. n ∷ bs) (eqb-true k 1 g.0) ∙ ap (λ z. 1 ∷ z) m.3)
         | inr g ↦ let no = g.1 in absurd (cc)
       ]
     ]
 
-exact_stored : IsExact read_stored stored IsStored
-exact_stored = record { back = stored_back; told = stored_told }
+exact_stored : IsExact read_stored stored_bytes IsStored
+exact_stored = record { back = stored_back; read_back = stored_read_back }
 
 -- what a publish has
 abbrev record_bytes : Record → List ℕ
-record_bytes r = text r.0 ++ (listed text r.1.0 ++ (text r.1.1.0 ++ listed entry r.1.1.1))
+record_bytes r = text r.0 ++ (list_bytes text r.1.0 ++ (text r.1.1.0 ++ list_bytes entry r.1.1.1))
 
 abbrev IsRecord : ℕ → Record → Type 0
 IsRecord form r = IsPublished r.0 r.1.0 r.1.1.0 r.1.1.1 (length r.1.0) × (form_of r.1.0 ≡ form)
@@ -110,9 +110,9 @@ exact_record form =
 abbrev AreStoredOf : ℕ → List Stored → Type 0
 AreStoredOf count outputs = (length outputs ≡ count) × IsListOf IsStored outputs × (list_any is_there outputs ≡ true)
 
-exact_stored_outputs : (count : ℕ) → IsExact (read_stored_outputs count) (listed stored) (AreStoredOf count)
+exact_stored_outputs : (count : ℕ) → IsExact (read_stored_outputs count) (list_bytes stored_bytes) (AreStoredOf count)
 exact_stored_outputs count =
-    exact_tested (λ os. (length os == count) && list_any is_there os) (AreStoredOf count) (exact_list read_stored stored IsStored exact_stored)
+    exact_tested (λ os. (length os == count) && list_any is_there os) (AreStoredOf count) (exact_list read_stored stored_bytes IsStored exact_stored)
     (λ os h. (h.1, and_hold (length os == count) (list_any is_there os) (eq-eqb (length os) count h.0) h.2))
     (λ os g e. let h = both_hold (length os == count) (list_any is_there os) e in (eqb-true (length os) count h.0, g, h.1))
 
@@ -122,15 +122,15 @@ IsWhole Outputs form p = IsRecord form p.0 × Outputs (length p.0.1.0) p.1
 
 module _ {S : Type 0} (Outputs : ℕ → List S → Type 0) (read : ℕ → Reader (List S)) (spell : List S → List ℕ) (exact : (count : ℕ) → IsExact (read count) spell (Outputs count)) where
   abbrev behind : Record → Reader (Record × List S)
-  behind r = made (λ outputs. (r, outputs)) (read (length r.1.0))
+  behind r = reader_of (λ outputs. (r, outputs)) (read (length r.1.0))
 
   exact_behind : (form : ℕ) (r : Record) → IsRecord form r → IsExact (behind r) (λ p. spell p.1) (λ p. IsWhole Outputs form p × (p.0 ≡ r))
   exact_behind form r g = record {
     back = λ p rest h.
         let Q : Record → Type 0 = λ z. behind z (spell p.1 ++ rest) ≡ Ok (p, rest) in
         subst Q h.1 (made_back (λ outputs. (p.0, outputs)) (exact (length p.0.1.0)) p.1 rest h.0.1);
-    told = λ bytes p rest hb e.
-        let m = made_told (λ outputs. (r, outputs)) (exact (length r.1.0)) bytes p rest hb e in
+    read_back = λ bytes p rest hb e.
+        let m = made_read_back (λ outputs. (r, outputs)) (exact (length r.1.0)) bytes p rest hb e in
         let P : Record × List S → Type 0 = λ z. (IsWhole Outputs form z × (z.0 ≡ r)) × (bytes ≡ spell z.1 ++ rest) in
         subst P m.2 (((g, m.1), refl), m.3);
   }
@@ -139,26 +139,26 @@ module _ {S : Type 0} (Outputs : ℕ → List S → Type 0) (read : ℕ → Read
   exact_whole form = exact_then behind (λ p. spell p.1) (IsWhole Outputs form) (λ p. p.0) (exact_record form) (exact_behind form) (λ p h. h.0)
 
 abbrev published_bytes : {S : Type 0} → (List S → List ℕ) → Record × List S → List ℕ
-published_bytes spell p = text p.0.0 ++ (listed text p.0.1.0 ++ (text p.0.1.1.0 ++ (listed entry p.0.1.1.1 ++ spell p.1)))
+published_bytes spell p = text p.0.0 ++ (list_bytes text p.0.1.0 ++ (text p.0.1.1.0 ++ (list_bytes entry p.0.1.1.1 ++ spell p.1)))
 
 regroup : {S : Type 0} (spell : List S → List ℕ) (p : Record × List S) → record_bytes p.0 ++ spell p.1 ≡ published_bytes spell p
 regroup spell p =
     let a = text p.0.0 in
-    let b = listed text p.0.1.0 in
+    let b = list_bytes text p.0.1.0 in
     let c = text p.0.1.1.0 in
-    let d = listed entry p.0.1.1.1 in
+    let d = list_bytes entry p.0.1.1.1 in
     let e = spell p.1 in
     append_assoc a (b ++ (c ++ d)) e ∙ ap (λ z. a ++ z) (append_assoc b (c ++ d) e ∙ ap (λ z. b ++ z) (append_assoc c d e))
 
-exact_published : (form : ℕ) → IsExact (read_published form) (published_bytes (listed text)) (IsWhole AreOutputsOf form)
+exact_published : (form : ℕ) → IsExact (read_published form) (published_bytes (list_bytes text)) (IsWhole AreOutputsOf form)
 exact_published form =
-    exact_as (published_bytes (listed text)) (IsWhole AreOutputsOf form) (exact_whole AreOutputsOf read_outputs (listed text) exact_outputs form)
-    (regroup (listed text)) (λ p g. g) (λ p h. h)
+    exact_as (published_bytes (list_bytes text)) (IsWhole AreOutputsOf form) (exact_whole AreOutputsOf read_outputs (list_bytes text) exact_outputs form)
+    (regroup (list_bytes text)) (λ p g. g) (λ p h. h)
 
-exact_published_at : (form : ℕ) → IsExact (read_published_at form) (published_bytes (listed stored)) (IsWhole AreStoredOf form)
+exact_published_at : (form : ℕ) → IsExact (read_published_at form) (published_bytes (list_bytes stored_bytes)) (IsWhole AreStoredOf form)
 exact_published_at form =
-    exact_as (published_bytes (listed stored)) (IsWhole AreStoredOf form) (exact_whole AreStoredOf read_stored_outputs (listed stored) exact_stored_outputs form)
-    (regroup (listed stored)) (λ p g. g) (λ p h. h)
+    exact_as (published_bytes (list_bytes stored_bytes)) (IsWhole AreStoredOf form) (exact_whole AreStoredOf read_stored_outputs (list_bytes stored_bytes) exact_stored_outputs form)
+    (regroup (list_bytes stored_bytes)) (λ p g. g) (λ p h. h)
 
 -- what the reader of a line gives is a deed of its code, under its first byte
 abbrev IsOfLine : ℕ → Line → Type 0
@@ -169,9 +169,9 @@ abbrev IsMadeOf : {A : Type 0} → ℕ → ℕ → (A → Deed) → (A → List 
 IsMadeOf {A} form code make s G = (a : A) → G a → IsDeedFormed (make a) × (code_of (make a) ≡ code) × (first_byte (make a) ≡ form) × (fields_of (make a) ≡ s a)
 
 line_of : {A : Type 0} {read : Reader A} {s : A → List ℕ} {G : A → Type 0} (form code : ℕ) (make : A → Deed) → IsExact read s G
-    → IsMadeOf form code make s G → IsOfLine form (code, made make read)
+    → IsMadeOf form code make s G → IsOfLine form (code, reader_of make read)
 line_of {A} {read} {s} {G} form code make exact facts = λ bytes deed rest hb e.
-    let m = made_told make exact bytes deed rest hb e in
+    let m = made_read_back make exact bytes deed rest hb e in
     let f = facts m.0 m.1 in
     let P : Deed → Type 0 = λ d. IsDeedFormed d × (code_of d ≡ code) × (first_byte d ≡ form) × (bytes ≡ fields_of d ++ rest) in
     subst P m.2 (f.0, f.1, f.2, m.3 ∙ ap (λ z. z ++ rest) (sym f.3))
@@ -257,13 +257,13 @@ lines form = (
   ),
 )
 
-fields_told : (form : ℕ) (table : List Line) → AllByRecursion (IsOfLine form) table → (code : ℕ) (at bytes : List ℕ) (deed : Deed) (rest : List ℕ) → AreBytes bytes
+fields_read_back : (form : ℕ) (table : List Line) → AllByRecursion (IsOfLine form) table → (code : ℕ) (at bytes : List ℕ) (deed : Deed) (rest : List ℕ) → AreBytes bytes
     → read_fields table code at bytes ≡ Ok (deed, rest) → IsDeedFormed deed × (code_of deed ≡ code) × (first_byte deed ≡ form) × (bytes ≡ fields_of deed ++ rest)
-fields_told form [] all code at bytes deed rest hb e = absurd (cc)
-fields_told form (line ∷ table) all code at bytes deed rest hb e =
+fields_read_back form [] all code at bytes deed rest hb e = absurd (cc)
+fields_read_back form (line ∷ table) all code at bytes deed rest hb e =
     elim (split (code == line.0) (line.1 bytes) (read_fields table code at bytes) (Ok (deed, rest)) e) [
       | inl h ↦ let f = all.0 bytes deed rest hb h.1 in (f.0, f.1 ∙ sym (eqb-true code line.0 h.0), f.2, f.3)
-      | inr h ↦ fields_told form table all.1 code at bytes deed rest hb h.1
+      | inr h ↦ fields_read_back form table all.1 code at bytes deed rest hb h.1
     ]
 
 -- the code and the fields
@@ -273,10 +273,10 @@ deed_bytes deed = code_of deed ∷ fields_of deed
 abbrev pub IsDeedUnder : ℕ → Deed → Type 0
 IsDeedUnder form deed = IsDeedFormed deed × (first_byte deed ≡ form)
 
-deed_told : (form : ℕ) (bytes : List ℕ) (deed : Deed) (rest : List ℕ) → AreBytes bytes → read_deed form bytes ≡ Ok (deed, rest) → IsDeedUnder form deed × (bytes ≡ deed_bytes deed ++ rest)
-deed_told form [] deed rest hb e = absurd (cc)
-deed_told form (code ∷ bs) deed rest hb e =
-    let f = fields_told form (deeds_under form) (lines form) code (code ∷ bs) bs deed rest hb.1 e in
+deed_read_back : (form : ℕ) (bytes : List ℕ) (deed : Deed) (rest : List ℕ) → AreBytes bytes → read_deed form bytes ≡ Ok (deed, rest) → IsDeedUnder form deed × (bytes ≡ deed_bytes deed ++ rest)
+deed_read_back form [] deed rest hb e = absurd (cc)
+deed_read_back form (code ∷ bs) deed rest hb e =
+    let f = fields_read_back form (deeds_under form) (lines form) code (code ∷ bs) bs deed rest hb.1 e in
     ((f.0, f.2), ap (λ n. n ∷ bs) (sym f.1) ∙ ap (λ z. code_of deed ∷ z) f.3)
 
 -- each deed is read back: a clause a deed
@@ -333,5 +333,5 @@ deed_back (deeds.PublishAt view targets script entries outputs) h rest =
 pub exact_deed : (form : ℕ) → IsExact (read_deed form) deed_bytes (IsDeedUnder form)
 exact_deed form = record {
   back = λ deed rest h. ap (λ f. read_deed f (deed_bytes deed ++ rest)) (sym h.1) ∙ deed_back deed h.0 rest;
-  told = λ bytes deed rest hb e. deed_told form bytes deed rest hb e;
+  read_back = λ bytes deed rest hb e. deed_read_back form bytes deed rest hb e;
 }

@@ -19,18 +19,18 @@ use Rattle.cc_names.specs.declared.rows.Out.TheVariants as outs
 use Rattle.row_form.specs.Fields.{byte, word, long, text, flag, kind, type_kind, out_byte, entry, place_of}
 use Rattle.row_form.specs.Readers.{Reading, read_byte, read_word, read_long, read_bytes, read_text}
 use Rattle.row_form.specs.FieldReaders.{read_name, read_type_name, read_any_path, read_path, flag_of, read_flag, kind_by_code, read_kind, type_kind_of, read_type_kind, out_of, read_out, entry_of, read_entry, placed_of, read_placed}
-use Rattle.row_form.proofs.Exact.{AreBytes, IsExact, front_bytes, byte_at, same_read, part, exact_both, exact_chosen, exact_tested, exact_as, exact_made}
+use Rattle.row_form.proofs.Exact.{AreBytes, IsExact, prefix_bytes, byte_at, same_read, part, exact_both, exact_chosen, exact_tested, exact_as, exact_made}
 use Rattle.row_form.proofs.Steps.{then_ok}
 
 abbrev IsByte : ℕ → Type 0
 IsByte b = b < 256
 
-byte_told : (bytes : List ℕ) (a : ℕ) (rest : List ℕ) → AreBytes bytes → read_byte bytes ≡ Ok (a, rest) → IsByte a × (bytes ≡ byte a ++ rest)
-byte_told [] a rest hb e = absurd (cc)
-byte_told (b ∷ bs) a rest hb e = let same = same_read (b, bs) (a, rest) e in (subst IsByte (ap (λ z. z.0) same) hb.0, ap (λ z. z.0 ∷ z.1) same)
+byte_read_back : (bytes : List ℕ) (a : ℕ) (rest : List ℕ) → AreBytes bytes → read_byte bytes ≡ Ok (a, rest) → IsByte a × (bytes ≡ byte a ++ rest)
+byte_read_back [] a rest hb e = absurd (cc)
+byte_read_back (b ∷ bs) a rest hb e = let same = same_read (b, bs) (a, rest) e in (subst IsByte (ap (λ z. z.0) same) hb.0, ap (λ z. z.0 ∷ z.1) same)
 
 pub exact_byte : IsExact read_byte byte IsByte
-exact_byte = record { back = λ a rest h. refl; told = byte_told }
+exact_byte = record { back = λ a rest h. refl; read_back = byte_read_back }
 
 -- where a test decides whether something is read
 read_if : {A : Type 0} (t : Bool) (x y : A × List ℕ) (at : List ℕ) → (let r : Reading A = if t then Ok x else Err at in r ≡ Ok y) → (t ≡ true) × (x ≡ y)
@@ -38,26 +38,26 @@ read_if true x y at e = (refl, same_read x y e)
 read_if false x y at e = absurd (cc)
 
 -- this many bytes, made into a number and back
-number_told : (size : ℕ) (of : List ℕ → ℕ) (spell : ℕ → List ℕ) (Good : ℕ → Type 0) (bytes : List ℕ) (a : ℕ) (rest : List ℕ)
+number_read_back : (size : ℕ) (of : List ℕ → ℕ) (spell : ℕ → List ℕ) (Good : ℕ → Type 0) (bytes : List ℕ) (a : ℕ) (rest : List ℕ)
     → ((bs : List ℕ) → length bs ≡ size → AreBytes bs → spell (of bs) ≡ bs) → ((bs : List ℕ) → length bs ≡ size → AreBytes bs → Good (of bs))
     → AreBytes bytes → (let r : Reading ℕ = if nat_le size (length bytes) then Ok (of (take size bytes), drop size bytes) else Err bytes in r ≡ Ok (a, rest))
     → Good a × (bytes ≡ spell a ++ rest)
-number_told size of spell Good bytes a rest again good hb e =
+number_read_back size of spell Good bytes a rest again good hb e =
     let r = read_if (nat_le size (length bytes)) (of (take size bytes), drop size bytes) (a, rest) bytes e in
     let long_enough = leb-true size (length bytes) r.0 in
     let len = length-take-le size bytes long_enough in
-    let are = front_bytes (take size bytes) (drop size bytes) (subst AreBytes (sym (take-append-drop size bytes)) hb) in
+    let are = prefix_bytes (take size bytes) (drop size bytes) (subst AreBytes (sym (take-append-drop size bytes)) hb) in
     let P : ℕ × List ℕ → Type 0 = λ z. Good z.0 × (bytes ≡ spell z.0 ++ z.1) in
     subst P r.1 (good (take size bytes) len are, sym (take-append-drop size bytes) ∙ ap (λ f. f ++ drop size bytes) (sym (again (take size bytes) len are)))
 
-number_back : (size : ℕ) (of : List ℕ → ℕ) (front rest : List ℕ) → length front ≡ size
-    → (let r : Reading ℕ = if nat_le size (length (front ++ rest)) then Ok (of (take size (front ++ rest)), drop size (front ++ rest)) else Err (front ++ rest) in r ≡ Ok (of front, rest))
-number_back size of front rest len =
-    let enough : size ≤ length (front ++ rest) = omega (arith, length-append front rest, len) in
+number_back : (size : ℕ) (of : List ℕ → ℕ) (prefix rest : List ℕ) → length prefix ≡ size
+    → (let r : Reading ℕ = if nat_le size (length (prefix ++ rest)) then Ok (of (take size (prefix ++ rest)), drop size (prefix ++ rest)) else Err (prefix ++ rest) in r ≡ Ok (of prefix, rest))
+number_back size of prefix rest len =
+    let enough : size ≤ length (prefix ++ rest) = omega (arith, length-append prefix rest, len) in
     let one : List ℕ → List ℕ → Reading ℕ = λ f r. Ok (of f, r) in
-    let choose : Bool → Reading ℕ = λ t. if t then Ok (of (take size (front ++ rest)), drop size (front ++ rest)) else Err (front ++ rest) in
-    ap choose (le-leb size (length (front ++ rest)) enough)
-    ∙ ap (λ f. one f (drop size (front ++ rest))) (take_at front rest size len) ∙ ap (one front) (drop_at front rest size len)
+    let choose : Bool → Reading ℕ = λ t. if t then Ok (of (take size (prefix ++ rest)), drop size (prefix ++ rest)) else Err (prefix ++ rest) in
+    ap choose (le-leb size (length (prefix ++ rest)) enough)
+    ∙ ap (λ f. one f (drop size (prefix ++ rest))) (take_at prefix rest size len) ∙ ap (one prefix) (drop_at prefix rest size len)
 
 below_word : (bs : List ℕ) → ((i : ℕ) → get_or bs i 0 < 256) → IsWord (from_le_bytes w32 bs)
 below_word bs h = omega (arith, h 0, h 1, h 2, h 3)
@@ -68,14 +68,14 @@ below_long bs h = omega (arith, h 0, h 1, h 2, h 3, h 4, h 5, h 6, h 7)
 pub exact_word : IsExact read_word word IsWord
 exact_word = record {
   back = λ n rest h. let value : ℕ → Reading ℕ = λ m. Ok (m, rest) in number_back 4 (from_le_bytes w32) (word n) rest refl ∙ ap value (from_le_bytes-to_le_bytes_4 n h);
-  told = λ bytes a rest hb e. number_told 4 (from_le_bytes w32) word IsWord bytes a rest
+  read_back = λ bytes a rest hb e. number_read_back 4 (from_le_bytes w32) word IsWord bytes a rest
       (λ bs len are. le_bytes_4 bs (from_le_bytes w32 bs) len (byte_at bs are) refl) (λ bs len are. below_word bs (byte_at bs are)) hb e;
 }
 
 pub exact_long : IsExact read_long long IsLong
 exact_long = record {
   back = λ n rest h. let value : ℕ → Reading ℕ = λ m. Ok (m, rest) in number_back 8 (from_le_bytes w64) (long n) rest refl ∙ ap value (from_le_bytes-to_le_bytes_8 n h);
-  told = λ bytes a rest hb e. number_told 8 (from_le_bytes w64) long IsLong bytes a rest
+  read_back = λ bytes a rest hb e. number_read_back 8 (from_le_bytes w64) long IsLong bytes a rest
       (λ bs len are. le_bytes_8 bs (from_le_bytes w64 bs) len (byte_at bs are) refl) (λ bs len are. below_long bs (byte_at bs are)) hb e;
 }
 
@@ -90,10 +90,10 @@ text_back a rest h =
     ∙ ap choose (le-leb (length a) (length (a ++ rest)) enough)
     ∙ ap (λ f. one f (drop (length a) (a ++ rest))) (take_at a rest (length a) refl) ∙ ap (one a) (drop_at a rest (length a) refl)
 
-text_told : (bytes a rest : List ℕ) → AreBytes bytes → read_text bytes ≡ Ok (a, rest) → IsText a × (bytes ≡ text a ++ rest)
-text_told bytes a rest hb e =
+text_read_back : (bytes a rest : List ℕ) → AreBytes bytes → read_text bytes ≡ Ok (a, rest) → IsText a × (bytes ≡ text a ++ rest)
+text_read_back bytes a rest hb e =
     let x = part (read_word bytes) (read_bytes bytes) (a, rest) e in
-    let w = exact_word.told bytes x.0 x.1 hb x.2 in
+    let w = exact_word.read_back bytes x.0 x.1 hb x.2 in
     let r = read_if (nat_le x.0 (length x.1)) (take x.0 x.1, drop x.0 x.1) (a, rest) bytes x.3 in
     let len = length-take-le x.0 x.1 (leb-true x.0 (length x.1) r.0) in
     let P : List ℕ × List ℕ → Type 0 = λ z. IsText z.0 × (bytes ≡ text z.0 ++ z.1) in
@@ -104,7 +104,7 @@ text_told bytes a rest hb e =
     )
 
 pub exact_text : IsExact read_text text IsText
-exact_text = record { back = text_back; told = text_told }
+exact_text = record { back = text_back; read_back = text_read_back }
 
 -- a name is short
 pub name_short : (bytes : List ℕ) → IsName bytes → IsText bytes

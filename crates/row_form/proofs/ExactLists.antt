@@ -12,7 +12,7 @@ use Rattle.std.proofs.lemmas.Bool.{eqb-true, eq-eqb}
 use Rattle.std.proofs.lemmas.List.{append_assoc}
 use Rattle.cc_names.specs.Formed.{IsWord, IsLong, IsText, IsListOf, IsBelowRoot, AreTargets, AreEntries, IsEntry, IsPlaced, path_of_entry, element_of}
 use Rattle.cc_names.specs.declared.rows.Placed.{Placed}
-use Rattle.row_form.specs.Fields.{word, long, text, listed, entry, place_of}
+use Rattle.row_form.specs.Fields.{word, long, text, list_bytes, entry, place_of}
 use Rattle.row_form.specs.Readers.{Reader, then_read, read_word, read_long, read_text, read_members, read_list}
 use Rattle.row_form.specs.FieldReaders.{read_path, read_entry, read_placed, is_some_list, ascends_from, ascends, entry_cmp, placed_cmp, are_distinct, are_targets, read_targets, read_entries, read_objects, read_places}
 use Rattle.row_form.specs.DeedReaders.{read_outputs}
@@ -30,38 +30,38 @@ module _ {A : Type 0} (read : Reader A) (s : A → List ℕ) (G : A → Type 0) 
       (exact.back a (flat_map s others ++ rest) h.0)
       ∙ then_ok (read_members read (length others) (flat_map s others ++ rest)) (λ ms end. Ok (a ∷ ms, end)) others rest (members_back others rest h.1)
 
-  members_told : (count : ℕ) (bytes : List ℕ) (xs : List A) (rest : List ℕ) → AreBytes bytes → read_members read count bytes ≡ Ok (xs, rest)
+  members_read_back : (count : ℕ) (bytes : List ℕ) (xs : List A) (rest : List ℕ) → AreBytes bytes → read_members read count bytes ≡ Ok (xs, rest)
       → (length xs ≡ count) × AllByRecursion G xs × (bytes ≡ flat_map s xs ++ rest)
-  members_told zero bytes xs rest hb e =
+  members_read_back zero bytes xs rest hb e =
       let same = same_read ([], bytes) (xs, rest) e in
       let P : List A × List ℕ → Type 0 = λ z. (length z.0 ≡ 0) × AllByRecursion G z.0 × (bytes ≡ flat_map s z.0 ++ z.1) in
       subst P same (refl, tt, refl)
-  members_told (suc count) bytes xs rest hb e =
+  members_read_back (suc count) bytes xs rest hb e =
       let x = part (read bytes) (λ m mid. then_read (read_members read count mid) (λ ms end. Ok (m ∷ ms, end))) (xs, rest) e in
-      let f = exact.told bytes x.0 x.1 hb x.2 in
+      let f = exact.read_back bytes x.0 x.1 hb x.2 in
       let y = part (read_members read count x.1) (λ ms end. Ok (x.0 ∷ ms, end)) (xs, rest) x.3 in
-      let k = members_told count x.1 y.0 y.1 (rest_bytes (s x.0) x.1 (subst AreBytes f.1 hb)) y.2 in
+      let k = members_read_back count x.1 y.0 y.1 (rest_bytes (s x.0) x.1 (subst AreBytes f.1 hb)) y.2 in
       let same = same_read (x.0 ∷ y.0, y.1) (xs, rest) y.3 in
       let P : List A × List ℕ → Type 0 = λ z. (length z.0 ≡ suc count) × AllByRecursion G z.0 × (bytes ≡ flat_map s z.0 ++ z.1) in
       subst P same (ap suc k.0, (f.0, k.1), f.1 ∙ ap (λ m. s x.0 ++ m) k.2 ∙ sym (append_assoc (s x.0) (flat_map s y.0) y.1))
 
-  list_back : (xs : List A) (rest : List ℕ) → IsListOf G xs → read_list read (listed s xs ++ rest) ≡ Ok (xs, rest)
+  list_back : (xs : List A) (rest : List ℕ) → IsListOf G xs → read_list read (list_bytes s xs ++ rest) ≡ Ok (xs, rest)
   list_back xs rest h =
-      then_ok (read_word (listed s xs ++ rest)) (read_members read) (length xs) (flat_map s xs ++ rest)
+      then_ok (read_word (list_bytes s xs ++ rest)) (read_members read) (length xs) (flat_map s xs ++ rest)
       (ap read_word (append_assoc (word (length xs)) (flat_map s xs) rest) ∙ exact_word.back (length xs) (flat_map s xs ++ rest) h.0)
       ∙ members_back xs rest h.1
 
-  list_told : (bytes : List ℕ) (xs : List A) (rest : List ℕ) → AreBytes bytes → read_list read bytes ≡ Ok (xs, rest) → IsListOf G xs × (bytes ≡ listed s xs ++ rest)
-  list_told bytes xs rest hb e =
+  list_read_back : (bytes : List ℕ) (xs : List A) (rest : List ℕ) → AreBytes bytes → read_list read bytes ≡ Ok (xs, rest) → IsListOf G xs × (bytes ≡ list_bytes s xs ++ rest)
+  list_read_back bytes xs rest hb e =
       let x = part (read_word bytes) (read_members read) (xs, rest) e in
-      let w = exact_word.told bytes x.0 x.1 hb x.2 in
-      let m = members_told x.0 x.1 xs rest (rest_bytes (word x.0) x.1 (subst AreBytes w.1 hb)) x.3 in (
+      let w = exact_word.read_back bytes x.0 x.1 hb x.2 in
+      let m = members_read_back x.0 x.1 xs rest (rest_bytes (word x.0) x.1 (subst AreBytes w.1 hb)) x.3 in (
         (subst IsWord (sym m.0) w.0, m.1),
         w.1 ∙ ap (λ z. word x.0 ++ z) m.2 ∙ sym (append_assoc (word x.0) (flat_map s xs) rest) ∙ ap (λ n. (word n ++ flat_map s xs) ++ rest) (sym m.0),
       )
 
-  pub exact_list : IsExact (read_list read) (listed s) (IsListOf G)
-  exact_list = record { back = list_back; told = list_told }
+  pub exact_list : IsExact (read_list read) (list_bytes s) (IsListOf G)
+  exact_list = record { back = list_back; read_back = list_read_back }
 
 both_hold : (a b : Bool) → (a && b) ≡ true → (a ≡ true) × (b ≡ true)
 both_hold true b e = (refl, e)
@@ -151,7 +151,7 @@ distinct_only (t ∷ ts) h = rw (none_again t ts h.0, distinct_only ts h.1) refl
 abbrev pub AreTargetsOf : ℕ → List (List ℕ) → Type 0
 AreTargetsOf form targets = AreTargets targets × (form_of targets ≡ form)
 
-pub exact_targets : (form : ℕ) → IsExact (read_targets form) (listed text) (AreTargetsOf form)
+pub exact_targets : (form : ℕ) → IsExact (read_targets form) (list_bytes text) (AreTargetsOf form)
 exact_targets form =
     exact_tested (are_targets form) (AreTargetsOf form) (exact_list read_path text IsBelowRoot exact_path)
     (λ ts h. (
@@ -164,7 +164,7 @@ exact_targets form =
     let k = both_hold (is_some_list ts) (form_of ts == form) h.0 in
     ((g, some_if ts k.0, distinct_if ts h.1), eqb-true (form_of ts) form k.1))
 
-pub exact_entries : IsExact read_entries (listed entry) AreEntries
+pub exact_entries : IsExact read_entries (list_bytes entry) AreEntries
 exact_entries =
     exact_tested (ascends entry_cmp) AreEntries (exact_list read_entry entry IsEntry exact_entry)
     (λ es h. (h.0, sorted_only (slice_cmp nat_cmp) nat_list_cmp_total path_of_entry es h.1))
@@ -173,7 +173,7 @@ exact_entries =
 abbrev pub AreObjects : List ℕ → Type 0
 AreObjects objects = IsListOf IsLong objects × (objects ≢ []) × IsStrictlySortedBy nat_cmp objects
 
-pub exact_objects : IsExact read_objects (listed long) AreObjects
+pub exact_objects : IsExact read_objects (list_bytes long) AreObjects
 exact_objects =
     exact_tested (λ os. is_some_list os && ascends nat_cmp os) AreObjects (exact_list read_long long IsLong exact_long)
     (λ os h. (
@@ -188,7 +188,7 @@ exact_objects =
 abbrev pub ArePlaces : List Placed → Type 0
 ArePlaces placed = IsListOf IsPlaced placed × (placed ≢ []) × IsStrictlySortedBy nat_cmp (map element_of placed)
 
-pub exact_places : IsExact read_places (listed place_of) ArePlaces
+pub exact_places : IsExact read_places (list_bytes place_of) ArePlaces
 exact_places =
     exact_tested (λ ps. is_some_list ps && ascends placed_cmp ps) ArePlaces (exact_list read_placed place_of IsPlaced exact_placed)
     (λ ps h. (h.0, and_hold (is_some_list ps) (ascends placed_cmp ps) (some_only ps h.1) (sorted_only nat_cmp nat_cmp_total element_of ps h.2)))
@@ -200,7 +200,7 @@ exact_places =
 abbrev pub AreOutputsOf : ℕ → List (List ℕ) → Type 0
 AreOutputsOf count outputs = (length outputs ≡ count) × IsListOf IsText outputs
 
-pub exact_outputs : (count : ℕ) → IsExact (read_outputs count) (listed text) (AreOutputsOf count)
+pub exact_outputs : (count : ℕ) → IsExact (read_outputs count) (list_bytes text) (AreOutputsOf count)
 exact_outputs count =
     exact_tested (λ os. length os == count) (AreOutputsOf count) (exact_list read_text text IsText exact_text)
     (λ os h. (h.1, eq-eqb (length os) count h.0)) (λ os g e. (eqb-true (length os) count e, g))

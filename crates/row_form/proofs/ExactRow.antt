@@ -8,9 +8,9 @@ use Rattle.cc_names.specs.declared.rows.Deed.TheVariants as deeds
 use Rattle.cc_names.specs.declared.rows.Tag.{Tag}
 use Rattle.row_form.specs.Fields.{byte, word, long}
 use Rattle.row_form.specs.Readers.{both}
-use Rattle.row_form.specs.RowReader.{Parts, read_form, tag_of, read_tag, read_moment, read_parts, ended, read_row}
+use Rattle.row_form.specs.RowReader.{Parts, read_form, tag_of, read_tag, read_moment, read_parts, value_at_end, read_row}
 use Rattle.row_form.specs.DeedReaders.{read_deed}
-use Rattle.row_form.specs.Spelled.{first_byte, form_of, spelled}
+use Rattle.row_form.specs.Spelled.{first_byte, form_of, spelling_of}
 use Rattle.row_form.proofs.Exact.{AreBytes, IsExact, same_read, part, exact_both, exact_tested, exact_as, exact_then, exact_made}
 use Rattle.row_form.proofs.ExactFields.{exact_byte, exact_word, exact_long}
 use Rattle.row_form.proofs.ExactDeeds.{deed_bytes, exact_deed}
@@ -87,26 +87,26 @@ row_of_parts p = record { tag = p.0.0; moment = p.0.1; deed = p.1 }
 abbrev pub parts_of : Plain → Parts
 parts_of row = ((row.tag, row.moment), row.deed)
 
-same_spelling : (row : Plain) → byte (first_byte row.deed) ++ rest_bytes_of (parts_of row) ≡ spelled row
+same_spelling : (row : Plain) → byte (first_byte row.deed) ++ rest_bytes_of (parts_of row) ≡ spelling_of row
 same_spelling row = refl
 
 -- a row is read back
-pub row_back : (row : Plain) → IsFormed row → read_row (spelled row) ≡ Ok (parts_of row, [])
+pub row_back : (row : Plain) → IsFormed row → read_row (spelling_of row) ≡ Ok (parts_of row, [])
 row_back row h =
-    then_ok (read_parts (spelled row)) ended (parts_of row) []
-    (ap read_parts (sym (append-nil (spelled row)) ∙ ap (λ z. z ++ []) (sym (same_spelling row))) ∙ exact_parts.back (parts_of row) [] (h.tag, h.moment, h.deed))
+    then_ok (read_parts (spelling_of row)) value_at_end (parts_of row) []
+    (ap read_parts (sym (append-nil (spelling_of row)) ∙ ap (λ z. z ++ []) (sym (same_spelling row))) ∙ exact_parts.back (parts_of row) [] (h.tag, h.moment, h.deed))
 
-no_more : (p q : Parts) (rest : List ℕ) → ended p rest ≡ Ok (q, []) → (p ≡ q) × (rest ≡ [])
+no_more : (p q : Parts) (rest : List ℕ) → value_at_end p rest ≡ Ok (q, []) → (p ≡ q) × (rest ≡ [])
 no_more p q [] e = (ap (λ z. z.0) (same_read (p, []) (q, []) e), refl)
 no_more p q (b ∷ bs) e = absurd (cc)
 
 -- what is read as a row was spelled so, and is formed
-pub row_told : (bytes : List ℕ) (p : Parts) → AreBytes bytes → read_row bytes ≡ Ok (p, []) → (bytes ≡ spelled (row_of_parts p)) × IsFormed (row_of_parts p)
-row_told bytes p hb e =
-    let x = part (read_parts bytes) ended (p, []) e in
-    let f = exact_parts.told bytes x.0 x.1 hb x.2 in
+pub row_read_back : (bytes : List ℕ) (p : Parts) → AreBytes bytes → read_row bytes ≡ Ok (p, []) → (bytes ≡ spelling_of (row_of_parts p)) × IsFormed (row_of_parts p)
+row_read_back bytes p hb e =
+    let x = part (read_parts bytes) value_at_end (p, []) e in
+    let f = exact_parts.read_back bytes x.0 x.1 hb x.2 in
     let n = no_more x.0 p x.1 x.3 in
-    let P : Parts → Type 0 = λ q. (bytes ≡ spelled (row_of_parts q)) × IsFormed (row_of_parts q) in
+    let P : Parts → Type 0 = λ q. (bytes ≡ spelling_of (row_of_parts q)) × IsFormed (row_of_parts q) in
     subst P n.0 (
       f.1 ∙ ap (λ z. (byte (form_of_parts x.0) ++ rest_bytes_of x.0) ++ z) n.1 ∙ append-nil (byte (form_of_parts x.0) ++ rest_bytes_of x.0)
           ∙ same_spelling (row_of_parts x.0),
@@ -114,6 +114,6 @@ row_told bytes p hb e =
     )
 
 -- a row has one spelling
-pub one_spelling : (a b : Plain) → IsFormed a → IsFormed b → spelled a ≡ spelled b → a ≡ b
+pub one_spelling : (a b : Plain) → IsFormed a → IsFormed b → spelling_of a ≡ spelling_of b → a ≡ b
 one_spelling a b ha hb e =
     ap (λ z. row_of_parts z.0) (same_read (parts_of a, []) (parts_of b, []) (sym (row_back a ha) ∙ ap read_row e ∙ row_back b hb))

@@ -8,7 +8,7 @@ use Rattle.cc_names.specs.declared.rows.Deed.TheVariants as deeds
 use Rattle.cc_names.specs.declared.rows.Extent.{Extent}
 use Rattle.cc_names.specs.declared.rows.Stored.{Stored}
 use Rattle.cc_names.specs.declared.rows.Stored.TheVariants.{Here, There}
-use Rattle.row_form.specs.Spelled.{spelled}
+use Rattle.row_form.specs.Spelled.{spelling_of}
 use Rattle.row_form.specs.Extents.{is_large, large_of, stored_at, row_at_extents, plain_row}
 
 -- the row of this deed, by the first command at the moment 1,700,000,000
@@ -53,7 +53,7 @@ a_row_without_extents : row_at_extents [] (row (publish (codes "hi" ∷ [] ∷ [
 a_row_without_extents = refl
 
 -- its bytes by hand: code 23, and the extent's place 8,192 and length 4,096
-the_bytes_at_extents : spelled (row_at_extents (extent 8192 4096 ∷ []) (row (publish (codes "hi" ∷ letters 4096 ∷ [])))) ≡
+the_bytes_at_extents : spelling_of (row_at_extents (extent 8192 4096 ∷ []) (row (publish (codes "hi" ∷ letters 4096 ∷ [])))) ≡
     2 ∷ 1 ∷ 0 ∷ 0 ∷ 0 ∷ 1 ∷ 0 ∷ 0 ∷ 0 ∷ 1 ∷ 0 ∷ 0 ∷ 0 ∷ 0 ∷ 241 ∷ 83 ∷ 101 ∷ 0 ∷ 0 ∷ 0 ∷ 0 ∷ 23 ∷ 1 ∷ 0 ∷ 0 ∷ 0 ∷ 118 ∷
     2 ∷ 0 ∷ 0 ∷ 0 ∷ 1 ∷ 0 ∷ 0 ∷ 0 ∷ 120 ∷ 1 ∷ 0 ∷ 0 ∷ 0 ∷ 121 ∷ 0 ∷ 0 ∷ 0 ∷ 0 ∷ 0 ∷ 0 ∷ 0 ∷ 0 ∷ 2 ∷ 0 ∷ 0 ∷ 0 ∷
     0 ∷ 2 ∷ 0 ∷ 0 ∷ 0 ∷ 104 ∷ 105 ∷ 1 ∷ 0 ∷ 32 ∷ 0 ∷ 0 ∷ 0 ∷ 0 ∷ 0 ∷ 0 ∷ 0 ∷ 16 ∷ 0 ∷ 0 ∷ 0 ∷ 0 ∷ 0 ∷ 0 ∷ []

@@ -12,7 +12,7 @@ use Rattle.cc_names.specs.declared.rows.Placed.{Placed}
 use Rattle.cc_names.specs.declared.rows.ReadOf.{ReadOf}
 use Rattle.cc_names.specs.declared.rows.Stored.TheVariants.{Here, There}
 use Rattle.cc_names.specs.declared.rows.TypeKind.TheVariants as type_kinds
-use Rattle.row_form.specs.Spelled.{spelled}
+use Rattle.row_form.specs.Spelled.{spelling_of}
 
 -- the row of this deed
 abbrev row : Deed → Plain
@@ -32,144 +32,144 @@ placed element version = record { element = element; version = version }
 abbrev extent : ℕ → ℕ → Extent
 extent place length = record { place = place; length = length }
 
-a_mkview : spelled (row (deeds.Mkview (codes "v"))) ≡ bytes 1 1 (
+a_mkview : spelling_of (row (deeds.Mkview (codes "v"))) ≡ bytes 1 1 (
     1 ∷ 0 ∷ 0 ∷ 0 ∷ 118 ∷ [])
 a_mkview = refl
 
-an_rmview : spelled (row (deeds.Rmview (codes "v"))) ≡ bytes 1 2 (
+an_rmview : spelling_of (row (deeds.Rmview (codes "v"))) ≡ bytes 1 2 (
     1 ∷ 0 ∷ 0 ∷ 0 ∷ 118 ∷ [])
 an_rmview = refl
 
-a_setcs : spelled (row (deeds.Setcs (codes "v") (codes "hi"))) ≡ bytes 1 3 (
+a_setcs : spelling_of (row (deeds.Setcs (codes "v") (codes "hi"))) ≡ bytes 1 3 (
     1 ∷ 0 ∷ 0 ∷ 0 ∷ 118 ∷ 2 ∷ 0 ∷ 0 ∷ 0 ∷ 104 ∷ 105 ∷ [])
 a_setcs = refl
 
-a_mkelem : spelled (row (deeds.Mkelem (codes "v") 5 (codes "n") kinds.Directory true)) ≡ bytes 1 4 (
+a_mkelem : spelling_of (row (deeds.Mkelem (codes "v") 5 (codes "n") kinds.Directory true)) ≡ bytes 1 4 (
     1 ∷ 0 ∷ 0 ∷ 0 ∷ 118 ∷ 5 ∷ 0 ∷ 0 ∷ 0 ∷ 0 ∷ 0 ∷ 0 ∷ 0 ∷ 1 ∷ 0 ∷ 0 ∷ 0 ∷ 110 ∷ 2 ∷ 1 ∷ [])
 a_mkelem = refl
 
-a_mkelem_of_a_file : spelled (row (deeds.Mkelem (codes "v") 5 (codes "n") kinds.File false)) ≡ bytes 1 4 (
+a_mkelem_of_a_file : spelling_of (row (deeds.Mkelem (codes "v") 5 (codes "n") kinds.File false)) ≡ bytes 1 4 (
     1 ∷ 0 ∷ 0 ∷ 0 ∷ 118 ∷ 5 ∷ 0 ∷ 0 ∷ 0 ∷ 0 ∷ 0 ∷ 0 ∷ 0 ∷ 1 ∷ 0 ∷ 0 ∷ 0 ∷ 110 ∷ 1 ∷ 0 ∷ [])
 a_mkelem_of_a_file = refl
 
-a_checkout : spelled (row (deeds.Checkout (codes "v") 5 6 false)) ≡ bytes 1 5 (
+a_checkout : spelling_of (row (deeds.Checkout (codes "v") 5 6 false)) ≡ bytes 1 5 (
     1 ∷ 0 ∷ 0 ∷ 0 ∷ 118 ∷ 5 ∷ 0 ∷ 0 ∷ 0 ∷ 0 ∷ 0 ∷ 0 ∷ 0 ∷ 6 ∷ 0 ∷ 0 ∷ 0 ∷ 0 ∷ 0 ∷ 0 ∷ 0 ∷ 0 ∷ [])
 a_checkout = refl
 
-a_reserved_checkout : spelled (row (deeds.Checkout (codes "v") 5 6 true)) ≡ bytes 1 5 (
+a_reserved_checkout : spelling_of (row (deeds.Checkout (codes "v") 5 6 true)) ≡ bytes 1 5 (
     1 ∷ 0 ∷ 0 ∷ 0 ∷ 118 ∷ 5 ∷ 0 ∷ 0 ∷ 0 ∷ 0 ∷ 0 ∷ 0 ∷ 0 ∷ 6 ∷ 0 ∷ 0 ∷ 0 ∷ 0 ∷ 0 ∷ 0 ∷ 0 ∷ 1 ∷ [])
 a_reserved_checkout = refl
 
-a_branch : spelled (row (deeds.Branch (codes "v") 5 6 (codes "B") outs.Unreserved)) ≡ bytes 1 6 (
+a_branch : spelling_of (row (deeds.Branch (codes "v") 5 6 (codes "B") outs.Unreserved)) ≡ bytes 1 6 (
     1 ∷ 0 ∷ 0 ∷ 0 ∷ 118 ∷ 5 ∷ 0 ∷ 0 ∷ 0 ∷ 0 ∷ 0 ∷ 0 ∷ 0 ∷ 6 ∷ 0 ∷ 0 ∷ 0 ∷ 0 ∷ 0 ∷ 0 ∷ 0 ∷ 1 ∷ 0 ∷ 0 ∷ 0 ∷ 66 ∷ 2 ∷ [])
 a_branch = refl
 
-a_branch_alone : spelled (row (deeds.Branch (codes "v") 5 6 (codes "B") outs.No)) ≡ bytes 1 6 (
+a_branch_alone : spelling_of (row (deeds.Branch (codes "v") 5 6 (codes "B") outs.No)) ≡ bytes 1 6 (
     1 ∷ 0 ∷ 0 ∷ 0 ∷ 118 ∷ 5 ∷ 0 ∷ 0 ∷ 0 ∷ 0 ∷ 0 ∷ 0 ∷ 0 ∷ 6 ∷ 0 ∷ 0 ∷ 0 ∷ 0 ∷ 0 ∷ 0 ∷ 0 ∷ 1 ∷ 0 ∷ 0 ∷ 0 ∷ 66 ∷ 0 ∷ [])
 a_branch_alone = refl
 
-a_reserved_branch : spelled (row (deeds.Branch (codes "v") 5 6 (codes "B") outs.Reserved)) ≡ bytes 1 6 (
+a_reserved_branch : spelling_of (row (deeds.Branch (codes "v") 5 6 (codes "B") outs.Reserved)) ≡ bytes 1 6 (
     1 ∷ 0 ∷ 0 ∷ 0 ∷ 118 ∷ 5 ∷ 0 ∷ 0 ∷ 0 ∷ 0 ∷ 0 ∷ 0 ∷ 0 ∷ 6 ∷ 0 ∷ 0 ∷ 0 ∷ 0 ∷ 0 ∷ 0 ∷ 0 ∷ 1 ∷ 0 ∷ 0 ∷ 0 ∷ 66 ∷ 1 ∷ [])
 a_reserved_branch = refl
 
-a_save : spelled (row (deeds.Save (codes "v") 5 [])) ≡ bytes 1 7 (
+a_save : spelling_of (row (deeds.Save (codes "v") 5 [])) ≡ bytes 1 7 (
     1 ∷ 0 ∷ 0 ∷ 0 ∷ 118 ∷ 5 ∷ 0 ∷ 0 ∷ 0 ∷ 0 ∷ 0 ∷ 0 ∷ 0 ∷ 0 ∷ 0 ∷ 0 ∷ 0 ∷ [])
 a_save = refl
 
-a_checkin : spelled (row (deeds.Checkin (codes "v") (2 ^ 56))) ≡ bytes 1 8 (
+a_checkin : spelling_of (row (deeds.Checkin (codes "v") (2 ^ 56))) ≡ bytes 1 8 (
     1 ∷ 0 ∷ 0 ∷ 0 ∷ 118 ∷ 0 ∷ 0 ∷ 0 ∷ 0 ∷ 0 ∷ 0 ∷ 0 ∷ 1 ∷ [])
 a_checkin = refl
 
-an_uncheckout : spelled (row (deeds.Uncheckout (codes "v") 5)) ≡ bytes 1 9 (
+an_uncheckout : spelling_of (row (deeds.Uncheckout (codes "v") 5)) ≡ bytes 1 9 (
     1 ∷ 0 ∷ 0 ∷ 0 ∷ 118 ∷ 5 ∷ 0 ∷ 0 ∷ 0 ∷ 0 ∷ 0 ∷ 0 ∷ 0 ∷ [])
 an_uncheckout = refl
 
-an_rmname : spelled (row (deeds.Rmname (codes "v") 5 (codes "n"))) ≡ bytes 1 10 (
+an_rmname : spelling_of (row (deeds.Rmname (codes "v") 5 (codes "n"))) ≡ bytes 1 10 (
     1 ∷ 0 ∷ 0 ∷ 0 ∷ 118 ∷ 5 ∷ 0 ∷ 0 ∷ 0 ∷ 0 ∷ 0 ∷ 0 ∷ 0 ∷ 1 ∷ 0 ∷ 0 ∷ 0 ∷ 110 ∷ [])
 an_rmname = refl
 
-an_mv : spelled (row (deeds.Mv (codes "v") 5 (codes "n") (codes "m"))) ≡ bytes 1 11 (
+an_mv : spelling_of (row (deeds.Mv (codes "v") 5 (codes "n") (codes "m"))) ≡ bytes 1 11 (
     1 ∷ 0 ∷ 0 ∷ 0 ∷ 118 ∷ 5 ∷ 0 ∷ 0 ∷ 0 ∷ 0 ∷ 0 ∷ 0 ∷ 0 ∷ 1 ∷ 0 ∷ 0 ∷ 0 ∷ 110 ∷ 1 ∷ 0 ∷ 0 ∷ 0 ∷ 109 ∷ [])
 an_mv = refl
 
-a_put : spelled (row (deeds.Put (codes "v") (codes "a/b") (codes "hi"))) ≡ bytes 1 12 (
+a_put : spelling_of (row (deeds.Put (codes "v") (codes "a/b") (codes "hi"))) ≡ bytes 1 12 (
     1 ∷ 0 ∷ 0 ∷ 0 ∷ 118 ∷ 3 ∷ 0 ∷ 0 ∷ 0 ∷ 97 ∷ 47 ∷ 98 ∷ 2 ∷ 0 ∷ 0 ∷ 0 ∷ 104 ∷ 105 ∷ [])
 a_put = refl
 
-an_rm : spelled (row (deeds.Rm (codes "v") (codes "a/b"))) ≡ bytes 1 13 (
+an_rm : spelling_of (row (deeds.Rm (codes "v") (codes "a/b"))) ≡ bytes 1 13 (
     1 ∷ 0 ∷ 0 ∷ 0 ∷ 118 ∷ 3 ∷ 0 ∷ 0 ∷ 0 ∷ 97 ∷ 47 ∷ 98 ∷ [])
 an_rm = refl
 
-a_mktype : spelled (row (deeds.Mktype type_kinds.Label (codes "B"))) ≡ bytes 1 14 (
+a_mktype : spelling_of (row (deeds.Mktype type_kinds.Label (codes "B"))) ≡ bytes 1 14 (
     1 ∷ 1 ∷ 0 ∷ 0 ∷ 0 ∷ 66 ∷ [])
 a_mktype = refl
 
-a_mktype_of_branches : spelled (row (deeds.Mktype type_kinds.Branch (codes "B"))) ≡ bytes 1 14 (
+a_mktype_of_branches : spelling_of (row (deeds.Mktype type_kinds.Branch (codes "B"))) ≡ bytes 1 14 (
     2 ∷ 1 ∷ 0 ∷ 0 ∷ 0 ∷ 66 ∷ [])
 a_mktype_of_branches = refl
 
-a_label : spelled (row (deeds.Label (codes "L") 5 6)) ≡ bytes 1 15 (
+a_label : spelling_of (row (deeds.Label (codes "L") 5 6)) ≡ bytes 1 15 (
     1 ∷ 0 ∷ 0 ∷ 0 ∷ 76 ∷ 5 ∷ 0 ∷ 0 ∷ 0 ∷ 0 ∷ 0 ∷ 0 ∷ 0 ∷ 6 ∷ 0 ∷ 0 ∷ 0 ∷ 0 ∷ 0 ∷ 0 ∷ 0 ∷ [])
 a_label = refl
 
-an_unlabel : spelled (row (deeds.Unlabel (codes "L") 5)) ≡ bytes 1 16 (
+an_unlabel : spelling_of (row (deeds.Unlabel (codes "L") 5)) ≡ bytes 1 16 (
     1 ∷ 0 ∷ 0 ∷ 0 ∷ 76 ∷ 5 ∷ 0 ∷ 0 ∷ 0 ∷ 0 ∷ 0 ∷ 0 ∷ 0 ∷ [])
 an_unlabel = refl
 
-a_publish : spelled (row (deeds.Publish (codes "v") (codes "x" ∷ []) (codes "ls") (read (codes "a") 7 ∷ []) (codes "hi" ∷ []))) ≡ bytes 1 17 (
+a_publish : spelling_of (row (deeds.Publish (codes "v") (codes "x" ∷ []) (codes "ls") (read (codes "a") 7 ∷ []) (codes "hi" ∷ []))) ≡ bytes 1 17 (
     1 ∷ 0 ∷ 0 ∷ 0 ∷ 118 ∷ 1 ∷ 0 ∷ 0 ∷ 0 ∷ 1 ∷ 0 ∷ 0 ∷ 0 ∷ 120 ∷ 2 ∷ 0 ∷ 0 ∷ 0 ∷ 108 ∷ 115 ∷ 1 ∷ 0 ∷ 0 ∷ 0 ∷ 1 ∷ 0 ∷ 0 ∷ 0 ∷
     97 ∷ 7 ∷ 0 ∷ 0 ∷ 0 ∷ 0 ∷ 0 ∷ 0 ∷ 0 ∷ 1 ∷ 0 ∷ 0 ∷ 0 ∷ 2 ∷ 0 ∷ 0 ∷ 0 ∷ 104 ∷ 105 ∷ [])
 a_publish = refl
 
-a_publish_of_two : spelled (row (deeds.Publish (codes "v") (codes "x" ∷ codes "y" ∷ []) [] [] ([] ∷ codes "hi" ∷ []))) ≡ bytes 2 17 (
+a_publish_of_two : spelling_of (row (deeds.Publish (codes "v") (codes "x" ∷ codes "y" ∷ []) [] [] ([] ∷ codes "hi" ∷ []))) ≡ bytes 2 17 (
     1 ∷ 0 ∷ 0 ∷ 0 ∷ 118 ∷ 2 ∷ 0 ∷ 0 ∷ 0 ∷ 1 ∷ 0 ∷ 0 ∷ 0 ∷ 120 ∷ 1 ∷ 0 ∷ 0 ∷ 0 ∷ 121 ∷ 0 ∷ 0 ∷ 0 ∷ 0 ∷ 0 ∷ 0 ∷ 0 ∷ 0 ∷ 2 ∷
     0 ∷ 0 ∷ 0 ∷ 0 ∷ 0 ∷ 0 ∷ 0 ∷ 2 ∷ 0 ∷ 0 ∷ 0 ∷ 104 ∷ 105 ∷ [])
 a_publish_of_two = refl
 
-a_publish_of_three : spelled (row (deeds.Publish (codes "v") (codes "y" ∷ codes "x" ∷ codes "z" ∷ []) [] [] ([] ∷ [] ∷ [] ∷ []))) ≡ bytes 2 17 (
+a_publish_of_three : spelling_of (row (deeds.Publish (codes "v") (codes "y" ∷ codes "x" ∷ codes "z" ∷ []) [] [] ([] ∷ [] ∷ [] ∷ []))) ≡ bytes 2 17 (
     1 ∷ 0 ∷ 0 ∷ 0 ∷ 118 ∷ 3 ∷ 0 ∷ 0 ∷ 0 ∷ 1 ∷ 0 ∷ 0 ∷ 0 ∷ 121 ∷ 1 ∷ 0 ∷ 0 ∷ 0 ∷ 120 ∷ 1 ∷ 0 ∷ 0 ∷ 0 ∷ 122 ∷ 0 ∷ 0 ∷ 0 ∷ 0 ∷
     0 ∷ 0 ∷ 0 ∷ 0 ∷ 3 ∷ 0 ∷ 0 ∷ 0 ∷ 0 ∷ 0 ∷ 0 ∷ 0 ∷ 0 ∷ 0 ∷ 0 ∷ 0 ∷ 0 ∷ 0 ∷ 0 ∷ 0 ∷ [])
 a_publish_of_three = refl
 
-a_publish_with_two_reads : spelled (row (deeds.Publish (codes "v") (codes "x" ∷ []) [] (read (codes "a") 7 ∷ read (codes "b") 0 ∷ []) ([] ∷ []))) ≡ bytes 1 17 (
+a_publish_with_two_reads : spelling_of (row (deeds.Publish (codes "v") (codes "x" ∷ []) [] (read (codes "a") 7 ∷ read (codes "b") 0 ∷ []) ([] ∷ []))) ≡ bytes 1 17 (
     1 ∷ 0 ∷ 0 ∷ 0 ∷ 118 ∷ 1 ∷ 0 ∷ 0 ∷ 0 ∷ 1 ∷ 0 ∷ 0 ∷ 0 ∷ 120 ∷ 0 ∷ 0 ∷ 0 ∷ 0 ∷ 2 ∷ 0 ∷ 0 ∷ 0 ∷ 1 ∷ 0 ∷ 0 ∷ 0 ∷ 97 ∷
     7 ∷ 0 ∷ 0 ∷ 0 ∷ 0 ∷ 0 ∷ 0 ∷ 0 ∷ 1 ∷ 0 ∷ 0 ∷ 0 ∷ 98 ∷ 0 ∷ 0 ∷ 0 ∷ 0 ∷ 0 ∷ 0 ∷ 0 ∷ 0 ∷ 1 ∷ 0 ∷ 0 ∷ 0 ∷ 0 ∷ 0 ∷ 0 ∷ 0 ∷ [])
 a_publish_with_two_reads = refl
 
-a_wink : spelled (row (deeds.Wink (codes "v") 5)) ≡ bytes 1 18 (
+a_wink : spelling_of (row (deeds.Wink (codes "v") 5)) ≡ bytes 1 18 (
     1 ∷ 0 ∷ 0 ∷ 0 ∷ 118 ∷ 5 ∷ 0 ∷ 0 ∷ 0 ∷ 0 ∷ 0 ∷ 0 ∷ 0 ∷ [])
 a_wink = refl
 
-a_drop : spelled (row (deeds.Drop (codes "v") (codes "a"))) ≡ bytes 1 19 (
+a_drop : spelling_of (row (deeds.Drop (codes "v") (codes "a"))) ≡ bytes 1 19 (
     1 ∷ 0 ∷ 0 ∷ 0 ∷ 118 ∷ 1 ∷ 0 ∷ 0 ∷ 0 ∷ 97 ∷ [])
 a_drop = refl
 
-a_scrub : spelled (row (deeds.Scrub (5 ∷ 6 ∷ []))) ≡ bytes 1 20 (
+a_scrub : spelling_of (row (deeds.Scrub (5 ∷ 6 ∷ []))) ≡ bytes 1 20 (
     2 ∷ 0 ∷ 0 ∷ 0 ∷ 5 ∷ 0 ∷ 0 ∷ 0 ∷ 0 ∷ 0 ∷ 0 ∷ 0 ∷ 6 ∷ 0 ∷ 0 ∷ 0 ∷ 0 ∷ 0 ∷ 0 ∷ 0 ∷ [])
 a_scrub = refl
 
-a_labels : spelled (row (deeds.Labels (codes "L") (placed 5 9 ∷ placed 6 8 ∷ []))) ≡ bytes 1 21 (
+a_labels : spelling_of (row (deeds.Labels (codes "L") (placed 5 9 ∷ placed 6 8 ∷ []))) ≡ bytes 1 21 (
     1 ∷ 0 ∷ 0 ∷ 0 ∷ 76 ∷ 2 ∷ 0 ∷ 0 ∷ 0 ∷ 5 ∷ 0 ∷ 0 ∷ 0 ∷ 0 ∷ 0 ∷ 0 ∷ 0 ∷ 9 ∷ 0 ∷ 0 ∷ 0 ∷ 0 ∷ 0 ∷ 0 ∷ 0 ∷ 6 ∷ 0 ∷ 0 ∷ 0 ∷
     0 ∷ 0 ∷ 0 ∷ 0 ∷ 8 ∷ 0 ∷ 0 ∷ 0 ∷ 0 ∷ 0 ∷ 0 ∷ 0 ∷ [])
 a_labels = refl
 
-an_arrow : spelled (row (deeds.Arrow 5 6 7)) ≡ bytes 1 22 (
+an_arrow : spelling_of (row (deeds.Arrow 5 6 7)) ≡ bytes 1 22 (
     5 ∷ 0 ∷ 0 ∷ 0 ∷ 0 ∷ 0 ∷ 0 ∷ 0 ∷ 6 ∷ 0 ∷ 0 ∷ 0 ∷ 0 ∷ 0 ∷ 0 ∷ 0 ∷ 7 ∷ 0 ∷ 0 ∷ 0 ∷ 0 ∷ 0 ∷ 0 ∷ 0 ∷ [])
 an_arrow = refl
 
-a_publish_at : spelled (row (deeds.PublishAt (codes "v") (codes "x" ∷ []) (codes "ls") (read (codes "a") 7 ∷ []) (There (extent 5 6) ∷ []))) ≡ bytes 1 23 (
+a_publish_at : spelling_of (row (deeds.PublishAt (codes "v") (codes "x" ∷ []) (codes "ls") (read (codes "a") 7 ∷ []) (There (extent 5 6) ∷ []))) ≡ bytes 1 23 (
     1 ∷ 0 ∷ 0 ∷ 0 ∷ 118 ∷ 1 ∷ 0 ∷ 0 ∷ 0 ∷ 1 ∷ 0 ∷ 0 ∷ 0 ∷ 120 ∷ 2 ∷ 0 ∷ 0 ∷ 0 ∷ 108 ∷ 115 ∷ 1 ∷ 0 ∷ 0 ∷ 0 ∷ 1 ∷ 0 ∷ 0 ∷ 0 ∷
     97 ∷ 7 ∷ 0 ∷ 0 ∷ 0 ∷ 0 ∷ 0 ∷ 0 ∷ 0 ∷ 1 ∷ 0 ∷ 0 ∷ 0 ∷ 1 ∷ 5 ∷ 0 ∷ 0 ∷ 0 ∷ 0 ∷ 0 ∷ 0 ∷ 0 ∷ 6 ∷ 0 ∷ 0 ∷ 0 ∷ 0 ∷ 0 ∷ 0 ∷
     0 ∷ [])
 a_publish_at = refl
 
 -- the last place that a byte of the file of objects may have
-a_publish_at_the_end : spelled (row (deeds.PublishAt (codes "v") (codes "x" ∷ []) [] [] (There (extent (2 ^ 63 - 2) 1) ∷ []))) ≡ bytes 1 23 (
+a_publish_at_the_end : spelling_of (row (deeds.PublishAt (codes "v") (codes "x" ∷ []) [] [] (There (extent (2 ^ 63 - 2) 1) ∷ []))) ≡ bytes 1 23 (
     1 ∷ 0 ∷ 0 ∷ 0 ∷ 118 ∷ 1 ∷ 0 ∷ 0 ∷ 0 ∷ 1 ∷ 0 ∷ 0 ∷ 0 ∷ 120 ∷ 0 ∷ 0 ∷ 0 ∷ 0 ∷ 0 ∷ 0 ∷ 0 ∷ 0 ∷ 1 ∷ 0 ∷ 0 ∷ 0 ∷ 1 ∷
     254 ∷ 255 ∷ 255 ∷ 255 ∷ 255 ∷ 255 ∷ 255 ∷ 127 ∷ 1 ∷ 0 ∷ 0 ∷ 0 ∷ 0 ∷ 0 ∷ 0 ∷ 0 ∷ [])
 a_publish_at_the_end = refl
 
-a_publish_at_of_two : spelled (row (deeds.PublishAt (codes "v") (codes "x" ∷ codes "y" ∷ []) [] [] (Here [] ∷ There (extent 0 1048576) ∷ []))) ≡ bytes 2 23 (
+a_publish_at_of_two : spelling_of (row (deeds.PublishAt (codes "v") (codes "x" ∷ codes "y" ∷ []) [] [] (Here [] ∷ There (extent 0 1048576) ∷ []))) ≡ bytes 2 23 (
     1 ∷ 0 ∷ 0 ∷ 0 ∷ 118 ∷ 2 ∷ 0 ∷ 0 ∷ 0 ∷ 1 ∷ 0 ∷ 0 ∷ 0 ∷ 120 ∷ 1 ∷ 0 ∷ 0 ∷ 0 ∷ 121 ∷ 0 ∷ 0 ∷ 0 ∷ 0 ∷ 0 ∷ 0 ∷ 0 ∷ 0 ∷ 2 ∷
     0 ∷ 0 ∷ 0 ∷ 0 ∷ 0 ∷ 0 ∷ 0 ∷ 0 ∷ 1 ∷ 0 ∷ 0 ∷ 0 ∷ 0 ∷ 0 ∷ 0 ∷ 0 ∷ 0 ∷ 0 ∷ 0 ∷ 16 ∷ 0 ∷ 0 ∷ 0 ∷ 0 ∷ 0 ∷ [])
 a_publish_at_of_two = refl

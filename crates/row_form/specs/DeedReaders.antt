@@ -6,73 +6,73 @@ use Rattle.cc_names.specs.declared.rows.ReadOf.{ReadOf}
 use Rattle.cc_names.specs.declared.rows.Stored.{Stored}
 use Rattle.cc_names.specs.declared.rows.Deed.{Deed}
 use Rattle.cc_names.specs.declared.rows.Deed.TheVariants as deeds
-use Rattle.row_form.specs.Readers.{Reader, then_read, both, chosen, tested, made, read_byte, read_long, read_text, read_list}
+use Rattle.row_form.specs.Readers.{Reader, then_read, both, reader_of_some, value_if, reader_of, read_byte, read_long, read_text, read_list}
 use Rattle.row_form.specs.FieldReaders.{read_name, read_type_name, read_path, read_flag, read_kind, read_type_kind, read_out, read_stored, read_targets, read_entries, read_objects, read_places}
 
 abbrev pub read_mkview : Reader Deed
-read_mkview = made deeds.Mkview read_name
+read_mkview = reader_of deeds.Mkview read_name
 
 abbrev pub read_rmview : Reader Deed
-read_rmview = made deeds.Rmview read_name
+read_rmview = reader_of deeds.Rmview read_name
 
 abbrev pub read_setcs : Reader Deed
-read_setcs = made (λ r. deeds.Setcs r.0 r.1) (both read_name read_text)
+read_setcs = reader_of (λ r. deeds.Setcs r.0 r.1) (both read_name read_text)
 
 abbrev pub read_mkelem : Reader Deed
-read_mkelem = made (λ r. deeds.Mkelem r.0 r.1.0 r.1.1.0 r.1.1.1.0 r.1.1.1.1)
+read_mkelem = reader_of (λ r. deeds.Mkelem r.0 r.1.0 r.1.1.0 r.1.1.1.0 r.1.1.1.1)
     (both read_name (both read_long (both read_name (both read_kind read_flag))))
 
 abbrev pub read_checkout : Reader Deed
-read_checkout = made (λ r. deeds.Checkout r.0 r.1.0 r.1.1.0 r.1.1.1) (both read_name (both read_long (both read_long read_flag)))
+read_checkout = reader_of (λ r. deeds.Checkout r.0 r.1.0 r.1.1.0 r.1.1.1) (both read_name (both read_long (both read_long read_flag)))
 
 abbrev pub read_branch : Reader Deed
-read_branch = made (λ r. deeds.Branch r.0 r.1.0 r.1.1.0 r.1.1.1.0 r.1.1.1.1)
+read_branch = reader_of (λ r. deeds.Branch r.0 r.1.0 r.1.1.0 r.1.1.1.0 r.1.1.1.1)
     (both read_name (both read_long (both read_long (both read_type_name read_out))))
 
 abbrev pub read_save : Reader Deed
-read_save = made (λ r. deeds.Save r.0 r.1.0 r.1.1) (both read_name (both read_long read_text))
+read_save = reader_of (λ r. deeds.Save r.0 r.1.0 r.1.1) (both read_name (both read_long read_text))
 
 abbrev pub read_checkin : Reader Deed
-read_checkin = made (λ r. deeds.Checkin r.0 r.1) (both read_name read_long)
+read_checkin = reader_of (λ r. deeds.Checkin r.0 r.1) (both read_name read_long)
 
 abbrev pub read_uncheckout : Reader Deed
-read_uncheckout = made (λ r. deeds.Uncheckout r.0 r.1) (both read_name read_long)
+read_uncheckout = reader_of (λ r. deeds.Uncheckout r.0 r.1) (both read_name read_long)
 
 abbrev pub read_rmname : Reader Deed
-read_rmname = made (λ r. deeds.Rmname r.0 r.1.0 r.1.1) (both read_name (both read_long read_name))
+read_rmname = reader_of (λ r. deeds.Rmname r.0 r.1.0 r.1.1) (both read_name (both read_long read_name))
 
 abbrev pub read_mv : Reader Deed
-read_mv = made (λ r. deeds.Mv r.0 r.1.0 r.1.1.0 r.1.1.1) (both read_name (both read_long (both read_name read_name)))
+read_mv = reader_of (λ r. deeds.Mv r.0 r.1.0 r.1.1.0 r.1.1.1) (both read_name (both read_long (both read_name read_name)))
 
 abbrev pub read_put : Reader Deed
-read_put = made (λ r. deeds.Put r.0 r.1.0 r.1.1) (both read_name (both read_path read_text))
+read_put = reader_of (λ r. deeds.Put r.0 r.1.0 r.1.1) (both read_name (both read_path read_text))
 
 abbrev pub read_rm : Reader Deed
-read_rm = made (λ r. deeds.Rm r.0 r.1) (both read_name read_path)
+read_rm = reader_of (λ r. deeds.Rm r.0 r.1) (both read_name read_path)
 
 abbrev pub read_mktype : Reader Deed
-read_mktype = made (λ r. deeds.Mktype r.0 r.1) (both read_type_kind read_type_name)
+read_mktype = reader_of (λ r. deeds.Mktype r.0 r.1) (both read_type_kind read_type_name)
 
 abbrev pub read_label : Reader Deed
-read_label = made (λ r. deeds.Label r.0 r.1.0 r.1.1) (both read_type_name (both read_long read_long))
+read_label = reader_of (λ r. deeds.Label r.0 r.1.0 r.1.1) (both read_type_name (both read_long read_long))
 
 abbrev pub read_unlabel : Reader Deed
-read_unlabel = made (λ r. deeds.Unlabel r.0 r.1) (both read_type_name read_long)
+read_unlabel = reader_of (λ r. deeds.Unlabel r.0 r.1) (both read_type_name read_long)
 
 abbrev pub read_wink : Reader Deed
-read_wink = made (λ r. deeds.Wink r.0 r.1) (both read_name read_long)
+read_wink = reader_of (λ r. deeds.Wink r.0 r.1) (both read_name read_long)
 
 abbrev pub read_drop : Reader Deed
-read_drop = made (λ r. deeds.Drop r.0 r.1) (both read_name read_path)
+read_drop = reader_of (λ r. deeds.Drop r.0 r.1) (both read_name read_path)
 
 abbrev pub read_scrub : Reader Deed
-read_scrub = made deeds.Scrub read_objects
+read_scrub = reader_of deeds.Scrub read_objects
 
 abbrev pub read_labels : Reader Deed
-read_labels = made (λ r. deeds.Labels r.0 r.1) (both read_type_name read_places)
+read_labels = reader_of (λ r. deeds.Labels r.0 r.1) (both read_type_name read_places)
 
 abbrev pub read_arrow : Reader Deed
-read_arrow = made (λ r. deeds.Arrow r.0 r.1.0 r.1.1) (both read_long (both read_long read_long))
+read_arrow = reader_of (λ r. deeds.Arrow r.0 r.1.0 r.1.1) (both read_long (both read_long read_long))
 
 -- what every publish has before its outputs: view, targets, script and reads
 abbrev pub Record : Type 0
@@ -83,25 +83,25 @@ read_record form = both read_name (both (read_targets form) (both read_text read
 
 -- as many outputs as there are targets
 abbrev pub read_outputs : ℕ → Reader (List (List ℕ))
-read_outputs count = chosen (tested (λ outputs. length outputs == count)) (read_list read_text)
+read_outputs count = reader_of_some (value_if (λ outputs. length outputs == count)) (read_list read_text)
 
 -- what every publish has, and its outputs
 abbrev pub read_published : ℕ → Reader (Record × List (List ℕ))
-read_published form bytes = then_read (read_record form bytes) (λ r. made (λ outputs. (r, outputs)) (read_outputs (length r.1.0)))
+read_published form bytes = then_read (read_record form bytes) (λ r. reader_of (λ outputs. (r, outputs)) (read_outputs (length r.1.0)))
 
 abbrev pub read_publish : ℕ → Reader Deed
-read_publish form = made (λ p. deeds.Publish p.0.0 p.0.1.0 p.0.1.1.0 p.0.1.1.1 p.1) (read_published form)
+read_publish form = reader_of (λ p. deeds.Publish p.0.0 p.0.1.0 p.0.1.1.0 p.0.1.1.1 p.1) (read_published form)
 
 -- as many outputs as there are targets, one or more of them with an extent
 abbrev pub read_stored_outputs : ℕ → Reader (List Stored)
-read_stored_outputs count = chosen (tested (λ outputs. (length outputs == count) && list_any is_there outputs)) (read_list read_stored)
+read_stored_outputs count = reader_of_some (value_if (λ outputs. (length outputs == count) && list_any is_there outputs)) (read_list read_stored)
 
 -- the same with such outputs
 abbrev pub read_published_at : ℕ → Reader (Record × List Stored)
-read_published_at form bytes = then_read (read_record form bytes) (λ r. made (λ outputs. (r, outputs)) (read_stored_outputs (length r.1.0)))
+read_published_at form bytes = then_read (read_record form bytes) (λ r. reader_of (λ outputs. (r, outputs)) (read_stored_outputs (length r.1.0)))
 
 abbrev pub read_publish_at : ℕ → Reader Deed
-read_publish_at form = made (λ p. deeds.PublishAt p.0.0 p.0.1.0 p.0.1.1.0 p.0.1.1.1 p.1) (read_published_at form)
+read_publish_at form = reader_of (λ p. deeds.PublishAt p.0.0 p.0.1.0 p.0.1.1.0 p.0.1.1.1 p.1) (read_published_at form)
 
 -- a deed's code and its reader
 abbrev pub Line : Type 0

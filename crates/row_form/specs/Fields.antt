@@ -30,8 +30,8 @@ abbrev pub text : List ℕ → List ℕ
 text bytes = word (length bytes) ++ bytes
 
 -- a list: a count of four bytes, and the members
-abbrev pub listed : {A : Type 0} → (A → List ℕ) → List A → List ℕ
-listed spelled xs = word (length xs) ++ flat_map spelled xs
+abbrev pub list_bytes : {A : Type 0} → (A → List ℕ) → List A → List ℕ
+list_bytes spelled xs = word (length xs) ++ flat_map spelled xs
 
 -- a flag
 abbrev pub flag : Bool → List ℕ
@@ -63,6 +63,6 @@ abbrev pub place_of : Placed → List ℕ
 place_of placed = long placed.element ++ long placed.version
 
 -- an output: 0 and its bytes, or 1 and its extent
-abbrev pub stored : Stored → List ℕ
-stored (Here bytes) = 0 ∷ text bytes
-stored (There extent) = 1 ∷ (long extent.place ++ long extent.length)
+abbrev pub stored_bytes : Stored → List ℕ
+stored_bytes (Here bytes) = 0 ∷ text bytes
+stored_bytes (There extent) = 1 ∷ (long extent.place ++ long extent.length)

@@ -26,16 +26,16 @@ or_fail bytes (Some a) rest = Ok (a, rest)
 or_fail bytes None rest = Err bytes
 
 -- a part of which not all that is read is a value
-abbrev pub chosen : {A B : Type 0} → (A → Option B) → Reader A → Reader B
-chosen choose read bytes = then_read (read bytes) (λ a rest. or_fail bytes (choose a) rest)
+abbrev pub reader_of_some : {A B : Type 0} → (A → Option B) → Reader A → Reader B
+reader_of_some choose read bytes = then_read (read bytes) (λ a rest. or_fail bytes (choose a) rest)
 
 -- a value made of what was read
-abbrev pub made : {A B : Type 0} → (A → B) → Reader A → Reader B
-made make = chosen (λ a. Some (make a))
+abbrev pub reader_of : {A B : Type 0} → (A → B) → Reader A → Reader B
+reader_of make = reader_of_some (λ a. Some (make a))
 
 -- the value where it passes a test
-abbrev pub tested : {A : Type 0} → (A → Bool) → A → Option A
-tested test a = if test a then Some a else None
+abbrev pub value_if : {A : Type 0} → (A → Bool) → A → Option A
+value_if test a = if test a then Some a else None
 
 -- a byte
 abbrev pub read_byte : Reader ℕ

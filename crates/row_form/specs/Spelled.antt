@@ -3,7 +3,7 @@ use Rattle.std.specs.Prelude.{ℕ, List, [], ◌∷◌, ◌++◌}
 use Rattle.cc_names.specs.Formed.{Plain}
 use Rattle.cc_names.specs.declared.rows.Deed.{Deed}
 use Rattle.cc_names.specs.declared.rows.Deed.TheVariants as deeds
-use Rattle.row_form.specs.Fields.{word, long, text, listed, flag, kind, type_kind, out_byte, entry, place_of, stored}
+use Rattle.row_form.specs.Fields.{word, long, text, list_bytes, flag, kind, type_kind, out_byte, entry, place_of, stored_bytes}
 
 -- the code of a deed
 abbrev pub code_of : Deed → ℕ
@@ -36,12 +36,12 @@ code_of (deeds.PublishAt view targets script entries outputs) = 23
 -- the fields of a deed about objects; no other deed has any of these
 abbrev pub object_fields : Deed → List ℕ
 object_fields (deeds.Publish view targets script entries outputs) =
-    text view ++ (listed text targets ++ (text script ++ (listed entry entries ++ listed text outputs)))
+    text view ++ (list_bytes text targets ++ (text script ++ (list_bytes entry entries ++ list_bytes text outputs)))
 object_fields (deeds.PublishAt view targets script entries outputs) =
-    text view ++ (listed text targets ++ (text script ++ (listed entry entries ++ listed stored outputs)))
+    text view ++ (list_bytes text targets ++ (text script ++ (list_bytes entry entries ++ list_bytes stored_bytes outputs)))
 object_fields (deeds.Wink view object) = text view ++ long object
 object_fields (deeds.Drop view path) = text view ++ text path
-object_fields (deeds.Scrub objects) = listed long objects
+object_fields (deeds.Scrub objects) = list_bytes long objects
 object_fields _ = []
 
 -- the fields of a deed about types, labels and arrows, or objects
@@ -49,7 +49,7 @@ abbrev pub type_fields : Deed → List ℕ
 type_fields (deeds.Mktype sort name) = type_kind sort ++ text name
 type_fields (deeds.Label label element version) = text label ++ (long element ++ long version)
 type_fields (deeds.Unlabel label element) = text label ++ long element
-type_fields (deeds.Labels label placed) = text label ++ listed place_of placed
+type_fields (deeds.Labels label placed) = text label ++ list_bytes place_of placed
 type_fields (deeds.Arrow element tail head) = long element ++ (long tail ++ long head)
 type_fields deed = object_fields deed
 
@@ -90,7 +90,7 @@ first_byte (deeds.PublishAt view targets script entries outputs) = form_of targe
 first_byte _ = 1
 
 -- The spelling of a row: the first byte; phase, lane and command; the moment; the deed's code; the deed's fields.
-abbrev pub spelled : Plain → List ℕ
-spelled row =
+abbrev pub spelling_of : Plain → List ℕ
+spelling_of row =
     first_byte row.deed ∷ (word row.tag.phase ++ (word row.tag.lane ++ (word row.tag.command ++ (long row.moment
     ++ (code_of row.deed ∷ fields_of row.deed)))))

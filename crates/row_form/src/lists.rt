@@ -4,7 +4,7 @@ ghost use Rattle.std.specs.Prelude.{◌≡◌, ◌&&◌, IfOk, List, ℕ, length
 ghost use Rattle.std.specs.declared.cmp.Ordering.{Ordering as Compared};
 ghost use Rattle.std.specs.Ordering.{nat_cmp, is_lt};
 ghost use Rattle.row_form.specs.Answers.{Answers};
-ghost use Rattle.row_form.specs.Readers.{read_list, tested, chosen};
+ghost use Rattle.row_form.specs.Readers.{read_list, value_if, reader_of_some};
 ghost use Rattle.row_form.specs.FieldReaders.{ascends, are_distinct, are_targets, is_some_list, entry_cmp, placed_cmp, read_targets, read_entries, read_objects, read_places};
 
 use crate::cursor::{Cursor, Unread};

@@ -4,8 +4,8 @@
 ghost use Rattle.std.specs.Prelude.{◌≡◌, ◌<◌, ◌^◌, ◌∷◌, [], ◌++◌, List, ℕ, length, IfOk, OnOk};
 ghost use Rattle.std.specs.List.{flat_map, AllByRecursion};
 ghost use Rattle.cc_names.specs.Formed.{IsText, IsStored};
-ghost use Rattle.row_form.specs.Fields.{word, long, text, listed, flag, kind, type_kind, out_byte, entry, place_of, stored};
-ghost use Rattle.row_form.specs.Spelled.{spelled, code_of, first_byte, form_of};
+ghost use Rattle.row_form.specs.Fields.{word, long, text, list_bytes, flag, kind, type_kind, out_byte, entry, place_of, stored_bytes};
+ghost use Rattle.row_form.specs.Spelled.{spelling_of, code_of, first_byte, form_of};
 
 use crate::deed_fields::put_fields;
 use cc_names::memory::NoMemory;
@@ -17,7 +17,7 @@ use std::alloc::Global;
 
 /// The spelling of a row, in time linear in it.
 pub fn spell(alloc: Global, row: &Row) -> Result<Text, NoMemory>
-    ensures { IfOk result (λ bytes. bytes ≡ spelled row.now) }
+    ensures { IfOk result (λ bytes. bytes ≡ spelling_of row.now) }
 {
     let deed = row.deed();
     let tag = row.tag();
@@ -183,17 +183,17 @@ pub(crate) fn put_out(out: &mut Vec<u8>, how: Out) -> Result<(), NoMemory>
 
 /// A member of a list, as it is spelled.
 pub(crate) trait Put {
-    ghost spelled: { Self → List ℕ };
+    ghost spelling_of: { Self → List ℕ };
 
     ghost fits: { Self → Type 0 };
 
     fn put(&self, out: &mut Vec<u8>) -> Result<(), NoMemory>
         requires { fits self.now }
-        ensures { OnOk result (out.new.items ≡ out.old.items ++ spelled self.now) };
+        ensures { OnOk result (out.new.items ≡ out.old.items ++ spelling_of self.now) };
 }
 
 impl Put for Path {
-    ghost spelled = { text };
+    ghost spelling_of = { text };
 
     ghost fits = { λ path. Unit {0} };
 
@@ -203,7 +203,7 @@ impl Put for Path {
 }
 
 impl Put for Text {
-    ghost spelled = { text };
+    ghost spelling_of = { text };
 
     ghost fits = { IsText };
 
@@ -213,7 +213,7 @@ impl Put for Text {
 }
 
 impl Put for ReadOf {
-    ghost spelled = { entry };
+    ghost spelling_of = { entry };
 
     ghost fits = { λ read. Unit {0} };
 
@@ -224,7 +224,7 @@ impl Put for ReadOf {
 }
 
 impl Put for u64 {
-    ghost spelled = { long };
+    ghost spelling_of = { long };
 
     ghost fits = { λ number. Unit {0} };
 
@@ -234,7 +234,7 @@ impl Put for u64 {
 }
 
 impl Put for Placed {
-    ghost spelled = { place_of };
+    ghost spelling_of = { place_of };
 
     ghost fits = { λ placed. Unit {0} };
 
@@ -258,7 +258,7 @@ fn put_extent(out: &mut Vec<u8>, extent: Extent) -> Result<(), NoMemory>
 }
 
 impl Put for Stored {
-    ghost spelled = { stored };
+    ghost spelling_of = { stored_bytes };
 
     ghost fits = { IsStored };
 
@@ -279,7 +279,7 @@ impl Put for Stored {
 pub(crate) fn put_list<M: Put>(out: &mut Vec<u8>, members: &[M]) -> Result<(), NoMemory>
     requires short { length members.now < 2 ^ 32 }
     requires fit { AllByRecursion M.fits members.now }
-    ensures { OnOk result (out.new.items ≡ out.old.items ++ listed M.spelled members.now) }
+    ensures { OnOk result (out.new.items ≡ out.old.items ++ list_bytes M.spelled members.now) }
 {
     put_word(out, members.len() as u32)?;
     for member in members {
@@ -322,7 +322,7 @@ pub(crate) fn put_object(
         (out.new.items
         ≡ out.old.items
         ++ (text view.now
-        ++ (listed text targets.now ++ (text script.now ++ listed entry entries.now)))) }
+        ++ (list_bytes text targets.now ++ (text script.now ++ list_bytes entry entries.now)))) }
 {
     put_name(out, view)?;
     put_list(out, targets)?;

@@ -4,7 +4,7 @@ use Rattle.std.specs.List.{AllByRecursion}
 use Rattle.cc_names.specs.Counts.{Rose}
 use Rattle.cc_names.specs.Files.{Files}
 use Rattle.cc_names.specs.declared.refusals.ScriptFault.{ScriptFault}
-use Rattle.script_grammar.specs.Run.{Asking, Done, Asks, Traced, traced, noted, and_then, unless_fault, see}
+use Rattle.script_grammar.specs.Run.{Asking, Done, Asks, Traced, trace_of, with_read, and_then, unless_fault, see}
 use Rattle.script_grammar.specs.Parts.{Halted, Went, Performed, Gave, gives}
 use Rattle.script_grammar.specs.Standings.{Standing, Stays, AreAmong, IsAmong, texts}
 use Rattle.script_grammar.specs.declared.files.GivenUp.TheVariants.{Broken}
@@ -13,10 +13,10 @@ use Rattle.script_grammar.specs.declared.halts.Halt.TheVariants.{Fault, GivenUp,
 use Rattle.script_grammar.proofs.FrameLemmas.{before_noted, before_traced}
 
 -- one after the other is traced one after the other
-pub traced-and_then : {A B : Type 0} (files : Files) (reads : List (List ℕ)) (first : Asking A) (next : A → Asking B) →
-    traced files reads (and_then first next) ≡ traced files (traced files reads first).reads (next (traced files reads first).value)
-traced-and_then files reads (Done a) next = refl
-traced-and_then files reads (Asks path more) next = traced-and_then files (noted reads path) (more (files path)) next
+pub trace_of-and_then : {A B : Type 0} (files : Files) (reads : List (List ℕ)) (first : Asking A) (next : A → Asking B) →
+    trace_of files reads (and_then first next) ≡ trace_of files (trace_of files reads first).reads (next (trace_of files reads first).value)
+trace_of-and_then files reads (Done a) next = refl
+trace_of-and_then files reads (Asks path more) next = trace_of-and_then files (with_read reads path) (more (files path)) next
 
 -- answers that were `Broken` behind a count were so behind a lower one
 broken_from : (lower old new : ℕ) → lower ≤ old → Rose old new → Rose lower new
@@ -24,32 +24,32 @@ broken_from lower old new h rose = λ below. omega (arith, h, rose below)
 
 -- what ended early did so from where it is traced the same, and from a lower count
 halted_along : {A : Type 0} (files : Files) (before middle after : List (List ℕ)) (whole rest : Asking (Result A ScriptFault)) (halt : Halt) (lower old new : ℕ) →
-    traced files before whole ≡ traced files middle rest → lower ≤ old → Halted files middle rest halt after old new → Halted files before whole halt after lower new
+    trace_of files before whole ≡ trace_of files middle rest → lower ≤ old → Halted files middle rest halt after old new → Halted files before whole halt after lower new
 halted_along files before middle after whole rest (Fault fault) lower old new e low h = e ∙ h
 halted_along files before middle after whole rest (GivenUp Broken) lower old new e low h = broken_from lower old new low h
 halted_along files before middle after whole rest NoMemory lower old new e low h = tt
 
 went_along : {X A : Type 0} (files : Files) (before middle after : List (List ℕ)) (whole rest : Asking (Result A ScriptFault)) (next : X → Asking (Result A ScriptFault)) (result : Result X Halt) (lower old new : ℕ) →
-    traced files before whole ≡ traced files middle rest → lower ≤ old → Went files middle rest next result after old new → Went files before whole next result after lower new
+    trace_of files before whole ≡ trace_of files middle rest → lower ≤ old → Went files middle rest next result after old new → Went files before whole next result after lower new
 went_along files before middle after whole rest next (Ok x) lower old new e low h = e ∙ h
 went_along files before middle after whole rest next (Err halt) lower old new e low h = halted_along files before middle after whole rest halt lower old new e low h
 
 went_lifted : {X A B : Type 0} (files : Files) (before after : List (List ℕ)) (first : Asking (Result A ScriptFault)) (next : X → Asking (Result A ScriptFault)) (more : A → Asking (Result B ScriptFault)) (result : Result X Halt) (old new : ℕ) →
     Went files before first next result after old new → Went files before (and_then first (unless_fault more)) (λ x. and_then (next x) (unless_fault more)) result after old new
 went_lifted {A = A} files before after first next more (Ok x) old new h =
-    traced-and_then files before first (unless_fault more) ∙ ap (λ (t : Traced (Result A ScriptFault)). traced files t.reads (unless_fault more t.value)) h
-    ∙ sym (traced-and_then files after (next x) (unless_fault more))
+    trace_of-and_then files before first (unless_fault more) ∙ ap (λ (t : Traced (Result A ScriptFault)). trace_of files t.reads (unless_fault more t.value)) h
+    ∙ sym (trace_of-and_then files after (next x) (unless_fault more))
 went_lifted {A = A} files before after first next more (Err (Fault fault)) old new h =
-    traced-and_then files before first (unless_fault more) ∙ ap (λ (t : Traced (Result A ScriptFault)). traced files t.reads (unless_fault more t.value)) h
+    trace_of-and_then files before first (unless_fault more) ∙ ap (λ (t : Traced (Result A ScriptFault)). trace_of files t.reads (unless_fault more t.value)) h
 went_lifted files before after first next more (Err (GivenUp cause)) old new h = h
 went_lifted files before after first next more (Err NoMemory) old new h = tt
 
 -- the reads of a first part are among those of the whole
 first_among : {A B : Type 0} (files : Files) (before paths : List (List ℕ)) (first : Asking A) (next : A → Asking B) →
-    AreAmong (traced files before (and_then first next)).reads paths → AreAmong (traced files before first).reads paths
+    AreAmong (trace_of files before (and_then first next)).reads paths → AreAmong (trace_of files before first).reads paths
 first_among {B = B} files before paths first next h =
-    before_traced (λ p. IsAmong p paths) files (traced files before first).reads (next (traced files before first).value)
-    (subst (λ (t : Traced B). AreAmong t.reads paths) (traced-and_then files before first next) h)
+    before_traced (λ p. IsAmong p paths) files (trace_of files before first).reads (next (trace_of files before first).value)
+    (subst (λ (t : Traced B). AreAmong t.reads paths) (trace_of-and_then files before first next) h)
 
 module _ {F : Type 0} (stands : F → List ℕ → Option Standing) (broken : F → ℕ) (follows : List (List ℕ) → F → F → Type 0) where
   -- nothing done yet
@@ -96,8 +96,8 @@ module _ {F : Type 0} (stands : F → List ℕ → Option Standing) (broken : F 
   }
     where
       by : (result : Result X Halt) → Gave value shown result → Went (texts (stands files)) reads (Done value) (gives shown) result reads (broken files) (broken files)
-      by (Ok x) gave = ap (λ (v : Result A ScriptFault). traced (texts (stands files)) reads (Done v)) gave
-      by (Err (Fault fault)) gave = ap (λ (v : Result A ScriptFault). traced (texts (stands files)) reads (Done v)) gave
+      by (Ok x) gave = ap (λ (v : Result A ScriptFault). trace_of (texts (stands files)) reads (Done v)) gave
+      by (Err (Fault fault)) gave = ap (λ (v : Result A ScriptFault). trace_of (texts (stands files)) reads (Done v)) gave
       by (Err (GivenUp cause)) gave = absurd gave
       by (Err NoMemory) gave = tt
 
@@ -118,12 +118,12 @@ module _ {F : Type 0} (stands : F → List ℕ → Option Standing) (broken : F 
   -- one path that is asked for
   pub carried_ask : {A : Type 0} (reads : List (List ℕ)) (path : List ℕ) (next : Option (List ℕ) → Asking (Result A ScriptFault)) {X : Type 0} (then : X → Asking (Result A ScriptFault)) (result : Result X Halt) (old new : F) →
       Stays stands broken old new → ((paths : List (List ℕ)) → IsAmong path paths → follows paths old new) →
-      Went (texts (stands old)) reads (Asks path next) then result (noted reads path) (broken old) (broken new) →
-      Performed stands broken follows reads (Asks path next) then result (noted reads path) old new
+      Went (texts (stands old)) reads (Asks path next) then result (with_read reads path) (broken old) (broken new) →
+      Performed stands broken follows reads (Asks path next) then result (with_read reads path) old new
   carried_ask reads path next then result old new stays asked went = record {
     stays = stays;
     asked = λ paths among. asked paths
-        (before_noted (λ p. IsAmong p paths) reads path (before_traced (λ p. IsAmong p paths) (texts (stands old)) (noted reads path) (next (texts (stands old) path)) among)).1;
+        (before_noted (λ p. IsAmong p paths) reads path (before_traced (λ p. IsAmong p paths) (texts (stands old)) (with_read reads path) (next (texts (stands old) path)) among)).1;
     went = went;
   }
 

@@ -5,9 +5,9 @@ use Rattle.std.specs.Str.{bytes_eq}
 use Rattle.cc_names.specs.Files.{Files}
 use Rattle.cc_names.specs.declared.refusals.ScriptFault.TheVariants.{Absent, BadLine, TooBig, IncludeDepth, Failed, StrayWrite, NotWritten}
 use Rattle.script_grammar.specs.Words.{words, without_at}
-use Rattle.script_grammar.specs.Forms.{lines_in, first_lines, replaced, linked_text}
+use Rattle.script_grammar.specs.Forms.{lines_in, first_lines, with_replaced, linked_text}
 use Rattle.script_grammar.specs.Includes.{include_of, probes_of}
-use Rattle.script_grammar.specs.Run.{run, Output, Made, said, output_limit}
+use Rattle.script_grammar.specs.Run.{run, Output, Made, with_output, output_limit}
 
 -- a line and its newline
 abbrev line : List ℕ → List ℕ
@@ -80,7 +80,7 @@ empty_script : run [] (codes "a" ∷ []) some_files ≡ record { result = Err (N
 empty_script = refl
 
 -- an output of more bytes than an output may have, such as 524,289 lines of one letter
-too_big : (output : Output) (more : List ℕ) (made : Made) → nat_lt output_limit (output.before + length made.bytes + length more) ≡ true → said output more made ≡ Err (TooBig output.path)
+too_big : (output : Output) (more : List ℕ) (made : Made) → nat_lt output_limit (output.before + length made.bytes + length more) ≡ true → with_output output more made ≡ Err (TooBig output.path)
 too_big output more made h = rw h refl
 
 too_many_lines : nat_lt output_limit (2 * 524289) ≡ true
@@ -97,7 +97,7 @@ first_two : first_lines 2 (line (codes "a") ++ line (codes "b") ++ line (codes "
 first_two = refl
 
 -- occurrences do not overlap, and what they are replaced by is not looked at again
-replaced_from_the_left : replaced (codes "aa") (codes "ab") (codes "aaaaa") ≡ codes "ababa"
+replaced_from_the_left : with_replaced (codes "aa") (codes "ab") (codes "aaaaa") ≡ codes "ababa"
 replaced_from_the_left = refl
 
 listed_text : linked_text (codes "in") (line (codes "hi")) ≡ codes "in " ++ decimal 3 ++ 10 ∷ line (codes "hi")

@@ -33,9 +33,9 @@ replaced_behind from to zero (b ∷ bytes) =
     else b ∷ replaced_behind from to zero bytes
 
 -- a text with each occurrence of some bytes, from the left, replaced by others; no bytes occur nowhere
-abbrev pub replaced : List ℕ → List ℕ → List ℕ → List ℕ
-replaced [] to text = text
-replaced (b ∷ from) to text = replaced_behind (b ∷ from) to zero text
+abbrev pub with_replaced : List ℕ → List ℕ → List ℕ → List ℕ
+with_replaced [] to text = text
+with_replaced (b ∷ from) to text = replaced_behind (b ∷ from) to zero text
 
 -- the SHA-256 of a text (FIPS 180-4) in lower-case hexadecimal digits, and a newline
 abbrev pub digest_line : List ℕ → List ℕ

@@ -13,12 +13,12 @@ abbrev pub include_start : List ℕ
 include_start = codes "#include " ++ 34 ∷ []
 
 -- the path between this beginning and a last `"`, where both are there and a path is between them
-abbrev pub quoted : List ℕ → Option (List ℕ)
-quoted bytes = if ends_with nat_eq bytes (34 ∷ []) then path_in (take (length bytes - 1) bytes) else None
+abbrev pub quoted_path : List ℕ → Option (List ℕ)
+quoted_path bytes = if ends_with nat_eq bytes (34 ∷ []) then path_in (take (length bytes - 1) bytes) else None
 
 -- the path of a line without its newline
 abbrev pub include_of_bare : List ℕ → Option (List ℕ)
-include_of_bare line = if starts_with nat_eq line include_start then quoted (drop (length include_start) line) else None
+include_of_bare line = if starts_with nat_eq line include_start then quoted_path (drop (length include_start) line) else None
 
 -- The path that a line includes: the line is exactly `#include "`, a path and `"`, and the newline that may end it.
 abbrev pub include_of : List ℕ → Option (List ℕ)

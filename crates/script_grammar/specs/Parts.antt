@@ -5,7 +5,7 @@ use Rattle.std.specs.HashMap.{HashMap, get}
 use Rattle.cc_names.specs.Counts.{Rose}
 use Rattle.cc_names.specs.Files.{Files}
 use Rattle.cc_names.specs.declared.refusals.ScriptFault.{ScriptFault}
-use Rattle.script_grammar.specs.Run.{Asking, Done, traced}
+use Rattle.script_grammar.specs.Run.{Asking, Done, trace_of}
 use Rattle.script_grammar.specs.Standings.{Standing, Stays, AreAmong, texts}
 use Rattle.script_grammar.specs.declared.files.GivenUp.{GivenUp}
 use Rattle.script_grammar.specs.declared.files.GivenUp.TheVariants.{Broken}
@@ -19,13 +19,13 @@ IsGivenUpFor Broken old new = Rose old new
 -- A part of a run, from these reads on, that ended early: by a fault of the script, and the fault and the reads by then
 -- are what it traces; or given up.
 abbrev pub Halted : {A : Type 0} → Files → List (List ℕ) → Asking (Result A ScriptFault) → Halt → List (List ℕ) → ℕ → ℕ → Type 0
-Halted files before asking (halts.Fault fault) after old new = traced files before asking ≡ record { value = Err fault; reads = after }
+Halted files before asking (halts.Fault fault) after old new = trace_of files before asking ≡ record { value = Err fault; reads = after }
 Halted files before asking (halts.GivenUp cause) after old new = IsGivenUpFor cause old new
 Halted files before asking halts.NoMemory after old new = Unit {0}
 
 -- A part of a run that ended early, or passed to where it goes on as this says.
 abbrev pub Went : {X A : Type 0} → Files → List (List ℕ) → Asking (Result A ScriptFault) → (X → Asking (Result A ScriptFault)) → Result X Halt → List (List ℕ) → ℕ → ℕ → Type 0
-Went files before asking next (Ok x) after old new = traced files before asking ≡ traced files after (next x)
+Went files before asking next (Ok x) after old new = trace_of files before asking ≡ trace_of files after (next x)
 Went files before asking next (Err halt) after old new = Halted files before asking halt after old new
 
 -- A part of a run that was carried out over files: the files stay as they are, were asked for nothing but what it asks
@@ -33,7 +33,7 @@ Went files before asking next (Err halt) after old new = Halted files before ask
 pub record Performed {F X A : Type 0} (stands : F → List ℕ → Option Standing) (broken : F → ℕ) (follows : List (List ℕ) → F → F → Type 0)
     (before : List (List ℕ)) (asking : Asking (Result A ScriptFault)) (next : X → Asking (Result A ScriptFault)) (result : Result X Halt) (after : List (List ℕ)) (old new : F) : Type 0 where
   pub stays : Stays stands broken old new
-  pub asked : (paths : List (List ℕ)) → AreAmong (traced (texts (stands old)) before asking).reads paths → follows paths old new
+  pub asked : (paths : List (List ℕ)) → AreAmong (trace_of (texts (stands old)) before asking).reads paths → follows paths old new
   pub went : Went (texts (stands old)) before asking next result after (broken old) (broken new)
 
 -- it comes to this, as it is shown

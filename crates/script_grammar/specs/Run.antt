@@ -5,7 +5,7 @@ use Rattle.std.specs.Str.{bytes_eq}
 use Rattle.cc_names.specs.Files.{Files}
 use Rattle.cc_names.specs.declared.refusals.ScriptFault.{ScriptFault}
 use Rattle.cc_names.specs.declared.refusals.ScriptFault.TheVariants.{Absent, TooBig, IncludeDepth, Failed, StrayWrite, NotWritten}
-use Rattle.script_grammar.specs.Forms.{lines_in, whole, first_lines, replaced, digest_line, linked_text}
+use Rattle.script_grammar.specs.Forms.{lines_in, whole, first_lines, with_replaced, digest_line, linked_text}
 use Rattle.script_grammar.specs.Includes.{include_of, probes_of}
 use Rattle.script_grammar.specs.Lines.{script_of}
 use Rattle.script_grammar.specs.declared.lines.Work.{Work}
@@ -19,8 +19,8 @@ pub data Asking (A : Type 0) : Type 0 where
   Asks : List ℕ → (Option (List ℕ) → Asking A) → Asking A
 
 -- a path behind paths, unless it stands there
-abbrev pub noted : List (List ℕ) → List ℕ → List (List ℕ)
-noted paths path = if list_any (bytes_eq path) paths then paths else paths ++ path ∷ []
+abbrev pub with_read : List (List ℕ) → List ℕ → List (List ℕ)
+with_read paths path = if list_any (bytes_eq path) paths then paths else paths ++ path ∷ []
 
 -- what something that asks came to, and the paths that were asked for by then
 pub record Traced (A : Type 0) : Type 0 where
@@ -28,9 +28,9 @@ pub record Traced (A : Type 0) : Type 0 where
   pub reads : List (List ℕ)
 
 -- what it comes to over these files, each path that it asks for noted once behind those before
-abbrev pub traced : {A : Type 0} → Files → List (List ℕ) → Asking A → Traced A
-traced files reads (Done a) = record { value = a; reads = reads }
-traced files reads (Asks path next) = traced files (noted reads path) (next (files path))
+abbrev pub trace_of : {A : Type 0} → Files → List (List ℕ) → Asking A → Traced A
+trace_of files reads (Done a) = record { value = a; reads = reads }
+trace_of files reads (Asks path next) = trace_of files (with_read reads path) (next (files path))
 
 -- one after the other, the second by what the first came to
 abbrev pub and_then : {A B : Type 0} → Asking A → (A → Asking B) → Asking B
@@ -77,8 +77,8 @@ pub record Made : Type 0 where
   pub probes : ℕ
 
 -- what a line has made with more bytes behind it, where its output stays within the limit
-abbrev pub said : Output → List ℕ → Made → Result Made ScriptFault
-said output more made =
+abbrev pub with_output : Output → List ℕ → Made → Result Made ScriptFault
+with_output output more made =
     if nat_lt output_limit (output.before + length made.bytes + length more) then Err (TooBig output.path)
     else Ok (record made { bytes = made.bytes ++ more })
 
@@ -93,11 +93,11 @@ found_or otherwise probes None = otherwise
 found_or otherwise probes (Some text) = Done (Ok (record { text = text; probes = probes }))
 
 -- The text of an included path: that of the first of these paths that has one. A run makes so many probes and no more.
-abbrev pub probed : Files → List ℕ → List (List ℕ) → ℕ → Asking (Result Found ScriptFault)
-probed own include [] probes = Done (Err (Absent include))
-probed own include (path ∷ paths) probes =
+abbrev pub probe_of : Files → List ℕ → List (List ℕ) → ℕ → Asking (Result Found ScriptFault)
+probe_of own include [] probes = Done (Err (Absent include))
+probe_of own include (path ∷ paths) probes =
     if nat_lt probes probe_limit
-    then and_then (see (own path) path) (found_or (probed own include paths (probes + 1)) (probes + 1))
+    then and_then (see (own path) path) (found_or (probe_of own include paths (probes + 1)) (probes + 1))
     else Done (Err (IncludeDepth include))
 
 -- what a `pp` goes by: the run's own outputs, the directories of its include lines, and the line's output
@@ -107,14 +107,14 @@ pub record Preprocessing : Type 0 where
   pub output : Output
 
 -- an included path: its text, carried on by what is done with included texts
-abbrev pub included : (List ℕ → Made → Asking (Result Made ScriptFault)) → Preprocessing → List ℕ → Made → Asking (Result Made ScriptFault)
-included expand pp path made =
-    and_then (probed pp.own path (probes_of pp.directories path) made.probes)
+abbrev pub included_text : (List ℕ → Made → Asking (Result Made ScriptFault)) → Preprocessing → List ℕ → Made → Asking (Result Made ScriptFault)
+included_text expand pp path made =
+    and_then (probe_of pp.own path (probes_of pp.directories path) made.probes)
     (unless_fault (λ found. expand found.text (record made { probes = found.probes })))
 
 -- a line, as it is or as what it includes
 abbrev pub line_expanded : (List ℕ → Made → Asking (Result Made ScriptFault)) → Output → List ℕ → Option (List ℕ) → Made → Asking (Result Made ScriptFault)
-line_expanded include output line None made = Done (said output line made)
+line_expanded include output line None made = Done (with_output output line made)
 line_expanded include output line (Some path) made = include path made
 
 -- lines one after the other, up to the first fault
@@ -124,9 +124,9 @@ lines_expanded include output (line ∷ lines) made =
     and_then (line_expanded include output line (include_of line) made) (unless_fault (lines_expanded include output lines))
 
 -- A text with each include line replaced by the text that it includes, so preprocessed too: so many levels and no more.
-abbrev pub expanded : ℕ → Preprocessing → List ℕ → Made → Asking (Result Made ScriptFault)
-expanded zero pp text = lines_expanded (λ path made. Done (Err (IncludeDepth path))) pp.output (lines_in text)
-expanded (suc levels) pp text = lines_expanded (included (expanded levels pp) pp) pp.output (lines_in text)
+abbrev pub preprocessed_text : ℕ → Preprocessing → List ℕ → Made → Asking (Result Made ScriptFault)
+preprocessed_text zero pp text = lines_expanded (λ path made. Done (Err (IncludeDepth path))) pp.output (lines_in text)
+preprocessed_text (suc levels) pp text = lines_expanded (included_text (preprocessed_text levels pp) pp) pp.output (lines_in text)
 
 -- a part of a line's output: bytes of the line itself, the text of a path in some form, or preprocessed
 pub data Part : Type 0 where
@@ -139,18 +139,18 @@ abbrev pub parts_of : Work → List Part
 parts_of (Echo words) = Says (join_with_byte 32 words ++ 10 ∷ []) ∷ []
 parts_of (Cat paths) = map (TextOf whole) paths
 parts_of (Preprocess directories path) = Preprocessed directories path ∷ []
-parts_of (Substitute from to path) = TextOf (replaced from to) path ∷ []
+parts_of (Substitute from to path) = TextOf (with_replaced from to) path ∷ []
 parts_of (Head lines path) = TextOf (first_lines lines) path ∷ []
 parts_of (Digest path) = TextOf digest_line path ∷ []
 parts_of (Link paths) = map (λ path. TextOf (linked_text path) path) paths
 
 -- what a line has made with one part behind it
 abbrev pub with_part : Files → Output → Part → Made → Asking (Result Made ScriptFault)
-with_part own output (Says more) made = Done (said output more made)
-with_part own output (TextOf form path) made = and_then (text_at own path) (unless_fault (λ text. Done (said output (form text) made)))
+with_part own output (Says more) made = Done (with_output output more made)
+with_part own output (TextOf form path) made = and_then (text_at own path) (unless_fault (λ text. Done (with_output output (form text) made)))
 with_part own output (Preprocessed directories path) made =
     and_then (text_at own path)
-    (unless_fault (λ text. expanded depth_limit (record { own = own; directories = directories; output = output }) text made))
+    (unless_fault (λ text. preprocessed_text depth_limit (record { own = own; directories = directories; output = output }) text made))
 
 -- the same with parts, up to the first fault; every part sees the run's own outputs as they stood before the line
 abbrev pub with_parts : Files → Output → List Part → Made → Asking (Result Made ScriptFault)
@@ -163,9 +163,9 @@ pub record State : Type 0 where
   pub probes : ℕ
 
 -- what an output begins with: what it has, for `>>`, and nothing for `>`
-abbrev pub begun : Bool → Option (List ℕ) → List ℕ
-begun true (Some bytes) = bytes
-begun _ _ = []
+abbrev pub output_start : Bool → Option (List ℕ) → List ℕ
+output_start true (Some bytes) = bytes
+output_start _ _ = []
 
 -- the run's own outputs with this one written
 abbrev pub wrote : List ℕ → List ℕ → Files → Files
@@ -174,7 +174,7 @@ wrote output bytes own path = if bytes_eq output path then Some bytes else own p
 -- a run after the work of a line, whose parts go to this output
 abbrev pub write_output : State → Work → Bool → List ℕ → Asking (Result State ScriptFault)
 write_output state work appends path =
-    let begin = begun appends (state.own path) in
+    let begin = output_start appends (state.own path) in
     and_then (with_parts state.own (record { path = path; before = length begin }) (parts_of work) (record { bytes = []; probes = state.probes }))
     (unless_fault (λ made. Done (Ok (record { own = wrote path (begin ++ made.bytes) state.own; probes = made.probes }))))
 
@@ -221,7 +221,7 @@ pub record Ran : Type 0 where
 
 -- what something that asks comes to over these files, and what it asks for
 abbrev pub carried_out : Files → Asking (Result (List (List ℕ)) ScriptFault) → Ran
-carried_out files asking = record { result = (traced files [] asking).value; reads = (traced files [] asking).reads }
+carried_out files asking = record { result = (trace_of files [] asking).value; reads = (trace_of files [] asking).reads }
 
 -- a run of a text that was read as a script; one outside the language asks for nothing
 abbrev pub run_of : List (List ℕ) → Result (List Line) ScriptFault → Asking (Result (List (List ℕ)) ScriptFault)

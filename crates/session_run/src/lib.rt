@@ -22,12 +22,12 @@
 //! for plain data.
 #![tactic(auto)]
 
-mod desks;
 mod failures;
 pub mod laws;
 mod lines;
 mod phases;
 mod run;
+mod services;
 mod sessions;
 mod statuses;
 mod threads;

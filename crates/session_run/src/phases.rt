@@ -2,8 +2,8 @@
 
 ghost use Rattle.std.specs.Prelude.{◌≡◌, ◌≤◌, ◌<◌, ◌+◌, ◌^◌, ℕ, IfOk, IfErr, IfSome, OnOk, OnErr, length, true, min, Bool};
 ghost use Rattle.std.specs.Io.KnownBytes.{Appends};
-ghost use Rattle.cc_names.specs.Counts.{raised, Rose};
-ghost use Rattle.cc_outside.specs.Feeds.{AppendsFront};
+ghost use Rattle.cc_names.specs.Counts.{raised_count, Rose};
+ghost use Rattle.cc_outside.specs.Feeds.{AppendsPrefix};
 ghost use Rattle.cc_outside.specs.Moments.{moment_at};
 ghost use Rattle.legal_history.specs.Stories.States.{all_done};
 ghost use Rattle.legal_history.specs.Stories.Steps.{state_of};
@@ -21,7 +21,7 @@ use crate::transcripts::transcript;
 use base_core::Core;
 use cc_names::memory::{NoMemory, Or};
 use cc_names::rows::LAST_MOMENT;
-use cc_outside::{Clock, Gate, Sink, WriteFault, write_whole};
+use cc_outside::{Clock, Hook, Sink, WriteFault, write_whole};
 use disk_model::Disk;
 use session_text::PhaseText;
 use std::alloc::Global;
@@ -31,16 +31,16 @@ use std::thread::Threads;
 /// The moment now, none above the last one of the year 9999.
 fn moment_of<C: Clock>(clock: &mut C) -> u64
     ensures capped { result ≤ last_moment }
-    ensures moment { IfSome (C.sight clock.old).told
-        (λ moments. result ≡ min (moment_at moments (C.sight clock.old).readings) last_moment) }
-    ensures list { (C.sight clock.new).told ≡ (C.sight clock.old).told }
-    ensures counted { (C.sight clock.new).readings ≡ raised (C.sight clock.old).readings 1 }
+    ensures moment { IfSome (C.ghost_state clock.old).modeled
+        (λ moments. result ≡ min (moment_at moments (C.ghost_state clock.old).readings) last_moment) }
+    ensures list { (C.ghost_state clock.new).modeled ≡ (C.ghost_state clock.old).modeled }
+    ensures counted { (C.ghost_state clock.new).readings ≡ raised_count (C.ghost_state clock.old).readings 1 }
 {
     clock.now().min(LAST_MOMENT)
 }
 
 /// Begins a phase and carries out its commands, its lanes on threads once one builds. The core comes back in every case.
-fn run_commands<R: Threads + Wait + Sync, G: Gate + Sync, D: Disk + Send>(
+fn run_commands<R: Threads + Wait + Sync, G: Hook + Sync, D: Disk + Send>(
     host: &Host<'_, R, G>,
     core: Core<D>,
     phase: PhaseText,
@@ -73,13 +73,13 @@ fn write_transcript<K: Sink, D: Disk>(
     requires begun { 0 < (state_of core.now.story).number }
     requires few { length (state_of core.now.story).phase.lanes ≤ 64 }
     ensures ok { OnOk result
-        (Appends (K.sight sink.old).held (K.sight sink.new).held
+        (Appends (K.ghost_state sink.old).held (K.ghost_state sink.new).held
         (transcript number (state_of core.now.story).phase (replies_of core.now.story))) }
     ensures err { OnErr result
-        (AppendsFront (K.sight sink.old).held (K.sight sink.new).held
+        (AppendsPrefix (K.ghost_state sink.old).held (K.ghost_state sink.new).held
         (transcript number (state_of core.now.story).phase (replies_of core.now.story))) }
-    ensures kept { (K.sight sink.old).faults ≤ (K.sight sink.new).faults }
-    ensures fault { OnWriteFault result (Rose (K.sight sink.old).faults (K.sight sink.new).faults) }
+    ensures kept { (K.ghost_state sink.old).faults ≤ (K.ghost_state sink.new).faults }
+    ensures fault { OnWriteFault result (Rose (K.ghost_state sink.old).faults (K.ghost_state sink.new).faults) }
 {
     let text = transcript(alloc, core, number)?;
     match write_whole(sink, text.as_bytes()) {
@@ -92,7 +92,7 @@ fn write_transcript<K: Sink, D: Disk>(
 /// in every case.
 pub(crate) fn run_phases<
     R: Threads + Wait + Sync,
-    G: Gate + Sync,
+    G: Hook + Sync,
     K: Sink,
     D: Disk + Send,
     C: Clock,
@@ -107,17 +107,17 @@ pub(crate) fn run_phases<
     requires runnable { IsRunnable phases.items }
     ensures ok { IfOk result.1
         (HasRunPhases phases.items result.0.story
-        (outside_of (K.sight sink.old) (K.sight sink.new) (C.sight clock.old)
-        (C.sight clock.new))) }
+        (outside_of (K.ghost_state sink.old) (K.ghost_state sink.new) (C.ghost_state clock.old)
+        (C.ghost_state clock.new))) }
     ensures err { IfErr result.1
         (λ cut.
         IsRunGivenUp cut phases.items result.0.story
-        (outside_of (K.sight sink.old) (K.sight sink.new) (C.sight clock.old)
-        (C.sight clock.new))) }
+        (outside_of (K.ghost_state sink.old) (K.ghost_state sink.new) (C.ghost_state clock.old)
+        (C.ghost_state clock.new))) }
     ensures first { first_step result.0.story ≡ first_step core.story }
     ensures counted { KeepsCount core result.0 }
     ensures fault { OnWriteFault result.1
-        (Rose (K.sight sink.old).faults (K.sight sink.new).faults) }
+        (Rose (K.ghost_state sink.old).faults (K.ghost_state sink.new).faults) }
 {
     let mut core = core;
     let mut failed = false;

@@ -5,10 +5,10 @@ ghost use Rattle.legal_history.specs.Builds.Values.{IsSound};
 ghost use Rattle.legal_history.specs.Stories.Steps.{state_of};
 ghost use Rattle.story_log.specs.Stopping.Backed.{may_be_open};
 ghost use Rattle.cc_names.specs.Counts.{rises};
-ghost use Rattle.disk_model.specs.Told.{IfTold, IsCounted};
+ghost use Rattle.disk_model.specs.DiskStates.{IfModeled, IsCounted};
 ghost use Rattle.disk_model.specs.Devices.{file_of, bytes_of};
 ghost use Rattle.disk_model.specs.Files.{stable};
-ghost use Rattle.session_run.specs.Calls.Causes.{disk_sights, intake_of, sink_faults, FindsDamage, HasCause, LeavesAlone, TakesNoMore};
+ghost use Rattle.session_run.specs.Calls.Causes.{disk_ghost_states, intake_of, sink_faults, FindsDamage, HasCause, LeavesAlone, TakesNoMore};
 ghost use Rattle.session_run.specs.Faults.Accounted.{IsAccountedFor, KeepsFiles, Settles};
 ghost use Rattle.session_run.specs.Faults.Stopped.{IsHandedIn, IsMended, IsStopped};
 ghost use Rattle.session_run.specs.Promises.Headline.{clock_readings, IsSession, IsOneHistory, AreOfTheirCommands, AreFromNothing, ArePrinted};
@@ -28,7 +28,7 @@ use crate::threads::Host;
 use base_core::Core;
 use cc_names::memory::Or;
 use cc_names::texts::Text;
-use cc_outside::{Clock, Gate, Sink, Source, WriteFault};
+use cc_outside::{Clock, Hook, Sink, Source, WriteFault};
 use disk_model::Disk;
 use session_text::PhaseText;
 use std::alloc::Global;
@@ -78,23 +78,23 @@ fn of_unopened(cause: OpenCause, rose: bool) -> Unstarted
 
 /// Each disk's counts fit its calls.
 fn a_disk_is_counted<D: Disk>()
-    ensures { (disk : _) → IsCounted (D.sight disk) }
+    ensures { (disk : _) → IsCounted (D.ghost_state disk) }
 {}
 
 /// Settles the journal at the end of a call, where a fault left its tail open. Unless this fails no stop finds more than the
 /// rows of the base.
 fn settle<D: Disk>(core: &mut Core<D>)
     ensures same { core.new.story ≡ core.old.story }
-    ensures mended { IsMended (state_of core.new.story) core.new.sight }
-    ensures settles { Settles (may_be_open (state_of core.old.story).ends) core.old.sight
-        core.new.sight }
+    ensures mended { IsMended (state_of core.new.story) core.new.ghost_state }
+    ensures settles { Settles (may_be_open (state_of core.old.story).ends) core.old.ghost_state
+        core.new.ghost_state }
 {
     let _ = core.finish();
 }
 
 /// Runs the phases on a base that was just opened, settles its journal, and hands the disk back. The disk had this count of
 /// faults before.
-fn run_opened<R: Threads + Wait + Sync, G: Gate + Sync, K: Sink, D: Disk + Send, C: Clock>(
+fn run_opened<R: Threads + Wait + Sync, G: Hook + Sync, K: Sink, D: Disk + Send, C: Clock>(
     host: &Host<'_, R, G>,
     core: Core<D>,
     before: u64,
@@ -105,9 +105,9 @@ fn run_opened<R: Threads + Wait + Sync, G: Gate + Sync, K: Sink, D: Disk + Send,
     requires opened { IsJustOpened core.story }
     requires runnable { IsRunnable phases.items }
     ensures { RunsOpened phases.items result.status (first_step core.story) result.history before
-        (disk_sights core.sight (D.sight result.disk))
-        (outside_of (K.sight sink.old) (K.sight sink.new) (C.sight clock.old) (C.sight clock.new))
-        (sink_faults (K.sight sink.old) (K.sight sink.new)) }
+        (disk_ghost_states core.ghost_state (D.ghost_state result.disk))
+        (outside_of (K.ghost_state sink.old) (K.ghost_state sink.new) (C.ghost_state clock.old) (C.ghost_state clock.new))
+        (sink_faults (K.ghost_state sink.old) (K.ghost_state sink.new)) }
 {
     let (core, run) = run_phases(host, core, phases, sink, clock);
     let mut core = core;
@@ -123,7 +123,7 @@ fn run_opened<R: Threads + Wait + Sync, G: Gate + Sync, K: Sink, D: Disk + Send,
 }
 
 /// Opens the base that a disk stands for and runs the phases on it, or writes why it cannot be opened.
-fn run_session<R: Threads + Wait + Sync, G: Gate + Sync, K: Sink, D: Disk + Send, C: Clock>(
+fn run_session<R: Threads + Wait + Sync, G: Hook + Sync, K: Sink, D: Disk + Send, C: Clock>(
     host: &Host<'_, R, G>,
     phases: Vec<PhaseText>,
     sink: &mut K,
@@ -131,11 +131,11 @@ fn run_session<R: Threads + Wait + Sync, G: Gate + Sync, K: Sink, D: Disk + Send
     clock: &mut C,
 ) -> SessionResult<D>
     requires runnable { IsRunnable phases.items }
-    requires stable { IfTold (D.sight disk).told (λ d. file_of 0 d ≡ stable (bytes_of 0 d)) }
+    requires stable { IfModeled (D.ghost_state disk).modeled (λ d. file_of 0 d ≡ stable (bytes_of 0 d)) }
     ensures { RunsSession phases.items result.status result.history
-        (outside_of (K.sight sink.old) (K.sight sink.new) (C.sight clock.old) (C.sight clock.new))
-        (sink_faults (K.sight sink.old) (K.sight sink.new))
-        (disk_sights (D.sight disk) (D.sight result.disk)) }
+        (outside_of (K.ghost_state sink.old) (K.ghost_state sink.new) (C.ghost_state clock.old) (C.ghost_state clock.new))
+        (sink_faults (K.ghost_state sink.old) (K.ghost_state sink.new))
+        (disk_ghost_states (D.ghost_state disk) (D.ghost_state result.disk)) }
 {
     let before = disk.counts().faults;
     match Core::open(host.alloc, host.hashing, disk) {
@@ -173,24 +173,24 @@ pub fn run_words<
     K: Sink,
     D: Disk + Send,
     C: Clock,
-    G: Gate + Sync,
+    G: Hook + Sync,
 >(
     rt: &R,
     alloc: Global,
     hashing: RandomState,
-    gate: &G,
+    hook: &G,
     words: &[Text],
     source: &mut S,
     sink: &mut K,
     disk: D,
     clock: &mut C,
 ) -> SessionResult<D>
-    requires { IsHandedIn (D.sight disk) }
+    requires { IsHandedIn (D.ghost_state disk) }
     ensures session { IsSession result.status result.history
-        (intake_of words.now (S.sight source.old) (S.sight source.new)) (C.sight clock.old).told
-        (clock_readings (C.sight clock.old) (C.sight clock.new)) }
-    ensures history { IsOneHistory result.status result.history (D.sight disk)
-        (K.sight sink.old).held (K.sight sink.new).held }
+        (intake_of words.now (S.ghost_state source.old) (S.ghost_state source.new)) (C.ghost_state clock.old).modeled
+        (clock_readings (C.ghost_state clock.old) (C.ghost_state clock.new)) }
+    ensures history { IsOneHistory result.status result.history (D.ghost_state disk)
+        (K.ghost_state sink.old).held (K.ghost_state sink.new).held }
     ensures commanded { AreOfTheirCommands result.history }
     ensures built { WasSound result.history → AreFromNothing result.history }
     ensures outcomes { WasSound result.history → HaveTheirOutcomes result.history }
@@ -201,24 +201,24 @@ pub fn run_words<
     ensures scrubs { ScrubsListWhatIsDue result.history }
     ensures held { HeldObjectsAreLive result.history }
     ensures printed { ArePrinted result.status result.history
-        (intake_of words.now (S.sight source.old) (S.sight source.new))
-        (sink_faults (K.sight sink.old) (K.sight sink.new))
-        (disk_sights (D.sight disk) (D.sight result.disk)) (K.sight sink.old).held
-        (K.sight sink.new).held }
-    ensures stopped { IsStopped (D.sight disk) (D.sight result.disk) result.history }
+        (intake_of words.now (S.ghost_state source.old) (S.ghost_state source.new))
+        (sink_faults (K.ghost_state sink.old) (K.ghost_state sink.new))
+        (disk_ghost_states (D.ghost_state disk) (D.ghost_state result.disk)) (K.ghost_state sink.old).held
+        (K.ghost_state sink.new).held }
+    ensures stopped { IsStopped (D.ghost_state disk) (D.ghost_state result.disk) result.history }
     ensures cause { HasCause result.status
-        (intake_of words.now (S.sight source.old) (S.sight source.new))
-        (sink_faults (K.sight sink.old) (K.sight sink.new))
-        (disk_sights (D.sight disk) (D.sight result.disk)) result.history }
+        (intake_of words.now (S.ghost_state source.old) (S.ghost_state source.new))
+        (sink_faults (K.ghost_state sink.old) (K.ghost_state sink.new))
+        (disk_ghost_states (D.ghost_state disk) (D.ghost_state result.disk)) result.history }
     ensures accounted { is_opened result.history ≡ true
-        → IsAccountedFor (disk_sights (D.sight disk) (D.sight result.disk)) result.history }
-    ensures files { KeepsFiles (disk_sights (D.sight disk) (D.sight result.disk)) result.history }
+        → IsAccountedFor (disk_ghost_states (D.ghost_state disk) (D.ghost_state result.disk)) result.history }
+    ensures files { KeepsFiles (disk_ghost_states (D.ghost_state disk) (D.ghost_state result.disk)) result.history }
     ensures damaged { FindsDamage result.status
-        (intake_of words.now (S.sight source.old) (S.sight source.new))
-        (disk_sights (D.sight disk) (D.sight result.disk)) }
-    ensures untouched { LeavesAlone (intake_of words.now (S.sight source.old) (S.sight source.new))
-        (disk_sights (D.sight disk) (D.sight result.disk)) result.history }
-    ensures taken { TakesNoMore (intake_of words.now (S.sight source.old) (S.sight source.new)) }
+        (intake_of words.now (S.ghost_state source.old) (S.ghost_state source.new))
+        (disk_ghost_states (D.ghost_state disk) (D.ghost_state result.disk)) }
+    ensures untouched { LeavesAlone (intake_of words.now (S.ghost_state source.old) (S.ghost_state source.new))
+        (disk_ghost_states (D.ghost_state disk) (D.ghost_state result.disk)) result.history }
+    ensures taken { TakesNoMore (intake_of words.now (S.ghost_state source.old) (S.ghost_state source.new)) }
 {
     builds_are_as_from_nothing();
     objects_are_reused_well();
@@ -230,7 +230,7 @@ pub fn run_words<
                 rt,
                 alloc,
                 hashing,
-                gate,
+                hook,
             };
             run_session(&host, phases, sink, disk, clock)
         }

@@ -56,12 +56,12 @@ pub(crate) fn session_given<S: Source>(
 ) -> Result<Vec<PhaseText>, Unstarted>
     ensures gives { IfOk result
         (λ phases.
-        GivesPhases (intake_of words.now (S.sight source.old) (S.sight source.new))
+        GivesPhases (intake_of words.now (S.ghost_state source.old) (S.ghost_state source.new))
         phases.items) }
     ensures why { IfErr result
         (λ unstarted.
-        IsUnstarted unstarted (intake_of words.now (S.sight source.old) (S.sight source.new))) }
-    ensures taken { TakesNoMore (intake_of words.now (S.sight source.old) (S.sight source.new)) }
+        IsUnstarted unstarted (intake_of words.now (S.ghost_state source.old) (S.ghost_state source.new))) }
+    ensures taken { TakesNoMore (intake_of words.now (S.ghost_state source.old) (S.ghost_state source.new)) }
 {
     if !is_run(words) {
         return Err(Unstarted::BadWords);

@@ -7,10 +7,10 @@ ghost use Rattle.clearmake.specs.Passes.{AreLanesDone};
 ghost use Rattle.session_run.specs.Running.Since.{IsSince};
 ghost use Rattle.session_run.specs.Story.Begun.{is_opened};
 
-use crate::desks::{Beginning, PhaseCore};
+use crate::services::{Beginning, PhaseCore};
 use base_core::Core;
 use cc_names::memory::NoMemory;
-use cc_outside::Gate;
+use cc_outside::Hook;
 use clearmake::run_phase;
 use disk_model::Disk;
 use legal_history::laws::later::a_lane_is_within_its_commands;
@@ -26,14 +26,14 @@ pub(crate) struct Host<'a, R, G> {
     pub(crate) rt: &'a R,
     pub(crate) alloc: Global,
     pub(crate) hashing: RandomState,
-    pub(crate) gate: &'a G,
+    pub(crate) hook: &'a G,
 }
 
 /// Carries out the commands of so many lanes of the last phase, on threads once one builds, where `P` fixes how the core stood
 /// as it had begun.
 fn run_lanes_at<
     R: Threads + Wait + Sync,
-    G: Gate + Sync,
+    G: Hook + Sync,
     D: Disk + Send,
     P: Beginning + Send + Sync,
 >(host: &Host<'_, R, G>, core: Core<D>, lanes: u32) -> (Core<D>, Result<(), NoMemory>)
@@ -43,18 +43,18 @@ fn run_lanes_at<
     ensures finished { OnOk result.1
         (AreLanesDone result.0.story 1 lanes (state_of P.at.story).number) }
 {
-    let desk: PhaseCore<D, P> = PhaseCore {
+    let service: PhaseCore<D, P> = PhaseCore {
         core,
         of: PhantomData,
     };
-    let (desk, ran) = run_phase(host.rt, host.alloc, host.hashing, host.gate, desk, lanes);
-    let PhaseCore { core, of: _ } = desk;
+    let (service, ran) = run_phase(host.rt, host.alloc, host.hashing, host.hook, service, lanes);
+    let PhaseCore { core, of: _ } = service;
     (core, ran)
 }
 
 /// Carries out the commands of the last phase, the lanes in threads once one builds, and each build with builders of its own.
 /// Fails where `run_phase` does, with commands left.
-pub(crate) fn run_on_threads<R: Threads + Wait + Sync, G: Gate + Sync, D: Disk + Send>(
+pub(crate) fn run_on_threads<R: Threads + Wait + Sync, G: Hook + Sync, D: Disk + Send>(
     host: &Host<'_, R, G>,
     core: Core<D>,
 ) -> (Core<D>, Result<(), NoMemory>)

@@ -74,9 +74,9 @@ impl<'a> Asked<'a> {
     }
 
     /// Whether this is to be told beside what the session writes.
-    pub(crate) fn is_told(&self, part: &str) -> bool {
+    pub(crate) fn is_reported(&self, part: &str) -> bool {
         match self.setting("told: ") {
-            Some(parts) => parts.split(' ').any(|told| told == part),
+            Some(parts) => parts.split(' ').any(|reported| reported == part),
             None => false,
         }
     }

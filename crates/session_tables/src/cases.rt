@@ -3,7 +3,7 @@
 use crate::asked::{Asked, STOPS};
 use crate::journals::{journal_for, journals_stopped};
 use crate::runs::{Host, Outcome, disk_with, outcome_on};
-use crate::tables::{Front, NOTHING};
+use crate::tables::{NOTHING, Preamble};
 use anyhow::{Context, Result, ensure};
 use disk_model::MemoryDisk;
 use std::sync::Wait;
@@ -31,29 +31,30 @@ enum Found {
     Other(String),
 }
 
-fn found_of(outcome: Outcome, front: Front<'_>, part: Part<'_>) -> Found {
-    let Outcome { told, disk } = outcome;
-    let is_wanted = part
-        .wanted
-        .split("----\n")
-        .any(|wanted| is_told(told.as_str(), front.told, wanted));
+fn found_of(outcome: Outcome, preamble: Preamble<'_>, part: Part<'_>) -> Found {
+    let Outcome { reported, disk } = outcome;
+    let is_wanted = part.wanted.split("----\n").any(|wanted| matches_wanted(
+        reported.as_str(),
+        preamble.reported,
+        wanted,
+    ));
     if is_wanted {
         Found::Wanted(disk)
     } else {
-        Found::Other(told)
+        Found::Other(reported)
     }
 }
 
 // A session behind a front, on what the one before left.
 fn run_next<R: Threads + Wait + Sync>(
     host: &Host<'_, R>,
-    front: Front<'_>,
+    preamble: Preamble<'_>,
     part: Part<'_>,
     left: &MemoryDisk,
 ) -> Result<Found> {
     let journal = journal_for(host.rt.alloc(), part.asked, left.bytes(0))?;
-    let outcome = outcome_on(host, journal.as_slice(), front.asked, part.asked)?;
-    Ok(found_of(outcome, front, part))
+    let outcome = outcome_on(host, journal.as_slice(), preamble.asked, part.asked)?;
+    Ok(found_of(outcome, preamble, part))
 }
 
 // A session on what each stop may leave of the one before, which stays the one before.
@@ -64,8 +65,8 @@ fn run_stopped<R: Threads + Wait + Sync>(
 ) -> Result<Found> {
     for journal in journals_stopped(host.rt.alloc(), part.asked, &left)? {
         let outcome = outcome_on(host, journal.as_slice(), "", part.asked)?;
-        if let Found::Other(told) = found_of(outcome, NOTHING, part) {
-            return Ok(Found::Other(told));
+        if let Found::Other(reported) = found_of(outcome, NOTHING, part) {
+            return Ok(Found::Other(reported));
         }
     }
     Ok(Found::Wanted(left))
@@ -75,10 +76,10 @@ fn run_stopped<R: Threads + Wait + Sync>(
 // session; the first one is run on an empty base.
 fn difference_in<R: Threads + Wait + Sync>(
     host: &Host<'_, R>,
-    front: Front<'_>,
+    preamble: Preamble<'_>,
     case: &str,
 ) -> Result<Option<String>> {
-    let mut before = front;
+    let mut before = preamble;
     let mut left = disk_with(host.rt.alloc(), &[], &[])?;
     for part in case.split("++++\n") {
         let part = part_of(part)?;
@@ -89,7 +90,7 @@ fn difference_in<R: Threads + Wait + Sync>(
         };
         left = match found {
             Found::Wanted(disk) => disk,
-            Found::Other(told) => return Ok(Some(told)),
+            Found::Other(reported) => return Ok(Some(reported)),
         };
         before = NOTHING;
     }
@@ -107,19 +108,19 @@ fn each_of(case: &str) -> Option<(u64, u64, &str)> {
 /// `each FIRST to LAST` is run for each of these numbers, with that in place of `EACH`.
 pub(crate) fn first_difference<R: Threads + Wait + Sync>(
     host: &Host<'_, R>,
-    front: Front<'_>,
+    preamble: Preamble<'_>,
     case: &str,
 ) -> Result<Option<String>> {
     let Some((first, last, case)) = each_of(case) else {
-        return difference_in(host, front, case);
+        return difference_in(host, preamble, case);
     };
     ensure!(first <= last, "no number is in each {first} to {last}");
     for number in first..=last {
         let number = format!(in host.rt.alloc(); "{number}")?;
         let case = case.replace(host.rt.alloc(), "EACH", number.as_str())?;
-        if let Some(told) = difference_in(host, front, case.as_str())? {
-            let told = format!(in host.rt.alloc(); "with {number}:\n{told}")?;
-            return Ok(Some(told));
+        if let Some(reported) = difference_in(host, preamble, case.as_str())? {
+            let reported = format!(in host.rt.alloc(); "with {number}:\n{told}")?;
+            return Ok(Some(reported));
         }
     }
     Ok(None)
@@ -127,7 +128,7 @@ pub(crate) fn first_difference<R: Threads + Wait + Sync>(
 
 // Whether what is written is what is wanted, behind what the front's session writes. Where the first line that is wanted is `...`,
 // only the end is compared.
-fn is_told(written: &str, before: &str, wanted: &str) -> bool {
+fn matches_wanted(written: &str, before: &str, wanted: &str) -> bool {
     match (written.strip_prefix(before), wanted.strip_prefix("...\n")) {
         (Some(written), Some(end)) => !end.is_empty() && written.ends_with(end),
         (Some(written), None) if wanted.contains(" shared ") => is_as_wanted(written, wanted),

@@ -18,15 +18,15 @@ mod cases;
 mod files;
 mod journals;
 mod reopened;
+mod reported;
 mod runs;
 mod tables;
-mod told;
 
 use crate::cases::first_difference;
 use crate::files::{names_in, text_of};
 use crate::reopened::run_reopened;
 use crate::runs::Host;
-use crate::tables::{Front, Table, front_of, table_of};
+use crate::tables::{Preamble, Table, preamble_of, table_of};
 use anyhow::{Context, Result};
 use std::process::ExitCode;
 use std::sync::Wait;
@@ -56,7 +56,7 @@ fn run_cases<R: Threads + Wait + Sync>(
     threads: &R,
     rt: &HostRuntime,
     name: &str,
-    front: Front<'_>,
+    preamble: Preamble<'_>,
     table: Table<'_>,
 ) -> Result<Tally> {
     let host = Host {
@@ -67,7 +67,7 @@ fn run_cases<R: Threads + Wait + Sync>(
     let (mut cases, mut differing) = (0_usize, 0_usize);
     for case in table.cases.split("====\n") {
         cases = cases.saturating_add(1);
-        if let Some(told) = first_difference(&host, front, case)? {
+        if let Some(reported) = first_difference(&host, preamble, case)? {
             differing = differing.saturating_add(1);
             println!(rt; "{name}: a case comes to\n{told}and not to what it says:\n{case}")?;
         }
@@ -88,10 +88,10 @@ fn run_table<R: Threads + Wait + Sync>(
 ) -> Result<Tally> {
     let text = text_of(rt, folder, "tables", name)?;
     let table = table_of(text.as_str()).context(format_args!("{name} is no table"))?;
-    let file = format!(in rt.alloc(); "{}.txt", table.front)?;
-    let front = text_of(rt, folder, "fronts", file.as_str())?;
-    let front = front_of(front.as_str()).context(format_args!("{file} is no front"))?;
-    run_cases(threads, rt, name, front, table)
+    let file = format!(in rt.alloc(); "{}.txt", table.preamble)?;
+    let preamble = text_of(rt, folder, "fronts", file.as_str())?;
+    let preamble = preamble_of(preamble.as_str()).context(format_args!("{file} is no front"))?;
+    run_cases(threads, rt, name, preamble, table)
 }
 
 /// Runs the tables on one subject.

@@ -2,7 +2,7 @@
 
 use crate::runs::words_of;
 use anyhow::Result;
-use cc_outside::{MemorySource, OpenGate, StdSink, SystemClock};
+use cc_outside::{MemorySource, OpenHook, StdSink, SystemClock};
 use disk_model::FileDisk;
 use session_run::{Status, run_words};
 use std::hash::RandomState;
@@ -37,7 +37,7 @@ fn run_here<R: Threads + Wait + Sync>(threads: &R, rt: &HostRuntime, text: &str)
         threads,
         alloc,
         hashing,
-        &OpenGate,
+        &OpenHook,
         words.as_slice(),
         &mut source,
         &mut sink,

@@ -1,15 +1,15 @@
 //! A session that is run on a base in memory.
 
 ghost use Rattle.std.specs.Prelude.{IfOk};
-ghost use Rattle.disk_model.specs.MemoryDisks.{sight_of};
+ghost use Rattle.disk_model.specs.MemoryDisks.{ghost_state_of};
 ghost use Rattle.session_run.specs.Faults.Stopped.{IsHandedIn};
 
 use crate::asked::{Asked, numbers_of};
-use crate::told::told_of;
+use crate::reported::report_of;
 use anyhow::{Result, ensure};
 use cc_names::memory::NoMemory;
 use cc_names::texts::Text;
-use cc_outside::{ListClock, MemorySink, MemorySource, OpenGate};
+use cc_outside::{ListClock, MemorySink, MemorySource, OpenHook};
 use disk_model::MemoryDisk;
 use session_run::{SessionResult, run_words};
 use std::alloc::Global;
@@ -31,20 +31,20 @@ pub(crate) struct Host<'a, R> {
 /// What a session comes to: what is told of it, and the disk that it leaves.
 #[derive(Drop)]
 pub(crate) struct Outcome {
-    pub(crate) told: String,
+    pub(crate) reported: String,
     pub(crate) disk: MemoryDisk,
 }
 
 // A clock that tells these moments; the last of them for good.
 fn clock_of(alloc: Global, moments: &str) -> Result<ListClock> {
-    let told = numbers_of(alloc, moments)?;
-    ensure!(!told.is_empty(), "a clock tells a moment");
-    Ok(ListClock::new(alloc, told.as_slice())?)
+    let reported = numbers_of(alloc, moments)?;
+    ensure!(!reported.is_empty(), "a clock tells a moment");
+    Ok(ListClock::new(alloc, reported.as_slice())?)
 }
 
 /// A disk with this journal, whose calls of these numbers fail.
 pub(crate) fn disk_with(alloc: Global, journal: &[u8], fail: &[u64]) -> Result<MemoryDisk, NoMemory>
-    ensures { IfOk result (λ disk. IsHandedIn (sight_of disk)) }
+    ensures { IfOk result (λ disk. IsHandedIn (ghost_state_of disk)) }
 {
     MemoryDisk::new(alloc, journal, OBJECTS, fail)
 }
@@ -59,7 +59,7 @@ pub(crate) fn words_of(alloc: Global, line: &str) -> Result<Vec<Text>, NoMemory>
 }
 
 // The text of a session behind that of a front. Where a number of bytes is asked for, a note fills it up to so many.
-fn bytes_of(alloc: Global, front: &str, asked: Asked<'_>) -> Result<Vec<u8>> {
+fn bytes_of(alloc: Global, preamble: &str, asked: Asked<'_>) -> Result<Vec<u8>> {
     let text = format!(in alloc; "{front}{}", asked.text)?;
     let mut bytes = text.as_str().as_bytes().to_vec(alloc)?;
     if let Some(size) = asked.setting("the text has ") {
@@ -77,8 +77,8 @@ struct Outside {
     fail: Vec<u64>,
 }
 
-fn source_of(alloc: Global, front: &str, asked: Asked<'_>) -> Result<MemorySource> {
-    let text = bytes_of(alloc, front, asked)?;
+fn source_of(alloc: Global, preamble: &str, asked: Asked<'_>) -> Result<MemorySource> {
+    let text = bytes_of(alloc, preamble, asked)?;
     let fail = asked.numbers(alloc, "the source fails at ")?;
     Ok(MemorySource::new(alloc, text.as_slice(), fail.as_slice())?)
 }
@@ -88,10 +88,10 @@ fn sink_of(alloc: Global, asked: Asked<'_>) -> Result<MemorySink> {
     Ok(MemorySink::new(alloc, fail.as_slice())?)
 }
 
-fn outside_of(alloc: Global, front: &str, asked: Asked<'_>) -> Result<Outside> {
+fn outside_of(alloc: Global, preamble: &str, asked: Asked<'_>) -> Result<Outside> {
     Ok(Outside {
         words: words_of(alloc, asked.setting("words ").unwrap_or("f run"))?,
-        source: source_of(alloc, front, asked)?,
+        source: source_of(alloc, preamble, asked)?,
         sink: sink_of(alloc, asked)?,
         fail: asked.numbers(alloc, "the disk fails at ")?,
     })
@@ -111,7 +111,7 @@ fn ended_on<R: Threads + Wait + Sync>(
         host.threads,
         alloc,
         hashing,
-        &OpenGate,
+        &OpenHook,
         outside.words.as_slice(),
         &mut outside.source,
         &mut outside.sink,
@@ -124,15 +124,15 @@ fn ended_on<R: Threads + Wait + Sync>(
 pub(crate) fn outcome_on<R: Threads + Wait + Sync>(
     host: &Host<'_, R>,
     journal: &[u8],
-    front: &str,
+    preamble: &str,
     asked: Asked<'_>,
 ) -> Result<Outcome> {
     let alloc = host.rt.alloc();
-    let mut outside = outside_of(alloc, front, asked)?;
+    let mut outside = outside_of(alloc, preamble, asked)?;
     let ended = ended_on(host, journal, &mut outside)?;
-    let told = told_of(alloc, asked, outside.sink.bytes(), &ended)?;
+    let reported = report_of(alloc, asked, outside.sink.bytes(), &ended)?;
     Ok(Outcome {
-        told,
+        reported,
         disk: ended.disk,
     })
 }

@@ -131,10 +131,10 @@ in_table (line ∷ lines) word words text h = by (bytes_eq word line.word) refl 
 pub command_has_word : (word : List ℕ) (words : List (List ℕ)) (text : List ℕ) → IfOk (command_of word words text) (λ command. word_of command ≡ word)
 command_has_word word words text = in_table table word words text table_tells
 
-before_told : (said : Said Command) (word : List ℕ) (commands : List Command) → IsOk said → IfOk said (λ command. word_of command ≡ word)
+before_reported : (said : Said Command) (word : List ℕ) (commands : List Command) → IsOk said → IfOk said (λ command. word_of command ≡ word)
     → map word_of (before_commands said commands) ≡ word ∷ map word_of commands
-before_told (Ok command) word commands is has = ap (λ w. w ∷ map word_of commands) has
-before_told (Err cause) word commands is has = cc
+before_reported (Ok command) word commands is has = ap (λ w. w ∷ map word_of commands) has
+before_reported (Err cause) word commands is has = cc
 
 -- where lines stand right, the word of the next command is the first, before those of the commands behind it
 pub words-one : (old new : Rest) (word : List ℕ) (words : List (List ℕ)) → FindsCommand old word words new → IsRight (kinds_of old.bytes)
@@ -142,7 +142,7 @@ pub words-one : (old new : Rest) (word : List ℕ) (words : List (List ℕ)) →
 words-one old new word words found right =
     let body = body_of (kinds_of new.bytes) in
     ap (map word_of) found.same
-    ∙ before_told (command_of word words body) word (commands_of (kinds_of new.bytes)) (right-command word words (kinds_of new.bytes) (found.found.right right)) (command_has_word word words body)
+    ∙ before_reported (command_of word words body) word (commands_of (kinds_of new.bytes)) (right-command word words (kinds_of new.bytes) (found.found.right right)) (command_has_word word words body)
 
 -- a word that was pushed stands behind those before it
 pub word-pushed : (all before after rest more : List (List ℕ)) (word text : List ℕ) → all ≡ before ++ rest → rest ≡ word ∷ more → text ≡ word → after ≡ before ++ text ∷ []

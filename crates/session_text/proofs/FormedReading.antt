@@ -4,7 +4,7 @@ use Rattle.std.specs.Prelude.{Ok, Err, IfOk, nat_le, not, map, ◌==◌, codes}
 use Rattle.std.specs.List.{AllByRecursion, slice_split, onto_first}
 use Rattle.std.specs.Str.{bytes_eq}
 use Rattle.std.proofs.lemmas.Bool.{leb-false}
-use Rattle.cc_names.specs.Cuts.{lines_of, ended, without_empty, is_newline, is_blank, words_of}
+use Rattle.cc_names.specs.Cuts.{lines_of, without_empty_end, without_empty, is_newline, is_blank, words_of}
 use Rattle.cc_names.specs.Names.{IsName}
 use Rattle.cc_names.specs.declared.commands.Command.{Command}
 use Rattle.cc_names.specs.declared.commands.Lane.{Lane}
@@ -13,7 +13,7 @@ use Rattle.cc_names.specs.declared.refusals.SessionCause.TheVariants as causes
 use Rattle.cc_names.specs.declared.refusals.SessionError.{SessionError}
 use Rattle.session_text.specs.declared.kinds.Kind.{Kind}
 use Rattle.session_text.specs.declared.kinds.Kind.TheVariants as kinds
-use Rattle.session_text.specs.Kinds.{line_kind, kinds_of, said}
+use Rattle.session_text.specs.Kinds.{line_kind, kinds_of, kind_of_words}
 use Rattle.session_text.specs.Commands.{command_of}
 use Rattle.session_text.specs.Shapes.{view}
 use Rattle.session_text.specs.Words.{Said}
@@ -42,15 +42,15 @@ total-split p (b ∷ bs) = by_first (p b) (slice_split p bs) (total-split p bs)
     by_first true parts h = omega arith
     by_first false parts h = let e = total-onto b parts in omega arith
 
-total-ended : (parts : List (List ℕ)) → total (ended parts) ≤ total parts
+total-without_empty_end : (parts : List (List ℕ)) → total (without_empty_end parts) ≤ total parts
 unfolding total
-total-ended [] = omega arith
-total-ended ([] ∷ []) = omega arith
-total-ended ([] ∷ part ∷ parts) = let more = total-ended (part ∷ parts) in omega arith
-total-ended ((b ∷ bs) ∷ parts) = let more = total-ended parts in omega arith
+total-without_empty_end [] = omega arith
+total-without_empty_end ([] ∷ []) = omega arith
+total-without_empty_end ([] ∷ part ∷ parts) = let more = total-without_empty_end (part ∷ parts) in omega arith
+total-without_empty_end ((b ∷ bs) ∷ parts) = let more = total-without_empty_end parts in omega arith
 
 total-lines_of : (text : List ℕ) → total (lines_of text) ≤ length text
-total-lines_of text = omega (arith, total-ended (slice_split is_newline text), total-split is_newline text)
+total-lines_of text = omega (arith, total-without_empty_end (slice_split is_newline text), total-split is_newline text)
 
 total-words : (parts : List (List ℕ)) → total (without_empty parts) ≤ total parts
 unfolding total
@@ -89,7 +89,7 @@ IsNarrowKind limit (kinds.Phase words) = Unit {0}
 IsNarrowKind limit (kinds.Lane words) = Unit {0}
 IsNarrowKind limit (kinds.Command word words) = IsNarrow limit words
 
-said_narrow : (limit : ℕ) (words : List (List ℕ)) → IsNarrow limit words → IsNarrowKind limit (said words)
+said_narrow : (limit : ℕ) (words : List (List ℕ)) → IsNarrow limit words → IsNarrowKind limit (kind_of_words words)
 unfolding IsNarrow IsNarrowKind
 said_narrow limit [] h = (omega arith, tt)
 said_narrow limit (word ∷ words) h = by (bytes_eq word (codes "phase")) (bytes_eq word (codes "lane"))
@@ -104,7 +104,7 @@ unfolding IsNarrowKind
 kind_narrow limit [] h = tt
 kind_narrow limit (b ∷ bs) h = by (b == 35) (b == 124)
   where
-    by : (skips bars : Bool) → IsNarrowKind limit (cond skips kinds.Skipped (cond bars (kinds.Body bs) (said (words_of (b ∷ bs)))))
+    by : (skips bars : Bool) → IsNarrowKind limit (cond skips kinds.Skipped (cond bars (kinds.Body bs) (kind_of_words (words_of (b ∷ bs)))))
     by true bars = tt
     by false true = tt
     by false false = said_narrow limit (words_of (b ∷ bs)) (words_narrow limit (b ∷ bs) h)
@@ -114,7 +114,7 @@ IsShorter : Kind → List ℕ → Type 0
 IsShorter (kinds.Body bytes) line = length bytes + 1 ≤ length line
 IsShorter _ line = Unit {0}
 
-said_shorter : (words : List (List ℕ)) (line : List ℕ) → IsShorter (said words) line
+said_shorter : (words : List (List ℕ)) (line : List ℕ) → IsShorter (kind_of_words words) line
 unfolding IsShorter
 said_shorter [] line = tt
 said_shorter (word ∷ words) line = by (bytes_eq word (codes "phase")) (bytes_eq word (codes "lane"))
@@ -129,7 +129,7 @@ unfolding IsShorter
 line_shorter [] = tt
 line_shorter (b ∷ bs) = by (b == 35) (b == 124)
   where
-    by : (skips bars : Bool) → IsShorter (cond skips kinds.Skipped (cond bars (kinds.Body bs) (said (words_of (b ∷ bs))))) (b ∷ bs)
+    by : (skips bars : Bool) → IsShorter (cond skips kinds.Skipped (cond bars (kinds.Body bs) (kind_of_words (words_of (b ∷ bs))))) (b ∷ bs)
     by true bars = tt
     by false true = omega arith
     by false false = said_shorter (words_of (b ∷ bs)) (b ∷ bs)
@@ -151,7 +151,7 @@ body_within (line ∷ lines) =
     let here = text_longer (line_kind line) line (map line_kind lines) (line_shorter line) in
     omega arith
 
-one_more : (said : Said Command) (commands : List Command) → length (before_commands said commands) ≤ 1 + length commands
+one_more : (kind_of_words : Said Command) (commands : List Command) → length (before_commands kind_of_words commands) ≤ 1 + length commands
 one_more (Ok command) commands = omega arith
 one_more (Err cause) commands = omega arith
 
@@ -169,17 +169,17 @@ commands_within (line ∷ lines) =
     let here = commands_more (line_kind line) (map line_kind lines) in
     omega arith
 
-one_formed : (limit : ℕ) (said : Said Command) (commands : List Command) → IfOk said (IsCommand limit) → AllByRecursion (IsCommand limit) commands → AllByRecursion (IsCommand limit) (before_commands said commands)
+one_formed : (limit : ℕ) (kind_of_words : Said Command) (commands : List Command) → IfOk kind_of_words (IsCommand limit) → AllByRecursion (IsCommand limit) commands → AllByRecursion (IsCommand limit) (before_commands kind_of_words commands)
 one_formed limit (Ok command) commands c cs = (c, cs)
 one_formed limit (Err cause) commands c cs = cs
 
-commands_kept : (limit : ℕ) (kind : Kind) (rest : List Kind) → IsNarrowKind limit kind → length (body_of rest) ≤ limit → AllByRecursion (IsCommand limit) (commands_of rest) → AllByRecursion (IsCommand limit) (commands_of (kind ∷ rest))
+commands_preserved : (limit : ℕ) (kind : Kind) (rest : List Kind) → IsNarrowKind limit kind → length (body_of rest) ≤ limit → AllByRecursion (IsCommand limit) (commands_of rest) → AllByRecursion (IsCommand limit) (commands_of (kind ∷ rest))
 unfolding IsNarrow IsNarrowKind
-commands_kept limit kinds.Skipped rest n t cs = cs
-commands_kept limit (kinds.Body bytes) rest n t cs = cs
-commands_kept limit (kinds.Phase words) rest n t cs = tt
-commands_kept limit (kinds.Lane words) rest n t cs = tt
-commands_kept limit (kinds.Command word words) rest n t cs =
+commands_preserved limit kinds.Skipped rest n t cs = cs
+commands_preserved limit (kinds.Body bytes) rest n t cs = cs
+commands_preserved limit (kinds.Phase words) rest n t cs = tt
+commands_preserved limit (kinds.Lane words) rest n t cs = tt
+commands_preserved limit (kinds.Command word words) rest n t cs =
     one_formed limit (command_of word words (body_of rest)) (commands_of rest) (command_is limit word words (body_of rest) n.0 n.1 t) cs
 
 commands_formed : (limit : ℕ) (lines : List (List ℕ)) → total lines ≤ limit → AllByRecursion (IsCommand limit) (commands_of (map line_kind lines))
@@ -189,18 +189,18 @@ commands_formed limit (line ∷ lines) t =
     let less : total lines ≤ limit = omega arith in
     let here : length line ≤ limit = omega arith in
     let within : length (body_of (map line_kind lines)) ≤ limit = omega (arith, body_within lines) in
-    commands_kept limit (line_kind line) (map line_kind lines) (kind_narrow limit line here) within (commands_formed limit lines less)
+    commands_preserved limit (line_kind line) (map line_kind lines) (kind_narrow limit line here) within (commands_formed limit lines less)
 
 lane_formed : (limit : ℕ) (name : Said (List ℕ)) (commands : List Command) (lanes : List Lane) → IfOk name IsName → AreAtMost limit (IsCommand limit) commands → AllByRecursion (IsLane limit) lanes → AllByRecursion (IsLane limit) (before_lanes name commands lanes)
 lane_formed limit (Ok name) commands lanes n c ls = ((n, c), ls)
 lane_formed limit (Err cause) commands lanes n c ls = ls
 
-lanes_kept : (limit : ℕ) (kind : Kind) (rest : List Kind) → AreAtMost limit (IsCommand limit) (commands_of rest) → AllByRecursion (IsLane limit) (lanes_of rest) → AllByRecursion (IsLane limit) (lanes_of (kind ∷ rest))
-lanes_kept limit kinds.Skipped rest c ls = ls
-lanes_kept limit (kinds.Body bytes) rest c ls = ls
-lanes_kept limit (kinds.Phase words) rest c ls = tt
-lanes_kept limit (kinds.Lane words) rest c ls = lane_formed limit (view words) (commands_of rest) (lanes_of rest) (view_is words) c ls
-lanes_kept limit (kinds.Command word words) rest c ls = ls
+lanes_preserved : (limit : ℕ) (kind : Kind) (rest : List Kind) → AreAtMost limit (IsCommand limit) (commands_of rest) → AllByRecursion (IsLane limit) (lanes_of rest) → AllByRecursion (IsLane limit) (lanes_of (kind ∷ rest))
+lanes_preserved limit kinds.Skipped rest c ls = ls
+lanes_preserved limit (kinds.Body bytes) rest c ls = ls
+lanes_preserved limit (kinds.Phase words) rest c ls = tt
+lanes_preserved limit (kinds.Lane words) rest c ls = lane_formed limit (view words) (commands_of rest) (lanes_of rest) (view_is words) c ls
+lanes_preserved limit (kinds.Command word words) rest c ls = ls
 
 lanes_formed : (limit : ℕ) (lines : List (List ℕ)) → total lines ≤ limit → length lines ≤ limit → AllByRecursion (IsLane limit) (lanes_of (map line_kind lines))
 unfolding total
@@ -209,7 +209,7 @@ lanes_formed limit (line ∷ lines) t n =
     let less : total lines ≤ limit = omega arith in
     let fewer : length lines ≤ limit = omega arith in
     let count : length (commands_of (map line_kind lines)) ≤ limit = omega (arith, commands_within lines) in
-    lanes_kept limit (line_kind line) (map line_kind lines) (count, commands_formed limit lines less) (lanes_formed limit lines less fewer)
+    lanes_preserved limit (line_kind line) (map line_kind lines) (count, commands_formed limit lines less) (lanes_formed limit lines less fewer)
 
 -- where a line `lane` stands right, there are not too many lanes above it
 few_lanes : (lanes words : List (List ℕ)) (outside : Bool) → cause_or outside causes.NoPhase (cause_in (lane_of lanes words)) ≡ None → length lanes < 64
@@ -262,13 +262,13 @@ phases_within (line ∷ lines) =
     let here = phases_more (line_kind line) (map line_kind lines) in
     omega arith
 
-phases_kept : (limit : ℕ) (kind : Kind) (above : Above) (rest : List Kind) → (length (above_next above kind (body_of rest)).lanes ≤ 64 → length (above_next above kind (body_of rest)).lanes + length (lanes_of rest) ≤ 64)
+phases_preserved : (limit : ℕ) (kind : Kind) (above : Above) (rest : List Kind) → (length (above_next above kind (body_of rest)).lanes ≤ 64 → length (above_next above kind (body_of rest)).lanes + length (lanes_of rest) ≤ 64)
     → AllByRecursion (IsLane limit) (lanes_of rest) → AllByRecursion (IsPhase limit) (phases_of rest) → AllByRecursion (IsPhase limit) (phases_of (kind ∷ rest))
-phases_kept limit kinds.Skipped above rest n ls ps = ps
-phases_kept limit (kinds.Body bytes) above rest n ls ps = ps
-phases_kept limit (kinds.Phase words) above rest n ls ps = let fits = n (omega arith) in ((omega arith, ls), ps)
-phases_kept limit (kinds.Lane words) above rest n ls ps = ps
-phases_kept limit (kinds.Command word words) above rest n ls ps = ps
+phases_preserved limit kinds.Skipped above rest n ls ps = ps
+phases_preserved limit (kinds.Body bytes) above rest n ls ps = ps
+phases_preserved limit (kinds.Phase words) above rest n ls ps = let fits = n (omega arith) in ((omega arith, ls), ps)
+phases_preserved limit (kinds.Lane words) above rest n ls ps = ps
+phases_preserved limit (kinds.Command word words) above rest n ls ps = ps
 
 phases_formed : (limit n : ℕ) (above : Above) (lines : List (List ℕ)) → first_error n above (map line_kind lines) ≡ None → total lines ≤ limit → length lines ≤ limit → AllByRecursion (IsPhase limit) (phases_of (map line_kind lines))
 unfolding total
@@ -279,7 +279,7 @@ phases_formed limit n above (line ∷ lines) e t c =
     let right = no_error (n + 1) (cause_of above (line_kind line) (body_of rest)) (first_error (n + 1) next rest) e in
     let less : total lines ≤ limit = omega arith in
     let fewer : length lines ≤ limit = omega arith in
-    phases_kept limit (line_kind line) above rest (lanes_within (n + 1) next rest right.1)
+    phases_preserved limit (line_kind line) above rest (lanes_within (n + 1) next rest right.1)
     (lanes_formed limit lines less fewer)
     (phases_formed limit (n + 1) next lines right.1 less fewer)
 

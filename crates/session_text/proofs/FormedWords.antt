@@ -18,7 +18,7 @@ use Rattle.cc_names.specs.Numbers.{number_of, below_limit, begins_wrong}
 use Rattle.cc_names.specs.Paths.{IsPath, path_fault, is_root, is_slash, join_of, is_at}
 use Rattle.session_text.specs.Formed.{IsVersionName, MakesPath}
 use Rattle.session_text.specs.Shapes.{first_name, view, only_type, view_path, view_below, maybe_path, type_path, path_type, flag_path, flag_below, has_flag, without_flag}
-use Rattle.session_text.specs.Words.{Said, or_bad, where_so, name_word, path_word, below_root, type_word, within, age_word, jobs_word, numbered, with_branch, behind_main, version_word, both, says, and_says, cat_by, cat_word, latest_word}
+use Rattle.session_text.specs.Words.{Said, or_bad, where_so, name_word, path_word, below_root, type_word, within, age_word, jobs_word, version_of_parts, with_branch, behind_main, version_word, both, says, and_says, cat_by, cat_word, latest_word}
 
 pub both_is : {X Y : Type 0} (P : X → Type 0) (Q : Y → Type 0) (x : Said X) (y : Said Y) → IfOk x P → IfOk y Q → IfOk (both x y) (λ z. P z.0 × Q z.1)
 both_is P Q (Err cause) y p q = tt
@@ -159,7 +159,7 @@ if_below false n = tt
 number_is : (bytes : List ℕ) → IfSome (number_of bytes) (λ m. m < 2 ^ 64)
 number_is bytes = if_below (list_all is_ascii_digit bytes && not (begins_wrong bytes)) (digits_value 10 bytes)
 
-numbered_is : (branches : List (List ℕ)) (number : Option ℕ) → AllByRecursion IsTypeName branches → IfSome number (λ m. m < 2 ^ 64) → IfOk (numbered branches number) IsVersionName
+numbered_is : (branches : List (List ℕ)) (number : Option ℕ) → AllByRecursion IsTypeName branches → IfSome number (λ m. m < 2 ^ 64) → IfOk (version_of_parts branches number) IsVersionName
 numbered_is branches None b n = tt
 numbered_is branches (Some number) b n = (b, n)
 

@@ -9,7 +9,7 @@ use Rattle.cc_names.specs.declared.memory.Or.{Or}
 use Rattle.cc_names.specs.declared.memory.Or.TheVariants.{NoMemory, Is}
 use Rattle.cc_names.specs.declared.refusals.SessionCause.{SessionCause}
 use Rattle.cc_names.proofs.Splits.{slice_split-at, slice_split-none}
-use Rattle.session_text.specs.Words.{Said, type_word, with_branch, numbered, behind_main}
+use Rattle.session_text.specs.Words.{Said, type_word, with_branch, version_of_parts, behind_main}
 use Rattle.cc_names.specs.Numbers.{number_of}
 
 some_part : (bytes : List ℕ) → slice_split is_slash bytes ≢ []
@@ -26,7 +26,7 @@ behind_main-next rest slash branches h =
     ap (λ v. behind_main v branches) (slice_split-at is_slash 0 rest slash h)
     ∙ behind_main-branch (take slash rest) (slice_split is_slash (drop (slash + 1) rest)) branches (some_part (drop (slash + 1) rest))
 
-pub behind_main-last : (rest : List ℕ) (branches : List (List ℕ)) → position is_slash rest ≡ None → behind_main (slice_split is_slash rest) branches ≡ numbered branches (number_of rest)
+pub behind_main-last : (rest : List ℕ) (branches : List (List ℕ)) → position is_slash rest ≡ None → behind_main (slice_split is_slash rest) branches ≡ version_of_parts branches (number_of rest)
 behind_main-last rest branches h = ap (λ v. behind_main v branches) (slice_split-none is_slash rest h)
 
 -- a fault in the name of a branch is one of the version's name

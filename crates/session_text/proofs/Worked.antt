@@ -31,7 +31,7 @@ first_build : session_of (codes "phase\nlane a\nmkview v\nsave v Makefile\n|out:
 first_build = refl
 
 -- a line without its newline, comments, empty lines, an empty body line and blanks round words
-loose_lines : session_of (codes "# note\n\nphase\n\tlane  a \nsave v in\n|\n\n#\n||x\nmkview w")
+lines_with_blanks : session_of (codes "# note\n\nphase\n\tlane  a \nsave v in\n|\n\n#\n||x\nmkview w")
     ≡ Ok (record {
       phases = record {
         lanes = record {
@@ -40,7 +40,7 @@ loose_lines : session_of (codes "# note\n\nphase\n\tlane  a \nsave v in\n|\n\n#\
         } ∷ [];
       } ∷ [];
     })
-loose_lines = refl
+lines_with_blanks = refl
 
 -- two phases, the first with two lanes
 two_phases : session_of (codes "phase\nlane a\nlane b\nmkview v\nphase\n")
@@ -108,9 +108,9 @@ removed : line_says (codes "rm" ∷ codes "v" ∷ codes "a" ∷ []) ≡ Ok (comm
 unfolding line_says
 removed = refl
 
-taken_in : line_says (codes "checkin" ∷ codes "v" ∷ codes "-identical" ∷ codes "a" ∷ []) ≡ Ok (commands.Change (changes.Checkin (codes "v") true (codes "a")))
+checked_in : line_says (codes "checkin" ∷ codes "v" ∷ codes "-identical" ∷ codes "a" ∷ []) ≡ Ok (commands.Change (changes.Checkin (codes "v") true (codes "a")))
 unfolding line_says
-taken_in = refl
+checked_in = refl
 
 given_up : line_says (codes "uncheckout" ∷ codes "v" ∷ codes "a" ∷ []) ≡ Ok (commands.Change (changes.Uncheckout (codes "v") (codes "a")))
 unfolding line_says

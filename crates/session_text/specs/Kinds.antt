@@ -6,9 +6,9 @@ use Rattle.session_text.specs.declared.kinds.Kind.{Kind}
 use Rattle.session_text.specs.declared.kinds.Kind.TheVariants.{Skipped, Body, Phase, Lane, Command}
 
 -- what words say, by the first of them; no word at all is the word of no command
-abbrev pub said : List (List ℕ) → Kind
-said [] = Command [] []
-said (word ∷ words) =
+abbrev pub kind_of_words : List (List ℕ) → Kind
+kind_of_words [] = Command [] []
+kind_of_words (word ∷ words) =
     if bytes_eq word (codes "phase") then Phase words
     else if bytes_eq word (codes "lane") then Lane words
     else Command word words
@@ -16,7 +16,7 @@ said (word ∷ words) =
 -- the kind of a line: skipped where it is empty or begins with `#`, a body line behind `|`, and else words
 abbrev pub line_kind : List ℕ → Kind
 line_kind [] = Skipped
-line_kind (b ∷ bs) = if b == 35 then Skipped else if b == 124 then Body bs else said (words_of (b ∷ bs))
+line_kind (b ∷ bs) = if b == 35 then Skipped else if b == 124 then Body bs else kind_of_words (words_of (b ∷ bs))
 
 -- The lines of a text, each as its kind.
 abbrev pub kinds_of : List ℕ → List Kind

@@ -55,9 +55,9 @@ abbrev pub jobs_word : List ℕ → Said ℕ
 jobs_word word = within 1 64 (number_of word)
 
 -- a version of these branches behind `main`, where there is a number
-abbrev pub numbered : List (List ℕ) → Option ℕ → Said VersionName
-numbered branches (Some n) = Ok (record { branches = branches; number = n })
-numbered branches None = Err BadWord
+abbrev pub version_of_parts : List (List ℕ) → Option ℕ → Said VersionName
+version_of_parts branches (Some n) = Ok (record { branches = branches; number = n })
+version_of_parts branches None = Err BadWord
 
 -- where a word is the name of a type, what it says with that name behind these
 abbrev pub with_branch : (List (List ℕ) → Said VersionName) → List (List ℕ) → Said (List ℕ) → Said VersionName
@@ -67,7 +67,7 @@ with_branch more branches (Err cause) = Err cause
 -- what stands behind `/main/`: the names of branch types, and then a number. `branches` are those that stand before
 abbrev pub behind_main : List (List ℕ) → List (List ℕ) → Said VersionName
 behind_main [] branches = Err BadWord
-behind_main (number ∷ []) branches = numbered branches (number_of number)
+behind_main (number ∷ []) branches = version_of_parts branches (number_of number)
 behind_main (branch ∷ next ∷ parts) branches = with_branch (behind_main (next ∷ parts)) branches (type_word branch)
 
 -- a version by its name, as `/main/fix/3`

@@ -2,7 +2,7 @@
 
 ghost use Rattle.std.specs.Prelude.{◌≡◌, ◌<◌, ◌^◌, ◌∷◌, length, MatchOption};
 ghost use Rattle.cc_names.specs.Cuts.{lines_of, words_of};
-ghost use Rattle.session_text.specs.Kinds.{line_kind, said};
+ghost use Rattle.session_text.specs.Kinds.{line_kind, kind_of_words};
 ghost use Rattle.session_text.specs.Reading.{IsEnd, IsNext, IsAtEnd};
 
 use cc_names::cuts::{Words, first_newline};
@@ -58,8 +58,8 @@ pub enum Kind<'a> {
     Command(Bytes<'a>, Words<'a>),
 }
 
-fn said(line: &[u8]) -> Kind<'_>
-    ensures { result ≡ said (words_of line.now) }
+fn kind_of_words(line: &[u8]) -> Kind<'_>
+    ensures { result ≡ kind_of_words (words_of line.now) }
 {
     let mut words = Words::of(line);
     match words.next() {
@@ -76,7 +76,7 @@ fn line_kind(line: &[u8]) -> Kind<'_>
     match line.split_first() {
         None | Some((b'#', _)) => Kind::Skipped,
         Some((b'|', bytes)) => Kind::Body(Bytes::of(bytes)),
-        Some(_) => said(line),
+        Some(_) => kind_of_words(line),
     }
 }
 
@@ -150,7 +150,7 @@ impl<'a> Rest<'a> {
     }
 
     /// How many bytes are left.
-    pub(crate) fn left(&self) -> usize
+    pub(crate) fn bytes_left(&self) -> usize
         ensures { result ≡ length self.now.bytes }
     {
         self.bytes.len()

@@ -188,7 +188,7 @@ impl CommandsLeft {
         if !pass_command(&mut rest) {
             return;
         }
-        let left = rest.left();
+        let left = rest.bytes_left();
         drop(rest);
         self.place.go_to(left);
         self.ahead = ahead_at(&self.place);

@@ -113,7 +113,7 @@ impl LanesLeft {
             return Ok(None);
         };
         let name = name_said(alloc, words)?;
-        let left = rest.left();
+        let left = rest.bytes_left();
         drop(rest);
         let mut place = self.place.again()?;
         place.go_to(left);

@@ -76,7 +76,7 @@ impl PhasesLeft {
         if find_phase(&mut rest).is_none() {
             return Ok(None);
         }
-        let left = rest.left();
+        let left = rest.bytes_left();
         drop(rest);
         let mut place = self.place.again()?;
         place.go_to(left);

@@ -4,7 +4,7 @@ ghost use Rattle.std.specs.Prelude.{◌≡◌, ◌<◌, ◌+◌, [], length, IfS
 ghost use Rattle.std.specs.List.{position, slice_split};
 ghost use Rattle.cc_names.specs.Answers.{Gives};
 ghost use Rattle.cc_names.specs.Paths.{is_root, is_slash, is_at};
-ghost use Rattle.session_text.specs.Words.{name_word, path_word, below_root, type_word, age_word, jobs_word, numbered, behind_main, version_word, cat_word, latest_word};
+ghost use Rattle.session_text.specs.Words.{name_word, path_word, below_root, type_word, age_word, jobs_word, version_of_parts, behind_main, version_word, cat_word, latest_word};
 
 use cc_names::commands::VersionName;
 use cc_names::lists::List;
@@ -83,8 +83,11 @@ pub(crate) fn jobs_word(word: &[u8]) -> Result<u32, SessionCause>
     }
 }
 
-fn numbered(branches: Vec<Name>, number: Option<u64>) -> Result<VersionName, Or<SessionCause>>
-    ensures { Gives result (numbered branches.items number) }
+fn version_of_parts(
+    branches: Vec<Name>,
+    number: Option<u64>,
+) -> Result<VersionName, Or<SessionCause>>
+    ensures { Gives result (version_of_parts branches.items number) }
 {
     let branches = List::of(branches);
     match number {
@@ -105,7 +108,7 @@ fn behind_main(alloc: Global, bytes: &[u8]) -> Result<VersionName, Or<SessionCau
         }
         rest = &rest[slash + 1..];
     }
-    numbered(branches, number(rest))
+    version_of_parts(branches, number(rest))
 }
 
 /// A word as a version's name, `/main/fix/3`.

@@ -4,7 +4,7 @@ use Rattle.std.specs.Option.{option_map, option_copied}
 use Rattle.spec_text.specs.Parts.{parts_left}
 use Rattle.std.proofs.lemmas.Bool.{and_parts, or_cases, or_left, or_right}
 use Rattle.std.specs.List.{list_any}
-use Rattle.base_model.specs.ConfigSpecs.WildCards.{tails, first_fits, matches_from, cards_match}
+use Rattle.base_model.specs.ConfigSpecs.WildCards.{list_suffixes, first_fits, matches_from, cards_match}
 
 or_nothing : (b : Bool) → b ≡ (b || false)
 or_nothing true = refl
@@ -13,28 +13,28 @@ or_nothing false = refl
 -- the ends of a list but itself, the longest first
 abbrev pub later : {A : Type 0} → List A → List (List A)
 later [] = []
-later (x ∷ xs) = tails xs
+later (x ∷ xs) = list_suffixes xs
 
-tails-later : {A : Type 0} (xs : List A) → tails xs ≡ xs ∷ later xs
-tails-later [] = refl
-tails-later (x ∷ xs) = refl
+list_suffixes-later : {A : Type 0} (xs : List A) → list_suffixes xs ≡ xs ∷ later xs
+list_suffixes-later [] = refl
+list_suffixes-later (x ∷ xs) = refl
 
 -- what some end of a later end passes, some later end passes
-any_of_ends : {A : Type 0} (f : List A → Bool) (xs : List A) → list_any (λ ys. list_any f (tails ys)) (later xs) ≡ true → list_any f (later xs) ≡ true
+any_of_ends : {A : Type 0} (f : List A → Bool) (xs : List A) → list_any (λ ys. list_any f (list_suffixes ys)) (later xs) ≡ true → list_any f (later xs) ≡ true
 any_of_ends f [] h = cc
 any_of_ends f (x ∷ xs) h =
-    elim (or_cases (list_any f (tails xs)) (list_any (λ ys. list_any f (tails ys)) (later xs)) (rw tails-later at h)) [
+    elim (or_cases (list_any f (list_suffixes xs)) (list_any (λ ys. list_any f (list_suffixes ys)) (later xs)) (rw list_suffixes-later at h)) [
       | inl here ↦ here
-      | inr there ↦ rw tails-later (or_right (f xs) (list_any f (later xs)) (any_of_ends f xs there))
+      | inr there ↦ rw list_suffixes-later (or_right (f xs) (list_any f (later xs)) (any_of_ends f xs there))
     ]
 
 -- where a card that is not wild and those behind it cover a later end, those behind it cover a later end
-any_fit : {A : Type 0} (fits : A → Bool) (behind : List A → Bool) (xs : List A) → list_any (first_fits fits behind) (tails xs) ≡ true → list_any behind (later xs) ≡ true
+any_fit : {A : Type 0} (fits : A → Bool) (behind : List A → Bool) (xs : List A) → list_any (first_fits fits behind) (list_suffixes xs) ≡ true → list_any behind (later xs) ≡ true
 any_fit fits behind [] h = cc
 any_fit fits behind (x ∷ xs) h =
-    elim (or_cases (fits x && behind xs) (list_any (first_fits fits behind) (tails xs)) h) [
-      | inl here ↦ rw tails-later (or_left (behind xs) (list_any behind (later xs)) (and_parts (fits x) (behind xs) here).1)
-      | inr there ↦ rw tails-later (or_right (behind xs) (list_any behind (later xs)) (any_fit fits behind xs there))
+    elim (or_cases (fits x && behind xs) (list_any (first_fits fits behind) (list_suffixes xs)) h) [
+      | inl here ↦ rw list_suffixes-later (or_left (behind xs) (list_any behind (later xs)) (and_parts (fits x) (behind xs) here).1)
+      | inr there ↦ rw list_suffixes-later (or_right (behind xs) (list_any behind (later xs)) (any_fit fits behind xs there))
     ]
 
 -- what trying the last wild card again could still cover: the cards behind it, and what stood there when it was met
@@ -77,9 +77,9 @@ begins wild fits cards left = record {
 }
 
 -- as behind a wild card: the cards may cover any end
-pub begins_anywhere : {P A : Type 0} (wild : P → Bool) (fits : P → A → Bool) (cards : List P) (left : List A) → Searches wild fits (list_any (cards_match wild fits cards) (tails left)) (length cards) (length left) cards left (Some (cards, left))
+pub begins_anywhere : {P A : Type 0} (wild : P → Bool) (fits : P → A → Bool) (cards : List P) (left : List A) → Searches wild fits (list_any (cards_match wild fits cards) (list_suffixes left)) (length cards) (length left) cards left (Some (cards, left))
 begins_anywhere wild fits cards left = record {
-  same = ap (list_any (cards_match wild fits cards)) (tails-later left);
+  same = ap (list_any (cards_match wild fits cards)) (list_suffixes-later left);
   kept = λ h. h;
   cards_fit = omega arith;
   met_fit = omega arith;
@@ -94,21 +94,21 @@ absorbed false false h = refl
 
 wild_same : {A : Type 0} (wild : Bool) (fits : A → Bool) (behind : List A → Bool) (left : List A) (answer again : Bool) → wild ≡ true → answer ≡ (matches_from wild fits behind left || again) → (again ≡ true → list_any (matches_from wild fits behind) (later left) ≡ true) → answer ≡ (behind left || list_any behind (later left))
 wild_same true fits behind left answer again star e kept =
-    let whole = ap (list_any behind) (tails-later left) in
-    e ∙ absorbed (list_any behind (tails left)) again (λ h. rw tails-later (or_right (behind left) (list_any behind (later left)) (any_of_ends behind left (kept h)))) ∙ whole
+    let whole = ap (list_any behind) (list_suffixes-later left) in
+    e ∙ absorbed (list_any behind (list_suffixes left)) again (λ h. rw list_suffixes-later (or_right (behind left) (list_any behind (later left)) (any_of_ends behind left (kept h)))) ∙ whole
 wild_same false fits behind left answer again star e kept = cc
 
 plain_same : {A : Type 0} (wild : Bool) (fits : A → Bool) (behind : List A → Bool) (x : A) (left : List A) (answer again : Bool) → wild ≡ false → fits x ≡ true → answer ≡ (matches_from wild fits behind (x ∷ left) || again) → answer ≡ (behind left || again)
 plain_same true fits behind x left answer again plain fit e = cc
 plain_same false fits behind x left answer again plain fit e = rw fit at e
 
-plain_kept : {A : Type 0} (wild : Bool) (fits : A → Bool) (behind : List A → Bool) (left : List A) → wild ≡ false → list_any (matches_from wild fits behind) (tails left) ≡ true → list_any behind (later left) ≡ true
-plain_kept true fits behind left plain h = cc
-plain_kept false fits behind left plain h = any_fit fits behind left h
+plain_preserved : {A : Type 0} (wild : Bool) (fits : A → Bool) (behind : List A → Bool) (left : List A) → wild ≡ false → list_any (matches_from wild fits behind) (list_suffixes left) ≡ true → list_any behind (later left) ≡ true
+plain_preserved true fits behind left plain h = cc
+plain_preserved false fits behind left plain h = any_fit fits behind left h
 
 -- a wild card is met
 pub meets : {P A : Type 0} (wild : P → Bool) (fits : P → A → Bool) (answer : Bool) (all_cards all : ℕ) (cards : List P) (card : P) (behind : List P) (left : List A) (again : Option (List P × List A)) → cards ≡ card ∷ behind → wild card ≡ true → Searches wild fits answer all_cards all cards left again → Searches wild fits answer all_cards all behind left (Some (behind, left))
-meets wild fits answer all_cards all cards card behind left again front star known = let h = rw front at known in record {
+meets wild fits answer all_cards all cards card behind left again prefix star known = let h = rw prefix at known in record {
   same = wild_same (wild card) (fits card) (cards_match wild fits behind) left answer (again_covers wild fits again) star h.same h.kept;
   kept = λ e. e;
   cards_fit = omega arith;
@@ -119,9 +119,9 @@ meets wild fits answer all_cards all cards card behind left again front star kno
 
 -- a card stands for a member
 pub stands : {P A : Type 0} (wild : P → Bool) (fits : P → A → Bool) (answer : Bool) (all_cards all : ℕ) (cards : List P) (card : P) (behind : List P) (left : List A) (x : A) (rest : List A) (again : Option (List P × List A)) → cards ≡ card ∷ behind → left ≡ x ∷ rest → wild card ≡ false → fits card x ≡ true → Searches wild fits answer all_cards all cards left again → Searches wild fits answer all_cards all behind rest again
-stands wild fits answer all_cards all cards card behind left x rest again front first plain fit known = let h = rw (front, first) at known in record {
+stands wild fits answer all_cards all cards card behind left x rest again prefix first plain fit known = let h = rw (prefix, first) at known in record {
   same = plain_same (wild card) (fits card) (cards_match wild fits behind) x rest answer (again_covers wild fits again) plain fit h.same;
-  kept = λ e. plain_kept (wild card) (fits card) (cards_match wild fits behind) rest plain (h.kept e);
+  kept = λ e. plain_preserved (wild card) (fits card) (cards_match wild fits behind) rest plain (h.kept e);
   cards_fit = omega arith;
   met_fit = omega arith;
   left_fit = omega arith;
@@ -131,7 +131,7 @@ stands wild fits answer all_cards all cards card behind left x rest again front 
 -- what is left is not covered, and there is a member more to take: the last wild card is tried again
 pub tries_again : {P A : Type 0} (wild : P → Bool) (fits : P → A → Bool) (answer : Bool) (all_cards all : ℕ) (cards : List P) (left : List A) (behind : List P) (x : A) (rest : List A) → cards_match wild fits cards left ≡ false → Searches wild fits answer all_cards all cards left (Some (behind, x ∷ rest)) → Searches wild fits answer all_cards all behind rest (Some (behind, rest))
 tries_again wild fits answer all_cards all cards left behind x rest fails h = record {
-  same = rw fails at h.same ∙ ap (list_any (cards_match wild fits behind)) (tails-later rest);
+  same = rw fails at h.same ∙ ap (list_any (cards_match wild fits behind)) (list_suffixes-later rest);
   kept = λ e. e;
   cards_fit = omega arith;
   met_fit = omega arith;

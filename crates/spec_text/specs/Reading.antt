@@ -19,15 +19,15 @@ abbrev pub nothing_read : State
 nothing_read = record { rules = []; blocks = [] }
 
 -- the state when the innermost block has ended
-abbrev pub closed : List Rule → List ℕ → Result State SpecCause
-closed rules [] = Err NoBlock
-closed rules (innermost ∷ blocks) = Ok (record { rules = rules; blocks = blocks })
+abbrev pub state_after_block : List Rule → List ℕ → Result State SpecCause
+state_after_block rules [] = Err NoBlock
+state_after_block rules (innermost ∷ blocks) = Ok (record { rules = rules; blocks = blocks })
 
 -- the state behind a line
 abbrev pub after_line : Line → State → Result State SpecCause
 after_line Skipped state = Ok state
 after_line (BeginsBlock moment) state = Ok (record { rules = state.rules; blocks = moment ∷ state.blocks })
-after_line EndsBlock state = closed state.rules state.blocks
+after_line EndsBlock state = state_after_block state.rules state.blocks
 after_line (Gives rule) state = Ok (record { rules = state.rules ++ rule ∷ []; blocks = state.blocks })
 
 -- the state behind what a line says, where it says something

@@ -10,14 +10,14 @@ use Rattle.spec_text.specs.declared.matching.Step.TheVariants.{AnyNames, OneName
 -- the first segment is `...`, before these
 pub record IsDotsBefore (segments behind : List Segment) : Type 0 where
   pub segment : Segment
-  pub front : segments ≡ segment ∷ behind
+  pub prefix : segments ≡ segment ∷ behind
   pub wild : is_dots segment ≡ true
 
 -- the first segment is another one and matches the first name; these are behind them
 pub record IsNameBefore (segments : List Segment) (names : List (List ℕ)) (behind : List Segment) (rest : List (List ℕ)) : Type 0 where
   pub segment : Segment
   pub name : List ℕ
-  pub front : segments ≡ segment ∷ behind
+  pub prefix : segments ≡ segment ∷ behind
   pub first : names ≡ name ∷ rest
   pub plain : is_dots segment ≡ false
   pub fit : fits_name segment name ≡ true

@@ -44,9 +44,9 @@ fn found_by<S: Selectable>(sources: &S, element: u64, rule: &Rule) -> Option<u64
         ),
         Selector::Numbered(names, number) => {
             let branch = branch_behind(sources, element, names.as_slice())?;
-            sources.numbered(branch, *number)
+            sources.version_of_number(branch, *number)
         }
-        Selector::Config(target, object) => sources.listed(*object, target, element),
+        Selector::Config(target, object) => sources.recorded_version(*object, target, element),
         Selector::Nothing => None,
     }
 }

@@ -3,7 +3,7 @@
 ghost use Rattle.std.specs.Prelude.{◌≡◌};
 ghost use Rattle.cc_names.specs.Branches.{branch_above, branch_named};
 ghost use Rattle.cc_names.specs.Labels.{holder};
-ghost use Rattle.cc_names.specs.Versions.{latest, numbered};
+ghost use Rattle.cc_names.specs.Versions.{latest, version_of_number};
 
 use cc_names::names::Name;
 use cc_names::paths::Path;
@@ -27,15 +27,15 @@ pub trait Selectable {
         ensures { result ≡ latest (selectables self.now).tree branch before };
 
     /// The version with a number on a branch.
-    fn numbered(&self, branch: u64, number: u64) -> Option<u64>
-        ensures { result ≡ numbered (selectables self.now).tree branch number };
+    fn version_of_number(&self, branch: u64, number: u64) -> Option<u64>
+        ensures { result ≡ version_of_number (selectables self.now).tree branch number };
 
     /// The version of the element that holds the label.
     fn holder(&self, label: &Name, element: u64) -> Option<u64>
         ensures { result ≡ holder (selectables self.now).labels label.now element };
 
     /// The version of the element that the record of an object with this target lists.
-    fn listed(&self, object: u64, target: &Path, element: u64) -> Option<u64>
+    fn recorded_version(&self, object: u64, target: &Path, element: u64) -> Option<u64>
         ensures { result ≡ (selectables self.now).listed object target.now element };
 
     /// The row that makes the text of the view's checkout, where it has one.

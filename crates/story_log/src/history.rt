@@ -25,19 +25,19 @@ impl<D: Disk> Model for History<D> {
     ghost use Rattle.std.specs.Prelude.{List};
     ghost use Rattle.cc_names.specs.declared.steps.StoryStep.{StoryStep};
     ghost use Rattle.story_log.specs.Story.Handed.{handed_in};
-    ghost use Rattle.story_log.specs.Story.Telling.{story_of, AreTold};
+    ghost use Rattle.story_log.specs.Story.Telling.{story_of, AreNamedBySteps};
 
     ghost Value = { List StoryStep };
 
     ghost view = { λ h.
         story_of (handed_in h.handed D.tells) h.steps.items h.rows.items h.phases.items };
 
-    ghost invariant = { λ h. AreTold 1 0 h.steps.items h.rows.items h.phases.items };
+    ghost invariant = { λ h. AreNamedBySteps 1 0 h.steps.items h.rows.items h.phases.items };
 }
 
 impl<D: Disk> History<D> {
     ghost use Rattle.story_log.specs.Story.Handed.{handed_in};
-    ghost use Rattle.story_log.specs.Story.Telling.{story_of, AreTold, rows_told, TellsStory};
+    ghost use Rattle.story_log.specs.Story.Telling.{story_of, AreNamedBySteps, rows_named, TellsStory};
 
     /// The history of a session that opened no base. Takes no memory.
     pub fn empty(alloc: Global) -> History<D>
@@ -62,7 +62,7 @@ impl<D: Disk> History<D> {
         steps: Vec<Step>,
         handed: Counts,
     ) -> History<D>
-        requires { AreTold 1 0 steps.items rows.items phases.items }
+        requires { AreNamedBySteps 1 0 steps.items rows.items phases.items }
         ensures { result ≡ story_of (handed_in handed D.tells) steps.items rows.items phases.items }
     {
         History {
@@ -76,7 +76,7 @@ impl<D: Disk> History<D> {
 
     /// The rows from row 1 on: those of the opened base, and behind them that of each commit.
     pub fn rows(&self) -> &[Row]
-        ensures { result.now ≡ rows_told self.now }
+        ensures { result.now ≡ rows_named self.now }
     {
         self.rows.as_slice()
     }

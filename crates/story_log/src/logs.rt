@@ -1,7 +1,7 @@
 //! The story of a core, with the rows and the phases that it names, and the journal that keeps the rows.
 
 ghost use Rattle.std.specs.Prelude.{◌≡◌, ◌+◌, ◌<◌, ◌≤◌, ◌^◌, ◌++◌, ◌∷◌, [], length, true, false, IfOk, OnOk, OnErr, option_copied};
-ghost use Rattle.row_form.specs.Spelled.{spelled};
+ghost use Rattle.row_form.specs.Spelled.{spelling_of};
 ghost use Rattle.story_log.specs.Logging.Leaving.{left_in};
 ghost use Rattle.std.specs.Vec.{vec_len, vec_capacity};
 ghost use Rattle.std.specs.Option.{option_to_list};
@@ -54,18 +54,18 @@ impl<D: Disk> Model for Log<D> {
           (oldest_first log.rows.base) log.phases.items;
       base = log.rows.base;
       phases = log.phases.items;
-      sight = D.sight log.journal.disk;
+      ghost_state = D.ghost_state log.journal.disk;
     } };
 
     ghost invariant = { λ log.
         IsLogged (handed_in log.handed D.tells) log.steps.items log.rows.base log.phases.items
-        (D.sight log.journal.disk) log.journal.list log.journal.loose log.journal.ended
+        (D.ghost_state log.journal.disk) log.journal.list log.journal.leftover log.journal.ended
         log.journal.left log.journal.settled };
 }
 
 /// The frame of a row. A row that is spelled in 2^32 bytes or more counts as want of memory.
 fn frame_of(alloc: Global, row: &Row) -> Result<Frame, NoMemory>
-    ensures { IfOk result (λ frame. frame ≡ spelled row.now) }
+    ensures { IfOk result (λ frame. frame ≡ spelling_of row.now) }
 {
     let payload = spell(alloc, row)?;
     if payload.as_bytes().len() > u32::MAX as usize {
@@ -123,7 +123,7 @@ impl<D: Disk> Log<D> {
     ghost use Rattle.std.specs.Prelude.{◌≡◌, ◌+◌, ◌<◌, ◌^◌, ◌++◌, ◌∷◌, [], length, true, false, IfOk, IfErr, IfSome, OnOk, OnErr, MatchResult};
     ghost use Rattle.cc_names.specs.declared.steps.StoryStep.TheVariants as story_steps;
     ghost use Rattle.disk_model.specs.Counting.{next_count};
-    ghost use Rattle.disk_model.specs.Told.{IfTold, Both};
+    ghost use Rattle.disk_model.specs.DiskStates.{IfModeled, Both};
     ghost use Rattle.legal_history.specs.Stories.States.{faults_of};
     ghost use Rattle.legal_history.specs.Stories.Steps.{state_of};
     ghost use Rattle.cc_names.specs.Counts.{rises};
@@ -131,7 +131,7 @@ impl<D: Disk> Log<D> {
     ghost use Rattle.story_log.specs.Stopping.Backed.{IsBacked, IsSettled, IsAccounted, may_be_open};
     ghost use Rattle.story_log.specs.Story.Handed.{handed_in};
     ghost use Rattle.story_log.specs.Story.Faults.{is_fault};
-    ghost use Rattle.story_log.specs.Logging.Logs.{opened_log, with_phase, with_step, with_sight};
+    ghost use Rattle.story_log.specs.Logging.Logs.{opened_log, with_phase, with_step, with_ghost_state};
     ghost use Rattle.story_log.specs.Story.Telling.{stands_alone};
     ghost use Rattle.base_rows.specs.Order.{oldest_first};
     ghost use Rattle.base_model.specs.Fits.{fits};
@@ -147,10 +147,10 @@ impl<D: Disk> Log<D> {
     ) -> Result<Log<D>, Journal<D>>
         requires { IsBacked
             (state_of (story_steps.Opened (oldest_first rows.base) handed D.tells ∷ []))
-            (D.sight journal.disk) journal.list journal.loose journal.ended journal.left
+            (D.ghost_state journal.disk) journal.list journal.leftover journal.ended journal.left
             journal.settled }
         ensures ok { IfOk result
-            (λ log. log ≡ opened_log rows.base (handed_in handed D.tells) (D.sight journal.disk)) }
+            (λ log. log ≡ opened_log rows.base (handed_in handed D.tells) (D.ghost_state journal.disk)) }
         ensures err { IfErr result (λ back. back ≡ journal) }
     {
         let mut steps = Vec::new(alloc);
@@ -216,7 +216,7 @@ impl<D: Disk> Log<D> {
             return Ok(Appended::Committed);
         }
         let counts = self.journal.counts();
-        let left = match self.journal.left() {
+        let left = match self.journal.left_by_last_call() {
             Left::Nothing => None,
             Left::Earlier => earlier,
             Left::InFlight => Some(row),
@@ -246,18 +246,18 @@ impl<D: Disk> Log<D> {
     /// Settles the journal's tail where a fault left it open; elsewhere it makes no device call, and changes nothing.
     /// Afterwards no stop finds more than the rows.
     pub fn settle(&mut self) -> Result<(), DiskFault>
-        ensures same { self.new ≡ with_sight self.old self.new.sight }
-        ensures ok { OnOk result (IsSettled (state_of self.new.story) self.new.sight) }
+        ensures same { self.new ≡ with_ghost_state self.old self.new.ghost_state }
+        ensures ok { OnOk result (IsSettled (state_of self.new.story) self.new.ghost_state) }
         ensures err { OnErr result
             (rises (faults_of (state_of self.new.story).opened (state_of self.new.story).ends)
-            self.new.sight.faults ≡ true) }
-        ensures faults { MatchResult result (λ _. self.new.sight.faults ≡ self.old.sight.faults)
-            (λ _. self.new.sight.faults ≡ next_count self.old.sight.faults) }
-        ensures few { self.new.sight.ticks ≤ self.old.sight.ticks + 2 }
-        ensures writes { Both WritesOn self.old.sight.told self.new.sight.told }
+            self.new.ghost_state.faults ≡ true) }
+        ensures faults { MatchResult result (λ _. self.new.ghost_state.faults ≡ self.old.ghost_state.faults)
+            (λ _. self.new.ghost_state.faults ≡ next_count self.old.ghost_state.faults) }
+        ensures few { self.new.ghost_state.ticks ≤ self.old.ghost_state.ticks + 2 }
+        ensures writes { Both WritesOn self.old.ghost_state.modeled self.new.ghost_state.modeled }
         ensures rests { may_be_open (state_of self.old.story).ends ≡ false → self.new ≡ self.old }
     {
-        match self.journal.left() {
+        match self.journal.left_by_last_call() {
             Left::Nothing => Ok(()),
             _ => self.journal.settle(),
         }
@@ -265,8 +265,8 @@ impl<D: Disk> Log<D> {
 
     /// The disk's counts.
     pub fn counts(&self) -> Counts
-        ensures ticks { result.ticks ≡ self.now.sight.ticks }
-        ensures faults { result.faults ≡ self.now.sight.faults }
+        ensures ticks { result.ticks ≡ self.now.ghost_state.ticks }
+        ensures faults { result.faults ≡ self.now.ghost_state.faults }
     {
         self.journal.counts()
     }
@@ -294,9 +294,9 @@ impl<D: Disk> Log<D> {
 
     /// The disk, and the history of the story. Takes no memory.
     pub fn into_parts(self) -> (D, History<D>)
-        ensures disk { D.sight result.0 ≡ self.sight }
+        ensures disk { D.ghost_state result.0 ≡ self.ghost_state }
         ensures history { result.1 ≡ self.story }
-        ensures backed { IsAccounted (state_of self.story) self.sight }
+        ensures backed { IsAccounted (state_of self.story) self.ghost_state }
     {
         let Log {
             rows,

@@ -4,7 +4,7 @@ ghost use Rattle.std.specs.Prelude.{◌≡◌, [], ◌∷◌, true, IfSome, IfNo
 ghost use Rattle.base_model.specs.Fits.{fits};
 ghost use Rattle.disk_model.specs.Devices.{file_of, bytes_of};
 ghost use Rattle.disk_model.specs.Files.{stable};
-ghost use Rattle.disk_model.specs.Told.{IfTold};
+ghost use Rattle.disk_model.specs.DiskStates.{IfModeled};
 ghost use Rattle.story_log.specs.Bases.Opening.{StopsBy, IsOpened, FailsToOpen};
 ghost use Rattle.story_log.specs.Bases.Reading.{OnlyReads, NextIs, IsMisfit, IsMissed, IsNextRow, IsNoRow, IsReadSoFar, ReadsOn, IsReadThrough};
 
@@ -37,12 +37,12 @@ pub struct OpenFault<D: Disk> {
 
 /// The next payload of a journal with nothing loose, or None at its end.
 fn next_payload<D: Disk>(alloc: Global, journal: &mut Journal<D>) -> Result<Option<Text>, OpenCause>
-    requires { journal.old.loose ≡ [] }
-    ensures reads { OnlyReads D.sight journal.old journal.new }
-    ensures ok { IfOk result (λ found. NextIs D.sight found journal.old journal.new) }
+    requires { journal.old.leftover ≡ [] }
+    ensures reads { OnlyReads D.ghost_state journal.old journal.new }
+    ensures ok { IfOk result (λ found. NextIs D.ghost_state found journal.old journal.new) }
     ensures err { IfErr result
         (λ cause.
-        IsMissed cause (D.sight journal.old.disk).faults (D.sight journal.new.disk).faults) }
+        IsMissed cause (D.ghost_state journal.old.disk).faults (D.ghost_state journal.new.disk).faults) }
 {
     match journal.next(alloc) {
         Ok(payload) => Ok(payload),
@@ -91,15 +91,15 @@ fn read_row<D: Disk>(
     journal: &mut Journal<D>,
     rows: &FirstRows<'_>,
 ) -> Result<Option<Row>, OpenCause>
-    requires { IsReadSoFar D.sight rows.now journal.old }
-    ensures reads { OnlyReads D.sight journal.old journal.new }
-    ensures ok { IfOk result (λ found. ReadsOn D.sight rows.now found journal.new) }
+    requires { IsReadSoFar D.ghost_state rows.now journal.old }
+    ensures reads { OnlyReads D.ghost_state journal.old journal.new }
+    ensures ok { IfOk result (λ found. ReadsOn D.ghost_state rows.now found journal.new) }
     ensures sound { OnOk result
-        ((D.sight journal.new.disk).faults ≡ (D.sight journal.old.disk).faults) }
+        ((D.ghost_state journal.new.disk).faults ≡ (D.ghost_state journal.old.disk).faults) }
     ensures err { IfErr result
         (λ cause.
-        StopsBy (D.sight journal.old.disk).told (λ _. journal.old.list) cause
-        (D.sight journal.old.disk).faults (D.sight journal.new.disk).faults) }
+        StopsBy (D.ghost_state journal.old.disk).modeled (λ _. journal.old.list) cause
+        (D.ghost_state journal.old.disk).faults (D.ghost_state journal.new.disk).faults) }
 {
     let payload = match next_payload(alloc, journal) {
         Ok(Some(payload)) => payload,
@@ -129,15 +129,15 @@ fn read_rows<D: Disk>(
     hashing: RandomState,
     journal: &mut Journal<D>,
 ) -> Result<Rows, OpenCause>
-    requires { IsReadSoFar D.sight [] journal.old }
-    ensures reads { OnlyReads D.sight journal.old journal.new }
-    ensures ok { IfOk result (λ rows. IsReadThrough D.sight rows.base journal.new) }
+    requires { IsReadSoFar D.ghost_state [] journal.old }
+    ensures reads { OnlyReads D.ghost_state journal.old journal.new }
+    ensures ok { IfOk result (λ rows. IsReadThrough D.ghost_state rows.base journal.new) }
     ensures sound { OnOk result
-        ((D.sight journal.new.disk).faults ≡ (D.sight journal.old.disk).faults) }
+        ((D.ghost_state journal.new.disk).faults ≡ (D.ghost_state journal.old.disk).faults) }
     ensures err { IfErr result
         (λ cause.
-        StopsBy (D.sight journal.old.disk).told (λ _. journal.old.list) cause
-        (D.sight journal.old.disk).faults (D.sight journal.new.disk).faults) }
+        StopsBy (D.ghost_state journal.old.disk).modeled (λ _. journal.old.list) cause
+        (D.ghost_state journal.old.disk).faults (D.ghost_state journal.new.disk).faults) }
 {
     let Ok(mut rows) = Rows::new(alloc, hashing) else {
         return Err(OpenCause::NoMemory);
@@ -162,10 +162,10 @@ pub fn open_log<D: Disk>(
     hashing: RandomState,
     disk: D,
 ) -> Result<Log<D>, OpenFault<D>>
-    requires { IfTold (D.sight disk).told (λ d. file_of 0 d ≡ stable (bytes_of 0 d)) }
-    ensures ok { IfOk result (λ log. IsOpened (D.sight disk) log) }
+    requires { IfModeled (D.ghost_state disk).modeled (λ d. file_of 0 d ≡ stable (bytes_of 0 d)) }
+    ensures ok { IfOk result (λ log. IsOpened (D.ghost_state disk) log) }
     ensures err { IfErr result
-        (λ fault. FailsToOpen (D.sight disk) fault.cause (D.sight fault.disk)) }
+        (λ fault. FailsToOpen (D.ghost_state disk) fault.cause (D.ghost_state fault.disk)) }
 {
     let handed = disk.counts();
     let mut journal = match Journal::open(disk) {

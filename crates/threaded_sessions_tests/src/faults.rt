@@ -1,11 +1,11 @@
 //! Disks that fail under a build of several builders.
 
 ghost use Rattle.std.specs.Prelude.{IfOk};
-ghost use Rattle.disk_model.specs.MemoryDisks.{sight_of};
+ghost use Rattle.disk_model.specs.MemoryDisks.{ghost_state_of};
 ghost use Rattle.session_run.specs.Faults.Stopped.{IsHandedIn};
 
-use crate::gates::Late;
-use crate::sessions::{Runtime, outside_of, parts_of, run_on, told_of};
+use crate::hooks::Late;
+use crate::sessions::{Runtime, outside_of, parts_of, report_of, run_on};
 use cc_names::memory::NoMemory;
 use disk_model::MemoryDisk;
 use std::alloc::Global;
@@ -49,7 +49,7 @@ status 7, 8 rows
 
 // An empty disk, of which this call fails.
 fn failing_disk(alloc: Global, call: u64) -> Result<MemoryDisk, NoMemory>
-    ensures { IfOk result (λ disk. IsHandedIn (sight_of disk)) }
+    ensures { IfOk result (λ disk. IsHandedIn (ghost_state_of disk)) }
 {
     MemoryDisk::new(alloc, &[], &[], &[call])
 }
@@ -60,15 +60,15 @@ fn assert_built_again(rt: &impl Runtime, alloc: Global, call: u64) -> Result<(),
     let mut outside = outside_of(alloc, session)?;
     let disk = failing_disk(alloc, call)?;
     let ended = run_on(rt, alloc, &Late::new("d"), disk, &mut outside)?;
-    let told = told_of(alloc, outside.sink.bytes(), &ended)?;
+    let reported = report_of(alloc, outside.sink.bytes(), &ended)?;
     let published = call.saturating_sub(16) / 4;
     assert_eq!(rt;
-        told.as_str().matches(" kept ").count() as u64,
+        reported.as_str().matches(" kept ").count() as u64,
         published,
         "at {call}"
     );
-    let told = told.as_str().replace(alloc, " kept ", " built ")?;
-    assert_eq!(rt; told.as_str(), wanted, "at {call}");
+    let reported = reported.as_str().replace(alloc, " kept ", " built ")?;
+    assert_eq!(rt; reported.as_str(), wanted, "at {call}");
     Ok(())
 }
 

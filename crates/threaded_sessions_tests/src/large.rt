@@ -144,9 +144,9 @@ fn large_sessions_are_run(rt: HostRuntime) -> Result<(), Fail> {
     for (seed, size, wanted) in cases {
         let text = make_session(rt.alloc(), seed, size)?;
         let session = format!(in rt.alloc(); "{text}")?;
-        let told = outcome_on(&rt, rt.alloc(), &[], ALONE, session.as_str())?.told;
+        let reported = outcome_on(&rt, rt.alloc(), &[], ALONE, session.as_str())?.reported;
         assert!(rt;
-            is_as_wanted(told.as_str(), wanted),
+            is_as_wanted(reported.as_str(), wanted),
             "{told:?} of the seed {seed} and the size {size}"
         );
     }

@@ -14,7 +14,7 @@
 #[cfg(test)]
 mod faults;
 #[cfg(test)]
-mod gates;
+mod hooks;
 #[cfg(test)]
 mod large;
 #[cfg(test)]

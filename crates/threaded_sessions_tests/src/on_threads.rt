@@ -5,26 +5,26 @@ mod counts;
 mod meetings;
 mod runs_held_up;
 
-use crate::gates::{Hold, Holds};
-use crate::sessions::{Front, Runtime, is_as_wanted, outcome_at, parts_of};
-use cc_outside::Gate;
+use crate::hooks::{Hold, Holds};
+use crate::sessions::{Preamble, Runtime, is_as_wanted, outcome_at, parts_of};
+use cc_outside::Hook;
 use std::alloc::Global;
 use std::test::Fail;
 
 // A session behind a front comes to what its case says, where its runs ask this gate.
-fn assert_session_at<G: Gate + Sync>(
+fn assert_session_at<G: Hook + Sync>(
     rt: &impl Runtime,
     alloc: Global,
-    gate: &G,
-    front: Front,
+    hook: &G,
+    preamble: Preamble,
     case: &str,
 ) -> Result<(), Fail> {
     let (session, wanted) = parts_of(case);
-    let session = format!(in alloc; "{}{session}", front.asked)?;
-    let outcome = outcome_at(rt, alloc, gate, &[], session.as_str())?;
-    let told = outcome.told.as_str().strip_prefix(front.told);
+    let session = format!(in alloc; "{}{session}", preamble.asked)?;
+    let outcome = outcome_at(rt, alloc, hook, &[], session.as_str())?;
+    let reported = outcome.reported.as_str().strip_prefix(preamble.reported);
     assert!(rt;
-        told.is_some_and(|told| is_as_wanted(told, wanted)),
+        reported.is_some_and(|reported| is_as_wanted(reported, wanted)),
         "{told:?} of {session:?}"
     );
     Ok(())
@@ -35,11 +35,11 @@ fn assert_held(
     rt: &impl Runtime,
     alloc: Global,
     holds: &[Hold],
-    front: Front,
+    preamble: Preamble,
     case: &str,
 ) -> Result<(), Fail> {
-    let gate = Holds(holds);
-    assert_session_at(rt, alloc, &gate, front, case)?;
-    assert!(rt; gate.were_kept(), "no run came to another in {case:?}");
+    let hook = Holds(holds);
+    assert_session_at(rt, alloc, &hook, preamble, case)?;
+    assert!(rt; hook.were_met(), "no run came to another in {case:?}");
     Ok(())
 }

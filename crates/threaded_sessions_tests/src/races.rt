@@ -2,9 +2,9 @@
 //! rows of the base tell, and what each lane is replied follows from that. The row from which it follows stands before the
 //! lane's next.
 
-use crate::sessions::{IN_A_LANE, Runtime, outcome_on, outside_of, run_in, told_of};
+use crate::sessions::{IN_A_LANE, Runtime, outcome_on, outside_of, report_of, run_in};
 use cc_names::rows::{Deed, Row, Tag};
-use cc_outside::OpenGate;
+use cc_outside::OpenHook;
 use std::alloc::{AllocError, Global};
 use std::process::Abort;
 use std::test::Fail;
@@ -268,17 +268,17 @@ impl Race {
     }
 
     // What the session writes.
-    fn told(&self, alloc: Global, start: Start) -> Result<String, AllocError> {
-        let mut told = String::from_str(alloc, "phase 1\n")?;
+    fn reported(&self, alloc: Global, start: Start) -> Result<String, AllocError> {
+        let mut reported = String::from_str(alloc, "phase 1\n")?;
         for lane in 1..=LANES {
-            told.push_str(format!(in alloc; "lane b{lane}\n")?.as_str())?;
+            reported.push_str(format!(in alloc; "lane b{lane}\n")?.as_str())?;
             for number in 1..=4 {
                 let reply = self.reply(alloc, lane, start.act(lane, number))?;
-                told.push_str(format!(in alloc; "{number} {reply}")?.as_str())?;
+                reported.push_str(format!(in alloc; "{number} {reply}")?.as_str())?;
             }
         }
-        told.push_str(format!(in alloc; "status 1, {ROWS} rows\n")?.as_str())?;
-        Ok(told)
+        reported.push_str(format!(in alloc; "status 1, {ROWS} rows\n")?.as_str())?;
+        Ok(reported)
     }
 }
 
@@ -320,13 +320,15 @@ clearmake w8
 ";
 
 fn kept_again(alloc: Global) -> Result<String, AllocError> {
-    let mut told = String::from_str(alloc, IN_A_LANE.told)?;
+    let mut reported = String::from_str(alloc, IN_A_LANE.reported)?;
     for lane in 1..=LANES {
         let object = object_of(lane);
-        told.push_str(format!(in alloc; "{lane} clearmake ok\n  out kept {object}\n")?.as_str())?;
+        reported.push_str(format!(in alloc;
+            "{lane} clearmake ok\n  out kept {object}\n"
+        )?.as_str())?;
     }
-    told.push_str(format!(in alloc; "status 0, {ROWS} rows\n")?.as_str())?;
-    Ok(told)
+    reported.push_str(format!(in alloc; "status 0, {ROWS} rows\n")?.as_str())?;
+    Ok(reported)
 }
 
 // What a race comes to on the base that was set up, and the journal that it leaves.
@@ -338,14 +340,14 @@ fn run_race(
 ) -> Result<Vec<u8>, Fail> {
     let session = session(alloc, start)?;
     let mut outside = outside_of(alloc, session.as_str())?;
-    let ended = run_in(rt, alloc, &OpenGate, set_up, &mut outside)?;
+    let ended = run_in(rt, alloc, &OpenHook, set_up, &mut outside)?;
     let rows = ended.history.rows();
     for lane in 1..=LANES {
         assert!(rt; are_in_order(rows, lane), "of lane {lane}");
     }
-    let told = told_of(alloc, outside.sink.bytes(), &ended)?;
+    let reported = report_of(alloc, outside.sink.bytes(), &ended)?;
     let race = Race::of(rows);
-    assert_eq!(rt; told.as_str(), race.told(alloc, start)?.as_str());
+    assert_eq!(rt; reported.as_str(), race.reported(alloc, start)?.as_str());
     assert_causes_first(rt, race, rows, start);
     Ok(ended.disk.bytes(0).to_vec(alloc)?)
 }
@@ -358,7 +360,7 @@ fn assert_races(rt: &impl Runtime, alloc: Global, start: Start) -> Result<(), Fa
         journal = run_race(rt, alloc, set_up.as_slice(), start)?;
     }
     let again = outcome_on(rt, alloc, journal.as_slice(), IN_A_LANE, AGAIN)?;
-    assert_eq!(rt; again.told.as_str(), kept_again(alloc)?.as_str());
+    assert_eq!(rt; again.reported.as_str(), kept_again(alloc)?.as_str());
     Ok(())
 }
 

@@ -8,12 +8,12 @@
 //! the others with `winked`.
 
 ghost use Rattle.std.specs.Prelude.{IfOk};
-ghost use Rattle.disk_model.specs.MemoryDisks.{sight_of};
+ghost use Rattle.disk_model.specs.MemoryDisks.{ghost_state_of};
 ghost use Rattle.session_run.specs.Faults.Stopped.{IsHandedIn};
 
 use cc_names::memory::NoMemory;
 use cc_names::texts::Text;
-use cc_outside::{Gate, ListClock, MemorySink, MemorySource, OpenGate};
+use cc_outside::{Hook, ListClock, MemorySink, MemorySource, OpenHook};
 use disk_model::MemoryDisk;
 use session_run::{SessionResult, run_words};
 use std::alloc::Global;
@@ -31,21 +31,21 @@ impl<R: Abort + RandomSource + Threads + Wait + Sync> Runtime for R {}
 
 /// What stands before a session, and before what it writes.
 #[derive(Clone, Copy)]
-pub(crate) struct Front {
+pub(crate) struct Preamble {
     pub(crate) asked: &'static str,
-    pub(crate) told: &'static str,
+    pub(crate) reported: &'static str,
 }
 
 /// Nothing.
-pub(crate) const ALONE: Front = Front {
+pub(crate) const ALONE: Preamble = Preamble {
     asked: "",
-    told: "",
+    reported: "",
 };
 
 /// One phase with one lane.
-pub(crate) const IN_A_LANE: Front = Front {
+pub(crate) const IN_A_LANE: Preamble = Preamble {
     asked: "phase\nlane a\n",
-    told: "phase 1\nlane a\n",
+    reported: "phase 1\nlane a\n",
 };
 
 /// What is outside of a session.
@@ -70,7 +70,7 @@ pub(crate) fn outside_of(alloc: Global, session: &str) -> Result<Outside, NoMemo
 
 // A disk with this journal and no objects.
 fn disk_with(alloc: Global, journal: &[u8]) -> Result<MemoryDisk, NoMemory>
-    ensures { IfOk result (λ disk. IsHandedIn (sight_of disk)) }
+    ensures { IfOk result (λ disk. IsHandedIn (ghost_state_of disk)) }
 {
     MemoryDisk::new(alloc, journal, &[], &[])
 }
@@ -84,21 +84,21 @@ fn words_of_run(alloc: Global) -> Result<Vec<Text>, NoMemory> {
 }
 
 /// A session is run on a disk, and its runs ask this gate.
-pub(crate) fn run_on<G: Gate + Sync>(
+pub(crate) fn run_on<G: Hook + Sync>(
     rt: &impl Runtime,
     alloc: Global,
-    gate: &G,
+    hook: &G,
     disk: MemoryDisk,
     outside: &mut Outside,
 ) -> Result<SessionResult<MemoryDisk>, Fail>
-    requires { IsHandedIn (sight_of disk) }
+    requires { IsHandedIn (ghost_state_of disk) }
 {
     let words = words_of_run(alloc)?;
     Ok(run_words(
         rt,
         alloc,
         RandomState::new(rt)?,
-        gate,
+        hook,
         words.as_slice(),
         &mut outside.source,
         &mut outside.sink,
@@ -108,19 +108,19 @@ pub(crate) fn run_on<G: Gate + Sync>(
 }
 
 /// A session is run on a base with this journal, and its runs ask this gate.
-pub(crate) fn run_in<G: Gate + Sync>(
+pub(crate) fn run_in<G: Hook + Sync>(
     rt: &impl Runtime,
     alloc: Global,
-    gate: &G,
+    hook: &G,
     journal: &[u8],
     outside: &mut Outside,
 ) -> Result<SessionResult<MemoryDisk>, Fail> {
     let disk = disk_with(alloc, journal)?;
-    run_on(rt, alloc, gate, disk, outside)
+    run_on(rt, alloc, hook, disk, outside)
 }
 
 /// What was written, and then the line of the status and the rows.
-pub(crate) fn told_of(
+pub(crate) fn report_of(
     alloc: Global,
     written: &[u8],
     ended: &SessionResult<MemoryDisk>,
@@ -133,7 +133,7 @@ pub(crate) fn told_of(
 /// What a session comes to: what it writes with the line of its status and its rows, and the journal that it leaves.
 #[derive(Drop)]
 pub(crate) struct Outcome {
-    pub(crate) told: String,
+    pub(crate) reported: String,
     pub(crate) journal: Vec<u8>,
 }
 
@@ -142,21 +142,21 @@ fn outcome_of(
     written: &[u8],
     ended: &SessionResult<MemoryDisk>,
 ) -> Result<Outcome, NoMemory> {
-    let told = told_of(alloc, written, ended)?;
+    let reported = report_of(alloc, written, ended)?;
     let journal = ended.disk.bytes(0).to_vec(alloc)?;
-    Ok(Outcome { told, journal })
+    Ok(Outcome { reported, journal })
 }
 
 /// What a session comes to on a base with this journal, whose runs ask this gate.
-pub(crate) fn outcome_at<G: Gate + Sync>(
+pub(crate) fn outcome_at<G: Hook + Sync>(
     rt: &impl Runtime,
     alloc: Global,
-    gate: &G,
+    hook: &G,
     journal: &[u8],
     session: &str,
 ) -> Result<Outcome, Fail> {
     let mut outside = outside_of(alloc, session)?;
-    let ended = run_in(rt, alloc, gate, journal, &mut outside)?;
+    let ended = run_in(rt, alloc, hook, journal, &mut outside)?;
     Ok(outcome_of(alloc, outside.sink.bytes(), &ended)?)
 }
 
@@ -165,11 +165,11 @@ pub(crate) fn outcome_on(
     rt: &impl Runtime,
     alloc: Global,
     journal: &[u8],
-    front: Front,
+    preamble: Preamble,
     session: &str,
 ) -> Result<Outcome, Fail> {
-    let session = format!(in alloc; "{}{session}", front.asked)?;
-    outcome_at(rt, alloc, &OpenGate, journal, session.as_str())
+    let session = format!(in alloc; "{}{session}", preamble.asked)?;
+    outcome_at(rt, alloc, &OpenHook, journal, session.as_str())
 }
 
 /// The parts of a case: a session, and what it comes to.

@@ -13,7 +13,7 @@ use Rattle.turn_lock.specs.declared.rule.Stage.{Stage}
 use Rattle.turn_lock.specs.declared.rule.Stage.TheVariants.{Idle, Joined, Waits, Turn}
 use Rattle.turn_lock.specs.declared.rule.View.{View}
 use Rattle.turn_lock.specs.Stages.{ticket_of, noted_of, tickets_at, tickets_of, weight_of, idle, spent, at_stage, greater_half, lesser_half, longer, shorter, joined}
-use Rattle.turn_lock.specs.Rule.{in_word, Each, IsInLine, HasNoTurn, IsCounted, Agrees, Knows, Homes, IsHome, IsOut, Kept}
+use Rattle.turn_lock.specs.Rule.{in_word, Each, IsInLine, HasNoTurn, IsCounted, Agrees, Knows, Homes, IsHome, IsOut, LockRule}
 use Rattle.turn_lock.specs.Moves.{drew, looked, gave, settled}
 use Rattle.turn_lock.proofs.Prefixes.{begins_itself, begins_on, longer_begins, longer_whole_left, longer_whole_right}
 use Rattle.turn_lock.proofs.Totals.{at-le-sum_by, two-le-sum_by}
@@ -102,9 +102,9 @@ module _ {T D : Type 0} (story : T → List D) where
     nobody = each_join (λ u. HasNoTurn u.stage) views id v other w tt tt h.nobody;
     known = each_join (Knows now) views id v other w (joined_knows now v w (h.known id v at) (h.known other w at_w)) ((now, refl), tt) h.known;
     newest = dite (ℕ_discrete n.0 id)
-        (λ here. taken_in (longer_whole_left v.seen w.seen (subst (IsPrefix w.seen) (sym (whole_at id v (sym here) at)) (h.known other w at_w).0) ∙ whole_at id v (sym here) at))
+        (λ here. joined_pass (longer_whole_left v.seen w.seen (subst (IsPrefix w.seen) (sym (whole_at id v (sym here) at)) (h.known other w at_w).0) ∙ whole_at id v (sym here) at))
         (λ elsewhere. dite (ℕ_discrete n.0 other)
-        (λ there. taken_in (longer_whole_right v.seen w.seen (subst (IsPrefix v.seen) (sym (whole_at other w (sym there) at_w)) (h.known id v at).0) ∙ whole_at other w (sym there) at_w))
+        (λ there. joined_pass (longer_whole_right v.seen w.seen (subst (IsPrefix v.seen) (sym (whole_at other w (sym there) at_w)) (h.known id v at).0) ∙ whole_at other w (sym there) at_w))
         (λ nowhere. (n.0, n.1, set_else (set views id (joined v w)) other n.0 spent nowhere ∙ (set_else views id n.0 (joined v w) elsewhere ∙ n.2), n.3, n.4)));
   }
     where
@@ -117,9 +117,9 @@ module _ {T D : Type 0} (story : T → List D) where
       whole_at : (seat : ℕ) (u : View D) → seat ≡ n.0 → get_elem? views seat ≡ some u → u.seen ≡ now
       whole_at seat u same at_u = ap (λ (x : View D). x.seen) (one_view views seat n.0 u n.1 same at_u n.2) ∙ n.4
 
-      taken_in : longer v.seen w.seen ≡ now
+      joined_pass : longer v.seen w.seen ≡ now
           → (seat : ℕ) × (u : View D) × (get_elem? (set (set views id (joined v w)) other spent) seat ≡ some u) × (0 < u.weight) × (u.seen ≡ now)
-      taken_in e = (id, joined v w, set_else (set views id (joined v w)) other id spent (λ same. apart (sym same)) ∙ here_set views id v (joined v w) at, omega arith, e)
+      joined_pass e = (id, joined v w, set_else (set views id (joined v w)) other id spent (λ same. apart (sym same)) ∙ here_set views id v (joined v w) at, omega arith, e)
 
   out_join : (served : ℕ) (homes : Homes T) (views : List (View D)) (id : ℕ) (v : View D) (other : ℕ) (w : View D) → get_elem? views id ≡ some v → get_elem? views other ≡ some w → v.stage ≡ Idle → w.stage ≡ Idle
       → IsOut story served homes views → IsOut story served homes (set (set views id (joined v w)) other spent)
@@ -135,7 +135,7 @@ module _ {T D : Type 0} (story : T → List D) where
 
   module _ (whole : ℕ) where
     abbrev Rule : State (Option T) (View D) → Type 0
-    Rule = Kept story whole
+    Rule = LockRule story whole
 
     abbrev Hand : Type 0
     Hand = Me (Option T) (View D)

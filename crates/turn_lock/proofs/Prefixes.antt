@@ -2,7 +2,7 @@
 use Rattle.std.proofs.Common.{◌≡◌, ◌≤◌, ◌<◌, Bool, true, false, List, [], ◌∷◌, ◌++◌, length, nat_lt, if◌then◌else◌, refl, ap, sym, ◌∙◌, inl, inr, arith, append_assoc, length-append}
 use Rattle.std.proofs.lemmas.Bool.Decides.{nat_tests}
 use mathlib.Core.List.{IsPrefix}
-use Rattle.turn_lock.specs.Sight.{IsLongerOf}
+use Rattle.turn_lock.specs.PassState.{IsLongerOf}
 use Rattle.turn_lock.specs.Stages.{longer, shorter}
 
 module _ {D : Type 0} where

@@ -3,7 +3,7 @@ use Rattle.std.proofs.Common.{◌≡◌, ℕ, ◌+◌, ◌^◌, List, [], ◌∷
 use Rattle.turn_lock.specs.declared.rule.Stage.{Stage}
 use Rattle.turn_lock.specs.declared.rule.Stage.TheVariants.{Joined, Waits, Turn}
 use Rattle.turn_lock.specs.declared.rule.View.{View}
-use Rattle.turn_lock.specs.Sight.{IsLongerOf}
+use Rattle.turn_lock.specs.PassState.{IsLongerOf}
 use Rattle.turn_lock.specs.Stages.{ticket_of, tickets_of, idle, spent, at_stage, greater_half, lesser_half, joined}
 use Rattle.turn_lock.specs.Rule.{in_word}
 

@@ -1,4 +1,4 @@
 pub mod Moves
 pub mod Rule
-pub mod Sight
+pub mod PassState
 pub mod Stages

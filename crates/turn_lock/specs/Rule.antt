@@ -78,7 +78,7 @@ module _ {T D : Type 0} (story : T → List D) where
     pub known : Each (Knows kept) views
 
   -- The rule of a lock whose passes have this weight together.
-  pub record Kept (whole : ℕ) (s : State (Option T) (View D)) : Type 0 where
+  pub record LockRule (whole : ℕ) (s : State (Option T) (View D)) : Type 0 where
     pub served : ℕ
     pub drawn : ℕ
     pub words : s.words ≡ in_word drawn ∷ in_word served ∷ []

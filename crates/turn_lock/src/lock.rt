@@ -6,7 +6,7 @@ ghost use Rattle.std.specs.Prelude.{◌≡◌, ℕ, ◌+◌, ◌-◌, ◌/◌, �
 ghost use Rattle.std.specs.Bool.{OnTrue, OnFalse};
 ghost use mathlib.Core.List.{IsPrefix};
 ghost use Rattle.turn_lock.specs.declared.rule.Stage.TheVariants.{Idle, Waits};
-ghost use Rattle.turn_lock.specs.Sight.{IsLongerOf};
+ghost use Rattle.turn_lock.specs.PassState.{IsLongerOf};
 ghost use Rattle.turn_lock.specs.Rule.{in_word};
 ghost use Rattle.turn_lock.specs.Moves.{HasTaken};
 
@@ -37,7 +37,7 @@ pub struct TurnLock<T: Storied> {
 
 impl<T: Storied> Model for TurnLock<T> {
     ghost use Rattle.std.specs.Prelude.{◌≡◌};
-    ghost use Rattle.turn_lock.specs.Sight.{Identity};
+    ghost use Rattle.turn_lock.specs.PassState.{Identity};
 
     ghost Value = { Identity };
 
@@ -58,10 +58,10 @@ pub struct Pass<T: Storied> {
 
 impl<T: Storied> Model for Pass<T> {
     ghost use Rattle.std.specs.Prelude.{◌≡◌, ◌<◌, []};
-    ghost use Rattle.turn_lock.specs.Sight.{Sight};
+    ghost use Rattle.turn_lock.specs.PassState.{PassState};
     ghost use Rattle.turn_lock.specs.declared.rule.Stage.TheVariants.{Idle};
 
-    ghost Value = { Sight T.Step };
+    ghost Value = { PassState T.Step };
 
     ghost view = { λ p.
         record { lock = p.seat.table_id; seen = p.seat.me.0.seen; weight = p.seat.me.0.weight } };
@@ -79,7 +79,7 @@ pub struct Held<T: Storied> {
 
 impl<T: Storied> Model for Held<T> {
     ghost use Rattle.std.specs.Prelude.{◌≡◌, ℕ, ◌<◌, [], ◌∷◌, None};
-    ghost use Rattle.turn_lock.specs.Sight.{Hold};
+    ghost use Rattle.turn_lock.specs.PassState.{Hold};
     ghost use Rattle.turn_lock.specs.Stages.{noted_of};
     ghost use Rattle.turn_lock.specs.declared.rule.Stage.TheVariants.{Turn};
 

@@ -47,9 +47,9 @@ pub struct Turns<T> {
 
 impl<T: Storied> TableRule<Option<T>, View<T::Step>, Opening<T>> for Turns<T> {
     ghost use Rattle.turn_lock.specs.Stages.{idle};
-    ghost use Rattle.turn_lock.specs.Rule.{Kept};
+    ghost use Rattle.turn_lock.specs.Rule.{LockRule};
 
-    ghost holds = { λ key. Kept T.story key.whole };
+    ghost holds = { λ key. LockRule T.story key.whole };
 
     ghost first = { λ key. idle (T.story key.value.value) key.whole };
 }

@@ -3,4 +3,4 @@ mod Found
 mod VersionIds
 mod Readiness
 mod Steps
-mod VersionsKept
+mod VersionsStored

@@ -9,7 +9,7 @@ use Rattle.std.proofs.lemmas.Option.{slice_get-get_or}
 use Rattle.cc_names.specs.Versions.{Version, row_of_change, branch_of_change, moment_of_change, versions_on, latest, put_if}
 use Rattle.cc_names.specs.declared.changes.TreeChange.TheVariants.{VersionMade}
 use Rattle.cc_names.specs.Falling.{IsAbove, Falls}
-use Rattle.version_tree.specs.Branches.{versions_from, versions_kept, versions_by}
+use Rattle.version_tree.specs.Branches.{versions_from, versions_stored, versions_by}
 use Rattle.version_tree.specs.TreeFields.{changes_of, row_of_made, row_of_branch, ready_branches, branch_at, InStep}
 use Rattle.version_tree.specs.declared.changes.Made.{Made}
 use Rattle.version_tree.specs.declared.branches.Branch.{Branch}
@@ -148,11 +148,11 @@ abbrev version_behind : ℕ → Later → List Version → Version
 version_behind branch l vs = record { row = l.row; moment = l.moment; branch = branch; number = length vs }
 
 -- one version more on a branch
-kept_more : (b b' : Branch) (l : Later) (branch : ℕ) → b.row ≡ branch → b'.row ≡ branch → b'.moment ≡ b.moment → b'.later.items ≡ b.later.items ++ l ∷ []
-    → (version_behind branch l (versions_kept b) ∷ versions_kept b) ≡ versions_kept b'
-kept_more b b' l branch row row' moments more =
-    let older : versions_kept b ≡ versions_from branch b.moment (reverse b.later.items) = ap (λ r. versions_from r b.moment (reverse b.later.items)) row in
-    let by_row : versions_kept b' ≡ versions_from branch b'.moment (reverse b'.later.items) = ap (λ r. versions_from r b'.moment (reverse b'.later.items)) row' in
+stored_more : (b b' : Branch) (l : Later) (branch : ℕ) → b.row ≡ branch → b'.row ≡ branch → b'.moment ≡ b.moment → b'.later.items ≡ b.later.items ++ l ∷ []
+    → (version_behind branch l (versions_stored b) ∷ versions_stored b) ≡ versions_stored b'
+stored_more b b' l branch row row' moments more =
+    let older : versions_stored b ≡ versions_from branch b.moment (reverse b.later.items) = ap (λ r. versions_from r b.moment (reverse b.later.items)) row in
+    let by_row : versions_stored b' ≡ versions_from branch b'.moment (reverse b'.later.items) = ap (λ r. versions_from r b'.moment (reverse b'.later.items)) row' in
     let by_moment : versions_from branch b'.moment (reverse b'.later.items) ≡ versions_from branch b.moment (reverse b'.later.items) = ap (λ t. versions_from branch t (reverse b'.later.items)) moments in
     let by_items : versions_from branch b.moment (reverse b'.later.items) ≡ versions_from branch b.moment (l ∷ reverse b.later.items) = ap (versions_from branch b.moment) (ap reverse more ∙ reverse-append b.later.items (l ∷ [])) in
     ap (λ vs. version_behind branch l vs ∷ vs) older ∙ sym (by_row ∙ by_moment ∙ by_items)
@@ -183,8 +183,8 @@ version_added m made items p b' row moment branch step is above within found sam
         | inl same ↦
             let here : branch ≡ q = (Decides-eqb branch q).0 same in
             let old_there : branch_at (reverse items) q ≡ Some old = rw (← here) old_found in
-            let before : versions_on (changes_of made) q ≡ versions_kept old = step.kept q ∙ ap versions_by old_there in
-            rw (is, same, before, ← here, new_found) (kept_more old b' (record { row = row; moment = moment }) branch (there b') same_row (same_moment b') (more b'))
+            let before : versions_on (changes_of made) q ≡ versions_stored old = step.kept q ∙ ap versions_by old_there in
+            rw (is, same, before, ← here, new_found) (stored_more old b' (record { row = row; moment = moment }) branch (there b') same_row (same_moment b') (more b'))
         | inr other ↦
             let others : branch_at (reverse (set items p b')) q ≡ branch_at (reverse items) q =
             find-reverse row_of_branch q (set items p b') fall_after ∙ find_set_other items p b' within q (λ d. there d ∙ sym same_row) (rw same_row other) ∙ sym (find-reverse row_of_branch q items step.branches_fall) in
@@ -219,7 +219,7 @@ room_made made items p b' branch step within found same_row same_moment same_lat
     find-reverse row_of_branch branch items step.branches_fall ∙ sym found ∙ slice_get-get_or items p b' within in
     let new_found : branch_at (reverse (set items p b')) branch ≡ Some b' =
     find-reverse row_of_branch branch (set items p b') fall_after ∙ find_set_here items branch p step.branches_fall within found b' same_row in
-    let same_versions : versions_kept old ≡ versions_kept b' =
+    let same_versions : versions_stored old ≡ versions_stored b' =
     ap (λ r. versions_from r old.moment (reverse old.later.items)) (there b' ∙ sym same_row)
     ∙ ap (λ t. versions_from b'.row t (reverse old.later.items)) (sym (same_moment b'))
     ∙ ap (λ ls. versions_from b'.row b'.moment (reverse ls)) (sym (same_later b')) in

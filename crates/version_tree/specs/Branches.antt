@@ -15,12 +15,12 @@ versions_from b moment (later ∷ older) =
     record { row = later.row; moment = later.moment; branch = b; number = length (versions_from b moment older) } ∷ versions_from b moment older
 
 -- the versions on a branch, newest first
-abbrev pub versions_kept : Branch → List Version
-versions_kept branch = versions_from branch.row branch.moment (reverse branch.later.items)
+abbrev pub versions_stored : Branch → List Version
+versions_stored branch = versions_from branch.row branch.moment (reverse branch.later.items)
 
 -- those of them that the first rows of a base made
-abbrev pub kept_of_first_rows : ℕ → Branch → List Version
-kept_of_first_rows rows branch = filter (λ v. nat_lt v.row rows) (versions_kept branch)
+abbrev pub stored_of_first_rows : ℕ → Branch → List Version
+stored_of_first_rows rows branch = filter (λ v. nat_lt v.row rows) (versions_stored branch)
 
 -- a row where two tests hold
 abbrev pub row_if : Bool → Bool → ℕ → Option ℕ
@@ -39,4 +39,4 @@ row_within rows (Some row) = cond (nat_lt row rows) (Some row) None
 -- the versions on a branch, and none on one that is not there
 abbrev pub versions_by : Option Branch → List Version
 versions_by None = []
-versions_by (Some branch) = versions_kept branch
+versions_by (Some branch) = versions_stored branch

@@ -68,14 +68,14 @@ fn within(row: Option<u64>, rows: u64) -> Option<u64>
 }
 
 impl Branch {
-    ghost use Rattle.version_tree.specs.Branches.{row_of_later, versions_kept, kept_of_first_rows, row_if, row_numbered};
+    ghost use Rattle.version_tree.specs.Branches.{row_of_later, versions_stored, stored_of_first_rows, row_if, row_numbered};
 
     /// The last version in the first `rows` rows that was made before the moment.
     pub fn latest(&self, rows: u64, before: Option<u64>) -> Option<u64>
         requires { Falls (map row_of_later (reverse self.now.later.items)) }
         ensures { result
             ≡ option_map row_of_version
-            (find (λ v. is_before before v.moment) (kept_of_first_rows rows self.now)) }
+            (find (λ v. is_before before v.moment) (stored_of_first_rows rows self.now)) }
     {
         let count = count_below(&self.later, rows);
         match last_before(&self.later[..count], before) {
@@ -97,10 +97,10 @@ impl Branch {
     }
 
     /// The version with the number, where it is among the first `rows` rows.
-    pub fn numbered(&self, number: u64, rows: u64) -> Option<u64>
+    pub fn version_of_number(&self, number: u64, rows: u64) -> Option<u64>
         ensures { result
             ≡ option_map row_of_version
-            (find (λ v. v.number == number) (kept_of_first_rows rows self.now)) }
+            (find (λ v. v.number == number) (stored_of_first_rows rows self.now)) }
     {
         within(self.row_numbered(number), rows)
     }
@@ -121,7 +121,7 @@ impl Branch {
     pub fn number_of(&self, row: u64) -> Option<u64>
         requires { Falls (map row_of_later (reverse self.now.later.items)) }
         ensures { result
-            ≡ option_map number_of_version (find (λ v. v.row == row) (versions_kept self.now)) }
+            ≡ option_map number_of_version (find (λ v. v.row == row) (versions_stored self.now)) }
     {
         match place_of(&self.later, row) {
             Some(behind) => Some(behind as u64 + 1),

@@ -11,7 +11,7 @@
 #![tactic(auto)]
 
 ghost use Rattle.std.specs.Prelude.{◌≡◌, ℕ, ◌<◌, ◌≤◌, ◌+◌, ◌∷◌, [], IsTrue, IsSome, IfOk, IfSome, OnOk, map, reverse, filter, nat_lt, option_copied};
-ghost use Rattle.cc_names.specs.Versions.{row_of_change, branch_of_change, of_first_rows, change_at, element_of_branch, versions_on, latest, numbered, version_id, kind_of};
+ghost use Rattle.cc_names.specs.Versions.{row_of_change, branch_of_change, of_first_rows, change_at, element_of_branch, versions_on, latest, version_of_number, version_id, kind_of};
 ghost use Rattle.cc_names.specs.Branches.{branch_of_version, origin_of, name_of_branch};
 ghost use Rattle.cc_names.specs.declared.changes.TreeChange.TheVariants as changes;
 ghost use Rattle.cc_names.specs.Falling.{IsAbove, Falls};
@@ -216,10 +216,10 @@ impl Tree {
     }
 
     /// The version with a number on a branch, counted from 0, in the first `rows` rows. Takes time logarithmic in the branches.
-    pub fn numbered(&self, branch: u64, number: u64, rows: u64) -> Option<u64>
-        ensures { result ≡ numbered (of_first_rows rows self.now.changes) branch number }
+    pub fn version_of_number(&self, branch: u64, number: u64, rows: u64) -> Option<u64>
+        ensures { result ≡ version_of_number (of_first_rows rows self.now.changes) branch number }
     {
-        self.branch_at(branch)?.numbered(number, rows)
+        self.branch_at(branch)?.version_of_number(number, rows)
     }
 
     /// What kind an element is of. Takes time logarithmic in the changes.

@@ -2,7 +2,7 @@
 use Rattle.std.proofs.Common.{◌≡◌, ℕ, ◌==◌, ◌&&◌, Bool, true, false, cond, List, [], ◌∷◌, Option, Some, None, bytes_eq, refl, sym, ◌∙◌}
 use Rattle.std.specs.Prelude.{option_map, find}
 use Rattle.cc_names.specs.Branches.{branch_named, branch_of_version, makes_branch}
-use Rattle.cc_names.specs.Last.{Sets, left, only_if}
+use Rattle.cc_names.specs.Last.{Sets, value_after, only_if}
 use Rattle.cc_names.specs.Versions.{row_of_change}
 use Rattle.cc_names.specs.declared.changes.TreeChange.{TreeChange}
 use Rattle.cc_names.specs.declared.changes.TreeChange.TheVariants.{BranchMade}
@@ -16,7 +16,7 @@ use Rattle.base_rows.specs.LookUps.{last_of}
 
 -- a branch that is made is found, or what was found before
 one_more : (is : Bool) (made : TreeChange) (before : Option ℕ) (older : Option TreeChange) → before ≡ option_map row_of_change older
-    → left (only_if is (Sets (row_of_change made))) before ≡ option_map row_of_change (cond is (Some made) older)
+    → value_after (only_if is (Sets (row_of_change made))) before ≡ option_map row_of_change (cond is (Some made) older)
 one_more true made before older same = refl
 one_more false made before older same = same
 
@@ -35,7 +35,7 @@ module _ (e : ℕ) (name : List ℕ) where
   branch_by_last (row ∷ older) = by row.deed (branch_by_last older)
     where
       by : (deed : Deed) → last_of (branch_named_effect e name) older ≡ branch_named (tree older) e name →
-          left (branch_named_effect e name older deed) (last_of (branch_named_effect e name) older) ≡ branch_named (tree_after older row.moment deed (tree older)) e name
+          value_after (branch_named_effect e name older deed) (last_of (branch_named_effect e name) older) ≡ branch_named (tree_after older row.moment deed (tree older)) e name
       by (deeds.Branch v f origin own taken) rest =
           one_more ((e == f) && bytes_eq name own) (BranchMade (size older) row.moment f origin own) (last_of (branch_named_effect e name) older) (find (makes_branch e name) (tree older)) rest
       by (deeds.Mkelem v directory kept kind taken) rest = rest

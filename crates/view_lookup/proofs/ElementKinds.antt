@@ -80,10 +80,10 @@ newest_or row older e false test =
     ap (λ is. cond (e == 0) (Some Directory) (option_and_then kind_made (deed_of (elim is [ true ↦ Some row | false ↦ row_at older e ])))) (sym test)
 
 -- The kind of an element is that of the row of its number, and the root is a directory.
-pub kind_told : (b : Base) (e : ℕ) → kind_of (tree b) e ≡ kind_by_row b e
-kind_told [] e = ap (λ is. option_and_then kind_by (cond is (Some (ElementMade 0 0 Directory)) None)) (is_zero e) ∙ of_root e (e == 0)
-kind_told (row ∷ older) e =
+pub kind_by_its_row : (b : Base) (e : ℕ) → kind_of (tree b) e ≡ kind_by_row b e
+kind_by_its_row [] e = ap (λ is. option_and_then kind_by (cond is (Some (ElementMade 0 0 Directory)) None)) (is_zero e) ∙ of_root e (e == 0)
+kind_by_its_row (row ∷ older) e =
     let n = size older in
-    kind_after n e (kind_made row.deed) (tree older) (tree (row ∷ older)) (adds_row older row.moment row.deed (tree older)) (kind_told older n ∙ behind older n (omega arith))
-    ∙ ap (cond (n == e) (kind_made row.deed)) (kind_told older e)
+    kind_after n e (kind_made row.deed) (tree older) (tree (row ∷ older)) (adds_row older row.moment row.deed (tree older)) (kind_by_its_row older n ∙ behind older n (omega arith))
+    ∙ ap (cond (n == e) (kind_made row.deed)) (kind_by_its_row older e)
     ∙ newest_or row older e (n == e) refl

@@ -5,7 +5,7 @@ use Rattle.std.proofs.lemmas.Bool.Decides.{Decides-eqb}
 use Rattle.std.proofs.lemmas.Slice.Eq.{bytes_eq-Decides}
 use Rattle.cc_names.specs.declared.rows.Deed.{Deed}
 use Rattle.cc_names.specs.declared.rows.Deed.TheVariants as deeds
-use Rattle.base_model.specs.Catalogs.{BeginsEmpty, BeginsAs, Adds, Removes, Renames, edit_where, first_edit, is_out, named, edit_of, own_of}
+use Rattle.base_model.specs.Catalogs.{BeginsEmpty, BeginsAs, Adds, Removes, Renames, edit_where, first_edit, is_out, element_named, edit_of, own_of}
 use Rattle.base_model.specs.Conditions.{has_out, has_name}
 use Rattle.base_model.specs.Fits.{deed_fits, is_base}
 use Rattle.base_model.specs.Rows.{Base, size, first_rows, row_at, deed_of, deed_at}
@@ -69,7 +69,7 @@ no_rename_by false true name n one two h = cc
 no_rename_by false false name n one two h = cc
 
 -- an element that gets another name has its first one
-pub has_first_name : (older : Base) (v : List ℕ) (d n : ℕ) (deed : Deed) (one two : List ℕ) → edit_of v d n deed ≡ Renames one two → deed_fits older deed ≡ true → is_some (named one (own_of older v d)) ≡ true
+pub has_first_name : (older : Base) (v : List ℕ) (d n : ℕ) (deed : Deed) (one two : List ℕ) → edit_of v d n deed ≡ Renames one two → deed_fits older deed ≡ true → is_some (element_named one (own_of older v d)) ≡ true
 has_first_name older v d n (deeds.Mkelem w f name kind out) one two h fit = absurd (no_rename_by (bytes_eq w v && (n == d) && out) (bytes_eq w v && (f == d)) name n one two h)
 has_first_name older v d n (deeds.Checkout w e origin reserved) one two h fit = absurd (no_rename_as (bytes_eq w v && (e == d)) origin one two h)
 has_first_name older v d n (deeds.Branch w e origin name out) one two h fit = absurd (no_rename_as (bytes_eq w v && (e == d) && is_out out) origin one two h)
@@ -80,7 +80,7 @@ has_first_name older v d n (deeds.Mv w f from_name to_name) one two h fit =
     let directory : f ≡ d = (Decides-eqb f d).0 (and_second (bytes_eq w v) (f == d) made.0) in
     let there : has_name older w f from_name ≡ true =
     and_second (has_out older w f) (has_name older w f from_name) (and_first (has_out older w f && has_name older w f from_name) (not (has_name older w f to_name)) fit) in
-    ap₂ (λ by within. is_some (named one (own_of older by within))) (sym view) (sym directory)
-    ∙ ap (λ name. is_some (named name (own_of older w f))) (sym made.1)
+    ap₂ (λ by within. is_some (element_named one (own_of older by within))) (sym view) (sym directory)
+    ∙ ap (λ name. is_some (element_named name (own_of older w f))) (sym made.1)
     ∙ there
 has_first_name older v d n deed one two h fit = absurd (cc)

@@ -2,11 +2,11 @@
 use Rattle.std.proofs.Common.{◌≡◌, ℕ, suc, ◌<◌, ◌≤◌, ◌==◌, Bool, true, false, ◌||◌, Option, Some, None, IfSome, List, [], ◌∷◌, refl, ap, sym, subst, ◌∙◌, arith}
 use Rattle.std.proofs.lemmas.Bool.Decides.{nat_tests, Decides-eqb}
 use Rattle.cc_names.specs.Formed.{Plain}
-use Rattle.cc_names.specs.Last.{Sets, only_if, left}
+use Rattle.cc_names.specs.Last.{Sets, only_if, value_after}
 use Rattle.cc_names.specs.declared.rows.Deed.{Deed}
 use Rattle.cc_names.specs.declared.rows.Deed.TheVariants as deeds
 use Rattle.cc_names.specs.declared.rows.Out.{Out}
-use Rattle.base_model.specs.Catalogs.{Catalog, CatalogSource, Empty, OfVersion, OfCheckout, Edit, Same, catalog_source, made_or_older, named, edited, edit_of, catalog_of, own_of}
+use Rattle.base_model.specs.Catalogs.{Catalog, CatalogSource, Empty, OfVersion, OfCheckout, Edit, Same, catalog_source, made_or_older, element_named, catalog_after, edit_of, catalog_of, own_of}
 use Rattle.base_model.specs.Rows.{Base, size, first_rows, row_at, deed_of, deed_at}
 use Rattle.base_model.proofs.Deeds.{deed_below}
 use Rattle.base_model.proofs.Stay.{all_rows, first_rows_stay}
@@ -26,7 +26,7 @@ edit_at b v d n = edit_by v d n (deed_at b n)
 
 -- a name in the catalog of a view's checkout of a directory as a row leaves it
 abbrev pub entry_at : Base → List ℕ → ℕ → List ℕ → ℕ → Option ℕ
-entry_at b v d name n = named name (edited (edit_at b v d n) (catalog_of (first_rows n b)) (own_of (first_rows n b) v d))
+entry_at b v d name n = element_named name (catalog_after (edit_at b v d n) (catalog_of (first_rows n b)) (own_of (first_rows n b) v d))
 
 -- the same, where there is a row
 abbrev pub entry_by : Base → List ℕ → ℕ → List ℕ → Option ℕ → Option ℕ
@@ -45,16 +45,16 @@ there row older n below =
 pub below_newest : (row : Plain) (older : Base) → first_rows (size older) (row ∷ older) ≡ older
 below_newest row older = first_rows_stay row older (size older) (omega arith) ∙ all_rows older (size older) (omega arith)
 
-entry_here : (v : List ℕ) (d : ℕ) (name : List ℕ) (row : Plain) (older : Base) → entry_at (row ∷ older) v d name (size older) ≡ named name (edited (edit_of v d (size older) row.deed) (catalog_of older) (own_of older v d))
+entry_here : (v : List ℕ) (d : ℕ) (name : List ℕ) (row : Plain) (older : Base) → entry_at (row ∷ older) v d name (size older) ≡ element_named name (catalog_after (edit_of v d (size older) row.deed) (catalog_of older) (own_of older v d))
 entry_here v d name row older =
-    ap (λ deed. named name (edited (edit_by v d (size older) deed) (catalog_of (first_rows (size older) (row ∷ older))) (own_of (first_rows (size older) (row ∷ older)) v d))) (here row older)
-    ∙ ap (λ (b : Base). named name (edited (edit_of v d (size older) row.deed) (catalog_of b) (own_of b v d))) (below_newest row older)
+    ap (λ deed. element_named name (catalog_after (edit_by v d (size older) deed) (catalog_of (first_rows (size older) (row ∷ older))) (own_of (first_rows (size older) (row ∷ older)) v d))) (here row older)
+    ∙ ap (λ (b : Base). element_named name (catalog_after (edit_of v d (size older) row.deed) (catalog_of b) (own_of b v d))) (below_newest row older)
 
 entry_there : (v : List ℕ) (d : ℕ) (name : List ℕ) (row : Plain) (older : Base) (n : Option ℕ) → IfSome n (λ m. m < size older) → entry_by older v d name n ≡ entry_by (row ∷ older) v d name n
 entry_there v d name row older None below = refl
 entry_there v d name row older (Some n) below =
-    ap (λ deed. named name (edited (edit_by v d n deed) (catalog_of (first_rows n older)) (own_of (first_rows n older) v d))) (sym (there row older n below))
-    ∙ ap (λ (b : Base). named name (edited (edit_at (row ∷ older) v d n) (catalog_of b) (own_of b v d))) (sym (first_rows_stay row older n (omega arith)))
+    ap (λ deed. element_named name (catalog_after (edit_by v d n deed) (catalog_of (first_rows n older)) (own_of (first_rows n older) v d))) (sym (there row older n below))
+    ∙ ap (λ (b : Base). element_named name (catalog_after (edit_at (row ∷ older) v d n) (catalog_of b) (own_of b v d))) (sym (first_rows_stay row older n (omega arith)))
 
 some_same : {a b : ℕ} → Some a ≡ Some b → a ≡ b
 some_same h = cc
@@ -63,11 +63,11 @@ below_or_same : (n m : ℕ) → n < m → n ≤ m
 below_or_same n m h = omega arith
 
 -- whether an edit bears on a name
-abbrev pub bears_on : List ℕ → Edit → Bool
-bears_on name edit = begins edit || changes name edit
+abbrev pub affects_name : List ℕ → Edit → Bool
+affects_name name edit = begins edit || changes name edit
 
 -- one of two effects that set the same, where one of them does
-set_by_either : (one two : Bool) (n : ℕ) (before : Option ℕ) → left (or_else (only_if one (Sets n)) (only_if two (Sets n))) before ≡ elim (one || two) [ true ↦ Some n | false ↦ before ]
+set_by_either : (one two : Bool) (n : ℕ) (before : Option ℕ) → value_after (or_else (only_if one (Sets n)) (only_if two (Sets n))) before ≡ elim (one || two) [ true ↦ Some n | false ↦ before ]
 set_by_either true two n before = refl
 set_by_either false true n before = refl
 set_by_either false false n before = refl
@@ -86,24 +86,24 @@ entry_below v d name [] = tt
 entry_below v d name (row ∷ older) =
     let edit = edit_of v d (size older) row.deed in
     subst (λ found. IfSome found (λ n. n < suc (size older))) (sym (set_by_either (begins edit) (changes name edit) (size older) (last_of (entry_effect v d name) older)))
-    (by (bears_on name edit) (last_of (entry_effect v d name) older) (entry_below v d name older))
+    (by (affects_name name edit) (last_of (entry_effect v d name) older) (entry_below v d name older))
   where
     by : (is : Bool) (found : Option ℕ) → IfSome found (λ n. n < size older) → IfSome (elim is [ true ↦ Some (size older) | false ↦ found ]) (λ n. n < suc (size older))
     by true found h = omega arith
     by false found h = weaker found (size older) h
 
 -- A name in the catalog of a view's checkout of a directory is as the newest row leaves it that bears on it.
-pub entry_by_row : (v : List ℕ) (d : ℕ) (name : List ℕ) (b : Base) → named name (own_of b v d) ≡ entry_by b v d name (last_of (entry_effect v d name) b)
+pub entry_by_row : (v : List ℕ) (d : ℕ) (name : List ℕ) (b : Base) → element_named name (own_of b v d) ≡ entry_by b v d name (last_of (entry_effect v d name) b)
 entry_by_row v d name [] = refl
 entry_by_row v d name (row ∷ older) =
-    by (bears_on name edit) refl (entry_by_row v d name older)
+    by (affects_name name edit) refl (entry_by_row v d name older)
     ∙ ap (entry_by (row ∷ older) v d name) (sym (set_by_either (begins edit) (changes name edit) (size older) (last_of (entry_effect v d name) older)))
   where
     edit : Edit
     edit = edit_of v d (size older) row.deed
 
-    by : (is : Bool) → bears_on name (edit_of v d (size older) row.deed) ≡ is → named name (own_of older v d) ≡ entry_by older v d name (last_of (entry_effect v d name) older)
-        → named name (own_of (row ∷ older) v d) ≡ entry_by (row ∷ older) v d name (elim is [ true ↦ Some (size older) | false ↦ last_of (entry_effect v d name) older ])
+    by : (is : Bool) → affects_name name (edit_of v d (size older) row.deed) ≡ is → element_named name (own_of older v d) ≡ entry_by older v d name (last_of (entry_effect v d name) older)
+        → element_named name (own_of (row ∷ older) v d) ≡ entry_by (row ∷ older) v d name (elim is [ true ↦ Some (size older) | false ↦ last_of (entry_effect v d name) older ])
     by true is before = sym (entry_here v d name row older)
     by false is before =
         let alone = neither (begins (edit_of v d (size older) row.deed)) (changes name (edit_of v d (size older) row.deed)) is in
@@ -112,22 +112,22 @@ entry_by_row v d name (row ∷ older) =
         ∙ entry_there v d name row older (last_of (entry_effect v d name) older) (entry_below v d name older)
 
 -- the row by which a name is as it is bears on it
-pub row_bears : (v : List ℕ) (d : ℕ) (name : List ℕ) (b : Base) (n : ℕ) → last_of (entry_effect v d name) b ≡ Some n → bears_on name (edit_at b v d n) ≡ true
-row_bears v d name [] n h = absurd (cc)
-row_bears v d name (row ∷ older) n h =
-    by (bears_on name edit) refl (sym (set_by_either (begins edit) (changes name edit) (size older) (last_of (entry_effect v d name) older)) ∙ h) (row_bears v d name older n)
+pub row_affects : (v : List ℕ) (d : ℕ) (name : List ℕ) (b : Base) (n : ℕ) → last_of (entry_effect v d name) b ≡ Some n → affects_name name (edit_at b v d n) ≡ true
+row_affects v d name [] n h = absurd (cc)
+row_affects v d name (row ∷ older) n h =
+    by (affects_name name edit) refl (sym (set_by_either (begins edit) (changes name edit) (size older) (last_of (entry_effect v d name) older)) ∙ h) (row_affects v d name older n)
   where
     edit : Edit
     edit = edit_of v d (size older) row.deed
 
-    by : (is : Bool) → bears_on name (edit_of v d (size older) row.deed) ≡ is → elim is [ true ↦ Some (size older) | false ↦ last_of (entry_effect v d name) older ] ≡ Some n
-        → (last_of (entry_effect v d name) older ≡ Some n → bears_on name (edit_at older v d n) ≡ true) → bears_on name (edit_at (row ∷ older) v d n) ≡ true
+    by : (is : Bool) → affects_name name (edit_of v d (size older) row.deed) ≡ is → elim is [ true ↦ Some (size older) | false ↦ last_of (entry_effect v d name) older ] ≡ Some n
+        → (last_of (entry_effect v d name) older ≡ Some n → affects_name name (edit_at older v d n) ≡ true) → affects_name name (edit_at (row ∷ older) v d n) ≡ true
     by true is found before =
         let same : size older ≡ n = some_same found in
-        subst (λ m. bears_on name (edit_at (row ∷ older) v d m) ≡ true) same (ap (λ deed. bears_on name (edit_by v d (size older) deed)) (here row older) ∙ is)
+        subst (λ m. affects_name name (edit_at (row ∷ older) v d m) ≡ true) same (ap (λ deed. affects_name name (edit_by v d (size older) deed)) (here row older) ∙ is)
     by false is found before =
         let below : n < size older = subst (λ o. IfSome o (λ m. m < size older)) found (entry_below v d name older) in
-        ap (λ deed. bears_on name (edit_by v d n deed)) (there row older n below) ∙ before found
+        ap (λ deed. affects_name name (edit_by v d n deed)) (there row older n below) ∙ before found
 
 abbrev pub from_source : Base → CatalogSource → Catalog
 from_source older Empty = []

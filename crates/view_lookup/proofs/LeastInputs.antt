@@ -27,28 +27,28 @@ use Rattle.base_model.proofs.Covered.{Keyed, closure_keyed, entries_keyed, entry
 use Rattle.base_model.proofs.EntriesBelow.{entry_below, entries_fit}
 use Rattle.base_model.proofs.Tables.{same_number}
 use Rattle.view_lookup.specs.FirstInputs.{Test, first_among, first_input}
-use Rattle.view_lookup.specs.LeastInputs.{above, above_entries, least_in, least_of, least_of_all, least_of_entries, least_of_entry, lesser, lower, passed}
+use Rattle.view_lookup.specs.LeastInputs.{above, above_entries, least_in, least_of, least_of_all, least_of_entries, least_of_entry, lesser, lower, path_if_passed}
 use Rattle.view_lookup.proofs.LesserPaths.{lesser_join, lesser_swap, lesser_twice}
 
 -- one input put in its place, each under its own row
-one_put : (passes : Test) (s : Input) (row : ℕ) (inputs : Inputs) → row ≡ s.1 → Keyed inputs → least_in passes (put input_cmp s row inputs) ≡ lesser (passed passes s.0 row) (least_in passes inputs)
+one_put : (passes : Test) (s : Input) (row : ℕ) (inputs : Inputs) → row ≡ s.1 → Keyed inputs → least_in passes (put input_cmp s row inputs) ≡ lesser (path_if_passed passes s.0 row) (least_in passes inputs)
 one_put passes s row [] own keyed = refl
 one_put passes s row (input ∷ inputs) own keyed = by (input_cmp s input.0) refl (one_put passes s row inputs own keyed.1)
   where
-    by : (o : Ordering) → input_cmp s input.0 ≡ o → least_in passes (put input_cmp s row inputs) ≡ lesser (passed passes s.0 row) (least_in passes inputs) →
-        least_in passes (by_order o ((s, row) ∷ input ∷ inputs) ((input.0, row) ∷ inputs) (input ∷ put input_cmp s row inputs)) ≡ lesser (passed passes s.0 row) (least_in passes (input ∷ inputs))
+    by : (o : Ordering) → input_cmp s input.0 ≡ o → least_in passes (put input_cmp s row inputs) ≡ lesser (path_if_passed passes s.0 row) (least_in passes inputs) →
+        least_in passes (by_order o ((s, row) ∷ input ∷ inputs) ((input.0, row) ∷ inputs) (input ∷ put input_cmp s row inputs)) ≡ lesser (path_if_passed passes s.0 row) (least_in passes (input ∷ inputs))
     by Less place before = refl
     by Equal place before =
         let one = one_input s input.0 (ap is_eq place) in
         let same : input.1 ≡ row = keyed.0 ∙ sym one.row ∙ sym own in
         let rest = least_in passes inputs in
-        ap (λ path. lesser (passed passes path row) rest) (sym one.path)
-        ∙ sym (lesser_twice (passed passes s.0 row) rest)
-        ∙ ap (λ path. lesser (passed passes s.0 row) (lesser (passed passes path row) rest)) one.path
-        ∙ ap (λ r. lesser (passed passes s.0 row) (lesser (passed passes input.0.0 r) rest)) (sym same)
+        ap (λ path. lesser (path_if_passed passes path row) rest) (sym one.path)
+        ∙ sym (lesser_twice (path_if_passed passes s.0 row) rest)
+        ∙ ap (λ path. lesser (path_if_passed passes s.0 row) (lesser (path_if_passed passes path row) rest)) one.path
+        ∙ ap (λ r. lesser (path_if_passed passes s.0 row) (lesser (path_if_passed passes input.0.0 r) rest)) (sym same)
     by Greater place before =
-        ap (lesser (passed passes input.0.0 input.1)) before
-        ∙ lesser_swap (passed passes input.0.0 input.1) (passed passes s.0 row) (least_in passes inputs)
+        ap (lesser (path_if_passed passes input.0.0 input.1)) before
+        ∙ lesser_swap (path_if_passed passes input.0.0 input.1) (path_if_passed passes s.0 row) (least_in passes inputs)
 
 -- inputs that are joined to others have the lesser of both
 both_least : (passes : Test) (one others : Inputs) → Keyed one → Keyed others → least_in passes (joined_inputs one others) ≡ lesser (least_in passes one) (least_in passes others)
@@ -56,8 +56,8 @@ both_least passes [] others own keyed = refl
 both_least passes (input ∷ one) others own keyed =
     both_least passes one (put input_cmp input.0 input.1 others) own.1 (put_keyed input.0 input.1 others own.0 keyed)
     ∙ ap (lesser (least_in passes one)) (one_put passes input.0 input.1 others own.0 keyed)
-    ∙ lesser_swap (least_in passes one) (passed passes input.0.0 input.1) (least_in passes others)
-    ∙ sym (lesser_join (passed passes input.0.0 input.1) (least_in passes one) (least_in passes others))
+    ∙ lesser_swap (least_in passes one) (path_if_passed passes input.0.0 input.1) (least_in passes others)
+    ∙ sym (lesser_join (path_if_passed passes input.0.0 input.1) (least_in passes one) (least_in passes others))
 
 -- the inputs of entries have the least of them all
 entries_least : (b : Base) (passes : Test) (entries : List ReadOf) → least_in passes (inputs_of b (closure b) entries) ≡ least_of_entries b passes entries
@@ -214,7 +214,7 @@ not_below_all s (input ∷ inputs) h = (path_not_below s input.0 (t_first _ _ h)
 first_is_least : (passes : Test) (inputs : Inputs) → T (is_sorted input_cmp inputs) → first_among passes inputs ≡ least_in passes inputs
 first_is_least passes [] sorted = refl
 first_is_least passes (input ∷ inputs) sorted =
-    ap (option_or (passed passes input.0.0 input.1)) (first_is_least passes inputs (t_second _ _ sorted))
+    ap (option_or (path_if_passed passes input.0.0 input.1)) (first_is_least passes inputs (t_second _ _ sorted))
     ∙ by (passes input.0.0 input.1) (least_in passes inputs) (least_not_below passes input.0.0 inputs (not_below_all input.0 inputs (t_first _ _ sorted)))
   where
     by : (t : Bool) (rest : Option (List ℕ)) → IfSome rest (λ q. is_lt (slice_cmp nat_cmp q input.0.0) ≡ false) → option_or (only_where t (Some input.0.0)) rest ≡ lesser (only_where t (Some input.0.0)) rest

@@ -5,9 +5,9 @@ pub mod HeldSomewhere
 pub mod EntryEdits
 pub mod EntryRows
 pub mod EntryMoves
-pub mod EntryTold
+pub mod NewestEdits
 pub mod ElementKinds
-pub mod PathFronts
+pub mod PathPrefixes
 pub mod PooledObjects
 pub mod RowsFit
 pub mod TextRows
@@ -16,4 +16,4 @@ pub mod LeastInputs
 pub mod LesserPaths
 pub mod ReservedOnce
 mod WorkedPools
-pub mod LeavingTold
+pub mod LeavingRows

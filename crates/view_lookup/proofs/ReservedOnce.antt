@@ -5,7 +5,7 @@ use Rattle.std.specs.List.{filter}
 use Rattle.std.specs.Prelude.{find, is_none, option_and_then, option_map}
 use Rattle.cc_names.specs.Branches.{branch_of_version}
 use Rattle.cc_names.specs.Formed.{Plain}
-use Rattle.cc_names.specs.Last.{Effect, Keeps, Ends, Sets, left, only_if}
+use Rattle.cc_names.specs.Last.{Effect, Keeps, Ends, Sets, value_after, only_if}
 use Rattle.cc_names.specs.Versions.{branch_of_change, change_at, is_number, put_if, row_of_change}
 use Rattle.cc_names.specs.declared.changes.TreeChange.{TreeChange}
 use Rattle.cc_names.specs.declared.changes.TreeChange.TheVariants.{ElementMade, BranchMade}
@@ -73,7 +73,7 @@ stood_before : (row : Plain) (older : Base) (taken : TakenOut) → taken.checkou
 stood_before row older taken low stand = by (out_effect taken.view taken.element (size older) row.deed) refl stand
   where
     by : (effect : Effect Checkout) → out_effect taken.view taken.element (size older) row.deed ≡ effect →
-        is_number taken.checkout.row (option_map row_of_checkout (left effect (out older taken.view taken.element))) ≡ true → stands older taken ≡ true
+        is_number taken.checkout.row (option_map row_of_checkout (value_after effect (out older taken.view taken.element))) ≡ true → stands older taken ≡ true
     by Keeps is stand = stand
     by Ends is stand = absurd (cc)
     by (Sets checkout) is stand =
@@ -308,7 +308,7 @@ newest_by_row [] branch = refl
 newest_by_row (row ∷ older) branch = by (is_number branch (reserved_branch older row.deed)) (newest_by_row older branch)
   where
     by : (own : Bool) → newest_reserving older branch ≡ newest_made older branch →
-        option_and_then (taken_at (row ∷ older)) (left (only_if own (Sets (size older))) (last_of (reserving_effect branch) older))
+        option_and_then (taken_at (row ∷ older)) (value_after (only_if own (Sets (size older))) (last_of (reserving_effect branch) older))
         ≡ elim own as (λ x. Option TakenOut) [ true ↦ made_out (size older) row.deed | false ↦ newest_made older branch ]
     by true rest = ap (option_and_then (made_out (size older))) (newest_deed row older)
     by false rest = same_at row older branch (last_of (reserving_effect branch) older) refl ∙ rest

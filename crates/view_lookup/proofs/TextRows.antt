@@ -32,12 +32,12 @@ older_row row older r path apart = by_side (nat_lt (size older) r) refl
     by_side false e = refl
 
 -- The text of the row of a number is told by that row and by those below it.
-pub text_told : (b : Base) (r : ℕ) (path : List ℕ) → text b r path ≡ text_of_row (first_rows r b) path (row_at b r)
-text_told [] r path = refl
-text_told (row ∷ older) r path =
+pub text_by_its_row : (b : Base) (r : ℕ) (path : List ℕ) → text b r path ≡ text_of_row (first_rows r b) path (row_at b r)
+text_by_its_row [] r path = refl
+text_by_its_row (row ∷ older) r path =
     elim (size older == r) as (λ is. (size older == r) ≡ is → elim is [ false ↦ text older r path | true ↦ text_by older path (source_of older path row.deed) ] ≡ text_of_row (first_rows r (row ∷ older)) path (elim is [ true ↦ Some row | false ↦ row_at older r ])) [
       | true ↦ λ e. let at : size older ≡ r = grind (arith, nat_tests) in sym (ap (λ b. text_by b path (source_of b path row.deed)) (newest row older r at))
-      | false ↦ λ e. text_told older r path ∙ older_row row older r path e
+      | false ↦ λ e. text_by_its_row older r path ∙ older_row row older r path e
     ] refl
 
 just_below : (n : ℕ) → n < suc n

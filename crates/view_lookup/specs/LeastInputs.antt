@@ -18,13 +18,13 @@ lesser (Some one) None = Some one
 lesser (Some one) (Some two) = Some (lower one two)
 
 -- a path, where the test holds of it and the row there
-abbrev pub passed : Test → List ℕ → ℕ → Option (List ℕ)
-passed passes path row = only_where (passes path row) (Some path)
+abbrev pub path_if_passed : Test → List ℕ → ℕ → Option (List ℕ)
+path_if_passed passes path row = only_where (passes path row) (Some path)
 
 -- the least path among inputs of which the test holds
 abbrev pub least_in : Test → Inputs → Option (List ℕ)
 least_in passes [] = None
-least_in passes (input ∷ inputs) = lesser (passed passes input.0.0 input.1) (least_in passes inputs)
+least_in passes (input ∷ inputs) = lesser (path_if_passed passes input.0.0 input.1) (least_in passes inputs)
 
 -- the same of what an object rests on
 abbrev pub least_of : Base → Test → ℕ → Option (List ℕ)

@@ -3,6 +3,6 @@ pub mod FirstInputs
 pub mod LeastInputs
 pub mod Picking
 pub mod Reservations
-pub mod ToldOn
+pub mod AlteringRows
 pub mod Resolving
 pub mod Sources

@@ -22,7 +22,7 @@ struct BranchOf<'a> {
 impl LookUp for BranchOf<'_> {
     type Item = u64;
 
-    ghost use Rattle.base_rows.specs.Bearings.{branch_named_bears};
+    ghost use Rattle.base_rows.specs.AffectedSubjects.{branch_named_affects};
     ghost use Rattle.base_rows.specs.Effects.{branch_named_effect};
     ghost use Rattle.base_rows.specs.Subjects as model;
 
@@ -44,7 +44,7 @@ impl LookUp for BranchOf<'_> {
         Subject::BranchNamed(self.element, self.name)
     }
 
-    ghost bears = { λ it. branch_named_bears it.element it.name.now };
+    ghost affects = { λ it. branch_named_affects it.element it.name.now };
 }
 
 /// The element's branch of a name; `main` is no such branch. Takes the time of `newest`.

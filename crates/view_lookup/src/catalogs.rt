@@ -1,13 +1,13 @@
 //! Which element a name stands for in a catalog: in that of a version of a directory, or in that of a view's checkout of one.
 
 ghost use Rattle.std.specs.Prelude.{◌≡◌, Some, suc};
-ghost use Rattle.base_model.specs.Catalogs.{catalog_of, named, own_of};
+ghost use Rattle.base_model.specs.Catalogs.{catalog_of, element_named, own_of};
 ghost use Rattle.base_model.specs.Closures.{greater_of};
 ghost use Rattle.base_model.specs.Rows.{first_rows};
 ghost use Rattle.view_lookup.specs.Resolving.{Resolves, catalog_in};
 ghost use Rattle.base_rows.specs.Entries.{entry_effect};
 ghost use Rattle.base_rows.specs.LookUps.{last_of};
-ghost use Rattle.view_lookup.specs.ToldOn.{altered_by};
+ghost use Rattle.view_lookup.specs.AlteringRows.{altered_by};
 
 use base_rows::bases::{FirstRows, first_rows, row_at};
 use base_rows::changed::AlteredOn;
@@ -54,7 +54,7 @@ fn entry_made<'a>(rows: &FirstRows<'a>, version: u64, name: &'a [u8]) -> Resolut
 
 /// The row that tells of a name in the catalog of a version: the newest version of its branch up to it that was made from a
 /// checkout in which the name was changed, else the row that made the branch.
-fn told_on(rows: &FirstRows<'_>, version: u64, branch: u64, name: &[u8]) -> u64
+fn altering_row(rows: &FirstRows<'_>, version: u64, branch: u64, name: &[u8]) -> u64
     ensures { result
         ≡ greater_of branch
         (altered_by branch name.now (first_rows (suc version) rows.now)) }
@@ -73,7 +73,7 @@ fn entry_of_version<'a>(rows: &FirstRows<'a>, version: u64, name: &'a [u8]) -> R
     rows.are_base();
     match branch_of_version(rows, version) {
         None => entry_made(rows, version, name),
-        Some(branch) => entry_made(rows, told_on(rows, version, branch, name), name),
+        Some(branch) => entry_made(rows, altering_row(rows, version, branch, name), name),
     }
 }
 
@@ -149,7 +149,7 @@ pub(crate) fn named_in<'a>(
     catalog: Catalog<'a>,
     name: &'a [u8],
 ) -> Option<u64>
-    ensures { result ≡ named name.now (catalog_in rows.now catalog.entry) }
+    ensures { result ≡ element_named name.now (catalog_in rows.now catalog.entry) }
 {
     let mut rows = first_rows(rows, rows.size());
     let mut catalog = catalog;
@@ -169,7 +169,7 @@ pub(crate) fn named_in<'a>(
 /// The element that a name stands for in the catalog of a version of a directory, where it is there. Takes the time of `newest` a
 /// few times for each branch on the way to the version and for each name that the element had since it was added.
 pub fn named_by_version(rows: &FirstRows<'_>, version: u64, name: &Name) -> Option<u64>
-    ensures { result ≡ named name.now (catalog_of rows.now version) }
+    ensures { result ≡ element_named name.now (catalog_of rows.now version) }
 {
     named_in(rows, Catalog::OfVersion(version), name.as_bytes())
 }
@@ -182,7 +182,7 @@ pub fn named_by_checkout(
     directory: u64,
     name: &Name,
 ) -> Option<u64>
-    ensures { result ≡ named name.now (own_of rows.now view.now directory) }
+    ensures { result ≡ element_named name.now (own_of rows.now view.now directory) }
 {
     named_in(rows, Catalog::OfCheckout(view, directory), name.as_bytes())
 }

@@ -11,7 +11,7 @@ ghost use Rattle.base_rows.specs.Effects.{plain_checkout};
 
 use crate::reservations::{other_reserver, reserver};
 use base_rows::bases::FirstRows;
-use base_rows::desks::Checkout;
+use base_rows::checkouts::Checkout;
 use base_rows::trees::{branch_of_version, is_latest};
 use cc_names::names::Name;
 

@@ -6,7 +6,7 @@ ghost use Rattle.base_model.specs.Conditions.{has_name, has_out_by_name, is_dire
 use crate::catalogs::named_by_checkout;
 use crate::seen::kind_of;
 use base_rows::bases::FirstRows;
-use base_rows::desks::has_out;
+use base_rows::checkouts::has_out;
 use cc_names::names::Name;
 use cc_names::rows::Kind;
 

@@ -16,7 +16,7 @@ use crate::scrubs::may_be_scrubbed;
 use crate::seen::kind_of;
 use crate::types::is_type_taken;
 use base_rows::bases::{FirstRows, row_at};
-use base_rows::objects::{held, is_target, live};
+use base_rows::objects::{held_object, is_target, live_row};
 use base_rows::views::{private, view_row};
 use cc_names::memory::{NoMemory, Or};
 use cc_names::names::Name;
@@ -130,9 +130,9 @@ fn deed_fits(alloc: Global, rows: &FirstRows<'_>, deed: &Deed) -> Result<bool, N
             Ok(view_row(rows, view).is_some() && are_entries(rows, entries.as_slice()))
         }
         Deed::Wink { view, object } => {
-            Ok(view_row(rows, view).is_some() && live(rows, *object).is_some())
+            Ok(view_row(rows, view).is_some() && live_row(rows, *object).is_some())
         }
-        Deed::Drop { view, path } => Ok(held(rows, view, path).is_some()),
+        Deed::Drop { view, path } => Ok(held_object(rows, view, path).is_some()),
         Deed::Scrub { objects } => Ok(may_all_be_scrubbed(rows, objects.as_slice())),
         Deed::Mkelem { .. } | Deed::Rmname { .. } | Deed::Mv { .. } => {
             Ok(catalog_deed_fits(rows, deed))

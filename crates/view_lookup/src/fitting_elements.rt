@@ -15,7 +15,7 @@ use crate::directories::{has_name, has_out_by_name, is_directory_element, is_fil
 use crate::merges::arrow_row;
 use crate::types::{is_branch_type, is_label_type};
 use base_rows::bases::FirstRows;
-use base_rows::desks::{checked_out, has_out};
+use base_rows::checkouts::{checked_out, has_out};
 use base_rows::labels::has_label;
 use base_rows::trees::{is_latest, is_version_of};
 use base_rows::views::view_row;

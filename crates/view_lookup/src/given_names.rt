@@ -2,7 +2,7 @@
 
 ghost use Rattle.std.specs.Prelude.{◌≡◌, IfOk};
 ghost use Rattle.base_rows.specs.Giving.{gives_in, naming_effect};
-ghost use Rattle.base_rows.specs.Walks.{all_told};
+ghost use Rattle.base_rows.specs.Walks.{updating_rows};
 
 use base_rows::bases::FirstRows;
 use base_rows::look_ups::{Does, LookUp, only_if};
@@ -20,7 +20,7 @@ struct NamingIn {
 impl LookUp for NamingIn {
     type Item = u64;
 
-    ghost use Rattle.base_rows.specs.Bearings.{naming_bears};
+    ghost use Rattle.base_rows.specs.AffectedSubjects.{naming_affects};
     ghost use Rattle.base_rows.specs.Giving.{naming_effect};
     ghost use Rattle.base_rows.specs.Subjects as model;
 
@@ -36,7 +36,7 @@ impl LookUp for NamingIn {
         Subject::Given(self.directory)
     }
 
-    ghost bears = { λ it. naming_bears it.directory };
+    ghost affects = { λ it. naming_affects it.directory };
 }
 
 /// Whether a deed gives a name in the directory.
@@ -64,7 +64,7 @@ pub fn rows_naming(
     directory: u64,
 ) -> Result<Vec<u64>, NoMemory>
     ensures { IfOk result
-        (λ numbers. numbers.items ≡ all_told (naming_effect directory) rows.now) }
+        (λ numbers. numbers.items ≡ updating_rows (naming_effect directory) rows.now) }
 {
-    rows.all_told(alloc, &NamingIn { directory })
+    rows.updating_rows(alloc, &NamingIn { directory })
 }

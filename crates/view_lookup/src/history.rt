@@ -20,7 +20,7 @@ struct HistoryOf {
 impl LookUp for HistoryOf {
     type Item = u64;
 
-    ghost use Rattle.base_rows.specs.Bearings.{history_bears};
+    ghost use Rattle.base_rows.specs.AffectedSubjects.{history_affects};
     ghost use Rattle.base_rows.specs.Histories.{history_effect};
     ghost use Rattle.base_rows.specs.Subjects as model;
 
@@ -30,7 +30,7 @@ impl LookUp for HistoryOf {
 
     fn effect(&self, older: &FirstRows<'_>, deed: &Deed) -> Does<u64> {
         let number = older.size();
-        let is_told = match deed {
+        let is_in_history = match deed {
             Deed::Mkelem { .. } => number == self.element,
             Deed::Branch { element, .. } => *element == self.element,
             Deed::Checkin { element, .. } => *element == self.element,
@@ -39,14 +39,14 @@ impl LookUp for HistoryOf {
             Deed::Labels { placed, .. } => is_placed_on(self.element, placed.as_slice()),
             _ => false,
         };
-        only_if(is_told, Does::Sets(number))
+        only_if(is_in_history, Does::Sets(number))
     }
 
     fn subject(&self) -> Subject<'_> {
         Subject::History(self.element)
     }
 
-    ghost bears = { λ it. history_bears it.element };
+    ghost affects = { λ it. history_affects it.element };
 }
 
 /// Whether a label is put on a version of the element.
@@ -61,5 +61,5 @@ fn is_placed_on(element: u64, placed: &[Placed]) -> bool
 pub fn history_of(alloc: Global, rows: &FirstRows<'_>, element: u64) -> Result<Vec<u64>, NoMemory>
     ensures { IfOk result (λ numbers. numbers.items ≡ history_of rows.now element) }
 {
-    rows.all_told(alloc, &HistoryOf { element })
+    rows.updating_rows(alloc, &HistoryOf { element })
 }

@@ -20,7 +20,7 @@ struct LeavingOf {
 impl LookUp for LeavingOf {
     type Item = u64;
 
-    ghost use Rattle.base_rows.specs.Bearings.{leaving_bears};
+    ghost use Rattle.base_rows.specs.AffectedSubjects.{leaving_affects};
     ghost use Rattle.base_rows.specs.Effects.{leaving_effect};
     ghost use Rattle.base_rows.specs.Subjects as model;
 
@@ -41,7 +41,7 @@ impl LookUp for LeavingOf {
         Subject::Leaving(self.version)
     }
 
-    ghost bears = { λ it. leaving_bears it.version };
+    ghost affects = { λ it. leaving_affects it.version };
 }
 
 /// The branches that leave a version, the newest first. Takes time linear in the rows with its key, those behind these rows too.
@@ -53,5 +53,5 @@ pub fn branches_leaving(
     ensures { IfOk result
         (λ branches. branches.items ≡ branches_leaving version (tree rows.now)) }
 {
-    rows.all_told(alloc, &LeavingOf { version })
+    rows.updating_rows(alloc, &LeavingOf { version })
 }

@@ -38,28 +38,34 @@ mod texts;
 mod types;
 
 pub use base_rows::bases::{FirstRows, Rows, first_rows, row_at};
+pub use base_rows::checkouts::{Checkout, checked_out, has_out, making};
+pub use base_rows::labels::{has_label, holder};
+pub use base_rows::listings::{is_publish, placed_by};
+pub use base_rows::objects::{held_at_all, held_object, live_row, targets_of};
+pub use base_rows::prepared::Prepared;
+pub use base_rows::trees::{
+    branch_of_version, is_latest, is_version_of, latest_beside, latest_version, name_of_branch,
+    origin_of, version_id_of, version_numbered,
+};
+pub use base_rows::view_specs::{rules, spec_text};
+pub use base_rows::views::{private, view_row};
 pub use branch_names::{branch_named, has_branch};
 pub use catalogs::{named_by_checkout, named_by_version};
 pub use checkins::{
     branch_of, is_unreserved, may_check_in, may_reserve, other_reserver_beside, reserver_beside,
 };
 pub use closures::{InputTest, first_input};
-pub use base_rows::desks::{Checkout, checked_out, has_out, making};
 pub use directories::{has_name, has_out_by_name, is_directory_element, is_file_element};
 pub use fitting::{ROW_LIMIT, fits};
 pub use given_names::rows_naming;
 pub use history::history_of;
-pub use base_rows::labels::{has_label, holder};
 pub use leaving::branches_leaving;
-pub use base_rows::listings::{is_publish, placed_by};
 pub use merged::arrows_into;
 pub use merges::arrow_row;
 pub use named_versions::version_named;
-pub use base_rows::objects::{held, held_at_all, live, targets_of};
 pub use owned::rows_owning;
 pub use picks::pick;
 pub use pool::{RecordTest, newest_object, publishes};
-pub use base_rows::prepared::Prepared;
 pub use preparing::prepare;
 pub use reservations::{other_reserver, reserver};
 pub use scrubs::{holds_one, is_held, may_be_scrubbed, winks_of};
@@ -67,10 +73,4 @@ pub use seeing::remember;
 pub use seen::{at, file_at, is_directory, kind_of};
 pub use standings::oldest_out;
 pub use texts::{text_at, text_of};
-pub use base_rows::trees::{
-    branch_of_version, is_latest, is_version_of, latest_beside, latest_version, name_of_branch,
-    origin_of, version_id_of, version_numbered,
-};
 pub use types::{is_branch_type, is_label_type, is_type_taken, kind_of_type};
-pub use base_rows::view_specs::{rules, spec_text};
-pub use base_rows::views::{private, view_row};

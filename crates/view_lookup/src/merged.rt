@@ -2,7 +2,7 @@
 
 ghost use Rattle.std.specs.Prelude.{◌≡◌, IfOk};
 ghost use Rattle.base_rows.specs.Effects.{merged_effect};
-ghost use Rattle.base_rows.specs.Walks.{all_told};
+ghost use Rattle.base_rows.specs.Walks.{updating_rows};
 
 use base_rows::bases::FirstRows;
 use base_rows::look_ups::{Does, LookUp, only_if};
@@ -20,7 +20,7 @@ struct MergedInto {
 impl LookUp for MergedInto {
     type Item = u64;
 
-    ghost use Rattle.base_rows.specs.Bearings.{merged_bears};
+    ghost use Rattle.base_rows.specs.AffectedSubjects.{merged_affects};
     ghost use Rattle.base_rows.specs.Effects.{merged_effect};
     ghost use Rattle.base_rows.specs.Subjects as model;
 
@@ -39,13 +39,13 @@ impl LookUp for MergedInto {
         Subject::Merged(self.head)
     }
 
-    ghost bears = { λ it. merged_bears it.head };
+    ghost affects = { λ it. merged_affects it.head };
 }
 
 /// The numbers of the rows that say that a version was merged into the version `head`, the newest first. Takes time linear in
 /// them, and in the rows with the version's key.
 pub fn arrows_into(alloc: Global, rows: &FirstRows<'_>, head: u64) -> Result<Vec<u64>, NoMemory>
-    ensures { IfOk result (λ numbers. numbers.items ≡ all_told (merged_effect head) rows.now) }
+    ensures { IfOk result (λ numbers. numbers.items ≡ updating_rows (merged_effect head) rows.now) }
 {
-    rows.all_told(alloc, &MergedInto { head })
+    rows.updating_rows(alloc, &MergedInto { head })
 }

@@ -19,7 +19,7 @@ struct MergeOf {
 impl LookUp for MergeOf {
     type Item = u64;
 
-    ghost use Rattle.base_rows.specs.Bearings.{merge_bears};
+    ghost use Rattle.base_rows.specs.AffectedSubjects.{merge_affects};
     ghost use Rattle.base_rows.specs.Effects.{merge_effect};
     ghost use Rattle.base_rows.specs.Subjects as model;
 
@@ -45,7 +45,7 @@ impl LookUp for MergeOf {
         Subject::Merge(self.element, self.tail, self.head)
     }
 
-    ghost bears = { λ it. merge_bears it.element it.tail it.head };
+    ghost affects = { λ it. merge_affects it.element it.tail it.head };
 }
 
 /// The row that says that the version `tail` of an element was merged into its version `head`, where there is one. Takes the time

@@ -2,7 +2,7 @@
 
 ghost use Rattle.std.specs.Prelude.{◌≡◌, IfOk};
 ghost use Rattle.base_rows.specs.Giving.{gives_view, own_effect};
-ghost use Rattle.base_rows.specs.Walks.{all_told};
+ghost use Rattle.base_rows.specs.Walks.{updating_rows};
 
 use base_rows::bases::FirstRows;
 use base_rows::look_ups::{Does, LookUp, only_if};
@@ -22,7 +22,7 @@ struct OwnOf<'a> {
 impl LookUp for OwnOf<'_> {
     type Item = u64;
 
-    ghost use Rattle.base_rows.specs.Bearings.{own_bears};
+    ghost use Rattle.base_rows.specs.AffectedSubjects.{own_affects};
     ghost use Rattle.base_rows.specs.Giving.{own_effect};
     ghost use Rattle.base_rows.specs.Subjects as model;
 
@@ -38,7 +38,7 @@ impl LookUp for OwnOf<'_> {
         Subject::Owned(self.view)
     }
 
-    ghost bears = { λ it. own_bears it.view.now };
+    ghost affects = { λ it. own_affects it.view.now };
 }
 
 /// Whether a deed gives the view something.
@@ -57,7 +57,7 @@ fn gives_view(view: &Name, deed: &Deed) -> bool
 /// them, and in the rows with the view's key.
 pub fn rows_owning(alloc: Global, rows: &FirstRows<'_>, view: &Name) -> Result<Vec<u64>, NoMemory>
     ensures { IfOk result
-        (λ numbers. numbers.items ≡ all_told (own_effect view.now) rows.now) }
+        (λ numbers. numbers.items ≡ updating_rows (own_effect view.now) rows.now) }
 {
-    rows.all_told(alloc, &OwnOf { view })
+    rows.updating_rows(alloc, &OwnOf { view })
 }

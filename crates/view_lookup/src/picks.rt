@@ -2,13 +2,13 @@
 
 ghost use Rattle.std.specs.Prelude.{◌≡◌};
 ghost use Rattle.cc_names.specs.Paths.{names_of};
-ghost use Rattle.base_model.specs.Seen.{selected};
+ghost use Rattle.base_model.specs.Seen.{selection_at};
 
 use crate::branch_names::branch_named;
 use base_rows::bases::FirstRows;
-use base_rows::desks::making;
+use base_rows::checkouts::making;
 use base_rows::labels::holder;
-use base_rows::listings::listed;
+use base_rows::listings::recorded_version;
 use base_rows::trees::{branch_of_version, latest_version, origin_of, version_numbered};
 use base_rows::view_specs::rules;
 use cc_names::names::Name;
@@ -18,15 +18,15 @@ use spec_text::{Selectable, pick_from};
 
 /// What there is to select from in the first rows of a base, and the row that makes the text of the view's checkout.
 #[derive(Drop)]
-struct Sight<'a, 'b> {
+struct SelectableRows<'a, 'b> {
     rows: &'a FirstRows<'b>,
     out: Option<u64>,
 }
 
-impl Selectable for Sight<'_, '_> {
+impl Selectable for SelectableRows<'_, '_> {
     ghost use Rattle.view_lookup.specs.Picking.{selectables};
 
-    ghost selectables = { λ sight. selectables sight.rows.now sight.out };
+    ghost selectables = { λ selectable. selectables selectable.rows.now selectable.out };
 
     fn branch_named(&self, element: u64, name: &Name) -> Option<u64> {
         branch_named(self.rows, element, name)
@@ -40,7 +40,7 @@ impl Selectable for Sight<'_, '_> {
         latest_version(self.rows, branch, before)
     }
 
-    fn numbered(&self, branch: u64, number: u64) -> Option<u64> {
+    fn version_of_number(&self, branch: u64, number: u64) -> Option<u64> {
         version_numbered(self.rows, branch, number)
     }
 
@@ -48,8 +48,8 @@ impl Selectable for Sight<'_, '_> {
         holder(self.rows, label, element)
     }
 
-    fn listed(&self, object: u64, target: &Path, element: u64) -> Option<u64> {
-        listed(self.rows, object, target, element)
+    fn recorded_version(&self, object: u64, target: &Path, element: u64) -> Option<u64> {
+        recorded_version(self.rows, object, target, element)
     }
 
     fn checkout(&self) -> Option<u64> {
@@ -61,12 +61,12 @@ impl Selectable for Sight<'_, '_> {
 /// view that there is not. Takes the time of `making` and of `rules`, and for each rule tried the matching of the path and one
 /// look-up, for a rule that names a branch two for each of its names; no memory.
 pub fn pick(rows: &FirstRows<'_>, view: &Name, element: u64, path: &[u8]) -> Option<Picked>
-    ensures { result ≡ selected rows.now view.now element (names_of path.now) }
+    ensures { result ≡ selection_at rows.now view.now element (names_of path.now) }
 {
     let spec = rules(rows, view)?;
-    let sight = Sight {
+    let selectable = SelectableRows {
         rows,
         out: making(rows, view, element),
     };
-    pick_from(&sight, spec, element, path)
+    pick_from(&selectable, spec, element, path)
 }

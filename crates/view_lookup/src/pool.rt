@@ -6,7 +6,7 @@ ghost use Rattle.base_rows.specs.Pool.{newest_object, publishes};
 
 use base_rows::bases::FirstRows;
 use base_rows::look_ups::{Does, LookUp, only_if};
-use base_rows::objects::live;
+use base_rows::objects::live_row;
 use base_rows::subjects::Subject;
 use cc_names::paths::Path;
 use cc_names::rows::{Deed, ReadOf};
@@ -60,7 +60,7 @@ struct PoolOf<'a, T> {
 impl<T: RecordTest> LookUp for PoolOf<'_, T> {
     type Item = u64;
 
-    ghost use Rattle.base_rows.specs.Bearings.{pool_bears};
+    ghost use Rattle.base_rows.specs.AffectedSubjects.{pool_affects};
     ghost use Rattle.base_rows.specs.Effects.{pool_effect};
     ghost use Rattle.base_rows.specs.Subjects as model;
 
@@ -71,7 +71,7 @@ impl<T: RecordTest> LookUp for PoolOf<'_, T> {
     fn effect(&self, older: &FirstRows<'_>, deed: &Deed) -> Does<u64> {
         let number = older.size();
         only_if(
-            live(self.rows, number).is_some() && publishes(deed, self.targets, self.test),
+            live_row(self.rows, number).is_some() && publishes(deed, self.targets, self.test),
             Does::Sets(number),
         )
     }
@@ -80,11 +80,11 @@ impl<T: RecordTest> LookUp for PoolOf<'_, T> {
         Subject::Pool(self.targets)
     }
 
-    ghost bears = { λ it. pool_bears it.rows.now it.targets.now (T.passes it.test.now) };
+    ghost affects = { λ it. pool_affects it.rows.now it.targets.now (T.passes it.test.now) };
 }
 
 /// The newest live object with these targets whose record passes. Takes time linear in the targets, and for each object with
-/// these targets, live or scrubbed, from the newest on as far as the one that is found, the time of `live` and, where it is live,
+/// these targets, live or scrubbed, from the newest on as far as the one that is found, the time of `live_row` and, where it is live,
 /// that of `publishes`.
 pub fn newest_object<T: RecordTest>(rows: &FirstRows<'_>, targets: &[Path], test: &T) -> Option<u64>
     ensures { result ≡ newest_object rows.now targets.now (T.passes test.now) }

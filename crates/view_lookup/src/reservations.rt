@@ -8,7 +8,7 @@ ghost use Rattle.view_lookup.specs.Reservations.{newest_reserving, reserving};
 
 use crate::standings::stands;
 use base_rows::bases::{FirstRows, row_at};
-use base_rows::desks::{Taken, made_out};
+use base_rows::checkouts::{Taken, made_out};
 use base_rows::look_ups::{Does, LookUp, only_if};
 use base_rows::subjects::{Subject, reserved_branch};
 use base_rows::views::same_name;
@@ -24,7 +24,7 @@ struct ReservingOf {
 impl LookUp for ReservingOf {
     type Item = u64;
 
-    ghost use Rattle.base_rows.specs.Bearings.{reserving_bears};
+    ghost use Rattle.base_rows.specs.AffectedSubjects.{reserving_affects};
     ghost use Rattle.base_rows.specs.Effects.{reserving_effect};
     ghost use Rattle.base_rows.specs.Subjects as subjects;
 
@@ -43,7 +43,7 @@ impl LookUp for ReservingOf {
         Subject::Reserved(self.branch)
     }
 
-    ghost bears = { λ it. reserving_bears it.branch };
+    ghost affects = { λ it. reserving_affects it.branch };
 }
 
 /// The newest reserved checkout that was made on a branch, whatever became of it.

@@ -3,10 +3,10 @@
 ghost use Rattle.std.specs.Prelude.{◌≡◌, ◌<◌, ◌≤◌, length, is_some, option_map};
 ghost use Rattle.cc_names.specs.Paths.{names_of};
 ghost use Rattle.cc_names.specs.Versions.{kind_of};
-ghost use Rattle.base_model.specs.Catalogs.{named};
+ghost use Rattle.base_model.specs.Catalogs.{element_named};
 ghost use Rattle.base_model.specs.Changes.{tree};
 ghost use Rattle.base_model.specs.Rows.{Base};
-ghost use Rattle.base_model.specs.Seen.{as_seen, at, below, directory_at, element_at, entries_by, entries_of, file_at, path_limit, private_or, selected};
+ghost use Rattle.base_model.specs.Seen.{as_seen, at, below, directory_at, element_at, entries_by, entries_of, file_at, path_limit, private_or, selection_at};
 ghost use Rattle.base_model.specs.Views.{private};
 ghost use Rattle.view_lookup.specs.Resolving.{catalog_in};
 ghost use Rattle.base_rows.specs.Made.{kind_made};
@@ -44,7 +44,7 @@ pub fn kind_of(rows: &FirstRows<'_>, element: u64) -> Option<Kind>
 /// An element at the path of these bytes, with what the view selects of it. Takes the time of `pick`.
 fn seen_element(rows: &FirstRows<'_>, view: &Name, element: u64, path: &[u8]) -> Seen
     ensures { result
-        ≡ as_seen element (selected rows.now view.now element (names_of path.now)) }
+        ≡ as_seen element (selection_at rows.now view.now element (names_of path.now)) }
 {
     match pick(rows, view, element, path) {
         Some(picked) => Seen::Element(element, picked),
@@ -100,7 +100,7 @@ fn in_catalog(
     ensures { result
         ≡ private_or (private rows.now view.now path.now)
         (element_at rows.now view.now (names_of path.now)
-        (named name.now (catalog_in rows.now catalog.entry))) }
+        (element_named name.now (catalog_in rows.now catalog.entry))) }
 {
     if let Some(row) = private_at(rows, view, path) {
         return Seen::Private(row);

@@ -5,7 +5,7 @@ ghost use Rattle.base_model.specs.Checkouts.{oldest_out};
 ghost use Rattle.base_rows.specs.Effects.{plain_taken, stands};
 
 use base_rows::bases::FirstRows;
-use base_rows::desks::{Taken, checked_out, made_out};
+use base_rows::checkouts::{Taken, checked_out, made_out};
 use base_rows::look_ups::{Does, LookUp, only_if};
 use base_rows::subjects::Subject;
 use base_rows::views::same_name;
@@ -32,13 +32,13 @@ struct StandingOf<'a> {
 impl LookUp for StandingOf<'_> {
     type Item = u64;
 
-    ghost use Rattle.base_rows.specs.Bearings.{standing_bears};
+    ghost use Rattle.base_rows.specs.AffectedSubjects.{standing_affects};
     ghost use Rattle.base_rows.specs.Effects.{standing_effect};
     ghost use Rattle.base_rows.specs.Subjects as subjects;
 
     ghost effect = { λ it. standing_effect it.rows.now it.view.now };
 
-    ghost about = { λ it. subjects.Desk it.view.now };
+    ghost about = { λ it. subjects.AllCheckedOut it.view.now };
 
     fn effect(&self, older: &FirstRows<'_>, deed: &Deed) -> Does<u64> {
         match made_out(older.size(), deed) {
@@ -51,10 +51,10 @@ impl LookUp for StandingOf<'_> {
     }
 
     fn subject(&self) -> Subject<'_> {
-        Subject::Desk(self.view)
+        Subject::AllCheckedOut(self.view)
     }
 
-    ghost bears = { λ it. standing_bears it.rows.now it.view.now };
+    ghost affects = { λ it. standing_affects it.rows.now it.view.now };
 }
 
 /// The row that made the view's oldest checkout. Takes time linear in what the view took out in its life and in lives before, and

@@ -7,7 +7,7 @@ ghost use Rattle.view_lookup.specs.Sources.{plain_source};
 
 use crate::seen::file_at;
 use base_rows::bases::{FirstRows, first_rows, row_at};
-use base_rows::desks::making;
+use base_rows::checkouts::making;
 use cc_names::names::Name;
 use cc_names::paths::Path;
 use cc_names::rows::Deed;

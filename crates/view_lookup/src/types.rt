@@ -20,7 +20,7 @@ struct NamedOf<'a> {
 impl LookUp for NamedOf<'_> {
     type Item = TypeKind;
 
-    ghost use Rattle.base_rows.specs.Bearings.{named_bears};
+    ghost use Rattle.base_rows.specs.AffectedSubjects.{named_affects};
     ghost use Rattle.base_rows.specs.Effects.{named_effect};
     ghost use Rattle.base_rows.specs.Subjects as model;
 
@@ -39,7 +39,7 @@ impl LookUp for NamedOf<'_> {
         Subject::Named(self.name)
     }
 
-    ghost bears = { λ it. named_bears it.name.now };
+    ghost affects = { λ it. named_affects it.name.now };
 }
 
 /// What the type of this name is a type of, where there is one. Takes the time of `newest`.

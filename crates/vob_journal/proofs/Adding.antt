@@ -2,10 +2,10 @@
 use Rattle.std.proofs.Common.{◌≡◌, ◌+◌, ℕ, Bool, true, false, ◌&&◌, List, [], ◌∷◌, ◌++◌, refl, sym, ◌∙◌, ap, ap₂, subst, inl, inr, append_assoc}
 use Rattle.std.proofs.lemmas.List.Folds.{list_all-append}
 use Rattle.std.specs.List.{list_all}
-use Rattle.disk_model.specs.Devices.{Device, Event, Measured, Wrote, Tore, Synced, Failed, Measures, added}
+use Rattle.disk_model.specs.Devices.{Device, Event, Measured, Wrote, Tore, Synced, Failed, Measures, with_call}
 use Rattle.vob_journal.specs.Added.{Adds, WritesOn, may_read, may_write}
-use Rattle.vob_journal.specs.Calls.{put_down, settled_first, committed, Settles, StaysLoose, CommitsFrame, FailsToAppend}
-use Rattle.vob_journal.specs.Frames.{written}
+use Rattle.vob_journal.specs.Calls.{put_down, settled_first, device_after_commit, Settles, LeavesLeftover, CommitsFrame, FailsToAppend}
+use Rattle.vob_journal.specs.Frames.{frame_after_gate}
 use Rattle.vob_journal.specs.declared.left.Left.{Left}
 use Rattle.vob_journal.specs.Phases.{FailsToPut}
 
@@ -20,10 +20,10 @@ adds_then kind d e f one two = record {
 }
 
 -- one call, or two
-pub adds_one : (kind : Event → Bool) (event : Event) (d : Device) → list_all kind (event ∷ []) ≡ true → Adds kind d (added event d)
+pub adds_one : (kind : Event → Bool) (event : Event) (d : Device) → list_all kind (event ∷ []) ≡ true → Adds kind d (with_call event d)
 adds_one kind event d is = record { more = event ∷ []; calls = refl; kinds = is }
 
-pub adds_two : (kind : Event → Bool) (event next : Event) (d : Device) → list_all kind (next ∷ event ∷ []) ≡ true → Adds kind d (added next (added event d))
+pub adds_two : (kind : Event → Bool) (event next : Event) (d : Device) → list_all kind (next ∷ event ∷ []) ≡ true → Adds kind d (with_call next (with_call event d))
 adds_two kind event next d is = record { more = next ∷ event ∷ []; calls = refl; kinds = is }
 
 -- a piece that was put down, or not
@@ -42,13 +42,13 @@ pub settled_adds : (settled : Bool) (tail : ℕ) (d : Device) → Adds may_write
 settled_adds true tail d = adds_none may_write d
 settled_adds false tail d = put_adds tail (0 ∷ []) d (put_down tail (0 ∷ []) d) refl
 
-pub committed_adds : (settled : Bool) (tail : ℕ) (payload : List ℕ) (d e : Device) → e ≡ committed settled tail payload d → Adds may_write d e
+pub committed_adds : (settled : Bool) (tail : ℕ) (payload : List ℕ) (d e : Device) → e ≡ device_after_commit settled tail payload d → Adds may_write d e
 committed_adds settled tail payload d e made =
     let one = settled_first settled tail d in
-    let two = put_down (tail + 1) (written payload) one in
+    let two = put_down (tail + 1) (frame_after_gate payload) one in
     subst (Adds may_write d) (sym made)
     (adds_then may_write d two (put_down tail (1 ∷ []) two)
-    (adds_then may_write d one two (settled_adds settled tail d) (put_adds (tail + 1) (written payload) one two refl))
+    (adds_then may_write d one two (settled_adds settled tail d) (put_adds (tail + 1) (frame_after_gate payload) one two refl))
     (put_adds tail (1 ∷ []) two (put_down tail (1 ∷ []) two) refl))
 
 -- what reads
@@ -65,5 +65,5 @@ fails_writes settled tail payload left d e h = record { adds = h.keeps.adds; obj
 pub settles_writes : (settled : Bool) (tail : ℕ) (d e : Device) → Settles settled tail d e → WritesOn d e
 settles_writes settled tail d e h = record { adds = h.keeps.adds; objects = h.keeps.moves.passes.objects }
 
-pub stays_writes : (settled : Bool) (tail : ℕ) (d e : Device) → StaysLoose settled tail d e → WritesOn d e
+pub stays_writes : (settled : Bool) (tail : ℕ) (d e : Device) → LeavesLeftover settled tail d e → WritesOn d e
 stays_writes settled tail d e h = record { adds = h.keeps.adds; objects = h.keeps.moves.passes.objects }

@@ -112,19 +112,19 @@ frames_frame frame payload rest h all =
 pub whole_nil : IsWhole []
 whole_nil = record { goes_on = λ rest. ap (λ list. list ++ frames rest) (sym frames_nil) }
 
-pub frames_more : (front frame payload : List ℕ) → IsWhole front → IsHead frame payload → length frame ≡ 5 + length payload → frames (front ++ frame) ≡ frames front ++ payload ∷ []
-frames_more front frame payload whole h all =
+pub frames_more : (prefix frame payload : List ℕ) → IsWhole prefix → IsHead frame payload → length frame ≡ 5 + length payload → frames (prefix ++ frame) ≡ frames prefix ++ payload ∷ []
+frames_more prefix frame payload whole h all =
     whole.goes_on frame
-    ∙ ap (λ list. frames front ++ list) (ap frames (sym (append-nil frame)) ∙ frames_frame frame payload [] h all ∙ ap (λ list. payload ∷ list) frames_nil)
+    ∙ ap (λ list. frames prefix ++ list) (ap frames (sym (append-nil frame)) ∙ frames_frame frame payload [] h all ∙ ap (λ list. payload ∷ list) frames_nil)
 
-pub whole_more : (front frame payload : List ℕ) → IsWhole front → IsHead frame payload → length frame ≡ 5 + length payload → IsWhole (front ++ frame)
-whole_more front frame payload whole h all = record {
+pub whole_more : (prefix frame payload : List ℕ) → IsWhole prefix → IsHead frame payload → length frame ≡ 5 + length payload → IsWhole (prefix ++ frame)
+whole_more prefix frame payload whole h all = record {
   goes_on = λ rest.
-      ap frames (append_assoc front frame rest)
+      ap frames (append_assoc prefix frame rest)
       ∙ whole.goes_on (frame ++ rest)
-      ∙ ap (λ list. frames front ++ list) (frames_frame frame payload rest h all)
-      ∙ sym (append_assoc (frames front) (payload ∷ []) (frames rest))
-      ∙ ap (λ list. list ++ frames rest) (sym (frames_more front frame payload whole h all));
+      ∙ ap (λ list. frames prefix ++ list) (frames_frame frame payload rest h all)
+      ∙ sym (append_assoc (frames prefix) (payload ∷ []) (frames rest))
+      ∙ ap (λ list. list ++ frames rest) (sym (frames_more prefix frame payload whole h all));
 }
 
 -- a frame as it is written

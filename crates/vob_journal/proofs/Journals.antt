@@ -6,12 +6,12 @@ use Rattle.std.proofs.lemmas.Bool.{cases_lt}
 use Rattle.std.proofs.lemmas.List.{append-nil, take-append-drop, drop_all, drop-drop, drop_more, get_or-drop, ext_get_or, length-take-le}
 use Rattle.disk_model.specs.Files.{stable, is_written, IsImage}
 use Rattle.disk_model.specs.Devices.{Device, Measured, file_of, bytes_of, LeavesNow, Measures}
-use Rattle.disk_model.specs.Told.{IfTold, Both}
+use Rattle.disk_model.specs.DiskStates.{IfModeled, Both}
 use Rattle.vob_journal.specs.Frames.{frames, head, is_shut}
 use Rattle.vob_journal.specs.Moves.{Stands, Moves}
 use Rattle.vob_journal.specs.Reads.{Rests}
-use Rattle.vob_journal.specs.Shown.{told_list, told_rest, told_loose, IsJournalKept}
-use Rattle.vob_journal.specs.Tails.{IsWhole, HoldsFront, IsTail, IsReading, list_at, loose_at}
+use Rattle.vob_journal.specs.Shown.{modeled_list, modeled_rest, modeled_leftover, JournalInvariant}
+use Rattle.vob_journal.specs.Tails.{IsWhole, HoldsPrefix, IsTail, IsReading, list_at, leftover_at}
 use Rattle.vob_journal.specs.Windows.{IfShows}
 use Rattle.vob_journal.specs.declared.window.Window.{Window}
 use Rattle.vob_journal.specs.Added.{may_read}
@@ -28,92 +28,92 @@ opened_image : (d : Device) → file_of 0 d ≡ stable (bytes_of 0 d) → (image
 opened_image d is image left = ap frames (stable_image (bytes_of 0 d) image (subst (λ s. IsImage s image) is left))
 
 -- what is read and what is not make the whole list
-pub reading_list : (tail size : ℕ) (d : Device) → IsReading tail size d → told_list (Some d) false tail ≡ frames (bytes_of 0 d)
+pub reading_list : (tail size : ℕ) (d : Device) → IsReading tail size d → modeled_list (Some d) false tail ≡ frames (bytes_of 0 d)
 reading_list tail size d reading = sym (reading.whole.goes_on (drop tail (bytes_of 0 d))) ∙ ap frames (take-append-drop tail (bytes_of 0 d))
 
 -- a stop now
-pub kept_now : (told : Option Device) (ended settled : Bool) (tail size : ℕ) (window : Option Window) → IsJournalKept told ended settled tail size window
-    → IfTold told (λ d. (image : List ℕ) → LeavesNow 0 d image → Stands (told_list told ended tail) (told_loose told ended settled tail) image)
-kept_now None ended settled tail size window kept = tt
-kept_now (Some d) true true tail size window kept = λ image left.
+pub unchanged_now : (modeled : Option Device) (ended settled : Bool) (tail size : ℕ) (window : Option Window) → JournalInvariant modeled ended settled tail size window
+    → IfModeled modeled (λ d. (image : List ℕ) → LeavesNow 0 d image → Stands (modeled_list modeled ended tail) (modeled_leftover modeled ended settled tail) image)
+unchanged_now None ended settled tail size window kept = tt
+unchanged_now (Some d) true true tail size window kept = λ image left.
     inl (shut_image (list_at tail d) tail (file_of 0 d) kept.1 image left ∙ sym (append-nil (list_at tail d)))
-kept_now (Some d) true false tail size window kept = λ image left.
-    subst (λ l. Stands l (loose_at false tail d) image) (sym (append-nil (list_at tail d))) (ajar_image (list_at tail d) (loose_at false tail d) tail (file_of 0 d) kept.1 image left)
-kept_now (Some d) false settled tail size window kept = λ image left.
+unchanged_now (Some d) true false tail size window kept = λ image left.
+    subst (λ l. Stands l (leftover_at false tail d) image) (sym (append-nil (list_at tail d))) (ajar_image (list_at tail d) (leftover_at false tail d) tail (file_of 0 d) kept.1 image left)
+unchanged_now (Some d) false settled tail size window kept = λ image left.
     inl (opened_image d kept.3.as_opened image left ∙ sym (reading_list tail size d kept.3))
 
 -- opening: the journal was measured
-pub opened_reading : (size : ℕ) (old new : Option Device) → IfTold old (λ d. file_of 0 d ≡ stable (bytes_of 0 d)) → IfTold old (λ d. size ≡ length (bytes_of 0 d))
-    → Both (Measures 0) old new → IfTold new (IsReading 0 size)
-opened_reading size None None is all told = tt
-opened_reading size None (Some e) is all told = absurd told
-opened_reading size (Some d) None is all told = tt
-opened_reading size (Some d) (Some e) is all told = subst (IsReading 0 size) (sym told) (record { as_opened = is; within = omega arith; all = all; whole = whole_nil })
+pub opened_reading : (size : ℕ) (old new : Option Device) → IfModeled old (λ d. file_of 0 d ≡ stable (bytes_of 0 d)) → IfModeled old (λ d. size ≡ length (bytes_of 0 d))
+    → Both (Measures 0) old new → IfModeled new (IsReading 0 size)
+opened_reading size None None is all modeled = tt
+opened_reading size None (Some e) is all modeled = absurd modeled
+opened_reading size (Some d) None is all modeled = tt
+opened_reading size (Some d) (Some e) is all modeled = subst (IsReading 0 size) (sym modeled) (record { as_opened = is; within = omega arith; all = all; whole = whole_nil })
 
-pub opened_list : (old new : Option Device) → Both (Measures 0) old new → IfTold old (λ d. told_list new false 0 ≡ frames (bytes_of 0 d))
-opened_list None None told = tt
-opened_list None (Some e) told = tt
-opened_list (Some d) None told = absurd told
-opened_list (Some d) (Some e) told = subst (λ f. told_list (Some f) false 0 ≡ frames (bytes_of 0 d)) (sym told) (ap (λ l. l ++ frames (bytes_of 0 d)) frames_nil)
+pub opened_list : (old new : Option Device) → Both (Measures 0) old new → IfModeled old (λ d. modeled_list new false 0 ≡ frames (bytes_of 0 d))
+opened_list None None modeled = tt
+opened_list None (Some e) modeled = tt
+opened_list (Some d) None modeled = absurd modeled
+opened_list (Some d) (Some e) modeled = subst (λ f. modeled_list (Some f) false 0 ≡ frames (bytes_of 0 d)) (sym modeled) (ap (λ l. l ++ frames (bytes_of 0 d)) frames_nil)
 
-pub opened_rest : (told : Option Device) → told_rest told false 0 ≡ told_list told false 0
+pub opened_rest : (modeled : Option Device) → modeled_rest modeled false 0 ≡ modeled_list modeled false 0
 opened_rest None = refl
 opened_rest (Some d) = ap (λ l. l ++ frames (bytes_of 0 d)) (sym frames_nil)
 
-pub nothing_loose : (told : Option Device) (settled : Bool) (tail : ℕ) → told_loose told false settled tail ≡ []
-nothing_loose None settled tail = refl
-nothing_loose (Some d) settled tail = refl
+pub no_leftover : (modeled : Option Device) (settled : Bool) (tail : ℕ) → modeled_leftover modeled false settled tail ≡ []
+no_leftover None settled tail = refl
+no_leftover (Some d) settled tail = refl
 
 -- calls after which the file is as it was handed in
-rests_moves : (list loose list' loose' : List (List ℕ)) (d e : Device) → file_of 0 d ≡ stable (bytes_of 0 d) → Rests d e → list ≡ frames (bytes_of 0 d) → list' ≡ list
-    → Moves list loose list' loose' d e
-rests_moves list loose list' loose' d e is rests same new = record {
+rests_moves : (list leftover list' leftover' : List (List ℕ)) (d e : Device) → file_of 0 d ≡ stable (bytes_of 0 d) → Rests d e → list ≡ frames (bytes_of 0 d) → list' ≡ list
+    → Moves list leftover list' leftover' d e
+rests_moves list leftover list' leftover' d e is rests same new = record {
   passes = passes_weaker d e (LeavesNow 0 d) _ (λ image left. inl (inl (opened_image d is image left ∙ sym same))) rests.passes;
   now = λ image left. inl (opened_image d is image (subst (λ s. IsImage s image) rests.same left) ∙ sym same ∙ sym new);
 }
 
 pub measured_rests : (d e : Device) → Measures 0 d e → Rests d e
-measured_rests d e told = subst (Rests d) (sym told) (record { adds = adds_one may_read (Measured 0) d refl; same = refl; passes = passes_call (Measured 0) d (LeavesNow 0 d) (λ image left. left) (λ image left. left) refl })
+measured_rests d e modeled = subst (Rests d) (sym modeled) (record { adds = adds_one may_read (Measured 0) d refl; same = refl; passes = passes_call (Measured 0) d (LeavesNow 0 d) (λ image left. left) (λ image left. left) refl })
 
-pub opened_moves : (old new : Option Device) → IfTold old (λ d. file_of 0 d ≡ stable (bytes_of 0 d)) → Both (Measures 0) old new
-    → Both (Moves (told_list new false 0) [] (told_list new false 0) (told_loose new false false 0)) old new
-opened_moves None None is told = tt
-opened_moves None (Some e) is told = told
-opened_moves (Some d) None is told = told
-opened_moves (Some d) (Some e) is told =
-    rests_moves (told_list (Some e) false 0) [] (told_list (Some e) false 0) [] d e is (measured_rests d e told) (opened_list (Some d) (Some e) told) refl
+pub opened_moves : (old new : Option Device) → IfModeled old (λ d. file_of 0 d ≡ stable (bytes_of 0 d)) → Both (Measures 0) old new
+    → Both (Moves (modeled_list new false 0) [] (modeled_list new false 0) (modeled_leftover new false false 0)) old new
+opened_moves None None is modeled = tt
+opened_moves None (Some e) is modeled = modeled
+opened_moves (Some d) None is modeled = modeled
+opened_moves (Some d) (Some e) is modeled =
+    rests_moves (modeled_list (Some e) false 0) [] (modeled_list (Some e) false 0) [] d e is (measured_rests d e modeled) (opened_list (Some d) (Some e) modeled) refl
 
 -- nothing was done
-pub same_moves : (told : Option Device) (list loose : List (List ℕ)) → IfTold told (λ d. (image : List ℕ) → LeavesNow 0 d image → Stands list loose image)
-    → Both (Moves list loose list loose) told told
-same_moves None list loose now = tt
-same_moves (Some d) list loose now = record { passes = passes_none d _; now = now }
+pub same_moves : (modeled : Option Device) (list leftover : List (List ℕ)) → IfModeled modeled (λ d. (image : List ℕ) → LeavesNow 0 d image → Stands list leftover image)
+    → Both (Moves list leftover list leftover) modeled modeled
+same_moves None list leftover now = tt
+same_moves (Some d) list leftover now = record { passes = passes_none d _; now = now }
 
 -- what is known while a journal is read
-pub reading_of : (told : Option Device) (ended settled : Bool) (tail size : ℕ) (window : Option Window) → ended ≡ false → IsJournalKept told ended settled tail size window
-    → (tail ≤ size) × (size ≤ 2 ^ 62) × IfShows window told × IfTold told (IsReading tail size)
-reading_of told ended settled tail size window is kept = subst (λ b. IsJournalKept told b settled tail size window) is kept
+pub reading_of : (modeled : Option Device) (ended settled : Bool) (tail size : ℕ) (window : Option Window) → ended ≡ false → JournalInvariant modeled ended settled tail size window
+    → (tail ≤ size) × (size ≤ 2 ^ 62) × IfShows window modeled × IfModeled modeled (IsReading tail size)
+reading_of modeled ended settled tail size window is kept = subst (λ b. JournalInvariant modeled b settled tail size window) is kept
 
 -- a read that found nothing new
-pub missed_list : (old new : Option Device) (tail : ℕ) → Both Rests old new → told_list new false tail ≡ told_list old false tail
+pub missed_list : (old new : Option Device) (tail : ℕ) → Both Rests old new → modeled_list new false tail ≡ modeled_list old false tail
 missed_list None None tail rests = refl
 missed_list None (Some e) tail rests = absurd rests
 missed_list (Some d) None tail rests = absurd rests
 missed_list (Some d) (Some e) tail rests = ap (λ f. frames (take tail f.bytes) ++ frames (drop tail f.bytes)) rests.same
 
-pub missed_rest : (old new : Option Device) (tail : ℕ) → Both Rests old new → told_rest new false tail ≡ told_rest old false tail
+pub missed_rest : (old new : Option Device) (tail : ℕ) → Both Rests old new → modeled_rest new false tail ≡ modeled_rest old false tail
 missed_rest None None tail rests = refl
 missed_rest None (Some e) tail rests = absurd rests
 missed_rest (Some d) None tail rests = absurd rests
 missed_rest (Some d) (Some e) tail rests = ap (λ f. frames (drop tail f.bytes)) rests.same
 
-pub rest_moves : (tail size : ℕ) (list' loose' : List (List ℕ)) (old new : Option Device) → IfTold old (IsReading tail size) → Both Rests old new → list' ≡ told_list old false tail
-    → Both (Moves (told_list old false tail) [] list' loose') old new
-rest_moves tail size list' loose' None None reading rests same = tt
-rest_moves tail size list' loose' None (Some e) reading rests same = rests
-rest_moves tail size list' loose' (Some d) None reading rests same = rests
-rest_moves tail size list' loose' (Some d) (Some e) reading rests same =
-    rests_moves (told_list (Some d) false tail) [] list' loose' d e reading.as_opened rests (reading_list tail size d reading) same
+pub rest_moves : (tail size : ℕ) (list' leftover' : List (List ℕ)) (old new : Option Device) → IfModeled old (IsReading tail size) → Both Rests old new → list' ≡ modeled_list old false tail
+    → Both (Moves (modeled_list old false tail) [] list' leftover') old new
+rest_moves tail size list' leftover' None None reading rests same = tt
+rest_moves tail size list' leftover' None (Some e) reading rests same = rests
+rest_moves tail size list' leftover' (Some d) None reading rests same = rests
+rest_moves tail size list' leftover' (Some d) (Some e) reading rests same =
+    rests_moves (modeled_list (Some d) false tail) [] list' leftover' d e reading.as_opened rests (reading_list tail size d reading) same
 
 still_opened : (tail size : ℕ) (d e : Device) → IsReading tail size d → Rests d e → file_of 0 e ≡ stable (bytes_of 0 e)
 still_opened tail size d e reading rests = rests.same ∙ reading.as_opened ∙ ap (λ f. stable f.bytes) (sym rests.same)
@@ -135,16 +135,16 @@ reading_more tail size payload d e reading rests found fits =
       whole = subst (λ b. IsWhole (take (tail + n) b)) (sym same) (subst IsWhole (sym (take-add tail n bytes)) whole);
     }
 
-pub told_more : (tail size : ℕ) (payload : List ℕ) (old new : Option Device) → IfTold old (IsReading tail size) → Both Rests old new
-    → IfTold old (λ d. head (drop tail (bytes_of 0 d)) ≡ Some payload) → tail + (5 + length payload) ≤ size → IfTold new (IsReading (tail + (5 + length payload)) size)
-told_more tail size payload None None reading rests found fits = tt
-told_more tail size payload None (Some e) reading rests found fits = absurd rests
-told_more tail size payload (Some d) None reading rests found fits = tt
-told_more tail size payload (Some d) (Some e) reading rests found fits = reading_more tail size payload d e reading rests found fits
+pub modeled_more : (tail size : ℕ) (payload : List ℕ) (old new : Option Device) → IfModeled old (IsReading tail size) → Both Rests old new
+    → IfModeled old (λ d. head (drop tail (bytes_of 0 d)) ≡ Some payload) → tail + (5 + length payload) ≤ size → IfModeled new (IsReading (tail + (5 + length payload)) size)
+modeled_more tail size payload None None reading rests found fits = tt
+modeled_more tail size payload None (Some e) reading rests found fits = absurd rests
+modeled_more tail size payload (Some d) None reading rests found fits = tt
+modeled_more tail size payload (Some d) (Some e) reading rests found fits = reading_more tail size payload d e reading rests found fits
 
-pub more_list : (tail size : ℕ) (payload : List ℕ) (old new : Option Device) → IfTold old (IsReading tail size) → Both Rests old new
-    → IfTold old (λ d. head (drop tail (bytes_of 0 d)) ≡ Some payload) → tail + (5 + length payload) ≤ size
-    → told_list new false (tail + (5 + length payload)) ≡ told_list old false tail
+pub more_list : (tail size : ℕ) (payload : List ℕ) (old new : Option Device) → IfModeled old (IsReading tail size) → Both Rests old new
+    → IfModeled old (λ d. head (drop tail (bytes_of 0 d)) ≡ Some payload) → tail + (5 + length payload) ≤ size
+    → modeled_list new false (tail + (5 + length payload)) ≡ modeled_list old false tail
 more_list tail size payload None None reading rests found fits = refl
 more_list tail size payload None (Some e) reading rests found fits = absurd rests
 more_list tail size payload (Some d) None reading rests found fits = absurd rests
@@ -152,8 +152,8 @@ more_list tail size payload (Some d) (Some e) reading rests found fits =
     reading_list (tail + (5 + length payload)) size e (reading_more tail size payload d e reading rests found fits)
     ∙ ap (λ f. frames f.bytes) rests.same ∙ sym (reading_list tail size d reading)
 
-pub more_rest : (tail : ℕ) (payload : List ℕ) (old new : Option Device) → Both Rests old new → IfTold old (λ d. head (drop tail (bytes_of 0 d)) ≡ Some payload)
-    → IfTold old (λ d. told_rest old false tail ≡ payload ∷ told_rest new false (tail + (5 + length payload)))
+pub more_rest : (tail : ℕ) (payload : List ℕ) (old new : Option Device) → Both Rests old new → IfModeled old (λ d. head (drop tail (bytes_of 0 d)) ≡ Some payload)
+    → IfModeled old (λ d. modeled_rest old false tail ≡ payload ∷ modeled_rest new false (tail + (5 + length payload)))
 more_rest tail payload None new rests found = tt
 more_rest tail payload (Some d) None rests found = absurd rests
 more_rest tail payload (Some d) (Some e) rests found =
@@ -165,8 +165,8 @@ shut_gate : (rest : List ℕ) → is_shut rest ≡ true → (0 < length rest) ×
 shut_gate [] e = absurd (cc)
 shut_gate (gate ∷ rest) e = (omega arith, λ one. grind (arith, common_steps))
 
-front_of : (tail size : ℕ) (d e : Device) → IsReading tail size d → Rests d e → HoldsFront (list_at tail e) tail (file_of 0 e)
-front_of tail size d e reading rests =
+prefix_of : (tail size : ℕ) (d e : Device) → IsReading tail size d → Rests d e → HoldsPrefix (list_at tail e) tail (file_of 0 e)
+prefix_of tail size d e reading rests =
     let is = still_opened tail size d e reading rests in
     let same = ap (λ f. f.bytes) rests.same in
     record {
@@ -184,7 +184,7 @@ reading_ends true tail size d e reading rests is =
     let at : slice_index (bytes_of 0 e) tail ≡ slice_index (drop tail (bytes_of 0 d)) 0 =
     ap (λ b. get_or b tail 0) same ∙ sym (get_or-drop tail (bytes_of 0 d) 0 0 ∙ ap (λ n. get_or (bytes_of 0 d) n 0) (omega arith)) in
     record {
-      front = front_of tail size d e reading rests;
+      prefix = prefix_of tail size d e reading rests;
       gate_synced = omega (arith, ap (λ f. f.least) stays, ap length same, gate.0, length-drop tail (bytes_of 0 d));
       gate = λ one. gate.1 (sym at ∙ one);
       untouched = λ i below. ap (λ f. is_written f.written i) stays;
@@ -192,22 +192,22 @@ reading_ends true tail size d e reading rests is =
 reading_ends false tail size d e reading rests is =
     let stays = still_opened tail size d e reading rests in
     record {
-      front = front_of tail size d e reading rests;
+      prefix = prefix_of tail size d e reading rests;
       longest = omega (arith, ap (λ f. f.most) stays);
       gate_last = omega (arith, ap (λ f. f.most) stays, ap (λ f. f.least) stays);
       untouched = λ i ne. ap (λ f. is_written f.written i) stays;
       behind = refl;
     }
 
-pub told_ends : (settled : Bool) (tail size : ℕ) (old new : Option Device) → IfTold old (IsReading tail size) → Both Rests old new
-    → IfTold old (λ d. (head (drop tail (bytes_of 0 d)) ≡ None) × (settled ≡ is_shut (drop tail (bytes_of 0 d)))) → IfTold new (IsTail settled tail)
-told_ends settled tail size None None reading rests found = tt
-told_ends settled tail size None (Some e) reading rests found = absurd rests
-told_ends settled tail size (Some d) None reading rests found = tt
-told_ends settled tail size (Some d) (Some e) reading rests found = reading_ends settled tail size d e reading rests found.1
+pub modeled_ends : (settled : Bool) (tail size : ℕ) (old new : Option Device) → IfModeled old (IsReading tail size) → Both Rests old new
+    → IfModeled old (λ d. (head (drop tail (bytes_of 0 d)) ≡ None) × (settled ≡ is_shut (drop tail (bytes_of 0 d)))) → IfModeled new (IsTail settled tail)
+modeled_ends settled tail size None None reading rests found = tt
+modeled_ends settled tail size None (Some e) reading rests found = absurd rests
+modeled_ends settled tail size (Some d) None reading rests found = tt
+modeled_ends settled tail size (Some d) (Some e) reading rests found = reading_ends settled tail size d e reading rests found.1
 
-pub ended_list : (settled : Bool) (tail size : ℕ) (old new : Option Device) → IfTold old (IsReading tail size) → Both Rests old new
-    → IfTold old (λ d. (head (drop tail (bytes_of 0 d)) ≡ None) × (settled ≡ is_shut (drop tail (bytes_of 0 d)))) → told_list new true tail ≡ told_list old false tail
+pub ended_list : (settled : Bool) (tail size : ℕ) (old new : Option Device) → IfModeled old (IsReading tail size) → Both Rests old new
+    → IfModeled old (λ d. (head (drop tail (bytes_of 0 d)) ≡ None) × (settled ≡ is_shut (drop tail (bytes_of 0 d)))) → modeled_list new true tail ≡ modeled_list old false tail
 ended_list settled tail size None None reading rests found = refl
 ended_list settled tail size None (Some e) reading rests found = absurd rests
 ended_list settled tail size (Some d) None reading rests found = absurd rests
@@ -218,8 +218,8 @@ gate_ajar : (gate : ℕ) → not (gate == 1) ≡ false → gate ≡ 1
 gate_ajar gate e = grind (arith, common_steps)
 
 -- behind a gate that is not shut nothing whole is found
-cut_loose : (tail : ℕ) (bytes : List ℕ) → head (drop tail bytes) ≡ None → is_shut (drop tail bytes) ≡ false → frames (1 ∷ drop (tail + 1) bytes) ≡ []
-cut_loose tail bytes none is = elim (cases_lt tail (length bytes)) [
+cut_leftover : (tail : ℕ) (bytes : List ℕ) → head (drop tail bytes) ≡ None → is_shut (drop tail bytes) ≡ false → frames (1 ∷ drop (tail + 1) bytes) ≡ []
+cut_leftover tail bytes none is = elim (cases_lt tail (length bytes)) [
   | inl within ↦
       let split = drop_more bytes tail 0 within in
       let ajar : is_shut (get_or bytes tail 0 ∷ drop (tail + 1) bytes) ≡ false = ap is_shut (sym split) ∙ is in
@@ -227,17 +227,17 @@ cut_loose tail bytes none is = elim (cases_lt tail (length bytes)) [
   | inr past ↦ ap (λ rest. frames (1 ∷ rest)) (drop_all (tail + 1) bytes (omega arith)) ∙ frames_none (1 ∷ []) (head_short (1 ∷ []) (omega arith))
 ]
 
-pub ended_loose : (settled : Bool) (tail : ℕ) (old new : Option Device) → Both Rests old new
-    → IfTold old (λ d. (head (drop tail (bytes_of 0 d)) ≡ None) × (settled ≡ is_shut (drop tail (bytes_of 0 d)))) → told_loose new true settled tail ≡ []
-ended_loose settled tail None None rests found = refl
-ended_loose settled tail None (Some e) rests found = absurd rests
-ended_loose settled tail (Some d) None rests found = refl
-ended_loose true tail (Some d) (Some e) rests found = refl
-ended_loose false tail (Some d) (Some e) rests found = ap (λ f. frames (1 ∷ drop (tail + 1) f.bytes)) rests.same ∙ cut_loose tail (bytes_of 0 d) found.0 (sym found.1)
+pub ended_leftover : (settled : Bool) (tail : ℕ) (old new : Option Device) → Both Rests old new
+    → IfModeled old (λ d. (head (drop tail (bytes_of 0 d)) ≡ None) × (settled ≡ is_shut (drop tail (bytes_of 0 d)))) → modeled_leftover new true settled tail ≡ []
+ended_leftover settled tail None None rests found = refl
+ended_leftover settled tail None (Some e) rests found = absurd rests
+ended_leftover settled tail (Some d) None rests found = refl
+ended_leftover true tail (Some d) (Some e) rests found = refl
+ended_leftover false tail (Some d) (Some e) rests found = ap (λ f. frames (1 ∷ drop (tail + 1) f.bytes)) rests.same ∙ cut_leftover tail (bytes_of 0 d) found.0 (sym found.1)
 
 pub ended_rest : (settled : Bool) (tail : ℕ) (old new : Option Device)
-    → IfTold old (λ d. (head (drop tail (bytes_of 0 d)) ≡ None) × (settled ≡ is_shut (drop tail (bytes_of 0 d))))
-    → IfTold old (λ d. (told_rest old false tail ≡ []) × (told_rest new true tail ≡ []))
+    → IfModeled old (λ d. (head (drop tail (bytes_of 0 d)) ≡ None) × (settled ≡ is_shut (drop tail (bytes_of 0 d))))
+    → IfModeled old (λ d. (modeled_rest old false tail ≡ []) × (modeled_rest new true tail ≡ []))
 ended_rest settled tail None new found = tt
 ended_rest settled tail (Some d) None found = (frames_none (drop tail (bytes_of 0 d)) found.0, refl)
 ended_rest settled tail (Some d) (Some e) found = (frames_none (drop tail (bytes_of 0 d)) found.0, refl)

@@ -1,8 +1,8 @@
 -- How stops are told along calls.
 use Rattle.std.proofs.Common.{◌≡◌, ℕ, Option, Result, Ok, Err, MatchResult, List, length, refl, sym, ◌∙◌, ap, subst, inl, inr, arith}
 use Rattle.disk_model.specs.Files.{File, IsImage, IsTorn, overwritten}
-use Rattle.disk_model.specs.Devices.{Device, Event, Wrote, Tore, Synced, Failed, added, file_of, bytes_of, written_to, during, LeavesNow, Writes, Syncs, Idles}
-use Rattle.disk_model.specs.Told.{Both}
+use Rattle.disk_model.specs.Devices.{Device, Event, Wrote, Tore, Synced, Failed, with_call, file_of, bytes_of, written_to, during, LeavesNow, Writes, Syncs, Idles}
+use Rattle.disk_model.specs.DiskStates.{Both}
 use Rattle.disk_model.proofs.Torn.{torn_overwritten}
 use Rattle.vob_journal.specs.Calls.{put_down}
 use Rattle.vob_journal.specs.Moves.{Passes}
@@ -38,7 +38,7 @@ passes_weaker d e P Q f passes = record {
 pub passes_call : (event : Event) (d : Device) (P : List ℕ → Type 0)
     → ((image : List ℕ) → IsImage (during 0 event (file_of 0 d)) image → P image)
     → ((image : List ℕ) → IsImage (during 1 event (file_of 1 d)) image → LeavesNow 1 d image)
-    → file_of 1 (added event d) ≡ file_of 1 d → Passes d (added event d) P
+    → file_of 1 (with_call event d) ≡ file_of 1 d → Passes d (with_call event d) P
 passes_call event d P here there objects = record {
   no_fewer = omega arith;
   each = λ k image left. elim left [ inl now ↦ inr (omega (arith, now.0), here image now.1) | inr earlier ↦ inl earlier ];
@@ -51,14 +51,14 @@ passes_call event d P here there objects = record {
 module _ (T : File → Type 0) (P : List ℕ → Type 0) (place size : ℕ)
     (images : (s : File) → T s → (image : List ℕ) → IsImage s image → P image)
     (torn : (s : File) (left : List ℕ) → T s → IsTorn place size s.bytes left → T (written_to s place size left)) where
-  failed_passes : (d : Device) → T (file_of 0 d) → Passes d (added Failed d) P
+  failed_passes : (d : Device) → T (file_of 0 d) → Passes d (with_call Failed d) P
   failed_passes d t = passes_call Failed d P (images (file_of 0 d) t) (λ image h. h) refl
 
-  wrote_passes : (d : Device) (left : List ℕ) → T (file_of 0 d) → IsTorn place size (bytes_of 0 d) left → Passes d (added (Wrote 0 place size left) d) P
+  wrote_passes : (d : Device) (left : List ℕ) → T (file_of 0 d) → IsTorn place size (bytes_of 0 d) left → Passes d (with_call (Wrote 0 place size left) d) P
   wrote_passes d left t h =
       passes_call (Wrote 0 place size left) d P (images (written_to (file_of 0 d) place size left) (torn (file_of 0 d) left t h)) (λ image i. i) refl
 
-  tore_passes : (d : Device) (left : List ℕ) → T (file_of 0 d) → IsTorn place size (bytes_of 0 d) left → Passes d (added (Tore 0 place size left) d) P
+  tore_passes : (d : Device) (left : List ℕ) → T (file_of 0 d) → IsTorn place size (bytes_of 0 d) left → Passes d (with_call (Tore 0 place size left) d) P
   tore_passes d left t h =
       passes_call (Tore 0 place size left) d P (images (written_to (file_of 0 d) place size left) (torn (file_of 0 d) left t h)) (λ image i. i) refl
 
@@ -71,12 +71,12 @@ module _ (T : File → Type 0) (P : List ℕ → Type 0) (place size : ℕ)
           let left = wrote.0 in
           let one = wrote_passes d left t wrote.1 in
           let kept = torn (file_of 0 d) left t wrote.1 in
-          let mid = added (Wrote 0 place size left) d in
+          let mid = with_call (Wrote 0 place size left) d in
           elim wrote.2 [
             | inl tore ↦ subst (λ f. Passes d f P × T (file_of 0 f)) (sym tore) (tore_passes d left t wrote.1, kept)
             | inr put ↦ elim put [
               | inl whole ↦ subst (λ f. Passes d f P × T (file_of 0 f)) (sym whole) (one, kept)
-              | inr missed ↦ subst (λ f. Passes d f P × T (file_of 0 f)) (sym missed) (passes_then d mid (added Failed mid) P one (failed_passes mid kept), kept)
+              | inr missed ↦ subst (λ f. Passes d f P × T (file_of 0 f)) (sym missed) (passes_then d mid (with_call Failed mid) P one (failed_passes mid kept), kept)
             ]
           ]
     ]
@@ -86,10 +86,10 @@ module _ (T : File → Type 0) (P : List ℕ → Type 0) (place size : ℕ)
   put_passes d piece is t =
       let left = overwritten place piece (bytes_of 0 d) in
       let whole : IsTorn place size (bytes_of 0 d) left = torn_overwritten place size piece (bytes_of 0 d) (omega arith) in
-      let mid = added (Wrote 0 place size left) d in
+      let mid = with_call (Wrote 0 place size left) d in
       let kept = torn (file_of 0 d) left t whole in
-      subst (λ n. Passes d (added (Synced 0) (added (Wrote 0 place n left) d)) P) (sym is)
-      (passes_then d mid (added (Synced 0) mid) P (wrote_passes d left t whole)
+      subst (λ n. Passes d (with_call (Synced 0) (with_call (Wrote 0 place n left) d)) P) (sym is)
+      (passes_then d mid (with_call (Synced 0) mid) P (wrote_passes d left t whole)
       (passes_call (Synced 0) mid P (images (file_of 0 mid) kept) (λ image i. i) refl))
 
 -- a piece was written, and then synced or not
@@ -97,12 +97,12 @@ unsynced : (place : ℕ) (piece : List ℕ) (d e f : Device) → Writes 0 place 
 unsynced place piece d e f wrote (inl same) =
     inr (inr (overwritten place piece (bytes_of 0 d), torn_overwritten place (length piece) piece (bytes_of 0 d) (omega arith), inr (inl (same ∙ wrote))))
 unsynced place piece d e f wrote (inr missed) =
-    inr (inr (overwritten place piece (bytes_of 0 d), torn_overwritten place (length piece) piece (bytes_of 0 d) (omega arith), inr (inr (missed ∙ ap (added Failed) wrote))))
+    inr (inr (overwritten place piece (bytes_of 0 d), torn_overwritten place (length piece) piece (bytes_of 0 d) (omega arith), inr (inr (missed ∙ ap (with_call Failed) wrote))))
 
-pub told_put : {T E : Type 0} (r : Result T E) (place : ℕ) (piece : List ℕ) (old mid new : Option Device) → Both (Writes 0 place piece) old mid
+pub modeled_put : {T E : Type 0} (r : Result T E) (place : ℕ) (piece : List ℕ) (old mid new : Option Device) → Both (Writes 0 place piece) old mid
     → MatchResult r (λ _. Both (Syncs 0) mid new) (λ _. Both Idles mid new)
     → MatchResult r (λ _. Both (PutsDown place piece) old new) (λ _. Both (FailsToPut place (length piece)) old new)
-told_put (Ok done) place piece old mid new wrote synced =
-    both_then (Writes 0 place piece) (Syncs 0) (PutsDown place piece) old mid new (λ d e f w s. s ∙ ap (added (Synced 0)) w) wrote synced
-told_put (Err fault) place piece old mid new wrote idles =
+modeled_put (Ok done) place piece old mid new wrote synced =
+    both_then (Writes 0 place piece) (Syncs 0) (PutsDown place piece) old mid new (λ d e f w s. s ∙ ap (with_call (Synced 0)) w) wrote synced
+modeled_put (Err fault) place piece old mid new wrote idles =
     both_then (Writes 0 place piece) Idles (FailsToPut place (length piece)) old mid new (unsynced place piece) wrote idles

@@ -2,7 +2,7 @@
 use Rattle.std.proofs.Common.{ℕ, Option, Some, None, refl, sym, ◌∙◌, subst, inl, inr}
 use Rattle.disk_model.specs.Files.{IsImage}
 use Rattle.disk_model.specs.Devices.{Device, Fetched, Failed, Measures, Fetches, Idles, LeavesNow}
-use Rattle.disk_model.specs.Told.{Both}
+use Rattle.disk_model.specs.DiskStates.{Both}
 use Rattle.vob_journal.specs.Reads.{Rests, SameFiles}
 use Rattle.vob_journal.specs.Added.{Adds, may_read}
 use Rattle.vob_journal.proofs.Adding.{adds_none, adds_one, adds_then}
@@ -49,29 +49,29 @@ rests_then d e f one two = record {
 }
 
 -- the same of what is told before and after
-pub told_stay : (told : Option Device) → Both SameFiles told told
-told_stay None = tt
-told_stay (Some d) = files_stay d
+pub modeled_stay : (modeled : Option Device) → Both SameFiles modeled modeled
+modeled_stay None = tt
+modeled_stay (Some d) = files_stay d
 
-pub told_then : (old mid new : Option Device) → Both SameFiles old mid → Both SameFiles mid new → Both SameFiles old new
-told_then old mid new one two = both_then SameFiles SameFiles SameFiles old mid new files_then one two
+pub modeled_then : (old mid new : Option Device) → Both SameFiles old mid → Both SameFiles mid new → Both SameFiles old new
+modeled_then old mid new one two = both_then SameFiles SameFiles SameFiles old mid new files_then one two
 
-pub told_measured : (old new : Option Device) → Both (Measures 0) old new → Both SameFiles old new
-told_measured old new is = both_map (Measures 0) SameFiles old new measured_files is
+pub modeled_measured : (old new : Option Device) → Both (Measures 0) old new → Both SameFiles old new
+modeled_measured old new is = both_map (Measures 0) SameFiles old new measured_files is
 
-pub told_idle : (old new : Option Device) → Both Idles old new → Both SameFiles old new
-told_idle old new idles = both_map Idles SameFiles old new idle_files idles
+pub modeled_idle : (old new : Option Device) → Both Idles old new → Both SameFiles old new
+modeled_idle old new idles = both_map Idles SameFiles old new idle_files idles
 
-pub told_rests : (old new : Option Device) → Both Rests old new → Both SameFiles old new
-told_rests old new rests = both_map Rests SameFiles old new rests_files rests
+pub modeled_rests : (old new : Option Device) → Both Rests old new → Both SameFiles old new
+modeled_rests old new rests = both_map Rests SameFiles old new rests_files rests
 
-pub told_rest_on : (old mid new : Option Device) → Both Rests old mid → Both Rests mid new → Both Rests old new
-told_rest_on old mid new one two = both_then Rests Rests Rests old mid new rests_then one two
+pub modeled_rest_on : (old mid new : Option Device) → Both Rests old mid → Both Rests mid new → Both Rests old new
+modeled_rest_on old mid new one two = both_then Rests Rests Rests old mid new rests_then one two
 
 -- which calls were added, where they are those that read
-pub told_adds : (old new : Option Device) → Both Rests old new → Both (Adds may_read) old new
-told_adds old new rests = both_map Rests (Adds may_read) old new (λ d e rests. rests.adds) rests
+pub modeled_adds : (old new : Option Device) → Both Rests old new → Both (Adds may_read) old new
+modeled_adds old new rests = both_map Rests (Adds may_read) old new (λ d e rests. rests.adds) rests
 
-pub told_adds_none : (told : Option Device) → Both (Adds may_read) told told
-told_adds_none None = tt
-told_adds_none (Some d) = adds_none may_read d
+pub modeled_adds_none : (modeled : Option Device) → Both (Adds may_read) modeled modeled
+modeled_adds_none None = tt
+modeled_adds_none (Some d) = adds_none may_read d

@@ -1,7 +1,7 @@
 -- Relations of what is told before and after.
 use Rattle.std.proofs.Common.{Option, Some, None, Result, Ok, Err, MatchResult}
 use Rattle.disk_model.specs.Devices.{Device}
-use Rattle.disk_model.specs.Told.{IfTold, Both}
+use Rattle.disk_model.specs.DiskStates.{IfModeled, Both}
 
 pub both_map : (R S : Device → Device → Type 0) (old new : Option Device) → ((d e : Device) → R d e → S d e) → Both R old new → Both S old new
 both_map R S None None f h = tt
@@ -11,7 +11,7 @@ both_map R S (Some d) (Some e) f h = f d e h
 
 -- the same where something is known of what was told before
 pub both_from : (P : Device → Type 0) (R S : Device → Device → Type 0) (old new : Option Device) → ((d e : Device) → P d → R d e → S d e)
-    → IfTold old P → Both R old new → Both S old new
+    → IfModeled old P → Both R old new → Both S old new
 both_from P R S None None f p h = tt
 both_from P R S None (Some e) f p h = h
 both_from P R S (Some d) None f p h = h
@@ -26,23 +26,23 @@ both_then R S T (Some d) None new f r s = absurd r
 both_then R S T (Some d) (Some e) None f r s = s
 both_then R S T (Some d) (Some e) (Some g) f r s = f d e g r s
 
-pub both_same : (P : Device → Type 0) (R : Device → Device → Type 0) (told : Option Device) → ((d : Device) → P d → R d d) → IfTold told P → Both R told told
+pub both_same : (P : Device → Type 0) (R : Device → Device → Type 0) (modeled : Option Device) → ((d : Device) → P d → R d d) → IfModeled modeled P → Both R modeled modeled
 both_same P R None f p = tt
 both_same P R (Some d) f p = f d p
 
-pub told_next : (R : Device → Device → Type 0) (P : Device → Type 0) (old new : Option Device) → ((d e : Device) → R d e → P e) → Both R old new → IfTold new P
-told_next R P None None f h = tt
-told_next R P None (Some e) f h = absurd h
-told_next R P (Some d) None f h = tt
-told_next R P (Some d) (Some e) f h = f d e h
+pub modeled_next : (R : Device → Device → Type 0) (P : Device → Type 0) (old new : Option Device) → ((d e : Device) → R d e → P e) → Both R old new → IfModeled new P
+modeled_next R P None None f h = tt
+modeled_next R P None (Some e) f h = absurd h
+modeled_next R P (Some d) None f h = tt
+modeled_next R P (Some d) (Some e) f h = f d e h
 
-pub told_map : (P Q : Device → Type 0) (told : Option Device) → ((d : Device) → P d → Q d) → IfTold told P → IfTold told Q
-told_map P Q None f p = tt
-told_map P Q (Some d) f p = f d p
+pub modeled_map : (P Q : Device → Type 0) (modeled : Option Device) → ((d : Device) → P d → Q d) → IfModeled modeled P → IfModeled modeled Q
+modeled_map P Q None f p = tt
+modeled_map P Q (Some d) f p = f d p
 
 -- the same of an answer, which tells one relation at Ok and another at Err
 pub answer_from : {T E : Type 0} (r : Result T E) (P : Device → Type 0) (R R' S S' : Device → Device → Type 0) (old new : Option Device)
-    → ((d e : Device) → P d → R d e → R' d e) → ((d e : Device) → P d → S d e → S' d e) → IfTold old P
+    → ((d e : Device) → P d → R d e → R' d e) → ((d e : Device) → P d → S d e → S' d e) → IfModeled old P
     → MatchResult r (λ _. Both R old new) (λ _. Both S old new) → MatchResult r (λ _. Both R' old new) (λ _. Both S' old new)
 answer_from (Ok x) P R R' S S' old new f g p h = both_from P R R' old new f p h
 answer_from (Err e) P R R' S S' old new f g p h = both_from P S S' old new g p h
@@ -58,21 +58,21 @@ both_three R S T U (Some d) (Some e) None new k r s t = absurd s
 both_three R S T U (Some d) (Some e) (Some f) None k r s t = t
 both_three R S T U (Some d) (Some e) (Some f) (Some g) k r s t = k d e f g r s t
 
-pub told_both : (P Q R : Device → Type 0) (told : Option Device) → ((d : Device) → P d → Q d → R d) → IfTold told P → IfTold told Q → IfTold told R
-told_both P Q R None f p q = tt
-told_both P Q R (Some d) f p q = f d p q
+pub modeled_both : (P Q R : Device → Type 0) (modeled : Option Device) → ((d : Device) → P d → Q d → R d) → IfModeled modeled P → IfModeled modeled Q → IfModeled modeled R
+modeled_both P Q R None f p q = tt
+modeled_both P Q R (Some d) f p q = f d p q
 
 -- what is known afterwards was known before
-pub told_back : (R : Device → Device → Type 0) (P Q : Device → Type 0) (old new : Option Device) → ((d e : Device) → R d e → Q e → P d)
-    → Both R old new → IfTold new Q → IfTold old P
-told_back R P Q None new f h q = tt
-told_back R P Q (Some d) None f h q = absurd h
-told_back R P Q (Some d) (Some e) f h q = f d e h q
+pub modeled_back : (R : Device → Device → Type 0) (P Q : Device → Type 0) (old new : Option Device) → ((d e : Device) → R d e → Q e → P d)
+    → Both R old new → IfModeled new Q → IfModeled old P
+modeled_back R P Q None new f h q = tt
+modeled_back R P Q (Some d) None f h q = absurd h
+modeled_back R P Q (Some d) (Some e) f h q = f d e h q
 
 -- what was known before is known afterwards
-pub told_from : (R : Device → Device → Type 0) (P Q : Device → Type 0) (old new : Option Device) → ((d e : Device) → P d → R d e → Q e)
-    → IfTold old P → Both R old new → IfTold new Q
-told_from R P Q None None f p h = tt
-told_from R P Q None (Some e) f p h = absurd h
-told_from R P Q (Some d) None f p h = tt
-told_from R P Q (Some d) (Some e) f p h = f d e p h
+pub modeled_from : (R : Device → Device → Type 0) (P Q : Device → Type 0) (old new : Option Device) → ((d e : Device) → P d → R d e → Q e)
+    → IfModeled old P → Both R old new → IfModeled new Q
+modeled_from R P Q None None f p h = tt
+modeled_from R P Q None (Some e) f p h = absurd h
+modeled_from R P Q (Some d) None f p h = tt
+modeled_from R P Q (Some d) (Some e) f p h = f d e p h

@@ -2,7 +2,7 @@
 use Rattle.std.specs.Prelude.{◌≡◌, ◌+◌, ℕ, Bool, true, false, Option, Some, None, Result, Ok, Err, is_ok, List, [], ◌∷◌, drop}
 use Rattle.disk_model.specs.Counting.{next_count}
 use Rattle.disk_model.specs.Devices.{Device, bytes_of}
-use Rattle.disk_model.specs.Told.{Sight}
+use Rattle.disk_model.specs.DiskStates.{DiskState}
 use Rattle.vob_journal.specs.Frames.{is_shut}
 
 -- the next payload of those that were still to be read, or the end of them
@@ -23,11 +23,11 @@ SettledAtEnd None true settled tail d = Unit {0}
 SettledAtEnd (Some payload) ended settled tail d = Unit {0}
 
 -- one device call that succeeded
-abbrev pub OneMore : Sight → Sight → Type 0
+abbrev pub OneMore : DiskState → DiskState → Type 0
 OneMore old new = (new.ticks ≡ old.ticks + 1) × (new.faults ≡ old.faults)
 
 -- one device call that failed
-abbrev pub OneFault : Sight → Sight → Type 0
+abbrev pub OneFault : DiskState → DiskState → Type 0
 OneFault old new = (new.ticks ≡ next_count old.ticks) × (new.faults ≡ next_count old.faults)
 
 -- no device call is made, and none fails

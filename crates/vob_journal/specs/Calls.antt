@@ -1,21 +1,21 @@
 -- The device calls that write a journal.
 use Rattle.std.specs.Prelude.{◌≡◌, ℕ, ◌+◌, Bool, true, false, List, [], ◌∷◌, ◌++◌, length}
 use Rattle.disk_model.specs.Files.{overwritten}
-use Rattle.disk_model.specs.Devices.{Device, Wrote, Synced, added, bytes_of}
+use Rattle.disk_model.specs.Devices.{Device, Wrote, Synced, with_call, bytes_of}
 use Rattle.vob_journal.specs.Added.{Adds, may_write}
 use Rattle.vob_journal.specs.declared.left.Left.{Left}
-use Rattle.vob_journal.specs.Frames.{written}
-use Rattle.vob_journal.specs.Lefts.{settled_after, loose_after}
+use Rattle.vob_journal.specs.Frames.{frame_after_gate}
+use Rattle.vob_journal.specs.Lefts.{settled_after, leftover_after}
 use Rattle.vob_journal.specs.Moves.{Moves}
-use Rattle.vob_journal.specs.Tails.{list_at, loose_at, IsTail}
+use Rattle.vob_journal.specs.Tails.{list_at, leftover_at, IsTail}
 
 -- a piece was written to the journal
 abbrev pub put : ℕ → List ℕ → Device → Device
-put place piece d = added (Wrote 0 place (length piece) (overwritten place piece (bytes_of 0 d))) d
+put place piece d = with_call (Wrote 0 place (length piece) (overwritten place piece (bytes_of 0 d))) d
 
 -- a piece was written to the journal, and the journal was synced
 abbrev pub put_down : ℕ → List ℕ → Device → Device
-put_down place piece d = added (Synced 0) (put place piece d)
+put_down place piece d = with_call (Synced 0) (put place piece d)
 
 -- a tail that was not settled was settled: its gate was shut
 abbrev pub settled_first : Bool → ℕ → Device → Device
@@ -24,12 +24,12 @@ settled_first false tail d = put_down tail (0 ∷ []) d
 
 -- The device calls of a commit: where the tail is not settled, its gate is shut and synced; length, payload and the next
 -- gate, shut, are written behind the gate and synced; then the gate is opened and synced.
-abbrev pub committed : Bool → ℕ → List ℕ → Device → Device
-committed settled tail payload d = put_down tail (1 ∷ []) (put_down (tail + 1) (written payload) (settled_first settled tail d))
+abbrev pub device_after_commit : Bool → ℕ → List ℕ → Device → Device
+device_after_commit settled tail payload d = put_down tail (1 ∷ []) (put_down (tail + 1) (frame_after_gate payload) (settled_first settled tail d))
 
 -- a settling call, or a phase of it, keeps the list
 pub record KeepsFrames (settled settled' : Bool) (tail : ℕ) (d e : Device) : Type 0 where
-  pub moves : Moves (list_at tail d) (loose_at settled tail d) (list_at tail e) (loose_at settled' tail e) d e
+  pub moves : Moves (list_at tail d) (leftover_at settled tail d) (list_at tail e) (leftover_at settled' tail e) d e
   pub ends : IsTail settled' tail e
   pub same_list : list_at tail e ≡ list_at tail d
   pub adds : Adds may_write d e
@@ -40,19 +40,19 @@ pub record Settles (settled : Bool) (tail : ℕ) (d e : Device) : Type 0 where
   pub calls : e ≡ settled_first settled tail d
 
 -- settling failed: what was loose is loose
-pub record StaysLoose (settled : Bool) (tail : ℕ) (d e : Device) : Type 0 where
-  pub was_loose : settled ≡ false
+pub record LeavesLeftover (settled : Bool) (tail : ℕ) (d e : Device) : Type 0 where
+  pub was_unsettled : settled ≡ false
   pub keeps : KeepsFrames false false tail d e
-  pub same_loose : loose_at false tail e ≡ loose_at false tail d
+  pub same_leftover : leftover_at false tail e ≡ leftover_at false tail d
 
 -- a payload was committed
 pub record CommitsFrame (settled : Bool) (tail : ℕ) (payload : List ℕ) (d e : Device) : Type 0 where
-  pub moves : Moves (list_at tail d) (loose_at settled tail d) (list_at (tail + (5 + length payload)) e) [] d e
+  pub moves : Moves (list_at tail d) (leftover_at settled tail d) (list_at (tail + (5 + length payload)) e) [] d e
   pub ends : IsTail true (tail + (5 + length payload)) e
   pub list : list_at (tail + (5 + length payload)) e ≡ list_at tail d ++ payload ∷ []
-  pub calls : e ≡ committed settled tail payload d
+  pub calls : e ≡ device_after_commit settled tail payload d
 
 -- a commit failed, and left this
 pub record FailsToAppend (settled : Bool) (tail : ℕ) (payload : List ℕ) (left : Left) (d e : Device) : Type 0 where
   pub keeps : KeepsFrames settled (settled_after left) tail d e
-  pub loose : loose_at (settled_after left) tail e ≡ loose_after left (loose_at settled tail d) payload
+  pub leftover : leftover_at (settled_after left) tail e ≡ leftover_after left (leftover_at settled tail d) payload

@@ -31,8 +31,8 @@ IsWithin tail size (End settled) = Unit {0}
 
 -- the window in which it was read shows the journal
 abbrev pub ShowsOn : Option Device → Found → Type 0
-ShowsOn told (Payload payload window) = IfShows (Some window) told
-ShowsOn told (End settled) = Unit {0}
+ShowsOn modeled (Payload payload window) = IfShows (Some window) modeled
+ShowsOn modeled (End settled) = Unit {0}
 
 -- a whole frame lies within what is left
 abbrev pub FitsIn : ℕ → Head → Type 0

@@ -32,8 +32,8 @@ is_shut [] = false
 is_shut (gate ∷ rest) = not (gate == 1)
 
 -- what is written behind a gate byte: the payload's length, the payload, and the next gate byte, shut
-abbrev pub written : List ℕ → List ℕ
-written payload = to_le_bytes w32 (length payload) ++ payload ++ 0 ∷ []
+abbrev pub frame_after_gate : List ℕ → List ℕ
+frame_after_gate payload = to_le_bytes w32 (length payload) ++ payload ++ 0 ∷ []
 
 -- the payload of what is written behind a gate byte
 abbrev pub payload_of : List ℕ → List ℕ
@@ -41,5 +41,5 @@ payload_of bytes = take (length bytes - 5) (drop 4 bytes)
 
 -- bytes that are written behind a gate byte for some payload
 pub record IsWritten (bytes : List ℕ) : Type 0 where
-  pub of_payload : bytes ≡ written (payload_of bytes)
+  pub of_payload : bytes ≡ frame_after_gate (payload_of bytes)
   pub short : length (payload_of bytes) < 2 ^ 32

@@ -5,11 +5,11 @@ use Rattle.vob_journal.specs.Frames.{frames}
 
 -- an image of the journal has the list, or the list and what is loose behind it
 abbrev pub Stands : List (List ℕ) → List (List ℕ) → List ℕ → Type 0
-Stands list loose image = (frames image ≡ list) ⊎ (frames image ≡ list ++ loose)
+Stands list leftover image = (frames image ≡ list) ⊎ (frames image ≡ list ++ leftover)
 
 -- an image from before or from after a change
 abbrev pub Between : List (List ℕ) → List (List ℕ) → List (List ℕ) → List (List ℕ) → List ℕ → Type 0
-Between list loose list' loose' image = Stands list loose image ⊎ (frames image ≡ list' ++ loose')
+Between list leftover list' leftover' image = Stands list leftover image ⊎ (frames image ≡ list' ++ leftover')
 
 -- Calls lead from one device to another: stops at earlier calls leave what they left, those since leave a journal that
 -- meets P. The file of objects stays as it was.
@@ -21,6 +21,6 @@ pub record Passes (d e : Device) (P : List ℕ → Type 0) : Type 0 where
 
 -- Calls lead from a list and what is loose behind it to others: each stop since leaves the one or the other, and a stop
 -- now leaves the new list, with what is loose behind it or without.
-pub record Moves (list loose list' loose' : List (List ℕ)) (d e : Device) : Type 0 where
-  pub passes : Passes d e (Between list loose list' loose')
-  pub now : (image : List ℕ) → LeavesNow 0 e image → Stands list' loose' image
+pub record Moves (list leftover list' leftover' : List (List ℕ)) (d e : Device) : Type 0 where
+  pub passes : Passes d e (Between list leftover list' leftover')
+  pub now : (image : List ℕ) → LeavesNow 0 e image → Stands list' leftover' image

@@ -2,11 +2,11 @@
 use Rattle.std.specs.Prelude.{◌≡◌, ◌⊎◌, ◌≤◌, ◌+◌, ℕ, Bool, if◌then◌else◌, Result, MatchResult, List, [], ◌∷◌, ◌++◌, length, drop}
 use Rattle.disk_model.specs.Counting.{next_count}
 use Rattle.disk_model.specs.Files.{File, stable, IsTorn}
-use Rattle.disk_model.specs.Devices.{Device, Wrote, Tore, Failed, added, file_of, bytes_of}
-use Rattle.disk_model.specs.Told.{Sight}
+use Rattle.disk_model.specs.Devices.{Device, Wrote, Tore, Failed, with_call, file_of, bytes_of}
+use Rattle.disk_model.specs.DiskStates.{DiskState}
 use Rattle.vob_journal.specs.Added.{Adds, may_write}
 use Rattle.vob_journal.specs.Calls.{put_down}
-use Rattle.vob_journal.specs.Frames.{frames, written}
+use Rattle.vob_journal.specs.Frames.{frames, frame_after_gate}
 use Rattle.vob_journal.specs.Moves.{Passes, Stands}
 use Rattle.vob_journal.specs.Tails.{IsShut, IsAjar, list_at}
 
@@ -17,16 +17,16 @@ PutsDown place piece d e = e ≡ put_down place piece d
 -- A piece of so many bytes was not written, or not synced: nothing was done, or the range is torn by a write that failed or
 -- was not synced.
 abbrev pub FailsToPut : ℕ → ℕ → Device → Device → Type 0
-FailsToPut place size d e = (e ≡ d) ⊎ (e ≡ added Failed d)
+FailsToPut place size d e = (e ≡ d) ⊎ (e ≡ with_call Failed d)
     ⊎ ((left : List ℕ) × IsTorn place size (bytes_of 0 d) left
-    × ((e ≡ added (Tore 0 place size left) d) ⊎ (e ≡ added (Wrote 0 place size left) d)
-    ⊎ (e ≡ added Failed (added (Wrote 0 place size left) d))))
+    × ((e ≡ with_call (Tore 0 place size left) d) ⊎ (e ≡ with_call (Wrote 0 place size left) d)
+    ⊎ (e ≡ with_call Failed (with_call (Wrote 0 place size left) d))))
 
 -- a file with this payload whole and synced behind a shut gate
 pub record IsStaged (list : List (List ℕ)) (payload : List ℕ) (tail : ℕ) (file : File) : Type 0 where
   pub synced : file ≡ stable file.bytes
   pub shut : IsShut list tail file
-  pub frame : (rest : List ℕ) × (drop (tail + 1) file.bytes ≡ written payload ++ rest)
+  pub frame : (rest : List ℕ) × (drop (tail + 1) file.bytes ≡ frame_after_gate payload ++ rest)
 
 -- the same of the journal of a device
 abbrev pub IsStagedAt : ℕ → List ℕ → Device → Type 0
@@ -36,7 +36,7 @@ IsStagedAt tail payload d = IsStaged (list_at tail d) payload tail (file_of 0 d)
 pub record Stages (tail : ℕ) (payload : List ℕ) (d e : Device) : Type 0 where
   pub passes : Passes d e (λ image. frames image ≡ list_at tail d)
   pub staged : IsStaged (list_at tail d) payload tail (file_of 0 e)
-  pub calls : e ≡ put_down (tail + 1) (written payload) d
+  pub calls : e ≡ put_down (tail + 1) (frame_after_gate payload) d
 
 -- the gate in front of a payload was opened
 pub record OpensGate (tail : ℕ) (payload : List ℕ) (d e : Device) : Type 0 where
@@ -51,7 +51,7 @@ pub record MayOpen (tail : ℕ) (payload : List ℕ) (d e : Device) : Type 0 whe
   pub adds : Adds may_write d e
 
 -- Ok after exactly so many device calls; a fault after one call or more, at most so many, the last of which failed
-abbrev pub Spends : {T E : Type 0} → ℕ → Result T E → Sight → Sight → Type 0
+abbrev pub Spends : {T E : Type 0} → ℕ → Result T E → DiskState → DiskState → Type 0
 Spends calls result old new = MatchResult result
     (λ _. (new.ticks ≡ old.ticks + calls) × (new.faults ≡ old.faults))
     (λ _. (next_count old.ticks ≤ new.ticks) × (new.ticks ≤ old.ticks + calls) × (new.faults ≡ next_count old.faults))

@@ -1,8 +1,8 @@
 -- The device calls that read a journal.
 use Rattle.std.specs.Prelude.{◌≡◌, ◌⊎◌, ◌≤◌, ◌+◌, ◌-◌, ℕ, min, Result, Ok, Err, length}
 use Rattle.disk_model.specs.Counting.{next_count}
-use Rattle.disk_model.specs.Devices.{Device, Fetched, Failed, added, file_of, bytes_of, LeavesNow}
-use Rattle.disk_model.specs.Told.{Sight}
+use Rattle.disk_model.specs.Devices.{Device, Fetched, Failed, with_call, file_of, bytes_of, LeavesNow}
+use Rattle.disk_model.specs.DiskStates.{DiskState}
 use Rattle.cc_names.specs.declared.memory.Or.{Or}
 use Rattle.cc_names.specs.declared.memory.Or.TheVariants.{NoMemory, Is}
 use Rattle.vob_journal.specs.Added.{Adds, may_read}
@@ -25,8 +25,8 @@ pub record Rests (d e : Device) : Type 0 where
 
 -- No call, one that failed, or one that read the journal from this place on: at least 64 KiB, or all that is there.
 abbrev pub ReadsPiece : ℕ → Device → Device → Type 0
-ReadsPiece place d e = (e ≡ d) ⊎ (e ≡ added Failed d)
-    ⊎ ((size : ℕ) × (min 65536 (length (bytes_of 0 d) - place) ≤ size) × (e ≡ added (Fetched 0 place size) d))
+ReadsPiece place d e = (e ≡ d) ⊎ (e ≡ with_call Failed d)
+    ⊎ ((size : ℕ) × (min 65536 (length (bytes_of 0 d) - place) ≤ size) × (e ≡ with_call (Fetched 0 place size) d))
 
 -- faults rise by one where a read answers a fault, and not else
 abbrev pub FaultsOf : {T E : Type 0} → Result T (Or E) → ℕ → ℕ → Type 0
@@ -35,9 +35,9 @@ FaultsOf (Err NoMemory) old new = new ≡ old
 FaultsOf (Err (Is fault)) old new = new ≡ next_count old
 
 -- at most so many device calls, and a fault only where the answer is one
-abbrev pub CountsReads : {T E : Type 0} → ℕ → Result T (Or E) → Sight → Sight → Type 0
+abbrev pub CountsReads : {T E : Type 0} → ℕ → Result T (Or E) → DiskState → DiskState → Type 0
 CountsReads most result old new = (old.ticks ≤ new.ticks) × (new.ticks ≤ old.ticks + most) × FaultsOf result old.faults new.faults
 
 -- any number of device calls, and a fault only where the answer is one
-abbrev pub CountsOn : {T E : Type 0} → Result T (Or E) → Sight → Sight → Type 0
+abbrev pub CountsOn : {T E : Type 0} → Result T (Or E) → DiskState → DiskState → Type 0
 CountsOn result old new = (old.ticks ≤ new.ticks) × FaultsOf result old.faults new.faults

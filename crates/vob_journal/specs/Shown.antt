@@ -3,10 +3,10 @@ use Rattle.std.specs.Prelude.{◌≤◌, ◌^◌, ℕ, Bool, true, false, Option
 use Rattle.disk_model.specs.Devices.{Device, bytes_of}
 use Rattle.vob_journal.specs.declared.left.Left.{Left}
 use Rattle.vob_journal.specs.Frames.{frames}
-use Rattle.vob_journal.specs.Tails.{list_at, loose_at, IsTail, IsReading}
+use Rattle.vob_journal.specs.Tails.{list_at, leftover_at, IsTail, IsReading}
 use Rattle.vob_journal.specs.Windows.{IfShows}
 use Rattle.vob_journal.specs.declared.window.Window.{Window}
-use Rattle.disk_model.specs.Told.{IfTold}
+use Rattle.disk_model.specs.DiskStates.{IfModeled}
 
 -- A journal: its disk; the place behind its last frame read or written; the whole list, what is still to be read of it,
 -- and what a fault left loose behind it, each of them empty where the disk does not tell its device; whether the end
@@ -16,7 +16,7 @@ pub record Shown (D : Type 0) : Type 0 where
   pub tail : ℕ
   pub list : List (List ℕ)
   pub rest : List (List ℕ)
-  pub loose : List (List ℕ)
+  pub leftover : List (List ℕ)
   pub ended : Bool
   pub settled : Bool
   pub left : Left
@@ -27,27 +27,27 @@ rest_at true tail d = []
 rest_at false tail d = frames (drop tail (bytes_of 0 d))
 
 -- the whole list, where the device is told
-abbrev pub told_list : Option Device → Bool → ℕ → List (List ℕ)
-told_list None ended tail = []
-told_list (Some d) ended tail = list_at tail d ++ rest_at ended tail d
+abbrev pub modeled_list : Option Device → Bool → ℕ → List (List ℕ)
+modeled_list None ended tail = []
+modeled_list (Some d) ended tail = list_at tail d ++ rest_at ended tail d
 
 -- what is still to be read, where the device is told
-abbrev pub told_rest : Option Device → Bool → ℕ → List (List ℕ)
-told_rest None ended tail = []
-told_rest (Some d) ended tail = rest_at ended tail d
+abbrev pub modeled_rest : Option Device → Bool → ℕ → List (List ℕ)
+modeled_rest None ended tail = []
+modeled_rest (Some d) ended tail = rest_at ended tail d
 
 -- nothing is loose while the list is read
-abbrev pub loose_of : Bool → Bool → ℕ → Device → List (List ℕ)
-loose_of true settled tail d = loose_at settled tail d
-loose_of false settled tail d = []
+abbrev pub leftover_of : Bool → Bool → ℕ → Device → List (List ℕ)
+leftover_of true settled tail d = leftover_at settled tail d
+leftover_of false settled tail d = []
 
 -- what a fault left loose, where the device is told
-abbrev pub told_loose : Option Device → Bool → Bool → ℕ → List (List ℕ)
-told_loose None ended settled tail = []
-told_loose (Some d) ended settled tail = loose_of ended settled tail d
+abbrev pub modeled_leftover : Option Device → Bool → Bool → ℕ → List (List ℕ)
+modeled_leftover None ended settled tail = []
+modeled_leftover (Some d) ended settled tail = leftover_of ended settled tail d
 
 -- what a journal keeps while its list is read, and from its end on
-abbrev pub IsJournalKept : Option Device → Bool → Bool → ℕ → ℕ → Option Window → Type 0
-IsJournalKept told true settled tail size window = (tail ≤ 2 ^ 62) × IfTold told (IsTail settled tail)
-IsJournalKept told false settled tail size window =
-    (tail ≤ size) × (size ≤ 2 ^ 62) × IfShows window told × IfTold told (IsReading tail size)
+abbrev pub JournalInvariant : Option Device → Bool → Bool → ℕ → ℕ → Option Window → Type 0
+JournalInvariant modeled true settled tail size window = (tail ≤ 2 ^ 62) × IfModeled modeled (IsTail settled tail)
+JournalInvariant modeled false settled tail size window =
+    (tail ≤ size) × (size ≤ 2 ^ 62) × IfShows window modeled × IfModeled modeled (IsReading tail size)

@@ -2,7 +2,7 @@
 use Rattle.std.proofs.Common.{ℕ, Option, Some, None, List, length, refl, ◌∙◌, subst, inl, inr, arith}
 use Rattle.disk_model.specs.Files.{IsImage}
 use Rattle.disk_model.specs.Devices.{Device}
-use Rattle.disk_model.specs.Told.{Sight, Both}
+use Rattle.disk_model.specs.DiskStates.{DiskState, Both}
 use Rattle.vob_journal.specs.Shown.{Shown}
 use Rattle.vob_journal.specs.Storing.{StoresOn, KeepsJournal}
 
@@ -19,37 +19,37 @@ stores_then d e f one two = record {
   ];
 }
 
-told_nothing : (told : Option Device) → Both StoresOn told told
-told_nothing None = tt
-told_nothing (Some d) = stores_nothing d
+modeled_nothing : (modeled : Option Device) → Both StoresOn modeled modeled
+modeled_nothing None = tt
+modeled_nothing (Some d) = stores_nothing d
 
-told_then : (old mid new : Option Device) → Both StoresOn old mid → Both StoresOn mid new → Both StoresOn old new
-told_then None None new one two = two
-told_then None (Some e) new one two = absurd one
-told_then (Some d) None new one two = absurd one
-told_then (Some d) (Some e) None one two = two
-told_then (Some d) (Some e) (Some f) one two = stores_then d e f one two
+modeled_then : (old mid new : Option Device) → Both StoresOn old mid → Both StoresOn mid new → Both StoresOn old new
+modeled_then None None new one two = two
+modeled_then None (Some e) new one two = absurd one
+modeled_then (Some d) None new one two = absurd one
+modeled_then (Some d) (Some e) None one two = two
+modeled_then (Some d) (Some e) (Some f) one two = stores_then d e f one two
 
-pub keeps_itself : {D : Type 0} (sight : D → Sight) (journal : Shown D) → KeepsJournal sight journal journal
-keeps_itself sight journal = record {
+pub keeps_itself : {D : Type 0} (ghost_state : D → DiskState) (journal : Shown D) → KeepsJournal ghost_state journal journal
+keeps_itself ghost_state journal = record {
   tail = refl;
   list = refl;
   rest = refl;
-  loose = refl;
+  leftover = refl;
   ended = refl;
   settled = refl;
   left = refl;
-  stores = told_nothing (sight journal.disk).told;
+  stores = modeled_nothing (ghost_state journal.disk).modeled;
 }
 
-pub keeps_on : {D : Type 0} (sight : D → Sight) (one two three : Shown D) → KeepsJournal sight one two → KeepsJournal sight two three → KeepsJournal sight one three
-keeps_on sight one two three first then = record {
+pub keeps_on : {D : Type 0} (ghost_state : D → DiskState) (one two three : Shown D) → KeepsJournal ghost_state one two → KeepsJournal ghost_state two three → KeepsJournal ghost_state one three
+keeps_on ghost_state one two three first then = record {
   tail = then.tail ∙ first.tail;
   list = then.list ∙ first.list;
   rest = then.rest ∙ first.rest;
-  loose = then.loose ∙ first.loose;
+  leftover = then.leftover ∙ first.leftover;
   ended = then.ended ∙ first.ended;
   settled = then.settled ∙ first.settled;
   left = then.left ∙ first.left;
-  stores = told_then (sight one.disk).told (sight two.disk).told (sight three.disk).told first.stores then.stores;
+  stores = modeled_then (ghost_state one.disk).modeled (ghost_state two.disk).modeled (ghost_state three.disk).modeled first.stores then.stores;
 }

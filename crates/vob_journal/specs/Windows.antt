@@ -1,7 +1,7 @@
 -- The piece of a journal that is held in memory while it is read.
 use Rattle.std.specs.Prelude.{◌≡◌, ◌≤◌, ◌+◌, Option, Some, None, length, take, drop}
 use Rattle.disk_model.specs.Devices.{Device, bytes_of}
-use Rattle.disk_model.specs.Told.{IfTold}
+use Rattle.disk_model.specs.DiskStates.{IfModeled}
 use Rattle.vob_journal.specs.declared.window.Window.{Window}
 
 -- a window shows the journal from its start on
@@ -11,5 +11,5 @@ pub record Shows (window : Window) (d : Device) : Type 0 where
 
 -- where there is a window and a device is told, the window shows it
 abbrev pub IfShows : Option Window → Option Device → Type 0
-IfShows None told = Unit {0}
-IfShows (Some window) told = IfTold told (Shows window)
+IfShows None modeled = Unit {0}
+IfShows (Some window) modeled = IfModeled modeled (Shows window)

@@ -2,7 +2,7 @@
 
 ghost use Rattle.std.specs.Prelude.{◌≡◌, ◌≤◌, ◌^◌, List, ℕ, min, length, take, drop, IfOk};
 ghost use Rattle.disk_model.specs.Devices.{bytes_of};
-ghost use Rattle.disk_model.specs.Told.{IfTold, Both};
+ghost use Rattle.disk_model.specs.DiskStates.{IfModeled, Both};
 ghost use Rattle.vob_journal.specs.Foreign.{behind, foreign, foreign_of, may_be_cut};
 ghost use Rattle.vob_journal.specs.Reads.{SameFiles, Rests, CountsOn};
 
@@ -17,10 +17,10 @@ use std::alloc::Global;
 /// linear in the journal. Whatever it answers, both files are as they were.
 pub fn foreign_bytes<D: Disk>(alloc: Global, disk: &mut D) -> Result<u64, Or<DiskFault>>
     ensures foreign { IfOk result
-        (λ count. IfTold (D.sight disk.old).told (λ d. count ≡ foreign (bytes_of 0 d))) }
-    ensures files { Both SameFiles (D.sight disk.old).told (D.sight disk.new).told }
-    ensures rests { Both Rests (D.sight disk.old).told (D.sight disk.new).told }
-    ensures counts { CountsOn result (D.sight disk.old) (D.sight disk.new) }
+        (λ count. IfModeled (D.ghost_state disk.old).modeled (λ d. count ≡ foreign (bytes_of 0 d))) }
+    ensures files { Both SameFiles (D.ghost_state disk.old).modeled (D.ghost_state disk.new).modeled }
+    ensures rests { Both Rests (D.ghost_state disk.old).modeled (D.ghost_state disk.new).modeled }
+    ensures counts { CountsOn result (D.ghost_state disk.old) (D.ghost_state disk.new) }
 {
     let size = match disk.length(0) {
         Ok(size) => size,
@@ -35,14 +35,14 @@ pub fn foreign_bytes<D: Disk>(alloc: Global, disk: &mut D) -> Result<u64, Or<Dis
 /// The place behind the last whole frame of a journal of so many bytes.
 fn tail_of<D: Disk>(alloc: Global, disk: &mut D, size: u64) -> Result<u64, Or<DiskFault>>
     requires small { size ≤ 2 ^ 62 }
-    requires all { IfTold (D.sight disk.old).told (λ d. size ≡ length (bytes_of 0 d)) }
+    requires all { IfModeled (D.ghost_state disk.old).modeled (λ d. size ≡ length (bytes_of 0 d)) }
     ensures within { IfOk result (λ tail. tail ≤ size) }
     ensures behind { IfOk result
         (λ tail.
-        IfTold (D.sight disk.old).told
+        IfModeled (D.ghost_state disk.old).modeled
         (λ d. behind (bytes_of 0 d) ≡ drop tail (bytes_of 0 d))) }
-    ensures rests { Both Rests (D.sight disk.old).told (D.sight disk.new).told }
-    ensures counts { CountsOn result (D.sight disk.old) (D.sight disk.new) }
+    ensures rests { Both Rests (D.ghost_state disk.old).modeled (D.ghost_state disk.new).modeled }
+    ensures counts { CountsOn result (D.ghost_state disk.old) (D.ghost_state disk.new) }
 {
     let mut tail = 0;
     let mut window = None;
@@ -67,13 +67,13 @@ fn foreign_at<D: Disk>(
 ) -> Result<u64, Or<DiskFault>>
     requires within { tail ≤ size }
     requires small { size ≤ 2 ^ 62 }
-    requires all { IfTold (D.sight disk.old).told (λ d. size ≡ length (bytes_of 0 d)) }
+    requires all { IfModeled (D.ghost_state disk.old).modeled (λ d. size ≡ length (bytes_of 0 d)) }
     ensures foreign { IfOk result
         (λ count.
-        IfTold (D.sight disk.old).told
+        IfModeled (D.ghost_state disk.old).modeled
         (λ d. count ≡ foreign_of (drop tail (bytes_of 0 d)))) }
-    ensures rests { Both Rests (D.sight disk.old).told (D.sight disk.new).told }
-    ensures counts { CountsOn result (D.sight disk.old) (D.sight disk.new) }
+    ensures rests { Both Rests (D.ghost_state disk.old).modeled (D.ghost_state disk.new).modeled }
+    ensures counts { CountsOn result (D.ghost_state disk.old) (D.ghost_state disk.new) }
 {
     let left = size - tail;
     if left == 0 {

@@ -1,7 +1,7 @@
 //! A frame that is ready to be written.
 
 ghost use Rattle.std.specs.Prelude.{◌≡◌, ◌<◌, ◌^◌, List, ℕ, length, IfOk};
-ghost use Rattle.vob_journal.specs.Frames.{written};
+ghost use Rattle.vob_journal.specs.Frames.{frame_after_gate};
 
 use cc_names::memory::NoMemory;
 use std::alloc::Global;
@@ -39,7 +39,7 @@ impl Frame {
 
     /// What is written behind the gate byte.
     pub(crate) fn as_bytes(&self) -> &[u8]
-        ensures bytes { result.now ≡ written self.now }
+        ensures bytes { result.now ≡ frame_after_gate self.now }
         ensures short { length self.now < 2 ^ 32 }
     {
         self.bytes.as_slice()

@@ -3,7 +3,7 @@
 ghost use Rattle.std.specs.Prelude.{◌≡◌, ◌≤◌, ◌+◌, ◌^◌, ◌++◌, ◌∷◌, [], IfOk, IfErr, OnOk, OnErr, MatchResult, is_ok, if◌then◌else◌, true, false, List, ℕ, length};
 ghost use Rattle.disk_model.specs.Devices.{file_of, bytes_of, LeavesNow};
 ghost use Rattle.disk_model.specs.Files.{stable};
-ghost use Rattle.disk_model.specs.Told.{IfTold, Both};
+ghost use Rattle.disk_model.specs.DiskStates.{IfModeled, Both};
 
 mod objects;
 
@@ -35,23 +35,23 @@ pub struct Journal<D: Disk> {
 }
 
 impl<D: Disk> Model for Journal<D> {
-    ghost use Rattle.vob_journal.specs.Shown.{Shown, told_list, told_rest, told_loose, IsJournalKept};
+    ghost use Rattle.vob_journal.specs.Shown.{Shown, modeled_list, modeled_rest, modeled_leftover, JournalInvariant};
 
     ghost Value = { Shown D };
 
     ghost view = { λ j. record {
       disk = j.disk;
       tail = j.tail;
-      list = told_list (D.sight j.disk).told j.ended j.tail;
-      rest = told_rest (D.sight j.disk).told j.ended j.tail;
-      loose = told_loose (D.sight j.disk).told j.ended j.settled j.tail;
+      list = modeled_list (D.ghost_state j.disk).modeled j.ended j.tail;
+      rest = modeled_rest (D.ghost_state j.disk).modeled j.ended j.tail;
+      leftover = modeled_leftover (D.ghost_state j.disk).modeled j.ended j.settled j.tail;
       ended = j.ended;
       settled = j.settled;
       left = j.left;
     } };
 
     ghost invariant = { λ j.
-        IsJournalKept (D.sight j.disk).told j.ended j.settled j.tail j.size j.window };
+        JournalInvariant (D.ghost_state j.disk).modeled j.ended j.settled j.tail j.size j.window };
 }
 
 impl<D: Disk> Journal<D> {
@@ -59,9 +59,9 @@ impl<D: Disk> Journal<D> {
     ghost use Rattle.vob_journal.specs.declared.left.Left.TheVariants as lefts;
     ghost use Rattle.vob_journal.specs.Added.{Adds, WritesOn, may_read};
     ghost use Rattle.vob_journal.specs.Answered.{Gives, Ends, SettledAtEnd, OneMore, OneFault, MakesNoCall};
-    ghost use Rattle.vob_journal.specs.Calls.{committed, settled_first};
+    ghost use Rattle.vob_journal.specs.Calls.{device_after_commit, settled_first};
     ghost use Rattle.vob_journal.specs.Frames.{frames};
-    ghost use Rattle.vob_journal.specs.Lefts.{loose_after, settled_after};
+    ghost use Rattle.vob_journal.specs.Lefts.{leftover_after, settled_after};
     ghost use Rattle.vob_journal.specs.Moves.{Moves, Stands};
     ghost use Rattle.vob_journal.specs.Phases.{Spends, calls_of};
     ghost use Rattle.vob_journal.specs.Reads.{SameFiles, CountsReads};
@@ -69,26 +69,26 @@ impl<D: Disk> Journal<D> {
     /// The journal of a disk that was handed in. Asks its length, and reads nothing yet. Where that fails the disk
     /// comes back. Either way both files are as they were.
     pub fn open(disk: D) -> Result<Journal<D>, D>
-        requires { IfTold (D.sight disk).told (λ d. file_of 0 d ≡ stable (bytes_of 0 d)) }
+        requires { IfModeled (D.ghost_state disk).modeled (λ d. file_of 0 d ≡ stable (bytes_of 0 d)) }
         ensures list { IfOk result
-            (λ journal. IfTold (D.sight disk).told (λ d. journal.list ≡ frames (bytes_of 0 d))) }
+            (λ journal. IfModeled (D.ghost_state disk).modeled (λ d. journal.list ≡ frames (bytes_of 0 d))) }
         ensures begins { IfOk result
             (λ journal.
-            (journal.rest ≡ journal.list) × (journal.loose ≡ []) × (journal.tail ≡ 0)
+            (journal.rest ≡ journal.list) × (journal.leftover ≡ []) × (journal.tail ≡ 0)
             × (journal.ended ≡ false) × (journal.left ≡ lefts.Nothing)) }
-        ensures told { MatchResult result
-            (λ journal. Both (Measures 0) (D.sight disk).told (D.sight journal.disk).told)
-            (λ back. Both Idles (D.sight disk).told (D.sight back).told) }
+        ensures modeled { MatchResult result
+            (λ journal. Both (Measures 0) (D.ghost_state disk).modeled (D.ghost_state journal.disk).modeled)
+            (λ back. Both Idles (D.ghost_state disk).modeled (D.ghost_state back).modeled) }
         ensures moves { IfOk result
             (λ journal.
-            Both (Moves journal.list [] journal.list journal.loose) (D.sight disk).told
-            (D.sight journal.disk).told) }
+            Both (Moves journal.list [] journal.list journal.leftover) (D.ghost_state disk).modeled
+            (D.ghost_state journal.disk).modeled) }
         ensures files { MatchResult result
-            (λ journal. Both SameFiles (D.sight disk).told (D.sight journal.disk).told)
-            (λ back. Both SameFiles (D.sight disk).told (D.sight back).told) }
+            (λ journal. Both SameFiles (D.ghost_state disk).modeled (D.ghost_state journal.disk).modeled)
+            (λ back. Both SameFiles (D.ghost_state disk).modeled (D.ghost_state back).modeled) }
         ensures counts { MatchResult result
-            (λ journal. OneMore (D.sight disk) (D.sight journal.disk))
-            (λ back. OneFault (D.sight disk) (D.sight back)) }
+            (λ journal. OneMore (D.ghost_state disk) (D.ghost_state journal.disk))
+            (λ back. OneFault (D.ghost_state disk) (D.ghost_state back)) }
     {
         let mut disk = disk;
         match disk.length(0) {
@@ -110,23 +110,23 @@ impl<D: Disk> Journal<D> {
     pub fn next(&mut self, alloc: Global) -> Result<Option<Text>, Or<DiskFault>>
         ensures gives { IfOk result
             (λ found.
-            IfTold (D.sight self.old.disk).told
+            IfModeled (D.ghost_state self.old.disk).modeled
             (λ _. Gives found self.old.rest self.new.rest)) }
         ensures ends { Ends result self.old.ended self.new.ended }
         ensures settled { IfOk result
             (λ found.
-            IfTold (D.sight self.old.disk).told
+            IfModeled (D.ghost_state self.old.disk).modeled
             (SettledAtEnd found self.old.ended self.new.settled self.new.tail)) }
         ensures list { self.new.list ≡ self.old.list }
-        ensures loose { self.new.loose ≡ self.old.loose }
+        ensures leftover { self.new.leftover ≡ self.old.leftover }
         ensures err { OnErr result (self.new.rest ≡ self.old.rest) }
         ensures left { self.new.left ≡ self.old.left }
-        ensures moves { Both (Moves self.old.list self.old.loose self.new.list self.new.loose)
-            (D.sight self.old.disk).told (D.sight self.new.disk).told }
-        ensures files { Both SameFiles (D.sight self.old.disk).told (D.sight self.new.disk).told }
-        ensures adds { Both (Adds may_read) (D.sight self.old.disk).told
-            (D.sight self.new.disk).told }
-        ensures counts { CountsReads 2 result (D.sight self.old.disk) (D.sight self.new.disk) }
+        ensures moves { Both (Moves self.old.list self.old.leftover self.new.list self.new.leftover)
+            (D.ghost_state self.old.disk).modeled (D.ghost_state self.new.disk).modeled }
+        ensures files { Both SameFiles (D.ghost_state self.old.disk).modeled (D.ghost_state self.new.disk).modeled }
+        ensures adds { Both (Adds may_read) (D.ghost_state self.old.disk).modeled
+            (D.ghost_state self.new.disk).modeled }
+        ensures counts { CountsReads 2 result (D.ghost_state self.old.disk) (D.ghost_state self.new.disk) }
     {
         if self.ended {
             return Ok(None);
@@ -153,30 +153,30 @@ impl<D: Disk> Journal<D> {
     /// linear in the frame.
     pub fn append(&mut self, frame: &Frame) -> Result<u64, DiskFault>
         requires { self.old.ended ≡ true }
-        ensures moves { Both (Moves self.old.list self.old.loose self.new.list self.new.loose)
-            (D.sight self.old.disk).told (D.sight self.new.disk).told }
+        ensures moves { Both (Moves self.old.list self.old.leftover self.new.list self.new.leftover)
+            (D.ghost_state self.old.disk).modeled (D.ghost_state self.new.disk).modeled }
         ensures calls { OnOk result
-            (Both (λ d e. e ≡ committed self.old.settled self.old.tail frame.now d)
-            (D.sight self.old.disk).told (D.sight self.new.disk).told) }
-        ensures tick { IfOk result (λ tick. tick ≡ (D.sight self.new.disk).ticks) }
+            (Both (λ d e. e ≡ device_after_commit self.old.settled self.old.tail frame.now d)
+            (D.ghost_state self.old.disk).modeled (D.ghost_state self.new.disk).modeled) }
+        ensures tick { IfOk result (λ tick. tick ≡ (D.ghost_state self.new.disk).ticks) }
         ensures ok { OnOk result
-            (IfTold (D.sight self.old.disk).told
-            (λ _. (self.new.list ≡ self.old.list ++ frame.now ∷ []) × (self.new.loose ≡ []))) }
+            (IfModeled (D.ghost_state self.old.disk).modeled
+            (λ _. (self.new.list ≡ self.old.list ++ frame.now ∷ []) × (self.new.leftover ≡ []))) }
         ensures tail { self.new.tail
             ≡ (if is_ok result then self.old.tail + (5 + length frame.now) else self.old.tail) }
         ensures err { OnErr result
-            (IfTold (D.sight self.old.disk).told
+            (IfModeled (D.ghost_state self.old.disk).modeled
             (λ _.
             (self.new.list ≡ self.old.list)
-            × (self.new.loose ≡ loose_after self.new.left self.old.loose frame.now))) }
+            × (self.new.leftover ≡ leftover_after self.new.left self.old.leftover frame.now))) }
         ensures left { OnOk result (self.new.left ≡ lefts.Nothing) }
         ensures earlier { OnErr result
             (self.new.left ≡ lefts.Earlier → self.old.settled ≡ false) }
         ensures settled { self.new.settled ≡ settled_after self.new.left }
         ensures ended { self.new.ended ≡ true }
-        ensures writes { Both WritesOn (D.sight self.old.disk).told (D.sight self.new.disk).told }
-        ensures costs { Spends (calls_of self.old.settled) result (D.sight self.old.disk)
-            (D.sight self.new.disk) }
+        ensures writes { Both WritesOn (D.ghost_state self.old.disk).modeled (D.ghost_state self.new.disk).modeled }
+        ensures costs { Spends (calls_of self.old.settled) result (D.ghost_state self.old.disk)
+            (D.ghost_state self.new.disk) }
     {
         match commit(&mut self.disk, self.settled, self.tail, frame) {
             Ok(()) => {
@@ -197,23 +197,23 @@ impl<D: Disk> Journal<D> {
     /// was. Afterwards each stop leaves the list and no more.
     pub fn settle(&mut self) -> Result<(), DiskFault>
         requires { self.old.ended ≡ true }
-        ensures moves { Both (Moves self.old.list self.old.loose self.new.list self.new.loose)
-            (D.sight self.old.disk).told (D.sight self.new.disk).told }
+        ensures moves { Both (Moves self.old.list self.old.leftover self.new.list self.new.leftover)
+            (D.ghost_state self.old.disk).modeled (D.ghost_state self.new.disk).modeled }
         ensures calls { OnOk result
             (Both (λ d e. e ≡ settled_first self.old.settled self.old.tail d)
-            (D.sight self.old.disk).told (D.sight self.new.disk).told) }
+            (D.ghost_state self.old.disk).modeled (D.ghost_state self.new.disk).modeled) }
         ensures list { self.new.list ≡ self.old.list }
-        ensures loose { MatchResult result (λ _. self.new.loose ≡ [])
-            (λ _. self.new.loose ≡ self.old.loose) }
+        ensures leftover { MatchResult result (λ _. self.new.leftover ≡ [])
+            (λ _. self.new.leftover ≡ self.old.leftover) }
         ensures tail { self.new.tail ≡ self.old.tail }
         ensures left { MatchResult result (λ _. self.new.left ≡ lefts.Nothing)
             (λ _. self.new.left ≡ lefts.Earlier) }
         ensures settled { self.new.settled ≡ settled_after self.new.left }
         ensures ended { self.new.ended ≡ true }
-        ensures writes { Both WritesOn (D.sight self.old.disk).told (D.sight self.new.disk).told }
+        ensures writes { Both WritesOn (D.ghost_state self.old.disk).modeled (D.ghost_state self.new.disk).modeled }
         ensures rests { self.old.settled ≡ true → MakesNoCall result self.old.disk self.new.disk }
-        ensures costs { Spends (if self.old.settled then 0 else 2) result (D.sight self.old.disk)
-            (D.sight self.new.disk) }
+        ensures costs { Spends (if self.old.settled then 0 else 2) result (D.ghost_state self.old.disk)
+            (D.ghost_state self.new.disk) }
     {
         match settle_tail(&mut self.disk, self.settled, self.tail) {
             Ok(()) => {
@@ -230,7 +230,7 @@ impl<D: Disk> Journal<D> {
     }
 
     /// What the last call of `append` or `settle` left behind the list.
-    pub fn left(&self) -> Left
+    pub fn left_by_last_call(&self) -> Left
         ensures { result ≡ self.now.left }
     {
         self.left
@@ -238,13 +238,13 @@ impl<D: Disk> Journal<D> {
 
     /// The disk's counts. A stop now leaves the list, and what is loose behind it or not.
     pub fn counts(&self) -> Counts
-        ensures ticks { result.ticks ≡ (D.sight self.now.disk).ticks }
-        ensures faults { result.faults ≡ (D.sight self.now.disk).faults }
-        ensures now { IfTold (D.sight self.now.disk).told
+        ensures ticks { result.ticks ≡ (D.ghost_state self.now.disk).ticks }
+        ensures faults { result.faults ≡ (D.ghost_state self.now.disk).faults }
+        ensures now { IfModeled (D.ghost_state self.now.disk).modeled
             (λ d.
             (image : List ℕ)
             → LeavesNow 0 d image
-            → Stands self.now.list self.now.loose image) }
+            → Stands self.now.list self.now.leftover image) }
     {
         self.disk.counts()
     }

@@ -2,7 +2,7 @@
 
 ghost use Rattle.std.specs.Prelude.{◌≡◌, ◌≤◌, ◌<◌, ◌+◌, ◌-◌, ◌^◌, List, ℕ, min, length, take, drop, IfOk, Some};
 ghost use Rattle.disk_model.specs.Devices.{bytes_of};
-ghost use Rattle.disk_model.specs.Told.{IfTold, Both};
+ghost use Rattle.disk_model.specs.DiskStates.{IfModeled, Both};
 ghost use Rattle.vob_journal.specs.Windows.{IfShows};
 ghost use Rattle.vob_journal.specs.Reads.{Rests, CountsReads};
 ghost use Rattle.vob_journal.specs.Found.{Tells, Finds, IsPayload, IsWithin, ShowsOn, FitsIn};
@@ -67,14 +67,14 @@ pub(crate) fn read_frame<D: Disk>(
 ) -> Result<Found, Or<DiskFault>>
     requires within { tail ≤ size }
     requires small { size ≤ 2 ^ 62 }
-    requires all { IfTold (D.sight disk.old).told (λ d. size ≡ length (bytes_of 0 d)) }
-    requires shows { IfShows window (D.sight disk.old).told }
+    requires all { IfModeled (D.ghost_state disk.old).modeled (λ d. size ≡ length (bytes_of 0 d)) }
+    requires shows { IfShows window (D.ghost_state disk.old).modeled }
     ensures found { IfOk result
-        (λ found. IfTold (D.sight disk.old).told (λ d. Finds found (drop tail (bytes_of 0 d)))) }
+        (λ found. IfModeled (D.ghost_state disk.old).modeled (λ d. Finds found (drop tail (bytes_of 0 d)))) }
     ensures within { IfOk result (IsWithin tail size) }
-    ensures shows { IfOk result (ShowsOn (D.sight disk.new).told) }
-    ensures rests { Both Rests (D.sight disk.old).told (D.sight disk.new).told }
-    ensures counts { CountsReads 2 result (D.sight disk.old) (D.sight disk.new) }
+    ensures shows { IfOk result (ShowsOn (D.ghost_state disk.new).modeled) }
+    ensures rests { Both Rests (D.ghost_state disk.old).modeled (D.ghost_state disk.new).modeled }
+    ensures counts { CountsReads 2 result (D.ghost_state disk.old) (D.ghost_state disk.new) }
 {
     let left = size - tail;
     if left == 0 {
@@ -102,16 +102,16 @@ fn read_payload<D: Disk>(
 ) -> Result<Found, Or<DiskFault>>
     requires within { tail + (5 + count) ≤ size }
     requires small { size ≤ 2 ^ 62 }
-    requires all { IfTold (D.sight disk.old).told (λ d. size ≡ length (bytes_of 0 d)) }
-    requires shows { IfShows (Some window) (D.sight disk.old).told }
+    requires all { IfModeled (D.ghost_state disk.old).modeled (λ d. size ≡ length (bytes_of 0 d)) }
+    requires shows { IfShows (Some window) (D.ghost_state disk.old).modeled }
     ensures found { IfOk result
         (λ found.
-        IfTold (D.sight disk.old).told
+        IfModeled (D.ghost_state disk.old).modeled
         (λ d. IsPayload found (take count (drop 5 (drop tail (bytes_of 0 d)))))) }
     ensures within { IfOk result (IsWithin tail size) }
-    ensures shows { IfOk result (ShowsOn (D.sight disk.new).told) }
-    ensures rests { Both Rests (D.sight disk.old).told (D.sight disk.new).told }
-    ensures counts { CountsReads 1 result (D.sight disk.old) (D.sight disk.new) }
+    ensures shows { IfOk result (ShowsOn (D.ghost_state disk.new).modeled) }
+    ensures rests { Both Rests (D.ghost_state disk.old).modeled (D.ghost_state disk.new).modeled }
+    ensures counts { CountsReads 1 result (D.ghost_state disk.old) (D.ghost_state disk.new) }
 {
     let window = match look(alloc, disk, Some(window), size, tail, 5 + count) {
         Ok(window) => window,

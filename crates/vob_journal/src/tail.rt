@@ -2,11 +2,11 @@
 
 ghost use Rattle.std.specs.Prelude.{◌≡◌, ◌≤◌, ◌<◌, ◌+◌, ◌^◌, ◌∷◌, [], Bool, true, false, length, IfOk, IfErr, MatchResult, if◌then◌else◌};
 ghost use Rattle.disk_model.specs.Devices.{bytes_of};
-ghost use Rattle.disk_model.specs.Told.{IfTold, Both};
+ghost use Rattle.disk_model.specs.DiskStates.{IfModeled, Both};
 ghost use Rattle.vob_journal.specs.Answered.{MakesNoCall};
 ghost use Rattle.vob_journal.specs.declared.left.Left.TheVariants as lefts;
 ghost use Rattle.vob_journal.specs.Tails.{IsTail};
-ghost use Rattle.vob_journal.specs.Calls.{KeepsFrames, Settles, StaysLoose, CommitsFrame, FailsToAppend};
+ghost use Rattle.vob_journal.specs.Calls.{KeepsFrames, Settles, LeavesLeftover, CommitsFrame, FailsToAppend};
 ghost use Rattle.vob_journal.specs.Phases.{PutsDown, FailsToPut, Stages, IsStagedAt, OpensGate, MayOpen, Spends, calls_of};
 
 use crate::frame::Frame;
@@ -19,14 +19,14 @@ const SHUT: [u8; 1] = [0];
 
 /// Writes a piece and syncs it.
 fn put_down<D: Disk>(disk: &mut D, place: u64, piece: &[u8]) -> Result<(), DiskFault>
-    requires { IfTold (D.sight disk.old).told (λ d. place ≤ length (bytes_of 0 d)) }
+    requires { IfModeled (D.ghost_state disk.old).modeled (λ d. place ≤ length (bytes_of 0 d)) }
     ensures most { IfOk result (λ _. place + length piece.now ≤ 2 ^ 62) }
-    ensures told { MatchResult result
-        (λ _. Both (PutsDown place piece.now) (D.sight disk.old).told (D.sight disk.new).told)
+    ensures modeled { MatchResult result
+        (λ _. Both (PutsDown place piece.now) (D.ghost_state disk.old).modeled (D.ghost_state disk.new).modeled)
         (λ _.
-        Both (FailsToPut place (length piece.now)) (D.sight disk.old).told
-        (D.sight disk.new).told) }
-    ensures counts { Spends 2 result (D.sight disk.old) (D.sight disk.new) }
+        Both (FailsToPut place (length piece.now)) (D.ghost_state disk.old).modeled
+        (D.ghost_state disk.new).modeled) }
+    ensures counts { Spends 2 result (D.ghost_state disk.old) (D.ghost_state disk.new) }
 {
     if let Err(fault) = disk.write_at(0, place, piece) {
         return Err(fault);
@@ -36,13 +36,13 @@ fn put_down<D: Disk>(disk: &mut D, place: u64, piece: &[u8]) -> Result<(), DiskF
 
 /// Settles the tail, if it is not settled: shuts its gate and syncs that.
 pub(crate) fn settle_tail<D: Disk>(disk: &mut D, settled: bool, tail: u64) -> Result<(), DiskFault>
-    requires { IfTold (D.sight disk.old).told (IsTail settled tail) }
-    ensures told { MatchResult result
-        (λ _. Both (Settles settled tail) (D.sight disk.old).told (D.sight disk.new).told)
-        (λ _. Both (StaysLoose settled tail) (D.sight disk.old).told (D.sight disk.new).told) }
+    requires { IfModeled (D.ghost_state disk.old).modeled (IsTail settled tail) }
+    ensures modeled { MatchResult result
+        (λ _. Both (Settles settled tail) (D.ghost_state disk.old).modeled (D.ghost_state disk.new).modeled)
+        (λ _. Both (LeavesLeftover settled tail) (D.ghost_state disk.old).modeled (D.ghost_state disk.new).modeled) }
     ensures rests { settled ≡ true → MakesNoCall result disk.old disk.new }
-    ensures counts { Spends (if settled then 0 else 2) result (D.sight disk.old)
-        (D.sight disk.new) }
+    ensures counts { Spends (if settled then 0 else 2) result (D.ghost_state disk.old)
+        (D.ghost_state disk.new) }
 {
     if settled {
         return Ok(());
@@ -53,23 +53,23 @@ pub(crate) fn settle_tail<D: Disk>(disk: &mut D, settled: bool, tail: u64) -> Re
 /// Writes a frame behind a shut gate, and the next gate, shut.
 fn stage<D: Disk>(disk: &mut D, tail: u64, frame: &Frame) -> Result<(), DiskFault>
     requires small { tail ≤ 2 ^ 62 }
-    requires shut { IfTold (D.sight disk.old).told (IsTail true tail) }
+    requires shut { IfModeled (D.ghost_state disk.old).modeled (IsTail true tail) }
     ensures most { IfOk result (λ _. tail + (5 + length frame.now) ≤ 2 ^ 62) }
-    ensures told { MatchResult result
-        (λ _. Both (Stages tail frame.now) (D.sight disk.old).told (D.sight disk.new).told)
-        (λ _. Both (KeepsFrames true true tail) (D.sight disk.old).told (D.sight disk.new).told) }
-    ensures counts { Spends 2 result (D.sight disk.old) (D.sight disk.new) }
+    ensures modeled { MatchResult result
+        (λ _. Both (Stages tail frame.now) (D.ghost_state disk.old).modeled (D.ghost_state disk.new).modeled)
+        (λ _. Both (KeepsFrames true true tail) (D.ghost_state disk.old).modeled (D.ghost_state disk.new).modeled) }
+    ensures counts { Spends 2 result (D.ghost_state disk.old) (D.ghost_state disk.new) }
 {
     put_down(disk, tail + 1, frame.as_bytes())
 }
 
 /// Opens the gate in front of a frame that was staged.
 fn open_gate<D: Disk>(disk: &mut D, tail: u64, frame: &Frame) -> Result<(), DiskFault>
-    requires { IfTold (D.sight disk.old).told (IsStagedAt tail frame.now) }
-    ensures told { MatchResult result
-        (λ _. Both (OpensGate tail frame.now) (D.sight disk.old).told (D.sight disk.new).told)
-        (λ _. Both (MayOpen tail frame.now) (D.sight disk.old).told (D.sight disk.new).told) }
-    ensures counts { Spends 2 result (D.sight disk.old) (D.sight disk.new) }
+    requires { IfModeled (D.ghost_state disk.old).modeled (IsStagedAt tail frame.now) }
+    ensures modeled { MatchResult result
+        (λ _. Both (OpensGate tail frame.now) (D.ghost_state disk.old).modeled (D.ghost_state disk.new).modeled)
+        (λ _. Both (MayOpen tail frame.now) (D.ghost_state disk.old).modeled (D.ghost_state disk.new).modeled) }
+    ensures counts { Spends 2 result (D.ghost_state disk.old) (D.ghost_state disk.new) }
 {
     let _frame = frame.as_bytes();
     put_down(disk, tail, &OPEN)
@@ -83,17 +83,17 @@ pub(crate) fn commit<D: Disk>(
     frame: &Frame,
 ) -> Result<(), Left>
     requires small { tail ≤ 2 ^ 62 }
-    requires ends { IfTold (D.sight disk.old).told (IsTail settled tail) }
+    requires ends { IfModeled (D.ghost_state disk.old).modeled (IsTail settled tail) }
     ensures most { IfOk result (λ _. tail + (5 + length frame.now) ≤ 2 ^ 62) }
-    ensures told { MatchResult result
+    ensures modeled { MatchResult result
         (λ _.
-        Both (CommitsFrame settled tail frame.now) (D.sight disk.old).told
-        (D.sight disk.new).told)
+        Both (CommitsFrame settled tail frame.now) (D.ghost_state disk.old).modeled
+        (D.ghost_state disk.new).modeled)
         (λ left.
-        Both (FailsToAppend settled tail frame.now left) (D.sight disk.old).told
-        (D.sight disk.new).told) }
+        Both (FailsToAppend settled tail frame.now left) (D.ghost_state disk.old).modeled
+        (D.ghost_state disk.new).modeled) }
     ensures earlier { IfErr result (λ left. left ≡ lefts.Earlier → settled ≡ false) }
-    ensures counts { Spends (calls_of settled) result (D.sight disk.old) (D.sight disk.new) }
+    ensures counts { Spends (calls_of settled) result (D.ghost_state disk.old) (D.ghost_state disk.new) }
 {
     if let Err(_) = settle_tail(disk, settled, tail) {
         return Err(Left::Earlier);

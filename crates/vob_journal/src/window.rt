@@ -1,7 +1,7 @@
 //! The piece of a journal that is held in memory while it is read.
 
 ghost use Rattle.std.specs.Prelude.{◌≡◌, ◌≤◌, ◌+◌, ◌-◌, ◌^◌, ◌↔◌, Some, length, take, drop, IfOk, IsTrue};
-ghost use Rattle.disk_model.specs.Told.{IfTold, Both};
+ghost use Rattle.disk_model.specs.DiskStates.{IfModeled, Both};
 ghost use Rattle.disk_model.specs.Devices.{bytes_of};
 ghost use Rattle.vob_journal.specs.Windows.{IfShows};
 ghost use Rattle.vob_journal.specs.Reads.{Rests, ReadsPiece, CountsReads};
@@ -52,14 +52,14 @@ pub(crate) fn look<D: Disk>(
 ) -> Result<Window, Or<DiskFault>>
     requires within { place + needed ≤ size }
     requires small { size ≤ 2 ^ 62 }
-    requires all { IfTold (D.sight disk.old).told (λ d. size ≡ length (bytes_of 0 d)) }
-    requires shows { IfShows window (D.sight disk.old).told }
+    requires all { IfModeled (D.ghost_state disk.old).modeled (λ d. size ≡ length (bytes_of 0 d)) }
+    requires shows { IfShows window (D.ghost_state disk.old).modeled }
     ensures from { IfOk result (λ window. window.start ≤ place) }
     ensures to { IfOk result (λ window. place + needed ≤ window.start + length window.bytes.items) }
-    ensures shows { IfOk result (λ window. IfShows (Some window) (D.sight disk.new).told) }
-    ensures rests { Both Rests (D.sight disk.old).told (D.sight disk.new).told }
-    ensures pieces { Both (ReadsPiece place) (D.sight disk.old).told (D.sight disk.new).told }
-    ensures counts { CountsReads 1 result (D.sight disk.old) (D.sight disk.new) }
+    ensures shows { IfOk result (λ window. IfShows (Some window) (D.ghost_state disk.new).modeled) }
+    ensures rests { Both Rests (D.ghost_state disk.old).modeled (D.ghost_state disk.new).modeled }
+    ensures pieces { Both (ReadsPiece place) (D.ghost_state disk.old).modeled (D.ghost_state disk.new).modeled }
+    ensures counts { CountsReads 1 result (D.ghost_state disk.old) (D.ghost_state disk.new) }
 {
     if let Some(window) = window {
         if window.holds(place, needed) {

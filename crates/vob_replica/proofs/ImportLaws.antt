@@ -11,11 +11,11 @@ use Rattle.std.proofs.lemmas.Slice.Eq.{bytes_eq-Decides}
 use Rattle.vob_replica.specs.declared.events.Identity.{Identity}
 use Rattle.vob_replica.specs.declared.operations.Operation.{Operation}
 use Rattle.vob_replica.specs.declared.operations.SiteFault.TheVariants.{NoSite, NoPacket}
-use Rattle.vob_replica.specs.Tables.{number_in, raised, raised_by, holds, first_gap, table_of, identity_of, IsBefore, Ascends}
-use Rattle.vob_replica.specs.Replicas.{Site, Packet, taken_in, unless_gap, site_with}
-use Rattle.vob_replica.specs.World.{World, Stepped, site_in, with_site, packet_in, refused, takes}
+use Rattle.vob_replica.specs.Tables.{number_in, with_operation, raised_by, holds, first_gap, table_of, identity_of, IsBefore, Ascends}
+use Rattle.vob_replica.specs.Replicas.{Site, Packet, operations_after_import, unless_gap, site_with}
+use Rattle.vob_replica.specs.World.{World, Stepped, site_in, with_site, packet_in, refused_step, takes}
 use Rattle.vob_replica.specs.Laws.{behind_import}
-use Rattle.vob_replica.proofs.TableLaws.{Ascends-raised, IsBefore-along, raised_by_order, behind-differs, turned}
+use Rattle.vob_replica.proofs.TableLaws.{Ascends-with_operation, IsBefore-along, raised_by_order, behind-differs, turned}
 use Rattle.vob_replica.proofs.LogLaws.{table_of-push}
 
 -- the number of an entry that was found
@@ -30,9 +30,9 @@ number_in-before site (entry ∷ others) before =
     ap (λ (b : Bool). number_found (cond b (Some entry) (find (λ (e : Identity). bytes_eq e.site site) others))) differs
     ∙ number_in-before site others before.1
 
-in_front : (b : Bool) (i : Identity) (rest : Option Identity) → (b ≡ true → number_found rest ≡ 0) → number_found rest ≤ number_found (cond b (Some i) rest)
-in_front true i rest none = let zero : number_found rest ≡ 0 = none refl in omega arith
-in_front false i rest none = omega arith
+at_head : (b : Bool) (i : Identity) (rest : Option Identity) → (b ≡ true → number_found rest ≡ 0) → number_found rest ≤ number_found (cond b (Some i) rest)
+at_head true i rest none = let zero : number_found rest ≡ 0 = none refl in omega arith
+at_head false i rest none = omega arith
 
 in_place : (b : Bool) (entry other : Identity) (rest : Option Identity) → entry.number ≤ other.number → number_found (cond b (Some entry) rest) ≤ number_found (cond b (Some other) rest)
 in_place true entry other rest le = le
@@ -42,29 +42,29 @@ behind_first : (b : Bool) (entry : Identity) (one other : Option Identity) → n
 behind_first true entry one other le = omega arith
 behind_first false entry one other le = le
 
-raised-by_order : (o : Ordering) (entry : Identity) (others : List Identity) (i : Identity) (site : List ℕ)
-    → slice_cmp nat_cmp i.site entry.site ≡ o → Ascends (entry ∷ others) → number_in others site ≤ number_in (raised others i) site
+with_operation-by_order : (o : Ordering) (entry : Identity) (others : List Identity) (i : Identity) (site : List ℕ)
+    → slice_cmp nat_cmp i.site entry.site ≡ o → Ascends (entry ∷ others) → number_in others site ≤ number_in (with_operation others i) site
     → number_in (entry ∷ others) site ≤ number_in (raised_by_order o entry others i) site
-raised-by_order Less entry others i site is ascends later =
-    in_front (bytes_eq i.site site) i (find (λ (e : Identity). bytes_eq e.site site) (entry ∷ others)) (λ same.
+with_operation-by_order Less entry others i site is ascends later =
+    at_head (bytes_eq i.site site) i (find (λ (e : Identity). bytes_eq e.site site) (entry ∷ others)) (λ same.
     let before : IsBefore i.site (entry ∷ others) = (is, IsBefore-along i.site entry.site others is ascends.0) in
     subst (λ (s : List ℕ). number_in (entry ∷ others) s ≡ 0) ((bytes_eq-Decides i.site site).0 same) (number_in-before i.site (entry ∷ others) before))
-raised-by_order Equal entry others i site is ascends later =
+with_operation-by_order Equal entry others i site is ascends later =
     in_place (bytes_eq entry.site site) entry (record { site = entry.site; number = max entry.number i.number })
     (find (λ (e : Identity). bytes_eq e.site site) others) (omega arith)
-raised-by_order Greater entry others i site is ascends later =
+with_operation-by_order Greater entry others i site is ascends later =
     behind_first (bytes_eq entry.site site) entry (find (λ (e : Identity). bytes_eq e.site site) others)
-    (find (λ (e : Identity). bytes_eq e.site site) (raised others i)) later
+    (find (λ (e : Identity). bytes_eq e.site site) (with_operation others i)) later
 
 -- one operation more lowers no number
-number_in-raised : (table : List Identity) (i : Identity) (site : List ℕ) → Ascends table → number_in table site ≤ number_in (raised table i) site
-number_in-raised [] i site ascends = omega arith
-number_in-raised (entry ∷ others) i site ascends =
-    raised-by_order (slice_cmp nat_cmp i.site entry.site) entry others i site refl ascends (number_in-raised others i site ascends.1)
+number_in-with_operation : (table : List Identity) (i : Identity) (site : List ℕ) → Ascends table → number_in table site ≤ number_in (with_operation table i) site
+number_in-with_operation [] i site ascends = omega arith
+number_in-with_operation (entry ∷ others) i site ascends =
+    with_operation-by_order (slice_cmp nat_cmp i.site entry.site) entry others i site refl ascends (number_in-with_operation others i site ascends.1)
 
 Ascends-raised_by : (table others : List Identity) → Ascends table → Ascends (raised_by table others)
 Ascends-raised_by table [] ascends = ascends
-Ascends-raised_by table (other ∷ others) ascends = Ascends-raised_by (raised table other) others (Ascends-raised table other ascends)
+Ascends-raised_by table (other ∷ others) ascends = Ascends-raised_by (with_operation table other) others (Ascends-with_operation table other ascends)
 
 ascends_of : (known : List Operation) → Ascends (table_of known)
 ascends_of known = Ascends-raised_by [] (map identity_of known) tt
@@ -73,19 +73,19 @@ ascends_of known = Ascends-raised_by [] (map identity_of known) tt
 known-push : (known : List Operation) (operation : Operation) (site : List ℕ) → number_in (table_of known) site ≤ number_in (table_of (known ++ operation ∷ [])) site
 known-push known operation site =
     subst (λ (t : List Identity). number_in (table_of known) site ≤ number_in t site) (sym (table_of-push known operation))
-    (number_in-raised (table_of known) operation.identity site (ascends_of known))
+    (number_in-with_operation (table_of known) operation.identity site (ascends_of known))
 
 -- the operations of a packet
-taken-rises : (known operations after : List Operation) (site : List ℕ) → taken_in known operations ≡ Ok after → number_in (table_of known) site ≤ number_in (table_of after) site
+taken-rises : (known operations after : List Operation) (site : List ℕ) → operations_after_import known operations ≡ Ok after → number_in (table_of known) site ≤ number_in (table_of after) site
 taken-rises known [] after site is = let same : known ≡ after = cc is in subst (λ (l : List Operation). number_in (table_of known) site ≤ number_in (table_of l) site) same (omega arith)
 taken-rises known (operation ∷ operations) after site is =
     by_known (holds (table_of known) operation.identity) (first_gap operation.needs (table_of known)) known operation operations after site is
     (taken-rises known operations after site) (taken-rises (known ++ operation ∷ []) operations after site)
   where
     by_known : (b : Bool) (gap : Option Identity) (known : List Operation) (operation : Operation) (operations after : List Operation) (site : List ℕ)
-        → cond b (taken_in known operations) (unless_gap gap (taken_in (known ++ operation ∷ []) operations)) ≡ Ok after
-        → (taken_in known operations ≡ Ok after → number_in (table_of known) site ≤ number_in (table_of after) site)
-        → (taken_in (known ++ operation ∷ []) operations ≡ Ok after → number_in (table_of (known ++ operation ∷ [])) site ≤ number_in (table_of after) site)
+        → cond b (operations_after_import known operations) (unless_gap gap (operations_after_import (known ++ operation ∷ []) operations)) ≡ Ok after
+        → (operations_after_import known operations ≡ Ok after → number_in (table_of known) site ≤ number_in (table_of after) site)
+        → (operations_after_import (known ++ operation ∷ []) operations ≡ Ok after → number_in (table_of (known ++ operation ∷ [])) site ≤ number_in (table_of after) site)
         → number_in (table_of known) site ≤ number_in (table_of after) site
     by_known true gap known operation operations after site is skipped taken = skipped is
     by_known false (Some missing) known operation operations after site is skipped taken = cc is
@@ -136,12 +136,12 @@ found-name (first ∷ sites) name site found = found-first (bytes_eq first.name 
 -- an import, by what it finds
 abbrev import_by : World → List ℕ → List ℕ → Option Site → Stepped
 import_by world name packet found =
-    option_map_or (λ (site : Site). option_map_or (λ (contents : Packet). takes world site contents (taken_in site.known contents.operations)) (packet_in world.packets packet) (refused world (NoPacket packet))) found
-    (refused world (NoSite name))
+    option_map_or (λ (site : Site). option_map_or (λ (contents : Packet). takes world site contents (operations_after_import site.known contents.operations)) (packet_in world.packets packet) (refused_step world (NoPacket packet))) found
+    (refused_step world (NoSite name))
 
 abbrev import_at : World → List ℕ → Site → Option Packet → Stepped
 import_at world packet site found =
-    option_map_or (λ (contents : Packet). takes world site contents (taken_in site.known contents.operations)) found (refused world (NoPacket packet))
+    option_map_or (λ (contents : Packet). takes world site contents (operations_after_import site.known contents.operations)) found (refused_step world (NoPacket packet))
 
 takes-other : (world : World) (site : Site) (contents : Packet) (taken : Result (List Operation) Identity) (other : List ℕ) → bytes_eq site.name other ≡ false
     → site_in (takes world site contents taken).world.sites other ≡ site_in world.sites other
@@ -151,7 +151,7 @@ takes-other world site contents (Err gap) other differs = refl
 at-other : (world : World) (packet : List ℕ) (site : Site) (found : Option Packet) (other : List ℕ) → bytes_eq site.name other ≡ false
     → site_in (import_at world packet site found).world.sites other ≡ site_in world.sites other
 at-other world packet site None other differs = refl
-at-other world packet site (Some contents) other differs = takes-other world site contents (taken_in site.known contents.operations) other differs
+at-other world packet site (Some contents) other differs = takes-other world site contents (operations_after_import site.known contents.operations) other differs
 
 by-other : (world : World) (name packet : List ℕ) (found : Option Site) (other : List ℕ) → site_in world.sites name ≡ found → bytes_eq name other ≡ false
     → site_in (import_by world name packet found).world.sites other ≡ site_in world.sites other
@@ -170,7 +170,7 @@ NoLess old new site = number_in (table_of old.known) site ≤ number_in (table_o
 same-no_less : (found : Option Site) (old new : Site) (site : List ℕ) → found ≡ Some old → found ≡ Some new → NoLess old new site
 same-no_less found old new site is also = let same : old ≡ new = cc (is, also) in subst (λ (s : Site). NoLess old s site) same (omega arith)
 
-takes-own : (world : World) (old new : Site) (contents : Packet) (taken : Result (List Operation) Identity) (name site : List ℕ) → taken_in old.known contents.operations ≡ taken
+takes-own : (world : World) (old new : Site) (contents : Packet) (taken : Result (List Operation) Identity) (name site : List ℕ) → operations_after_import old.known contents.operations ≡ taken
     → site_in world.sites name ≡ Some old → site_in (takes world old contents taken).world.sites name ≡ Some new → NoLess old new site
 takes-own world old new contents (Ok known) name site is found behind =
     let put = site_in-own (site_with old contents known) old world.sites name (found-name world.sites name old found) found in
@@ -181,7 +181,7 @@ takes-own world old new contents (Err gap) name site is found behind = same-no_l
 at-own : (world : World) (packet : List ℕ) (old new : Site) (contents : Option Packet) (name site : List ℕ) → site_in world.sites name ≡ Some old
     → site_in (import_at world packet old contents).world.sites name ≡ Some new → NoLess old new site
 at-own world packet old new None name site found behind = same-no_less (site_in world.sites name) old new site found behind
-at-own world packet old new (Some contents) name site found behind = takes-own world old new contents (taken_in old.known contents.operations) name site refl found behind
+at-own world packet old new (Some contents) name site found behind = takes-own world old new contents (operations_after_import old.known contents.operations) name site refl found behind
 
 pub import-own : (world : World) (name packet site : List ℕ) (old new : Site) → site_in world.sites name ≡ Some old → site_in (behind_import world name packet) name ≡ Some new
     → NoLess old new site

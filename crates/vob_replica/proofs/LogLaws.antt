@@ -11,17 +11,17 @@ use Rattle.std.proofs.lemmas.Slice.Eq.{bytes_eq-Decides}
 use Rattle.vob_replica.specs.declared.events.Identity.{Identity}
 use Rattle.vob_replica.specs.declared.operations.Operation.{Operation}
 use Rattle.vob_replica.specs.Logs.{IsNext, IsTableOf}
-use Rattle.vob_replica.specs.Replicas.{taken_in, unless_gap}
-use Rattle.vob_replica.specs.Tables.{first_gap, holds, number_in, raised, raised_by, identity_of, table_of}
+use Rattle.vob_replica.specs.Replicas.{operations_after_import, unless_gap}
+use Rattle.vob_replica.specs.Tables.{first_gap, holds, number_in, with_operation, raised_by, identity_of, table_of}
 use Rattle.vob_replica.proofs.TableLaws.{order, raised_by_order, equal-same}
 
 raised_by-push : (table : List Identity) (known : List Operation) (operation : Operation)
-    → raised_by table (map identity_of (known ++ operation ∷ [])) ≡ raised (raised_by table (map identity_of known)) operation.identity
+    → raised_by table (map identity_of (known ++ operation ∷ [])) ≡ with_operation (raised_by table (map identity_of known)) operation.identity
 raised_by-push table [] operation = refl
-raised_by-push table (first ∷ known) operation = raised_by-push (raised table first.identity) known operation
+raised_by-push table (first ∷ known) operation = raised_by-push (with_operation table first.identity) known operation
 
 -- the table of one operation more
-pub table_of-push : (known : List Operation) (operation : Operation) → table_of (known ++ operation ∷ []) ≡ raised (table_of known) operation.identity
+pub table_of-push : (known : List Operation) (operation : Operation) → table_of (known ++ operation ∷ []) ≡ with_operation (table_of known) operation.identity
 table_of-push known operation = raised_by-push [] known operation
 
 -- the number of an entry that was found
@@ -51,7 +51,7 @@ first-kept true false entry i one other later = omega arith
 first-kept false c entry i one other later = later
 
 most-by_order : (o : Ordering) (entry : Identity) (others : List Identity) (i : Identity) (site : List ℕ) → order i.site entry.site ≡ o
-    → number_in (raised others i) site ≤ at_most (bytes_eq i.site site) (number_in others site) i.number
+    → number_in (with_operation others i) site ≤ at_most (bytes_eq i.site site) (number_in others site) i.number
     → number_in (raised_by_order o entry others i) site ≤ at_most (bytes_eq i.site site) (number_in (entry ∷ others) site) i.number
 most-by_order Less entry others i site is later = first-alone (bytes_eq i.site site) i (found_in (entry ∷ others) site)
 most-by_order Equal entry others i site is later =
@@ -59,11 +59,11 @@ most-by_order Equal entry others i site is later =
     subst (λ (s : List ℕ). number_in (raised_by_order Equal entry others i) site ≤ at_most (bytes_eq s site) (number_in (entry ∷ others) site) i.number) (sym same)
     (first-higher (bytes_eq entry.site site) entry i (found_in others site))
 most-by_order Greater entry others i site is later =
-    first-kept (bytes_eq entry.site site) (bytes_eq i.site site) entry i (found_in (raised others i) site) (found_in others site) later
+    first-kept (bytes_eq entry.site site) (bytes_eq i.site site) entry i (found_in (with_operation others i) site) (found_in others site) later
 
 -- an operation raises the number of its site alone, and that to its own at most
 number_in-most : (table : List Identity) (i : Identity) (site : List ℕ)
-    → number_in (raised table i) site ≤ at_most (bytes_eq i.site site) (number_in table site) i.number
+    → number_in (with_operation table i) site ≤ at_most (bytes_eq i.site site) (number_in table site) i.number
 number_in-most [] i site = first-alone (bytes_eq i.site site) i None
 number_in-most (entry ∷ others) i site = most-by_order (order i.site entry.site) entry others i site refl (number_in-most others i site)
 
@@ -97,23 +97,23 @@ few-by false table operation site count same few next whole = omega arith
 -- the table of a log with one operation more
 pub IsTableOf-push : (table table' : List Identity) (known known' : List Operation) (operation : Operation)
     → IsTableOf table known → IsNext operation → first_gap operation.needs table ≡ None
-    → table' ≡ raised table operation.identity → known' ≡ known ++ operation ∷ [] → IsTableOf table' known'
+    → table' ≡ with_operation table operation.identity → known' ≡ known ++ operation ∷ [] → IsTableOf table' known'
 IsTableOf-push table table' known known' operation is next whole raises more = record {
   same =
-      raises ∙ ap (λ (t : List Identity). raised t operation.identity) is.same ∙ sym (table_of-push known operation)
+      raises ∙ ap (λ (t : List Identity). with_operation t operation.identity) is.same ∙ sym (table_of-push known operation)
       ∙ ap table_of (sym more);
   few = λ site.
       let most = number_in-most table operation.identity site in
       let few = few-by (bytes_eq operation.identity.site site) table operation site (length known) refl (is.few site) next whole in
       let count : length known' ≡ length known + 1 = ap length more ∙ simp length-append refl in
-      let new : number_in table' site ≡ number_in (raised table operation.identity) site = ap (λ (t : List Identity). number_in t site) raises in
+      let new : number_in table' site ≡ number_in (with_operation table operation.identity) site = ap (λ (t : List Identity). number_in t site) raises in
       omega arith;
 }
 
 -- a log stays in step with its table whether there was memory or not
 pub in_step-after : {T E : Type 0} (r : Result T E) (known known' before : List Operation) (table table' : List Identity) (operation : Operation)
     → IsTableOf table known → known ≡ before → first_gap operation.needs (table_of before) ≡ None
-    → OnOk r (IsNext operation) → OnOk r (known' ≡ known ++ operation ∷ []) → OnOk r (table' ≡ raised table operation.identity) → OnErr r (known' ≡ known) → OnErr r (table' ≡ table)
+    → OnOk r (IsNext operation) → OnOk r (known' ≡ known ++ operation ∷ []) → OnOk r (table' ≡ with_operation table operation.identity) → OnErr r (known' ≡ known) → OnErr r (table' ≡ table)
     → IsTableOf table' known'
 in_step-after (Ok x) known known' before table table' operation is view whole next pushed raises kept same =
     let here : table ≡ table_of before = is.same ∙ ap table_of view in
@@ -124,7 +124,7 @@ in_step-after (Err e) known known' before table table' operation is view whole n
 -- some operations were looked at: these are the new ones, the table holds them, and what is left of the operations comes to the same
 pub record IsOn (known : List Operation) (table : List Identity) (news rest operations : List Operation) : Type 0 where
   pub held : IsTableOf table (known ++ news)
-  pub same : taken_in (known ++ news) rest ≡ taken_in known operations
+  pub same : operations_after_import (known ++ news) rest ≡ operations_after_import known operations
 
 -- what is behind a place, by its length
 pub all_behind : (place : ℕ) (known : List Operation) → take (length known - place) (drop place known) ≡ drop place known
@@ -133,7 +133,7 @@ all_behind place known = take_all (length known - place) (drop place known) (ome
 -- the first that is left is new
 pub IsOn-next : (known news news' rest operations : List Operation) (table table' : List Identity) (operation : Operation)
     → IsOn known table news (operation ∷ rest) operations → IsNext operation → holds table operation.identity ≡ false → first_gap operation.needs table ≡ None
-    → table' ≡ raised table operation.identity → news' ≡ news ++ operation ∷ [] → IsOn known table' news' rest operations
+    → table' ≡ with_operation table operation.identity → news' ≡ news ++ operation ∷ [] → IsOn known table' news' rest operations
 IsOn-next known news news' rest operations table table' operation on next new whole raises more =
     let all : known ++ news' ≡ (known ++ news) ++ operation ∷ [] = ap (λ (l : List Operation). known ++ l) more ∙ sym (append_assoc known news (operation ∷ [])) in
     let fresh : holds (table_of (known ++ news)) operation.identity ≡ false = ap (λ (t : List Identity). holds t operation.identity) (sym on.held.same) ∙ new in
@@ -141,8 +141,8 @@ IsOn-next known news news' rest operations table table' operation on next new wh
     record {
       held = IsTableOf-push table table' (known ++ news) (known ++ news') operation on.held next whole raises all;
       same =
-          ap (λ (l : List Operation). taken_in l rest) all
-          ∙ sym (ap (λ (g : Option Identity). unless_gap g (taken_in ((known ++ news) ++ operation ∷ []) rest)) enough)
-          ∙ sym (ap (λ (b : Bool). cond b (taken_in (known ++ news) rest) (unless_gap (first_gap operation.needs (table_of (known ++ news))) (taken_in ((known ++ news) ++ operation ∷ []) rest))) fresh)
+          ap (λ (l : List Operation). operations_after_import l rest) all
+          ∙ sym (ap (λ (g : Option Identity). unless_gap g (operations_after_import ((known ++ news) ++ operation ∷ []) rest)) enough)
+          ∙ sym (ap (λ (b : Bool). cond b (operations_after_import (known ++ news) rest) (unless_gap (first_gap operation.needs (table_of (known ++ news))) (operations_after_import ((known ++ news) ++ operation ∷ []) rest))) fresh)
           ∙ on.same;
     }

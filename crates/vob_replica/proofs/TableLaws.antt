@@ -10,7 +10,7 @@ use Rattle.std.proofs.lemmas.Cmp.{nat_list_cmp_total}
 use Rattle.std.proofs.lemmas.Map.Text.{is_eq-slice_cmp}
 use Rattle.std.proofs.lemmas.Slice.Eq.{bytes_eq-Decides}
 use Rattle.vob_replica.specs.declared.events.Identity.{Identity}
-use Rattle.vob_replica.specs.Tables.{raised, place_in, is_at, higher_entry, IsBefore, Ascends}
+use Rattle.vob_replica.specs.Tables.{with_operation, place_in, is_at, higher_entry, IsBefore, Ascends}
 
 abbrev pub order : List ℕ → List ℕ → Ordering
 order x y = slice_cmp nat_cmp x y
@@ -34,31 +34,31 @@ IsBefore-along x y (entry ∷ others) lt before = (nat_list_cmp_total.trans x y 
 -- an operation among entries, by how its site stands to the first one's
 abbrev pub raised_by_order : Ordering → Identity → List Identity → Identity → List Identity
 raised_by_order o entry others i =
-    match_ordering o (i ∷ entry ∷ others) (record { site = entry.site; number = max entry.number i.number } ∷ others) (entry ∷ raised others i)
+    match_ordering o (i ∷ entry ∷ others) (record { site = entry.site; number = max entry.number i.number } ∷ others) (entry ∷ with_operation others i)
 
 IsBefore-by_order : (o : Ordering) (x : List ℕ) (entry : Identity) (others : List Identity) (i : Identity)
-    → IsBefore x (entry ∷ others) → order x i.site ≡ Less → IsBefore x (raised others i) → IsBefore x (raised_by_order o entry others i)
+    → IsBefore x (entry ∷ others) → order x i.site ≡ Less → IsBefore x (with_operation others i) → IsBefore x (raised_by_order o entry others i)
 IsBefore-by_order Less x entry others i before lt later = (lt, before)
 IsBefore-by_order Equal x entry others i before lt later = before
 IsBefore-by_order Greater x entry others i before lt later = (before.0, later)
 
 -- one more entry behind a site
-IsBefore-raised : (x : List ℕ) (table : List Identity) (i : Identity) → IsBefore x table → order x i.site ≡ Less → IsBefore x (raised table i)
-IsBefore-raised x [] i before lt = (lt, tt)
-IsBefore-raised x (entry ∷ others) i before lt =
-    IsBefore-by_order (order i.site entry.site) x entry others i before lt (IsBefore-raised x others i before.1 lt)
+IsBefore-with_operation : (x : List ℕ) (table : List Identity) (i : Identity) → IsBefore x table → order x i.site ≡ Less → IsBefore x (with_operation table i)
+IsBefore-with_operation x [] i before lt = (lt, tt)
+IsBefore-with_operation x (entry ∷ others) i before lt =
+    IsBefore-by_order (order i.site entry.site) x entry others i before lt (IsBefore-with_operation x others i before.1 lt)
 
 Ascends-by_order : (o : Ordering) (entry : Identity) (others : List Identity) (i : Identity)
-    → order i.site entry.site ≡ o → Ascends (entry ∷ others) → Ascends (raised others i) → Ascends (raised_by_order o entry others i)
+    → order i.site entry.site ≡ o → Ascends (entry ∷ others) → Ascends (with_operation others i) → Ascends (raised_by_order o entry others i)
 Ascends-by_order Less entry others i is ascends later = ((is, IsBefore-along i.site entry.site others is ascends.0), ascends)
 Ascends-by_order Equal entry others i is ascends later = ascends
-Ascends-by_order Greater entry others i is ascends later = (IsBefore-raised entry.site others i ascends.0 (turned i.site entry.site Greater is), later)
+Ascends-by_order Greater entry others i is ascends later = (IsBefore-with_operation entry.site others i ascends.0 (turned i.site entry.site Greater is), later)
 
 -- a table stays in order
-pub Ascends-raised : (table : List Identity) (i : Identity) → Ascends table → Ascends (raised table i)
-Ascends-raised [] i ascends = (tt, tt)
-Ascends-raised (entry ∷ others) i ascends =
-    Ascends-by_order (order i.site entry.site) entry others i refl ascends (Ascends-raised others i ascends.1)
+pub Ascends-with_operation : (table : List Identity) (i : Identity) → Ascends table → Ascends (with_operation table i)
+Ascends-with_operation [] i ascends = (tt, tt)
+Ascends-with_operation (entry ∷ others) i ascends =
+    Ascends-by_order (order i.site entry.site) entry others i refl ascends (Ascends-with_operation others i ascends.1)
 
 -- the place of a site, by how the first one stands to it
 abbrev place_by : Ordering → List ℕ → List Identity → ℕ
@@ -70,8 +70,8 @@ DiffersAt table place i = (d : Identity) → place < length table → bytes_eq (
 
 absent-by_order : (o : Ordering) (entry : Identity) (others : List Identity) (i : Identity)
     → order entry.site i.site ≡ o → DiffersAt (entry ∷ others) (place_by o i.site others) i
-    → (DiffersAt others (place_in i.site others) i → raised others i ≡ insert others (place_in i.site others) i)
-    → raised (entry ∷ others) i ≡ insert (entry ∷ others) (place_by o i.site others) i
+    → (DiffersAt others (place_in i.site others) i → with_operation others i ≡ insert others (place_in i.site others) i)
+    → with_operation (entry ∷ others) i ≡ insert (entry ∷ others) (place_by o i.site others) i
 absent-by_order Less entry others i is differs later =
     ap (λ o. raised_by_order o entry others i) (turned entry.site i.site Less is)
     ∙ ap (λ l. entry ∷ l) (later (λ d within. differs d (omega arith)))
@@ -82,9 +82,9 @@ absent-by_order Equal entry others i is differs later =
 absent-by_order Greater entry others i is differs later = ap (λ o. raised_by_order o entry others i) (turned entry.site i.site Greater is)
 
 -- where no entry has the site, the operation is put in its place
-pub raised-absent : (table : List Identity) (i : Identity) → DiffersAt table (place_in i.site table) i → raised table i ≡ insert table (place_in i.site table) i
-raised-absent [] i differs = refl
-raised-absent (entry ∷ others) i differs = absent-by_order (order entry.site i.site) entry others i refl differs (raised-absent others i)
+pub with_operation-absent : (table : List Identity) (i : Identity) → DiffersAt table (place_in i.site table) i → with_operation table i ≡ insert table (place_in i.site table) i
+with_operation-absent [] i differs = refl
+with_operation-absent (entry ∷ others) i differs = absent-by_order (order entry.site i.site) entry others i refl differs (with_operation-absent others i)
 
 -- the entry at a place with a number that is at least this one's
 abbrev higher_at : List Identity → ℕ → Identity → Identity → Identity
@@ -93,8 +93,8 @@ higher_at table place i d = higher_entry (get_or table place d) i.number
 present-by_order : (o : Ordering) (entry : Identity) (others : List Identity) (i d : Identity)
     → order entry.site i.site ≡ o → place_by o i.site others < length (entry ∷ others)
     → bytes_eq (get_or (entry ∷ others) (place_by o i.site others) d).site i.site ≡ true
-    → (place_in i.site others < length others → bytes_eq (get_or others (place_in i.site others) d).site i.site ≡ true → raised others i ≡ set others (place_in i.site others) (higher_at others (place_in i.site others) i d))
-    → raised (entry ∷ others) i ≡ set (entry ∷ others) (place_by o i.site others) (higher_at (entry ∷ others) (place_by o i.site others) i d)
+    → (place_in i.site others < length others → bytes_eq (get_or others (place_in i.site others) d).site i.site ≡ true → with_operation others i ≡ set others (place_in i.site others) (higher_at others (place_in i.site others) i d))
+    → with_operation (entry ∷ others) i ≡ set (entry ∷ others) (place_by o i.site others) (higher_at (entry ∷ others) (place_by o i.site others) i d)
 present-by_order Less entry others i d is within same later =
     ap (λ o. raised_by_order o entry others i) (turned entry.site i.site Less is)
     ∙ ap (λ l. entry ∷ l) (later (omega arith) same)
@@ -104,10 +104,10 @@ present-by_order Greater entry others i d is within same later =
     absurd (cc (same, other))
 
 -- where an entry has the site, its number is the higher one
-pub raised-present : (table : List Identity) (i d : Identity) → place_in i.site table < length table → bytes_eq (get_or table (place_in i.site table) d).site i.site ≡ true
-    → raised table i ≡ set table (place_in i.site table) (higher_at table (place_in i.site table) i d)
-raised-present [] i d within same = absurd (omega arith)
-raised-present (entry ∷ others) i d within same = present-by_order (order entry.site i.site) entry others i d refl within same (raised-present others i d)
+pub with_operation-present : (table : List Identity) (i d : Identity) → place_in i.site table < length table → bytes_eq (get_or table (place_in i.site table) d).site i.site ≡ true
+    → with_operation table i ≡ set table (place_in i.site table) (higher_at table (place_in i.site table) i d)
+with_operation-present [] i d within same = absurd (omega arith)
+with_operation-present (entry ∷ others) i d within same = present-by_order (order entry.site i.site) entry others i d refl within same (with_operation-present others i d)
 
 -- an entry of the site is at the place
 is_at-true : (table : List Identity) (place : ℕ) (site : List ℕ) (d : Identity) → is_at table place site ≡ true → (place < length table) × (bytes_eq (get_or table place d).site site ≡ true)
@@ -123,25 +123,25 @@ is_at-false (entry ∷ others) (suc place) i is d within = is_at-false others pl
 -- an operation is taken in where its site has an entry
 pub put-present : (table new : List Identity) (place : ℕ) (i : Identity)
     → ((d : Identity) → new ≡ set table place (higher_entry (get_or table place d) i.number))
-    → place ≡ place_in i.site table → is_at table place i.site ≡ true → new ≡ raised table i
+    → place ≡ place_in i.site table → is_at table place i.site ≡ true → new ≡ with_operation table i
 put-present table new place i is at there =
     let new_is : new ≡ set table (place_in i.site table) (higher_at table (place_in i.site table) i i) = subst (λ (p : ℕ). new ≡ set table p (higher_at table p i i)) at (is i) in
     let found = is_at-true table (place_in i.site table) i.site i (subst (λ (p : ℕ). is_at table p i.site ≡ true) at there) in
-    new_is ∙ sym (raised-present table i i found.0 found.1)
+    new_is ∙ sym (with_operation-present table i i found.0 found.1)
 
 -- and where it has none
 pub put-absent : (table new : List Identity) (place : ℕ) (i : Identity) → new ≡ insert table place i
-    → place ≡ place_in i.site table → is_at table place i.site ≡ false → new ≡ raised table i
+    → place ≡ place_in i.site table → is_at table place i.site ≡ false → new ≡ with_operation table i
 put-absent table new place i is at none =
     let differs : DiffersAt table (place_in i.site table) i = is_at-false table (place_in i.site table) i (subst (λ (p : ℕ). is_at table p i.site ≡ false) at none) in
-    is ∙ ap (λ (p : ℕ). insert table p i) at ∙ sym (raised-absent table i differs)
+    is ∙ ap (λ (p : ℕ). insert table p i) at ∙ sym (with_operation-absent table i differs)
 
 pub put-absent_ok : {T E : Type 0} (r : Result T E) (table new : List Identity) (place : ℕ) (i : Identity) → OnOk r (new ≡ insert table place i)
-    → place ≡ place_in i.site table → is_at table place i.site ≡ false → OnOk r (new ≡ raised table i)
+    → place ≡ place_in i.site table → is_at table place i.site ≡ false → OnOk r (new ≡ with_operation table i)
 put-absent_ok (Ok x) table new place i is at none = put-absent table new place i is at none
 put-absent_ok (Err e) table new place i is at none = tt
 
 -- a table stays in order whether there was memory or not
-pub Ascends-after : {T E : Type 0} (r : Result T E) (old new : List Identity) (i : Identity) → Ascends old → OnOk r (new ≡ raised old i) → OnErr r (new ≡ old) → Ascends new
-Ascends-after (Ok x) old new i ascends ok err = subst Ascends (sym ok) (Ascends-raised old i ascends)
+pub Ascends-after : {T E : Type 0} (r : Result T E) (old new : List Identity) (i : Identity) → Ascends old → OnOk r (new ≡ with_operation old i) → OnErr r (new ≡ old) → Ascends new
+Ascends-after (Ok x) old new i ascends ok err = subst Ascends (sym ok) (Ascends-with_operation old i ascends)
 Ascends-after (Err e) old new i ascends ok err = subst Ascends (sym err) ascends

@@ -7,7 +7,7 @@ use Rattle.cc_names.specs.declared.memory.Or.TheVariants.{NoMemory, Is}
 use Rattle.vob_replica.specs.declared.events.Identity.{Identity}
 use Rattle.vob_replica.specs.declared.operations.Operation.{Operation}
 use Rattle.vob_replica.specs.Tables.{first_gap, holds, number_in, table_of}
-use Rattle.vob_replica.specs.Replicas.{taken_in}
+use Rattle.vob_replica.specs.Replicas.{operations_after_import}
 
 -- an operation has the number behind those of its maker that it needs
 abbrev pub IsNext : Operation → Type 0
@@ -26,5 +26,5 @@ IsGap (Is gap) operation table = (holds table operation.identity ≡ false) × (
 -- unless memory ran out, these are what is new of some operations, and a table holds them too; or the first gap was answered
 abbrev pub TakesNews : Result (Vec Operation Global) (Or Identity) → List Operation → List Operation → List Identity → Type 0
 TakesNews (Ok news) known operations table =
-    (taken_in known operations ≡ Ok (known ++ news.items)) × IsTableOf table (known ++ news.items)
-TakesNews (Err fault) known operations table = FaultIs fault (taken_in known operations)
+    (operations_after_import known operations ≡ Ok (known ++ news.items)) × IsTableOf table (known ++ news.items)
+TakesNews (Err fault) known operations table = FaultIs fault (operations_after_import known operations)

@@ -118,11 +118,11 @@ unless_gap None known = known
 
 -- What is known behind the operations of a packet, or the first gap: one that is known is skipped, and none may need what is not
 -- known.
-abbrev pub taken_in : List Operation → List Operation → Result (List Operation) Identity
-taken_in known [] = Ok known
-taken_in known (operation ∷ operations) =
-    if holds (table_of known) operation.identity then taken_in known operations
-    else unless_gap (first_gap operation.needs (table_of known)) (taken_in (known ++ operation ∷ []) operations)
+abbrev pub operations_after_import : List Operation → List Operation → Result (List Operation) Identity
+operations_after_import known [] = Ok known
+operations_after_import known (operation ∷ operations) =
+    if holds (table_of known) operation.identity then operations_after_import known operations
+    else unless_gap (first_gap operation.needs (table_of known)) (operations_after_import (known ++ operation ∷ []) operations)
 
 -- a site that took a packet in and knows these operations then
 abbrev pub site_with : Site → Packet → List Operation → Site

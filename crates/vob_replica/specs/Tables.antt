@@ -18,17 +18,17 @@ abbrev pub holds : List Identity → Identity → Bool
 holds table identity = nat_lt 0 identity.number && nat_le identity.number (number_in table identity.site)
 
 -- a table with one operation more
-abbrev pub raised : List Identity → Identity → List Identity
-raised [] identity = identity ∷ []
-raised (entry ∷ others) identity =
+abbrev pub with_operation : List Identity → Identity → List Identity
+with_operation [] identity = identity ∷ []
+with_operation (entry ∷ others) identity =
     match_ordering (slice_cmp nat_cmp identity.site entry.site)
     (identity ∷ entry ∷ others)
     (record { site = entry.site; number = max entry.number identity.number } ∷ others)
-    (entry ∷ raised others identity)
+    (entry ∷ with_operation others identity)
 
 -- two tables, the higher number of each site
 abbrev pub raised_by : List Identity → List Identity → List Identity
-raised_by table others = fold raised table others
+raised_by table others = fold with_operation table others
 
 -- the identity of an operation
 abbrev pub identity_of : Operation → Identity

@@ -15,7 +15,7 @@ use Rattle.vob_replica.specs.declared.operations.SiteFault.{SiteFault}
 use Rattle.vob_replica.specs.declared.operations.SiteFault.TheVariants.{SiteExists, TooManySites, NoSite, PacketExists, NoPacket, Gap}
 use Rattle.vob_replica.specs.Tables.{table_of}
 use Rattle.vob_replica.specs.Trees.{trees_of}
-use Rattle.vob_replica.specs.Replicas.{Site, Packet, new_site, change_fault, operation_by, site_made, packet_for, thinking, taken_in, site_with}
+use Rattle.vob_replica.specs.Replicas.{Site, Packet, new_site, change_fault, operation_by, site_made, packet_for, thinking, operations_after_import, site_with}
 use Rattle.vob_replica.specs.Showing.{identity_text, show_text, reply_text}
 
 -- a packet by its name
@@ -55,22 +55,22 @@ abbrev pub with_sites : World → List Site → World
 with_sites world sites = record world { sites = sites }
 
 -- nothing is changed
-abbrev pub refused : World → SiteFault → Stepped
-refused world fault = record { world = world; answer = Refused fault }
+abbrev pub refused_step : World → SiteFault → Stepped
+refused_step world fault = record { world = world; answer = Refused fault }
 
 -- one site is changed
-abbrev pub done : World → Site → List ℕ → Stepped
-done world site text = record { world = with_sites world (with_site site world.sites); answer = Done text }
+abbrev pub done_step : World → Site → List ℕ → Stepped
+done_step world site text = record { world = with_sites world (with_site site world.sites); answer = Done text }
 
 -- at the site of a name, where there is one
 abbrev pub at_site : World → List ℕ → (Site → Stepped) → Stepped
-at_site world name act = option_map_or act (site_in world.sites name) (refused world (NoSite name))
+at_site world name act = option_map_or act (site_in world.sites name) (refused_step world (NoSite name))
 
 -- a site makes a change, unless that is refused
 abbrev pub unless_fault : Option SiteFault → World → Site → Change → Stepped
-unless_fault (Some fault) world site change = refused world fault
+unless_fault (Some fault) world site change = refused_step world fault
 unless_fault None world site change =
-    done world (site_made site change) (identity_text (operation_by site change).identity)
+    done_step world (site_made site change) (identity_text (operation_by site change).identity)
 
 abbrev pub makes : World → List ℕ → Change → Stepped
 makes world name change =
@@ -79,8 +79,8 @@ makes world name change =
 -- `site S`
 abbrev pub site_step : World → List ℕ → Stepped
 site_step world name =
-    option_map_or (λ _. refused world (SiteExists name)) (site_in world.sites name)
-    (if nat_lt 63 (length world.sites) then refused world TooManySites
+    option_map_or (λ _. refused_step world (SiteExists name)) (site_in world.sites name)
+    (if nat_lt 63 (length world.sites) then refused_step world TooManySites
     else record { world = with_sites world (world.sites ++ new_site name ∷ []); answer = Done [] })
 
 -- `export S T P`
@@ -96,18 +96,18 @@ sends world site to packet = record {
 abbrev pub export_step : World → List ℕ → List ℕ → List ℕ → Stepped
 export_step world name to packet =
     at_site world name (λ site. at_site world to (λ _.
-    option_map_or (λ _. refused world (PacketExists packet)) (packet_in world.packets packet) (sends world site to packet)))
+    option_map_or (λ _. refused_step world (PacketExists packet)) (packet_in world.packets packet) (sends world site to packet)))
 
 -- `import S P`
 abbrev pub takes : World → Site → Packet → Result (List Operation) Identity → Stepped
-takes world site contents (Ok known) = done world (site_with site contents known) (decimal (length known - length site.known))
-takes world site contents (Err missing) = refused world (Gap missing)
+takes world site contents (Ok known) = done_step world (site_with site contents known) (decimal (length known - length site.known))
+takes world site contents (Err missing) = refused_step world (Gap missing)
 
 abbrev pub import_step : World → List ℕ → List ℕ → Stepped
 import_step world name packet =
     at_site world name (λ site.
-    option_map_or (λ contents. takes world site contents (taken_in site.known contents.operations)) (packet_in world.packets packet)
-    (refused world (NoPacket packet)))
+    option_map_or (λ contents. takes world site contents (operations_after_import site.known contents.operations)) (packet_in world.packets packet)
+    (refused_step world (NoPacket packet)))
 
 -- what an event comes to
 abbrev pub step : World → Event → Stepped
@@ -119,8 +119,8 @@ step world (events.Chmaster site branch to) =
     at_site world site (λ _. at_site world to (λ _. makes world site (changes.Master branch to)))
 step world (events.Export site to packet) = export_step world site to packet
 step world (events.Import site packet) = import_step world site packet
-step world (events.Recover site to) = at_site world site (λ from. at_site world to (λ _. done world (thinking from to []) []))
-step world (events.Show site) = at_site world site (λ from. done world from (show_text from))
+step world (events.Recover site to) = at_site world site (λ from. at_site world to (λ _. done_step world (thinking from to []) []))
+step world (events.Show site) = at_site world site (λ from. done_step world from (show_text from))
 
 -- the world behind events
 abbrev pub world_behind : World → List Event → World

@@ -3,8 +3,8 @@
 ghost use Rattle.std.specs.Prelude.{◌≡◌, ◌++◌, ◌∷◌, [], ◌+◌, ◌-◌, ◌≤◌, drop, true, not, None, if◌then◌else◌, List, Ok, IfOk, IfErr, OnOk, OnErr, length};
 ghost use Rattle.cc_names.specs.Answers.{FaultIs};
 ghost use Rattle.vob_replica.specs.Logs.{IsGap, IsNext, TakesNews, IsTableOf};
-ghost use Rattle.vob_replica.specs.Tables.{first_gap, holds, number_in, raised, table_of};
-ghost use Rattle.vob_replica.specs.Replicas.{above, taken_in};
+ghost use Rattle.vob_replica.specs.Tables.{first_gap, holds, number_in, with_operation, table_of};
+ghost use Rattle.vob_replica.specs.Replicas.{above, operations_after_import};
 ghost use Rattle.vob_replica.specs.declared.operations.Operation.{Operation};
 
 use crate::events::Identity;
@@ -45,7 +45,7 @@ fn push_shared(
     ensures next { OnOk result (IsNext operation) }
     ensures pushed { OnOk result
         (operations.new.items ≡ operations.old.items ++ operation ∷ []) }
-    ensures raised { OnOk result (table.new ≡ raised table.old operation.identity) }
+    ensures with_operation { OnOk result (table.new ≡ with_operation table.old operation.identity) }
     ensures kept { OnErr result (operations.new.items ≡ operations.old.items) }
     ensures same { OnErr result (table.new ≡ table.old) }
 {
@@ -64,7 +64,7 @@ fn take_one(alloc: Global, table: &mut Table, operation: &Shared) -> Result<bool
         (λ new. new ≡ true → first_gap operation.now.needs table.old ≡ None) }
     ensures taken { IfOk result
         (λ new. table.new
-        ≡ (if new then raised table.old operation.now.identity else table.old)) }
+        ≡ (if new then with_operation table.old operation.now.identity else table.old)) }
     ensures gap { IfErr result (λ fault. IsGap fault operation.now table.old) }
 {
     let operation = operation.operation();
@@ -168,12 +168,16 @@ impl Log {
     /// Takes in the operations of a packet that are not known yet, and answers how many; or answers the first operation that is
     /// missing. An `Err` changes nothing. Takes time linear in the sites for each operation of the packet, and for each new one the
     /// time of `first_gap`.
-    pub fn take_in(&mut self, alloc: Global, operations: &[Shared]) -> Result<u64, Or<Identity>>
-        ensures ok { OnOk result (taken_in self.old operations.now ≡ Ok self.new) }
+    pub fn import_operations(
+        &mut self,
+        alloc: Global,
+        operations: &[Shared],
+    ) -> Result<u64, Or<Identity>>
+        ensures ok { OnOk result (operations_after_import self.old operations.now ≡ Ok self.new) }
         ensures count { IfOk result (λ count. count ≡ length self.new - length self.old) }
         ensures err { OnErr result (self.new ≡ self.old) }
         ensures gap { IfErr result
-            (λ fault. FaultIs fault (taken_in self.old operations.now)) }
+            (λ fault. FaultIs fault (operations_after_import self.old operations.now)) }
     {
         let mut table = self.table.copy(alloc)?;
         let mut news = news_of(alloc, &mut table, operations)?;

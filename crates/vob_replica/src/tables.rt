@@ -2,7 +2,7 @@
 
 ghost use Rattle.std.specs.Prelude.{◌≡◌, [], ◌<◌, ◌≤◌, length, vec_len, insert, slice_index_or, slice_set, IsTrue, IfOk, OnOk, OnErr};
 ghost use Rattle.vob_replica.specs.declared.events.Identity.{Identity};
-ghost use Rattle.vob_replica.specs.Tables.{is_below, is_at, higher_entry, place_in, number_in, holds, raised, raised_by, first_gap};
+ghost use Rattle.vob_replica.specs.Tables.{is_below, is_at, higher_entry, place_in, number_in, holds, with_operation, raised_by, first_gap};
 
 use crate::events::Identity;
 use cc_names::lists::List;
@@ -103,7 +103,7 @@ fn put_entry(
 
 /// Takes an operation in among entries.
 fn put(alloc: Global, entries: &mut Vec<Identity>, identity: &Identity) -> Result<(), NoMemory>
-    ensures ok { OnOk result (entries.new.items ≡ raised entries.old.items identity.now) }
+    ensures ok { OnOk result (entries.new.items ≡ with_operation entries.old.items identity.now) }
     ensures err { OnErr result (entries.new.items ≡ entries.old.items) }
 {
     let place = place_of(entries, &identity.site);
@@ -164,7 +164,7 @@ impl Table {
 
     /// Takes an operation in. Takes time linear in the sites, and memory for a new one.
     pub fn raise(&mut self, alloc: Global, identity: &Identity) -> Result<(), NoMemory>
-        ensures ok { OnOk result (self.new ≡ raised self.old identity.now) }
+        ensures ok { OnOk result (self.new ≡ with_operation self.old identity.now) }
         ensures err { OnErr result (self.new ≡ self.old) }
     {
         put(alloc, &mut self.entries, identity)

@@ -10,12 +10,12 @@ use Rattle.cc_names.specs.declared.commands.Command.TheVariants as commands
 use Rattle.cc_names.specs.declared.commands.Query.{Query}
 use Rattle.cc_names.specs.declared.commands.Lane.{Lane}
 use Rattle.cc_names.specs.declared.commands.Phase.{Phase}
-use Rattle.cc_names.specs.declared.desks.Next.TheVariants as nexts
+use Rattle.cc_names.specs.declared.occasions.Next.TheVariants as nexts
 use Rattle.cc_names.specs.declared.rows.Tag.{Tag}
 use Rattle.session_text.specs.Formed.{IsCommand, IsLane, IsPhase}
 use Rattle.legal_history.specs.Stories.Commanded.{command_of}
 use Rattle.legal_history.specs.Stories.States.{State, command_behind, next_tag}
-use Rattle.base_core.specs.Keeping.Kept.{command_limit}
+use Rattle.base_core.specs.Keeping.CoreInvariants.{command_limit}
 use Rattle.clearmake.specs.Nexts.{next_by, next_of}
 use Rattle.base_core.proofs.Building.UnitRows.{all_at}
 

@@ -6,23 +6,23 @@ use Rattle.cc_names.specs.declared.replies.Reply.TheVariants as replies
 use Rattle.cc_names.specs.declared.steps.Step.TheVariants as steps
 use Rattle.cc_names.specs.declared.steps.StoryStep.{StoryStep}
 use Rattle.cc_names.specs.declared.steps.StoryStep.TheVariants as story_steps
-use Rattle.disk_model.specs.Told.{Sight}
+use Rattle.disk_model.specs.DiskStates.{DiskState}
 use Rattle.legal_history.specs.Builds.Active.{build_of}
 use Rattle.legal_history.specs.Commands.Decisions.{Makes}
-use Rattle.legal_history.specs.Stories.States.{State, decided, build_if, build_by, ticks_of, faults_of}
+use Rattle.legal_history.specs.Stories.States.{State, decision_for, build_if, build_by, ticks_of, faults_of}
 use Rattle.legal_history.specs.Stories.Steps.{after, state_of, done_by_fault, faulted_in}
 use Rattle.legal_history.specs.Stories.Committing.{LeavesRow, MayCommit}
 use Rattle.cc_names.specs.Counts.{rises}
-use Rattle.cc_names.specs.declared.desks.Done.TheVariants.{Faulted}
+use Rattle.cc_names.specs.declared.occasions.Done.TheVariants.{Faulted}
 use Rattle.base_core.specs.Calls.Acting.{Acts, IsRowToCommit, FinishesCommand}
 use Rattle.story_log.specs.Logging.Appending.{MayLeaveRow}
-use Rattle.base_core.specs.Keeping.Kept.{IsCoreKept}
-use Rattle.base_core.specs.Keeping.Lanes.{LaneKept, with_reply}
+use Rattle.base_core.specs.Keeping.CoreInvariants.{CoreInvariant}
+use Rattle.base_core.specs.Keeping.Lanes.{LaneState, with_reply}
 use Rattle.story_log.specs.Logging.Logs.{Logged, with_step_on}
 use Rattle.base_core.specs.Story.Replying.{in_lane, reply_to_fault, replies_of}
 use Rattle.base_core.proofs.Keeping.Idle.{decided_is_free}
-use Rattle.base_core.proofs.Keeping.KeptBuilds.{same_rows}
-use Rattle.base_core.proofs.Keeping.KeptSteps.{kept_finished}
+use Rattle.base_core.proofs.Keeping.PreservedBuilds.{same_rows}
+use Rattle.base_core.proofs.Keeping.PreservedSteps.{preserved_finished}
 use Rattle.story_log.proofs.Story.Naming.{left_named}
 
 -- what a fault left is what it may leave
@@ -32,11 +32,11 @@ leaves_so s row (Some left) may (inl e) = inl (ap (λ r. r.tag) e, subst (MayCom
 leaves_so s row (Some left) may (inr e) = inr e
 
 -- what is kept then
-kept_fault : (log : Logged) (lanes : List LaneKept) (now : ℕ) (row : Plain) (left : Option Plain) (before faults tick : ℕ) (sight : Sight) → rises before faults ≡ true → faults_of (state_of log.story).opened (state_of log.story).ends ≤ before → MayLeaveRow (state_of log.story) row left
-    → rises (ticks_of (state_of log.story).opened (state_of log.story).ends) tick ≡ true → IsCoreKept log lanes now → FinishesCommand row.deed → row.moment ≡ now → decided (state_of log.story) row.tag ≡ Some (Ok (Makes row.deed)) → 1 ≤ row.tag.lane → row.tag.lane ≤ length lanes → IsFormed row
-    → IsCoreKept (with_step_on log (steps.Fault row.tag left before faults tick) sight) (with_reply lanes row.tag.lane replies.DiskFault) now
-kept_fault log lanes now row left before faults tick sight rose later leaves ticked h finishes in_time made low high formed =
-    kept_finished log lanes now x log.base sight row.tag replies.DiskFault h low high
+preserved_fault : (log : Logged) (lanes : List LaneState) (now : ℕ) (row : Plain) (left : Option Plain) (before faults tick : ℕ) (ghost_state : DiskState) → rises before faults ≡ true → faults_of (state_of log.story).opened (state_of log.story).ends ≤ before → MayLeaveRow (state_of log.story) row left
+    → rises (ticks_of (state_of log.story).opened (state_of log.story).ends) tick ≡ true → CoreInvariant log lanes now → FinishesCommand row.deed → row.moment ≡ now → decision_for (state_of log.story) row.tag ≡ Some (Ok (Makes row.deed)) → 1 ≤ row.tag.lane → row.tag.lane ≤ length lanes → IsFormed row
+    → CoreInvariant (with_step_on log (steps.Fault row.tag left before faults tick) ghost_state) (with_reply lanes row.tag.lane replies.DiskFault) now
+preserved_fault log lanes now row left before faults tick ghost_state rose later leaves ticked h finishes in_time made low high formed =
+    preserved_finished log lanes now x log.base ghost_state row.tag replies.DiskFault h low high
     (record {
       lawful = record { wanted = record { row = row; of_tag = refl; may = may }; rose = rose; later = later; leaves = leaves_so s row left may leaves; ticked = ticked };
       names = left_named IsFormed log.story row left leaves formed h.story.formed;
@@ -67,13 +67,13 @@ kept_fault log lanes now row left before faults tick sight rose later leaves tic
     no_build = ap (option_and_then (build_if row.tag)) free
 
 -- what is kept after a fault under a lane's next command
-pub kept_next_fault : (log : Logged) (lanes : List LaneKept) (now : ℕ) (story : List StoryStep) (row : Plain) (lane : ℕ) (left : Option Plain) (before faults tick : ℕ) (sight : Sight) → rises before faults ≡ true → faults_of (state_of log.story).opened (state_of log.story).ends ≤ before → MayLeaveRow (state_of log.story) row left
-    → rises (ticks_of (state_of log.story).opened (state_of log.story).ends) tick ≡ true → log.story ≡ story → lane ≡ row.tag.lane → IsCoreKept log lanes now → IsRowToCommit (state_of story) row → IsFormed row
-    → IsCoreKept (with_step_on log (steps.Fault row.tag left before faults tick) sight) (with_reply lanes lane replies.DiskFault) now
-kept_next_fault log lanes now story row lane left before faults tick sight rose later leaves ticked same at_lane h next formed =
+pub preserved_next_fault : (log : Logged) (lanes : List LaneState) (now : ℕ) (story : List StoryStep) (row : Plain) (lane : ℕ) (left : Option Plain) (before faults tick : ℕ) (ghost_state : DiskState) → rises before faults ≡ true → faults_of (state_of log.story).opened (state_of log.story).ends ≤ before → MayLeaveRow (state_of log.story) row left
+    → rises (ticks_of (state_of log.story).opened (state_of log.story).ends) tick ≡ true → log.story ≡ story → lane ≡ row.tag.lane → CoreInvariant log lanes now → IsRowToCommit (state_of story) row → IsFormed row
+    → CoreInvariant (with_step_on log (steps.Fault row.tag left before faults tick) ghost_state) (with_reply lanes lane replies.DiskFault) now
+preserved_next_fault log lanes now story row lane left before faults tick ghost_state rose later leaves ticked same at_lane h next formed =
     let here : IsRowToCommit (state_of log.story) row = subst (λ t. IsRowToCommit (state_of t) row) (sym same) next in
-    subst (λ l. IsCoreKept (with_step_on log (steps.Fault row.tag left before faults tick) sight) (with_reply lanes l replies.DiskFault) now) (sym at_lane)
-    (kept_fault log lanes now row left before faults tick sight rose later leaves ticked h here.finishes (here.at_moment ∙ h.phase.moment) here.made here.of_next.from
+    subst (λ l. CoreInvariant (with_step_on log (steps.Fault row.tag left before faults tick) ghost_state) (with_reply lanes l replies.DiskFault) now) (sym at_lane)
+    (preserved_fault log lanes now row left before faults tick ghost_state rose later leaves ticked h here.finishes (here.at_moment ∙ h.phase.moment) here.made here.of_next.from
     (omega (arith, here.of_next.upto, h.replies.count)) formed)
 
 -- how the story went on
@@ -81,5 +81,5 @@ pub next_faults : (old new : List StoryStep) (row : Plain) (left : Option Plain)
 next_faults old new row left before faults tick e next = record {
   step = story_steps.Other (steps.Fault row.tag left before faults tick);
   grows = e;
-  is = (next.of_next.next, row.deed, subst (λ t. decided (state_of old) t ≡ Some (Ok (Makes row.deed))) next.of_next.next next.made);
+  is = (next.of_next.next, row.deed, subst (λ t. decision_for (state_of old) t ≡ Some (Ok (Makes row.deed))) next.of_next.next next.made);
 }

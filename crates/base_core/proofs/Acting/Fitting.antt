@@ -8,7 +8,7 @@ use Rattle.base_model.specs.Fits.{fits, is_base}
 use Rattle.legal_history.specs.Stories.States.{State, start, ticks_of}
 use Rattle.legal_history.specs.Stories.Steps.{state_of}
 use Rattle.legal_history.specs.Stories.Lawful.{Legal}
-use Rattle.legal_history.proofs.Stories.SoundStories.{base_fits}
+use Rattle.legal_history.proofs.Stories.ConsistentStories.{base_fits}
 use Rattle.story_log.proofs.Story.Growing.{state_from-more, legal_more}
 use Rattle.story_log.proofs.Cases.{both}
 use Rattle.story_log.proofs.Logging.Rising.{rises_more}

@@ -11,7 +11,7 @@ use Rattle.cc_names.specs.declared.commands.Command.TheVariants as commands
 use Rattle.cc_names.specs.declared.commands.Query.{Query}
 use Rattle.cc_names.specs.declared.commands.Lane.{Lane}
 use Rattle.cc_names.specs.declared.commands.Phase.{Phase}
-use Rattle.cc_names.specs.declared.desks.Occasion.{Occasion}
+use Rattle.cc_names.specs.declared.occasions.Occasion.{Occasion}
 use Rattle.cc_names.specs.declared.memory.Or.{Or}
 use Rattle.cc_names.specs.declared.memory.Or.TheVariants.{NoMemory, Is}
 use Rattle.cc_names.specs.declared.refusals.Refusal.{Refusal}
@@ -20,11 +20,11 @@ use Rattle.cc_names.specs.declared.steps.StoryStep.{StoryStep}
 use Rattle.checkout_desk.specs.Deciding.{DecidesIfAny, Sees}
 use Rattle.cleartool.specs.Answering.{AnswersAs}
 use Rattle.base_model.specs.Rows.{Base, size, only_where}
-use Rattle.legal_history.specs.Builds.Active.{building, build_of, reserved}
+use Rattle.legal_history.specs.Builds.Active.{building, build_of, rows_reserved}
 use Rattle.legal_history.specs.Commands.Decisions.{Makes, Scene}
 use Rattle.legal_history.specs.Commands.Lines.{change_decision, decision, query_decision}
 use Rattle.legal_history.specs.Stories.Commanded.{command_of}
-use Rattle.legal_history.specs.Stories.States.{State, scene, done_of, command_behind, same_tag, next_tag, next_command, decided}
+use Rattle.legal_history.specs.Stories.States.{State, scene, done_of, command_behind, same_tag, next_tag, next_command, decision_for}
 use Rattle.legal_history.specs.Stories.Steps.{state_of}
 use Rattle.legal_history.specs.Stories.Lawful.{Legal}
 use Rattle.legal_history.proofs.Decisions.Decided.{decided_says}
@@ -56,14 +56,14 @@ next_is s lane command free e =
     ap (λ is. only_where is (option_and_then (command_behind (done_of s.done lane)) (lane_at s.phase lane))) (ap₂ ◌&&◌ (same_as_itself (next_tag s lane)) (ap is_none free)) ∙ e
 
 -- what is decided of the command that waits
-pub decides_next : (story : List StoryStep) (lane taken now : ℕ) (change : Change) (result : Result (Option Plain) (Or Refusal)) → Legal story → (let s : State = state_of story in build_of s.active lane ≡ None → s.moment ≡ now → option_and_then (command_behind (done_of s.done lane)) (lane_at s.phase lane) ≡ Some (commands.Change change) → taken ≡ size s.base + reserved s.active → DecidesIfAny (next_tag s lane) now result (change_decision (scene s) change) → DecidesNext s (next_tag s lane) result)
+pub decides_next : (story : List StoryStep) (lane taken now : ℕ) (change : Change) (result : Result (Option Plain) (Or Refusal)) → Legal story → (let s : State = state_of story in build_of s.active lane ≡ None → s.moment ≡ now → option_and_then (command_behind (done_of s.done lane)) (lane_at s.phase lane) ≡ Some (commands.Change change) → taken ≡ size s.base + rows_reserved s.active → DecidesIfAny (next_tag s lane) now result (change_decision (scene s) change) → DecidesNext s (next_tag s lane) result)
 decides_next story lane taken now change (Ok (Some row)) legal free moment e count decides =
     let s : State = state_of story in
     let within = in_phase s.phase lane (done_of s.done lane) (commands.Change change) e in
-    let made : decided s (next_tag s lane) ≡ Some (change_decision (scene s) change) = ap (option_map (decision (scene s))) (next_is s lane (commands.Change change) free e) in
+    let made : decision_for s (next_tag s lane) ≡ Some (change_decision (scene s) change) = ap (option_map (decision (scene s))) (next_is s lane (commands.Change change) free e) in
     let at_lane : row.tag.lane ≡ lane = ap (λ t. t.lane) decides.1 in
     let finishes = change_finishes (scene s) change row.deed decides.0 in
-    let row_made = ap (decided s) decides.1 ∙ made ∙ ap Some decides.0 in (
+    let row_made = ap (decision_for s) decides.1 ∙ made ∙ ap Some decides.0 in (
       record {
         of_next = record {
           next = decides.1 ∙ ap (next_tag s) (sym at_lane);
@@ -91,7 +91,7 @@ decides_next story lane taken now change (Err NoMemory) legal free moment e coun
 decides_next story lane taken now change (Err (Is refusal)) legal free moment e count decides =
     let s : State = state_of story in
     let within = in_phase s.phase lane (done_of s.done lane) (commands.Change change) e in
-    let made : decided s (next_tag s lane) ≡ Some (change_decision (scene s) change) = ap (option_map (decision (scene s))) (next_is s lane (commands.Change change) free e) in
+    let made : decision_for s (next_tag s lane) ≡ Some (change_decision (scene s) change) = ap (option_map (decision (scene s))) (next_is s lane (commands.Change change) free e) in
     record {
       of_next = record { next = refl; from = within.0; upto = within.1 };
       made = made ∙ ap Some decides;
@@ -99,7 +99,7 @@ decides_next story lane taken now change (Err (Is refusal)) legal free moment e 
 
 -- what is decided of a lane's next command
 pub decided_so : (story : List StoryStep) (lane : ℕ) (on : Occasion) (change : Change) (view : List ℕ) (rows : Base) (result : Result (Option Plain) (Or Refusal)) → Legal story → build_of (state_of story).active lane ≡ None
-    → command_of (state_of story) lane ≡ Some (commands.Change change) → on.tag ≡ next_tag (state_of story) lane → on.moment ≡ (state_of story).moment → rows ≡ (state_of story).base → on.busy ≡ building (state_of story).active view → on.taken ≡ size (state_of story).base + reserved (state_of story).active
+    → command_of (state_of story) lane ≡ Some (commands.Change change) → on.tag ≡ next_tag (state_of story) lane → on.moment ≡ (state_of story).moment → rows ≡ (state_of story).base → on.busy ≡ building (state_of story).active view → on.taken ≡ size (state_of story).base + rows_reserved (state_of story).active
     → ((scene : Scene) → Sees scene rows on.moment view on.busy on.taken → DecidesIfAny on.tag on.moment result (change_decision scene change)) → DecidesNext (state_of story) (next_tag (state_of story) lane) result
 decided_so story lane on change view rows result legal free e tagged moment rows_are is count decides =
     let s = state_of story in

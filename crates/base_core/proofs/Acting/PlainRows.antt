@@ -16,7 +16,7 @@ use Rattle.cc_names.specs.declared.rows.TypeKind.TheVariants as type_kinds
 use Rattle.cc_names.specs.declared.selection.Picked.{Picked}
 use Rattle.cc_names.specs.declared.selection.Seen.{Seen}
 use Rattle.cc_names.specs.declared.selection.Seen.TheVariants.{Private, Element, Unselected, Nothing}
-use Rattle.base_model.specs.Changes.{held}
+use Rattle.base_model.specs.Changes.{objects_held}
 use Rattle.base_model.specs.Seen.{at}
 use Rattle.legal_history.specs.Commands.CheckoutLines.{branch_by, checkin_of, checkin_tests, checkout_deed, checkout_of, checkout_tests, deciding_rule, mkbranch_of, mkbranch_tests, out_unless, uncheckout_of}
 use Rattle.legal_history.specs.Commands.CheckoutTests.{needs_out}
@@ -27,7 +27,7 @@ use Rattle.legal_history.specs.Commands.Found.{for_element, for_object, for_sele
 use Rattle.legal_history.specs.Commands.LabelLines.{labels_or_nothing, mkarrow_from, mkarrow_of, mkarrow_tests, mklabel_config_of, mklabel_config_tests, mklabel_of, mklabel_tests, rmlabel_of, rmlabel_tests, version_named}
 use Rattle.base_model.specs.Closures.{placed_by}
 use Rattle.legal_history.specs.Commands.Lines.{change_decision}
-use Rattle.legal_history.specs.Commands.ObjectLines.{due, scrub_of}
+use Rattle.legal_history.specs.Commands.ObjectLines.{due_objects, scrub_of}
 use Rattle.legal_history.specs.Commands.Tests.{needs_free_path, needs_idle, needs_view}
 use Rattle.base_model.specs.Views.{out}
 use Rattle.legal_history.proofs.Decisions.Handed.{IfDecided, answer_is, change_is, element_is, object_is, past_is, row_is, selected_is, version_is}
@@ -198,8 +198,8 @@ change_finishes s (changes.Rmlabel v label path) deed e =
 change_finishes s (changes.Mkarrow v path name) deed e =
     for_selected_finishes (needs_view s.base v ∷ []) path (at s.base v path) (mkarrow_of s v path name) (mkarrow_finishes s v path name) (Makes deed) e
 change_finishes s (changes.Rmdo v path) deed e = subst FinishesCommand (same_deed _ (deeds.Drop v path) deed e) (finishes_drop v path)
-change_finishes s (changes.Scrub age) deed e = scrub_finishes s (due s.base s.moment age) deed e
+change_finishes s (changes.Scrub age) deed e = scrub_finishes s (due_objects s.base s.moment age) deed e
 change_finishes s (changes.MklabelConfig v replace path label) deed e =
-    past_is Finishes (needs_view s.base v ∷ []) (for_object path (held_at (held s.base) v path) (mklabel_config_of s replace label))
-    (λ pass. object_is Finishes path (held_at (held s.base) v path) (mklabel_config_of s replace label)
+    past_is Finishes (needs_view s.base v ∷ []) (for_object path (held_at (objects_held s.base) v path) (mklabel_config_of s replace label))
+    (λ pass. object_is Finishes path (held_at (objects_held s.base) v path) (mklabel_config_of s replace label)
     (λ id is. labels_finish s (mklabel_config_tests s replace label id) label (placed_by s.base id))) (Makes deed) e

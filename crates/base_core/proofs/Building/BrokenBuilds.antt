@@ -10,8 +10,8 @@ use Rattle.cc_names.specs.declared.rows.Tag.{Tag}
 use Rattle.cc_names.specs.declared.steps.Step.TheVariants as steps
 use Rattle.cc_names.specs.declared.steps.StoryStep.{StoryStep}
 use Rattle.cc_names.specs.declared.steps.StoryStep.TheVariants as story_steps
-use Rattle.build_core.specs.Slots.{numbered}
-use Rattle.disk_model.specs.Told.{Sight}
+use Rattle.build_core.specs.Slots.{numbered_slots}
+use Rattle.disk_model.specs.DiskStates.{DiskState}
 use Rattle.legal_history.specs.Builds.Active.{Build, build_of}
 use Rattle.legal_history.specs.Builds.Turns.{is_complete}
 use Rattle.legal_history.specs.Stories.Committing.{LeavesRow, MayCommit}
@@ -19,19 +19,19 @@ use Rattle.legal_history.specs.Stories.Lawful.{EndsBuild}
 use Rattle.legal_history.specs.Stories.States.{State, Faulted, start, done_of, with_done, next_tag, build_by, ticks_of, faults_of}
 use Rattle.legal_history.specs.Stories.Steps.{after, state_of, done_by_fault, faulted_in, without_build}
 use Rattle.story_log.specs.Logging.Appending.{MayLeaveRow}
-use Rattle.base_core.specs.Calls.Building.{IsBuildKept}
+use Rattle.base_core.specs.Calls.Building.{BuildInvariant}
 use Rattle.clearmake.specs.Going.{SamePhase, Finishes}
-use Rattle.base_core.specs.Keeping.Kept.{IsStoryKept, IsPhaseKept, AreReplies, AreBuilds, IsCoreKept}
-use Rattle.base_core.specs.Keeping.Lanes.{LaneKept, lane_kept, commands_at, replies_at, builds_in, with_closed}
+use Rattle.base_core.specs.Keeping.CoreInvariants.{StoryInvariant, PhaseInvariant, AreReplies, AreBuilds, CoreInvariant}
+use Rattle.base_core.specs.Keeping.Lanes.{LaneState, lane_state, commands_at, replies_at, builds_in, with_closed}
 use Rattle.story_log.specs.Logging.Logs.{Logged, with_step, with_step_on}
 use Rattle.base_core.specs.Story.Replying.{in_lane, reply_to_fault, reply_to_end, replies_of}
 use Rattle.build_core.proofs.SlotLaws.{put_numbered, without_numbered}
 use Rattle.base_core.proofs.Building.Closing.{build_is_by, builds_closed}
 use Rattle.base_core.proofs.Acting.Faulting.{leaves_so}
 use Rattle.story_log.proofs.Story.Growing.{state_from-more}
-use Rattle.base_core.proofs.Keeping.KeptBuilds.{same_rows}
-use Rattle.base_core.proofs.Keeping.KeptReplies.{replies_more, replies_stay, replies_are_same}
-use Rattle.base_core.proofs.Keeping.KeptSteps.{phase_stays, story_more}
+use Rattle.base_core.proofs.Keeping.PreservedBuilds.{same_rows}
+use Rattle.base_core.proofs.Keeping.PreservedReplies.{replies_more, replies_stay, replies_are_same}
+use Rattle.base_core.proofs.Keeping.PreservedSteps.{phase_stays, story_more}
 use Rattle.base_core.proofs.Keeping.LaneCounts.{done_same, done_other}
 use Rattle.base_core.proofs.Keeping.LaneSets.{builds_count}
 use Rattle.base_core.proofs.Keeping.LaneSlots.{found_put, lane_slot}
@@ -54,17 +54,17 @@ pub after_fault : (s : State) (lane : ℕ) (build : Build) (left : Option Plain)
 after_fault s lane build left before faults tick is = ap (λ o. record s { done = done_by_fault s.done lane o; active = faulted_in s.active lane o; ends = Faulted left faults tick ∷ s.ends }) is
 
 -- the log after a fault under a lane's build, and after the end of it
-abbrev pub broken_log : Logged → Tag → Option Plain → ℕ → ℕ → ℕ → Sight → Logged
-broken_log log tag left before faults tick sight = with_step (with_step_on log (steps.Fault tag left before faults tick) sight) (steps.End tag)
+abbrev pub broken_log : Logged → Tag → Option Plain → ℕ → ℕ → ℕ → DiskState → Logged
+broken_log log tag left before faults tick ghost_state = with_step (with_step_on log (steps.Fault tag left before faults tick) ghost_state) (steps.End tag)
 
 -- what is kept then
-kept_broken : (log : Logged) (lanes : List LaneKept) (now lane : ℕ) (build : Build) (row : Plain) (left : Option Plain) (before faults tick : ℕ) (sight : Sight) → rises before faults ≡ true → faults_of (state_of log.story).opened (state_of log.story).ends ≤ before → MayLeaveRow (state_of log.story) row left
-    → rises (ticks_of (state_of log.story).opened (state_of log.story).ends) tick ≡ true → IsCoreKept log lanes now → 1 ≤ lane → lane ≤ length lanes → build_of (state_of log.story).active lane ≡ Some build → row.tag ≡ next_tag (state_of log.story) lane → MayCommit (state_of log.story) row → IsFormed row
-    → IsCoreKept (broken_log log (next_tag (state_of log.story) lane) left before faults tick sight) (with_closed lanes lane replies.DiskFault) now
-kept_broken log lanes now lane build row left before faults tick sight rose later leaves ticked h low high is tagged may formed = record {
-  story = story_more failed end log.base sight told_fault (record { lawful = subst (λ t. EndsBuild t tag) (sym state1) ends; names = tt; leads = told_fault.base });
-  phase = subst (λ t. IsPhaseKept t log.phases now) (sym state2) (phase_stays s (after s1 end) log.phases now h.phase same);
-  replies = replies_more story' end lanes tag replies.DiskFault (record (lane_kept lanes lane) { commands = drop 1 (commands_at lanes lane); replies = replies_at lanes lane ++ replies.DiskFault ∷ []; build = None }) so_far low high
+preserved_broken : (log : Logged) (lanes : List LaneState) (now lane : ℕ) (build : Build) (row : Plain) (left : Option Plain) (before faults tick : ℕ) (ghost_state : DiskState) → rises before faults ≡ true → faults_of (state_of log.story).opened (state_of log.story).ends ≤ before → MayLeaveRow (state_of log.story) row left
+    → rises (ticks_of (state_of log.story).opened (state_of log.story).ends) tick ≡ true → CoreInvariant log lanes now → 1 ≤ lane → lane ≤ length lanes → build_of (state_of log.story).active lane ≡ Some build → row.tag ≡ next_tag (state_of log.story) lane → MayCommit (state_of log.story) row → IsFormed row
+    → CoreInvariant (broken_log log (next_tag (state_of log.story) lane) left before faults tick ghost_state) (with_closed lanes lane replies.DiskFault) now
+preserved_broken log lanes now lane build row left before faults tick ghost_state rose later leaves ticked h low high is tagged may formed = record {
+  story = story_more failed end log.base ghost_state story_with_fault (record { lawful = subst (λ t. EndsBuild t tag) (sym state1) ends; names = tt; leads = story_with_fault.base });
+  phase = subst (λ t. PhaseInvariant t log.phases now) (sym state2) (phase_stays s (after s1 end) log.phases now h.phase same);
+  replies = replies_more story' end lanes tag replies.DiskFault (record (lane_state lanes lane) { commands = drop 1 (commands_at lanes lane); replies = replies_at lanes lane ++ replies.DiskFault ∷ []; build = None }) so_far low high
       (λ l. ap (λ t. replies_of story' l ++ in_lane l tag (reply_to_end t.base (build_by t tag))) state1 ∙ ap (λ o. replies_of story' l ++ in_lane l tag (reply_to_end s.base o)) by_tag1)
       refl refl refl refl refl;
   builds = subst (λ t. AreBuilds t (builds_in (with_closed lanes lane replies.DiskFault))) (sym state2)
@@ -84,12 +84,12 @@ kept_broken log lanes now lane build row left before faults tick sight rose late
     end = story_steps.Other (steps.End tag)
 
     failed : Logged
-    failed = with_step_on log (steps.Fault tag left before faults tick) sight
+    failed = with_step_on log (steps.Fault tag left before faults tick) ghost_state
 
     story' : List StoryStep
     story' = log.story ++ fault ∷ []
 
-    kept : IsBuildKept s lane build
+    kept : BuildInvariant s lane build
     kept = h.builds.kept lane build is
 
     s1 : State
@@ -101,8 +101,8 @@ kept_broken log lanes now lane build row left before faults tick sight rose late
     by_tag1 : build_by s1 tag ≡ Some (broken build)
     by_tag1 = build_is_by s1 lane (broken build) (found_put lane (broken build) s.active) kept.tag
 
-    told_fault : IsStoryKept failed
-    told_fault = story_more log fault log.base sight h.story (record {
+    story_with_fault : StoryInvariant failed
+    story_with_fault = story_more log fault log.base ghost_state h.story (record {
       lawful = record { wanted = record { row = row; of_tag = tagged; may = may }; rose = rose; later = later; leaves = subst (λ t. LeavesRow s t left) tagged (leaves_so s row left may leaves); ticked = ticked };
       names = left_named IsFormed log.story row left leaves formed h.story.formed;
       leads = h.story.base;
@@ -125,15 +125,15 @@ kept_broken log lanes now lane build row left before faults tick sight rose late
         (λ l. ap (λ o. replies_of log.story l ++ in_lane l tag (reply_to_fault o)) by_tag ∙ append-nil (replies_of log.story l))
         (ap (λ o. done_by_fault s.done lane o) by_tag) refl
 
-    active : (after s1 end).active ≡ numbered 1 (set (builds_in lanes) (lane - 1) None)
+    active : (after s1 end).active ≡ numbered_slots 1 (set (builds_in lanes) (lane - 1) None)
     active = ap (λ a. without_build (put nat_cmp lane (broken build) a) lane) h.builds.active
         ∙ ap (λ a. without_build a lane) (put_numbered lane 1 (lane - 1) (broken build) (builds_in lanes) (omega arith) (omega (arith, high, builds_count lanes)))
         ∙ without_numbered lane 1 (lane - 1) (set (builds_in lanes) (lane - 1) (Some (broken build))) (omega arith)
-        ∙ ap (numbered 1) (set-set (builds_in lanes) (lane - 1) (Some (broken build)) None)
+        ∙ ap (numbered_slots 1) (set-set (builds_in lanes) (lane - 1) (Some (broken build)) None)
 
 -- how the story went on
-pub broken_finishes : (log : Logged) (story : List StoryStep) (lane : ℕ) (build : Build) (tag : Tag) (left : Option Plain) (before faults tick : ℕ) (sight : Sight) → log.story ≡ story → build_by (state_of story) (next_tag (state_of story) lane) ≡ Some build → tag ≡ next_tag (state_of story) lane → Finishes story (broken_log log tag left before faults tick sight).story lane
-broken_finishes log story lane build tag left before faults tick sight same is tagged = record {
+pub broken_finishes : (log : Logged) (story : List StoryStep) (lane : ℕ) (build : Build) (tag : Tag) (left : Option Plain) (before faults tick : ℕ) (ghost_state : DiskState) → log.story ≡ story → build_by (state_of story) (next_tag (state_of story) lane) ≡ Some build → tag ≡ next_tag (state_of story) lane → Finishes story (broken_log log tag left before faults tick ghost_state).story lane
+broken_finishes log story lane build tag left before faults tick ghost_state same is tagged = record {
   steps = fault ∷ end ∷ [];
   grows = ap (λ t. (t ++ fault ∷ []) ++ end ∷ []) same ∙ append_assoc story (fault ∷ []) (end ∷ []);
   phase = record { phase = ap (λ t. t.phase) state; number = ap (λ t. t.number) state; moment = ap (λ t. t.moment) state };
@@ -162,22 +162,22 @@ broken_finishes log story lane build tag left before faults tick sight same is t
         ∙ ap (λ t. record s1 { done = with_done s.done t.lane; active = without_build s1.active t.lane }) tagged
 
 -- what is kept where a row that was to give a unit an object was not committed
-pub kept_broken_object : (log : Logged) (lanes : List LaneKept) (now lane n : ℕ) (row : Plain) (object : ℕ) (tag : Tag) (left : Option Plain) (before faults tick : ℕ) (sight : Sight) → rises before faults ≡ true → faults_of (state_of log.story).opened (state_of log.story).ends ≤ before → MayLeaveRow (state_of log.story) row left
-    → rises (ticks_of (state_of log.story).opened (state_of log.story).ends) tick ≡ true → IsCoreKept log lanes now → Gives (state_of log.story) lane n row object → tag ≡ next_tag (state_of log.story) lane → IsFormed row
-    → IsCoreKept (with_step (with_step_on log (steps.Fault row.tag left before faults tick) sight) (steps.End tag)) (with_closed lanes lane replies.DiskFault) now
-kept_broken_object log lanes now lane n row object tag left before faults tick sight rose later leaves ticked h g tagged formed =
+pub preserved_broken_object : (log : Logged) (lanes : List LaneState) (now lane n : ℕ) (row : Plain) (object : ℕ) (tag : Tag) (left : Option Plain) (before faults tick : ℕ) (ghost_state : DiskState) → rises before faults ≡ true → faults_of (state_of log.story).opened (state_of log.story).ends ≤ before → MayLeaveRow (state_of log.story) row left
+    → rises (ticks_of (state_of log.story).opened (state_of log.story).ends) tick ≡ true → CoreInvariant log lanes now → Gives (state_of log.story) lane n row object → tag ≡ next_tag (state_of log.story) lane → IsFormed row
+    → CoreInvariant (with_step (with_step_on log (steps.Fault row.tag left before faults tick) ghost_state) (steps.End tag)) (with_closed lanes lane replies.DiskFault) now
+preserved_broken_object log lanes now lane n row object tag left before faults tick ghost_state rose later leaves ticked h g tagged formed =
     let s = state_of log.story in
     let slot = lane_slot log lanes now lane g.build h g.active in
-    subst (λ t. IsCoreKept (with_step (with_step_on log (steps.Fault row.tag left before faults tick) sight) (steps.End t)) (with_closed lanes lane replies.DiskFault) now) (sym tagged)
-    (subst (λ t. IsCoreKept (with_step (with_step_on log (steps.Fault t left before faults tick) sight) (steps.End (next_tag s lane))) (with_closed lanes lane replies.DiskFault) now) (sym g.of_tag)
-    (kept_broken log lanes now lane g.build row left before faults tick sight rose later leaves ticked h slot.from slot.upto g.active g.of_tag g.may formed))
+    subst (λ t. CoreInvariant (with_step (with_step_on log (steps.Fault row.tag left before faults tick) ghost_state) (steps.End t)) (with_closed lanes lane replies.DiskFault) now) (sym tagged)
+    (subst (λ t. CoreInvariant (with_step (with_step_on log (steps.Fault t left before faults tick) ghost_state) (steps.End (next_tag s lane))) (with_closed lanes lane replies.DiskFault) now) (sym g.of_tag)
+    (preserved_broken log lanes now lane g.build row left before faults tick ghost_state rose later leaves ticked h slot.from slot.upto g.active g.of_tag g.may formed))
 
 -- how the story went on
-pub broken_object_finishes : (log : Logged) (lanes : List LaneKept) (now : ℕ) (story : List StoryStep) (lane n : ℕ) (row : Plain) (object : ℕ) (tag : Tag) (left : Option Plain) (before faults tick : ℕ) (sight : Sight) → log.story ≡ story → IsCoreKept log lanes now → Gives (state_of log.story) lane n row object → tag ≡ next_tag (state_of log.story) lane
-    → Finishes story (with_step (with_step_on log (steps.Fault row.tag left before faults tick) sight) (steps.End tag)).story lane
-broken_object_finishes log lanes now story lane n row object tag left before faults tick sight same h g tagged =
+pub broken_object_finishes : (log : Logged) (lanes : List LaneState) (now : ℕ) (story : List StoryStep) (lane n : ℕ) (row : Plain) (object : ℕ) (tag : Tag) (left : Option Plain) (before faults tick : ℕ) (ghost_state : DiskState) → log.story ≡ story → CoreInvariant log lanes now → Gives (state_of log.story) lane n row object → tag ≡ next_tag (state_of log.story) lane
+    → Finishes story (with_step (with_step_on log (steps.Fault row.tag left before faults tick) ghost_state) (steps.End tag)).story lane
+broken_object_finishes log lanes now story lane n row object tag left before faults tick ghost_state same h g tagged =
     let s = state_of log.story in
     let by_tag = build_is_by s lane g.build g.active (h.builds.kept lane g.build g.active).tag in
-    subst (λ t. Finishes t (with_step (with_step_on log (steps.Fault row.tag left before faults tick) sight) (steps.End tag)).story lane) same
-    (subst (λ t. Finishes log.story (with_step (with_step_on log (steps.Fault t left before faults tick) sight) (steps.End tag)).story lane) (tagged ∙ sym g.of_tag)
-    (broken_finishes log log.story lane g.build tag left before faults tick sight refl by_tag tagged))
+    subst (λ t. Finishes t (with_step (with_step_on log (steps.Fault row.tag left before faults tick) ghost_state) (steps.End tag)).story lane) same
+    (subst (λ t. Finishes log.story (with_step (with_step_on log (steps.Fault t left before faults tick) ghost_state) (steps.End tag)).story lane) (tagged ∙ sym g.of_tag)
+    (broken_finishes log log.story lane g.build tag left before faults tick ghost_state refl by_tag tagged))

@@ -6,27 +6,27 @@ use Rattle.cc_names.specs.declared.steps.Step.TheVariants as steps
 use Rattle.cc_names.specs.declared.steps.StoryStep.{StoryStep}
 use Rattle.cc_names.specs.declared.steps.StoryStep.TheVariants as story_steps
 use Rattle.base_model.specs.Rows.{size}
-use Rattle.legal_history.specs.Builds.Active.{Build, reserved}
+use Rattle.legal_history.specs.Builds.Active.{Build, rows_reserved}
 use Rattle.legal_history.specs.Commands.Decisions.{Begins}
 use Rattle.base_model.specs.Fits.{row_limit}
-use Rattle.legal_history.specs.Stories.States.{State, decided}
-use Rattle.legal_history.specs.Stories.Steps.{after, begun, state_of, with_build}
-use Rattle.base_core.specs.Calls.Building.{IsBuildKept}
-use Rattle.base_core.specs.Keeping.Kept.{IsCoreKept}
-use Rattle.base_core.specs.Keeping.Lanes.{LaneKept, put_build}
+use Rattle.legal_history.specs.Stories.States.{State, decision_for}
+use Rattle.legal_history.specs.Stories.Steps.{after, build_begun_by, state_of, with_build}
+use Rattle.base_core.specs.Calls.Building.{BuildInvariant}
+use Rattle.base_core.specs.Keeping.CoreInvariants.{CoreInvariant}
+use Rattle.base_core.specs.Keeping.Lanes.{LaneState, put_build}
 use Rattle.story_log.specs.Logging.Logs.{Logged, with_step}
 use Rattle.base_core.specs.Story.Replying.{replies_of}
 use Rattle.base_core.proofs.Keeping.Idle.{decided_is_free}
-use Rattle.base_core.proofs.Keeping.KeptBuilds.{same_rows}
-use Rattle.base_core.proofs.Keeping.KeptSteps.{kept_put}
+use Rattle.base_core.proofs.Keeping.PreservedBuilds.{same_rows}
+use Rattle.base_core.proofs.Keeping.PreservedSteps.{preserved_put}
 use Rattle.base_core.proofs.Keeping.Reserving.{rows_for}
 
 -- what is kept after the begin of a build that was decided
-pub kept_begin : (log : Logged) (lanes : List LaneKept) (now : ℕ) (tag : Tag) (build : Build) → IsCoreKept log lanes now → 1 ≤ tag.lane → tag.lane ≤ length lanes → decided (state_of log.story) tag ≡ Some (Ok (Begins build.units)) → begun (state_of log.story) tag ≡ Some build
-    → IsBuildKept (state_of log.story) tag.lane build → reserved (state_of log.story).active + length build.units ≤ row_limit
-    → IsCoreKept (with_step log (steps.Begin tag (size (state_of log.story).base) (length build.units))) (put_build lanes tag.lane (Some build)) now
-kept_begin log lanes now tag build h low high made begins is room =
-    kept_put log lanes now x log.base log.sight tag.lane build h low high
+pub preserved_begin : (log : Logged) (lanes : List LaneState) (now : ℕ) (tag : Tag) (build : Build) → CoreInvariant log lanes now → 1 ≤ tag.lane → tag.lane ≤ length lanes → decision_for (state_of log.story) tag ≡ Some (Ok (Begins build.units)) → build_begun_by (state_of log.story) tag ≡ Some build
+    → BuildInvariant (state_of log.story) tag.lane build → rows_reserved (state_of log.story).active + length build.units ≤ row_limit
+    → CoreInvariant (with_step log (steps.Begin tag (size (state_of log.story).base) (length build.units))) (put_build lanes tag.lane (Some build)) now
+preserved_begin log lanes now tag build h low high made begins is room =
+    preserved_put log lanes now x log.base log.ghost_state tag.lane build h low high
     (record { lawful = record { units = build.units; chosen = made; at_rows = refl; of_units = refl }; names = tt; leads = h.story.base })
     (record {
       same = record { phase = refl; number = refl; moment = refl };

@@ -7,8 +7,8 @@ use Rattle.build_script.specs.declared.files.Got.{Got}
 use Rattle.base_model.specs.Rows.{Base}
 use Rattle.legal_history.specs.Builds.Active.{Build, build_of}
 use Rattle.legal_history.specs.Stories.States.{State}
-use Rattle.clearmake.specs.Calls.{IsBuilding, WasStarted, is_released, released}
-use Rattle.clearmake.specs.Sights.{IsFetched, sees, standing_at}
+use Rattle.clearmake.specs.Calls.{IsBuilding, WasStarted, is_released, released_units}
+use Rattle.clearmake.specs.FoundTexts.{IsFetched, sees, standing_at}
 use Rattle.story_log.proofs.Cases.{some_same}
 
 -- a unit that was started is one of the build
@@ -27,6 +27,6 @@ fetched_so s lane n path b build got active same fetched =
     (subst (λ b. IsFetched got (standing_at b build n path)) same fetched)
 
 -- and so with the units that it has released
-pub released_so : (s : State) (lane n : ℕ) (build : Build) (units : List ℕ) → build_of s.active lane ≡ Some build → units ≡ filter (is_released build n) (range_with_len 0 (length build.units)) → units ≡ released s lane n
+pub released_so : (s : State) (lane n : ℕ) (build : Build) (units : List ℕ) → build_of s.active lane ≡ Some build → units ≡ filter (is_released build n) (range_with_len 0 (length build.units)) → units ≡ released_units s lane n
 released_so s lane n build units active are =
     are ∙ sym (ap (λ found. unwrap_or (option_map (λ build. filter (is_released build n) (range_with_len 0 (length build.units))) found) []) active)

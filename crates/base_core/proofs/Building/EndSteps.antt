@@ -13,27 +13,27 @@ use Rattle.legal_history.specs.Stories.Steps.{state_of, without_build}
 use Rattle.legal_history.specs.Builds.Turns.{is_complete}
 use Rattle.clearmake.specs.Calls.{IsOver}
 use Rattle.clearmake.specs.Going.{Finishes}
-use Rattle.base_core.specs.Keeping.Kept.{IsCoreKept}
-use Rattle.base_core.specs.Keeping.Lanes.{LaneKept, with_closed}
+use Rattle.base_core.specs.Keeping.CoreInvariants.{CoreInvariant}
+use Rattle.base_core.specs.Keeping.Lanes.{LaneState, with_closed}
 use Rattle.story_log.specs.Logging.Logs.{Logged, with_step}
-use Rattle.base_core.proofs.Building.Closing.{kept_end}
+use Rattle.base_core.proofs.Building.Closing.{preserved_end}
 use Rattle.story_log.proofs.Story.Growing.{state_from-more}
 use Rattle.story_log.proofs.Cases.{some_same}
 use Rattle.base_core.proofs.Keeping.LaneCounts.{done_same, done_other}
 use Rattle.base_core.proofs.Keeping.LaneSlots.{lane_slot}
 
 -- what is kept
-pub kept_ended : (log : Logged) (lanes : List LaneKept) (now lane : ℕ) (story : List StoryStep) (rows : Base) (tag : Tag) (build : Build) (reply : Reply) → log.story ≡ story → IsCoreKept log lanes now → IsOver (state_of story) lane → build_of (state_of story).active lane ≡ Some build
-    → (state_of story).base ≡ rows → tag ≡ next_tag (state_of story) lane → reply ≡ reply_of rows build → IsCoreKept (with_step log (steps.End tag)) (with_closed lanes lane reply) now
-kept_ended log lanes now lane story rows tag build reply same h over found base tagged replied =
+pub preserved_ended : (log : Logged) (lanes : List LaneState) (now lane : ℕ) (story : List StoryStep) (rows : Base) (tag : Tag) (build : Build) (reply : Reply) → log.story ≡ story → CoreInvariant log lanes now → IsOver (state_of story) lane → build_of (state_of story).active lane ≡ Some build
+    → (state_of story).base ≡ rows → tag ≡ next_tag (state_of story) lane → reply ≡ reply_of rows build → CoreInvariant (with_step log (steps.End tag)) (with_closed lanes lane reply) now
+preserved_ended log lanes now lane story rows tag build reply same h over found base tagged replied =
     let active : build_of (state_of log.story).active lane ≡ Some build = ap (λ t. build_of (state_of t).active lane) same ∙ found in
     let slot = lane_slot log lanes now lane build h active in
     let tag_is : next_tag (state_of log.story) lane ≡ tag = ap (λ t. next_tag (state_of t) lane) same ∙ sym tagged in
     let reply_is : reply_of (state_of log.story).base build ≡ reply = ap (λ t. reply_of (state_of t).base build) same ∙ ap (λ b. reply_of b build) base ∙ sym replied in
     let complete : is_complete build ≡ true = ap is_complete (sym (some_same over.build build (sym over.active ∙ found))) ∙ over.complete in
-    subst (λ r. IsCoreKept (with_step log (steps.End tag)) (with_closed lanes lane r) now) reply_is
-    (subst (λ t. IsCoreKept (with_step log (steps.End t)) (with_closed lanes lane (reply_of (state_of log.story).base build)) now) tag_is
-    (kept_end log lanes now lane build h slot.from slot.upto active complete))
+    subst (λ r. CoreInvariant (with_step log (steps.End tag)) (with_closed lanes lane r) now) reply_is
+    (subst (λ t. CoreInvariant (with_step log (steps.End t)) (with_closed lanes lane (reply_of (state_of log.story).base build)) now) tag_is
+    (preserved_end log lanes now lane build h slot.from slot.upto active complete))
 
 -- how the story went on
 pub ended_finishes : (log : Logged) (story : List StoryStep) (lane : ℕ) (tag : Tag) → log.story ≡ story → tag ≡ next_tag (state_of story) lane → Finishes story (with_step log (steps.End tag)).story lane

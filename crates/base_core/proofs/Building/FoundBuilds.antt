@@ -17,13 +17,13 @@ use Rattle.legal_history.specs.Stories.States.{State, next_tag}
 use Rattle.legal_history.specs.Stories.Steps.{state_of}
 use Rattle.clearmake.specs.Calls.{HasScript, IsCarried, IsRunOfUnit, IsStarted, Tries}
 use Rattle.base_core.specs.Calls.BuildCalls.{MayConclude, MayWink, HasRun, Noted}
-use Rattle.base_core.specs.Calls.Building.{IsBuildKept}
+use Rattle.base_core.specs.Calls.Building.{BuildInvariant}
 use Rattle.clearmake.specs.declared.turns.TurnEnd.{TurnEnd}
 use Rattle.clearmake.specs.declared.turns.TurnEnd.TheVariants as turn_ends
 use Rattle.clearmake.specs.declared.turns.UnitTurn.TheVariants as turns
 use Rattle.clearmake.specs.Going.{BuildsOn, GoesOn}
-use Rattle.base_core.specs.Keeping.Kept.{IsCoreKept}
-use Rattle.base_core.specs.Keeping.Lanes.{LaneKept}
+use Rattle.base_core.specs.Keeping.CoreInvariants.{CoreInvariant}
+use Rattle.base_core.specs.Keeping.Lanes.{LaneState}
 use Rattle.story_log.specs.Logging.Logs.{Logged}
 use Rattle.base_core.proofs.Building.Closing.{build_is_by}
 use Rattle.story_log.proofs.Cases.{some_same}
@@ -34,8 +34,8 @@ if_ok (Ok a) P Q f h = f a h
 if_ok (Err e) P Q f h = h
 
 -- the build of a lane is kept
-pub build_kept : (log : Logged) (lanes : List LaneKept) (now : ℕ) (story : List StoryStep) (lane : ℕ) (build : Build) → log.story ≡ story → IsCoreKept log lanes now → build_of (state_of story).active lane ≡ Some build → IsBuildKept (state_of story) lane build
-build_kept log lanes now story lane build same h is = subst (λ t. IsBuildKept (state_of t) lane build) same (h.builds.kept lane build (ap (λ t. build_of (state_of t).active lane) same ∙ is))
+pub build_preserved : (log : Logged) (lanes : List LaneState) (now : ℕ) (story : List StoryStep) (lane : ℕ) (build : Build) → log.story ≡ story → CoreInvariant log lanes now → build_of (state_of story).active lane ≡ Some build → BuildInvariant (state_of story) lane build
+build_preserved log lanes now story lane build same h is = subst (λ t. BuildInvariant (state_of t) lane build) same (h.builds.kept lane build (ap (λ t. build_of (state_of t).active lane) same ∙ is))
 
 -- a unit whose script was started has it still
 pub started_has : (old new : List StoryStep) (lane n : ℕ) (script : List Line) (targets : List (List ℕ)) → HasScript (state_of old) lane n script targets → Noted old new lane n Started → GoesOn old new lane × IsStarted (state_of new) lane n script targets
@@ -101,7 +101,7 @@ started_still (Some (Concluded end)) some waits = absurd (cc)
 started_still (Some (Given id)) some waits = absurd (cc)
 
 -- and this is its run
-pub has_run : (s : State) (lane n : ℕ) (ran : Ran) (build : Build) → IsRunOfUnit s lane n ran → build_of s.active lane ≡ Some build → IsBuildKept s lane build → is_outcome (came_to build n) ≡ false → HasRun s lane n ran
+pub has_run : (s : State) (lane n : ℕ) (ran : Ran) (build : Build) → IsRunOfUnit s lane n ran → build_of s.active lane ≡ Some build → BuildInvariant s lane build → is_outcome (came_to build n) ≡ false → HasRun s lane n ran
 has_run s lane n ran build h active kept waits =
     let is : build ≡ h.build = some_same build h.build (sym active ∙ h.active) in
     record {
@@ -110,6 +110,6 @@ has_run s lane n ran build h active kept waits =
       unit = h.unit;
       is_unit = h.is_unit;
       started = started_still (came_to h.build n) h.started (subst (λ b. is_outcome (came_to b n) ≡ false) is waits);
-      kept = subst (IsBuildKept s lane) is kept;
+      kept = subst (BuildInvariant s lane) is kept;
       run = h.run;
     }

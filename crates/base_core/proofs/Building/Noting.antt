@@ -9,21 +9,21 @@ use Rattle.legal_history.specs.Builds.Active.{Build, Came, build_of}
 use Rattle.legal_history.specs.Stories.States.{State}
 use Rattle.legal_history.specs.Stories.Steps.{after, state_of, with_came}
 use Rattle.legal_history.specs.Stories.Lawful.{Lawful}
-use Rattle.base_core.specs.Calls.Building.{IsBuildKept}
+use Rattle.base_core.specs.Calls.Building.{BuildInvariant}
 use Rattle.story_log.specs.Story.Faults.{is_fault}
-use Rattle.base_core.specs.Keeping.Kept.{IsCoreKept}
-use Rattle.base_core.specs.Keeping.Lanes.{LaneKept, put_build}
+use Rattle.base_core.specs.Keeping.CoreInvariants.{CoreInvariant}
+use Rattle.base_core.specs.Keeping.Lanes.{LaneState, put_build}
 use Rattle.story_log.specs.Logging.Logs.{Logged, with_step}
 use Rattle.cc_names.specs.Formed.{IsFormed}
 use Rattle.base_core.specs.Story.Replying.{replies_after, replies_of}
-use Rattle.base_core.proofs.Keeping.KeptBuilds.{same_rows}
-use Rattle.base_core.proofs.Keeping.KeptSteps.{kept_put}
+use Rattle.base_core.proofs.Keeping.PreservedBuilds.{same_rows}
+use Rattle.base_core.proofs.Keeping.PreservedSteps.{preserved_put}
 use Rattle.story_log.proofs.Story.Naming.{names_none}
 use Rattle.base_core.proofs.Keeping.Reserving.{rows_for}
 
 -- a build with what one of its units has come to is kept as it was
-pub noted_kept : (s : State) (lane : ℕ) (build : Build) (n : ℕ) (came : Came) → IsBuildKept s lane build → IsBuildKept s lane (with_came build (Some n) came)
-noted_kept s lane build n came h = record {
+pub noted_preserved : (s : State) (lane : ℕ) (build : Build) (n : ℕ) (came : Came) → BuildInvariant s lane build → BuildInvariant s lane (with_came build (Some n) came)
+noted_preserved s lane build n came h = record {
   tag = h.tag;
   waits = h.waits;
   from = h.from;
@@ -33,12 +33,12 @@ noted_kept s lane build n came h = record {
 }
 
 -- what is kept after a step by which a unit of a lane's build comes to something, without a row
-pub kept_note : (log : Logged) (lanes : List LaneKept) (now : ℕ) (step : Step) (lane n : ℕ) (build : Build) (came : Came) → IsCoreKept log lanes now → 1 ≤ lane → lane ≤ length lanes → build_of (state_of log.story).active lane ≡ Some build → Lawful (state_of log.story) (story_steps.Other step)
+pub preserved_note : (log : Logged) (lanes : List LaneState) (now : ℕ) (step : Step) (lane n : ℕ) (build : Build) (came : Came) → CoreInvariant log lanes now → 1 ≤ lane → lane ≤ length lanes → build_of (state_of log.story).active lane ≡ Some build → Lawful (state_of log.story) (story_steps.Other step)
     → after (state_of log.story) (story_steps.Other step) ≡ record (state_of log.story) { active = put nat_cmp lane (with_came build (Some n) came) (state_of log.story).active }
     → ((l : ℕ) → replies_after (state_of log.story) (story_steps.Other step) (replies_of log.story) l ≡ replies_of log.story l) → is_fault (story_steps.Other step) ≡ false
-    → IsCoreKept (with_step log step) (put_build lanes lane (Some (with_came build (Some n) came))) now
-kept_note log lanes now step lane n build came h low high is lawful leaves said sound =
-    kept_put log lanes now x log.base log.sight lane (with_came build (Some n) came) h low high
+    → CoreInvariant (with_step log step) (put_build lanes lane (Some (with_came build (Some n) came))) now
+preserved_note log lanes now step lane n build came h low high is lawful leaves said sound =
+    preserved_put log lanes now x log.base log.ghost_state lane (with_came build (Some n) came) h low high
     (record { lawful = lawful; names = names_none IsFormed step sound; leads = ap (λ t. t.base) leaves ∙ h.story.base })
     (record {
       same = record { phase = ap (λ t. t.phase) leaves; number = ap (λ t. t.number) leaves; moment = ap (λ t. t.moment) leaves };
@@ -46,7 +46,7 @@ kept_note log lanes now step lane n build came h low high is lawful leaves said 
       active = ap (λ t. t.active) leaves;
       done = ap (λ t. t.done) leaves;
       said = said;
-      kept = noted_kept s lane build n came (h.builds.kept lane build is);
+      kept = noted_preserved s lane build n came (h.builds.kept lane build is);
       room = omega (arith, h.builds.reserves, ap rows_for is);
     })
   where

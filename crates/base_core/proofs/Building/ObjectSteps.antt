@@ -5,47 +5,47 @@ use Rattle.cc_names.specs.Counts.{rises}
 use Rattle.cc_names.specs.Formed.{Plain, IsFormed}
 use Rattle.cc_names.specs.declared.steps.StoryStep.{StoryStep}
 use Rattle.cc_names.specs.declared.steps.StoryStep.TheVariants as story_steps
-use Rattle.disk_model.specs.Told.{Sight}
+use Rattle.disk_model.specs.DiskStates.{DiskState}
 use Rattle.base_model.specs.Fits.{fits}
 use Rattle.legal_history.specs.Builds.Active.{Build, Given, build_of, is_outcome}
 use Rattle.legal_history.specs.Laws.BuildLaws.{BuildIsConsistent}
 use Rattle.legal_history.specs.Stories.States.{State, start, ticks_of}
 use Rattle.legal_history.specs.Stories.Steps.{after, state_of, with_came}
-use Rattle.legal_history.proofs.Stories.SoundStories.{base_fits}
+use Rattle.legal_history.proofs.Stories.ConsistentStories.{base_fits}
 use Rattle.base_core.specs.Calls.BuildCalls.{GivesObject}
 use Rattle.clearmake.specs.Going.{BuildsOn, GoesOn, HasOutcome}
-use Rattle.base_core.specs.Keeping.Kept.{IsCoreKept}
-use Rattle.base_core.specs.Keeping.Lanes.{LaneKept, build_at, put_build}
+use Rattle.base_core.specs.Keeping.CoreInvariants.{CoreInvariant}
+use Rattle.base_core.specs.Keeping.Lanes.{LaneState, build_at, put_build}
 use Rattle.story_log.specs.Logging.Logs.{Logged, with_row}
 use Rattle.base_core.specs.Story.Replying.{in_lane, replies_of}
 use Rattle.base_core.proofs.Acting.Fitting.{may_fits}
-use Rattle.base_core.proofs.Building.Noting.{noted_kept}
+use Rattle.base_core.proofs.Building.Noting.{noted_preserved}
 use Rattle.base_core.proofs.Building.UnitNotes.{outcome_noted}
 use Rattle.base_core.proofs.Building.UnitRows.{Gives, given_state, gives_so}
 use Rattle.story_log.proofs.Cases.{some_same}
-use Rattle.base_core.proofs.Keeping.KeptBuilds.{more_rows}
-use Rattle.base_core.proofs.Keeping.KeptSteps.{kept_put}
+use Rattle.base_core.proofs.Keeping.PreservedBuilds.{more_rows}
+use Rattle.base_core.proofs.Keeping.PreservedSteps.{preserved_put}
 use Rattle.base_core.proofs.Keeping.LaneSlots.{lane_slot, found_put}
 use Rattle.base_core.proofs.Keeping.Reserving.{rows_for}
 use Rattle.story_log.proofs.Story.Growing.{state_from-more}
 
 -- the row in the log's own story
-pub gives_here : (log : Logged) (lanes : List LaneKept) (now : ℕ) (story : List StoryStep) (lane n : ℕ) (row : Plain) (object : ℕ) → log.story ≡ story → IsCoreKept log lanes now → GivesObject (state_of story) lane n row object → BuildIsConsistent → Gives (state_of log.story) lane n row object
+pub gives_here : (log : Logged) (lanes : List LaneState) (now : ℕ) (story : List StoryStep) (lane n : ℕ) (row : Plain) (object : ℕ) → log.story ≡ story → CoreInvariant log lanes now → GivesObject (state_of story) lane n row object → BuildIsConsistent → Gives (state_of log.story) lane n row object
 gives_here log lanes now story lane n row object same h gives consistent =
     gives_so (state_of log.story) lane n row object (base_fits log.story h.story.legal) (h.builds.kept lane) (λ build is. consistent log.story lane build h.story.legal is)
     (subst (λ t. GivesObject (state_of t) lane n row object) (sym same) gives)
 
 -- it fits the base
-pub object_fits : (log : Logged) (lanes : List LaneKept) (now lane n : ℕ) (row : Plain) (object : ℕ) → IsCoreKept log lanes now → Gives (state_of log.story) lane n row object → fits log.base row.deed ≡ true
+pub object_fits : (log : Logged) (lanes : List LaneState) (now lane n : ℕ) (row : Plain) (object : ℕ) → CoreInvariant log lanes now → Gives (state_of log.story) lane n row object → fits log.base row.deed ≡ true
 object_fits log lanes now lane n row object h g = subst (λ b. fits b row.deed ≡ true) h.story.base (may_fits log.story row h.story.legal g.may)
 
 -- what is kept then
-pub kept_object : (log : Logged) (lanes more : List LaneKept) (now lane n : ℕ) (row : Plain) (object tick : ℕ) (sight : Sight) → rises (ticks_of (state_of log.story).opened (state_of log.story).ends) tick ≡ true → IsCoreKept log lanes now → Gives (state_of log.story) lane n row object
-    → ((build : Build) → build_at lanes lane ≡ Some build → more ≡ put_build lanes lane (Some (with_came build (Some n) (Given object)))) → IsFormed row → IsCoreKept (with_row log row tick sight) more now
-kept_object log lanes more now lane n row object tick sight ticked h g set_so formed =
+pub preserved_object : (log : Logged) (lanes more : List LaneState) (now lane n : ℕ) (row : Plain) (object tick : ℕ) (ghost_state : DiskState) → rises (ticks_of (state_of log.story).opened (state_of log.story).ends) tick ≡ true → CoreInvariant log lanes now → Gives (state_of log.story) lane n row object
+    → ((build : Build) → build_at lanes lane ≡ Some build → more ≡ put_build lanes lane (Some (with_came build (Some n) (Given object)))) → IsFormed row → CoreInvariant (with_row log row tick ghost_state) more now
+preserved_object log lanes more now lane n row object tick ghost_state ticked h g set_so formed =
     let slot = lane_slot log lanes now lane g.build h g.active in
-    subst (λ ls. IsCoreKept (with_row log row tick sight) ls now) (sym (set_so g.build slot.held))
-    (kept_put log lanes now x (row ∷ log.base) sight lane (with_came g.build (Some n) (Given object)) h slot.from slot.upto
+    subst (λ ls. CoreInvariant (with_row log row tick ghost_state) ls now) (sym (set_so g.build slot.held))
+    (preserved_put log lanes now x (row ∷ log.base) ghost_state lane (with_came g.build (Some n) (Given object)) h slot.from slot.upto
     (record { lawful = record { may = g.may; ticked = ticked }; names = formed; leads = ap (λ t. t.base) leaves ∙ ap (λ b. row ∷ b) h.story.base })
     (record {
       same = record { phase = ap (λ t. t.phase) leaves; number = ap (λ t. t.number) leaves; moment = ap (λ t. t.moment) leaves };
@@ -53,7 +53,7 @@ kept_object log lanes more now lane n row object tick sight ticked h g set_so fo
       active = ap (λ t. t.active) leaves;
       done = ap (λ t. t.done) leaves;
       said = λ l. ap (λ o. replies_of log.story l ++ in_lane l row.tag o) g.silent ∙ append-nil (replies_of log.story l);
-      kept = noted_kept s lane g.build n (Given object) (h.builds.kept lane g.build g.active);
+      kept = noted_preserved s lane g.build n (Given object) (h.builds.kept lane g.build g.active);
       room = omega (arith, h.builds.reserves, ap rows_for g.active);
     }))
   where
@@ -98,6 +98,6 @@ object_goes story lane n row object tick g = (
     still build e = subst (λ b. BuildsOn (state_of (story ++ x ∷ [])) lane b) e
         (record { build = given; active = active; units = refl; outcomes = λ m over. outcome_noted g.build n m (Given object) g.waits over })
 
-pub object_so : (log : Logged) (story : List StoryStep) (lane n : ℕ) (row : Plain) (object tick : ℕ) (sight : Sight) → log.story ≡ story → Gives (state_of log.story) lane n row object → GoesOn story (with_row log row tick sight).story lane × HasOutcome (state_of (with_row log row tick sight).story) lane n
-object_so log story lane n row object tick sight same g =
+pub object_so : (log : Logged) (story : List StoryStep) (lane n : ℕ) (row : Plain) (object tick : ℕ) (ghost_state : DiskState) → log.story ≡ story → Gives (state_of log.story) lane n row object → GoesOn story (with_row log row tick ghost_state).story lane × HasOutcome (state_of (with_row log row tick ghost_state).story) lane n
+object_so log story lane n row object tick ghost_state same g =
     subst (λ t. GoesOn t (log.story ++ story_steps.Commit row tick ∷ []) lane × HasOutcome (state_of (log.story ++ story_steps.Commit row tick ∷ [])) lane n) same (object_goes log.story lane n row object tick g)

@@ -2,7 +2,7 @@
 use Rattle.std.proofs.Common.{◌≡◌, ℕ, Some, Ok, List, [], ◌∷◌, ◌++◌, length, refl, ap, sym, subst, ◌∙◌, arith}
 use Rattle.std.specs.Ordering.{nat_cmp}
 use Rattle.std.specs.FinMap.Entries.{put}
-use Rattle.cc_names.specs.declared.desks.Done.TheVariants as dones
+use Rattle.cc_names.specs.declared.occasions.Done.TheVariants as dones
 use Rattle.cc_names.specs.declared.rows.Tag.{Tag}
 use Rattle.cc_names.specs.declared.steps.Step.TheVariants as steps
 use Rattle.cc_names.specs.declared.steps.StoryStep.{StoryStep}
@@ -11,30 +11,30 @@ use Rattle.base_model.specs.Rows.{size}
 use Rattle.legal_history.specs.Builds.Active.{Build, build_of}
 use Rattle.legal_history.specs.Commands.Decisions.{Begins}
 use Rattle.legal_history.specs.Stories.States.{State, start, done_of, with_done, next_tag}
-use Rattle.legal_history.specs.Stories.Steps.{after, begun, state_of, with_build}
+use Rattle.legal_history.specs.Stories.Steps.{after, build_begun_by, state_of, with_build}
 use Rattle.base_core.specs.Calls.Acting.{Acts, IsStepOf}
 use Rattle.clearmake.specs.Calls.{IsBuilding}
 use Rattle.base_core.specs.Calls.Building.{IsNextBuild}
 use Rattle.clearmake.specs.Going.{GoesOn, Finishes}
-use Rattle.base_core.specs.Keeping.Kept.{IsCoreKept}
-use Rattle.base_core.specs.Keeping.Lanes.{LaneKept, put_build}
+use Rattle.base_core.specs.Keeping.CoreInvariants.{CoreInvariant}
+use Rattle.base_core.specs.Keeping.Lanes.{LaneState, put_build}
 use Rattle.story_log.specs.Logging.Logs.{Logged, with_step}
 use Rattle.story_log.proofs.Story.Growing.{state_from-more}
 use Rattle.base_core.proofs.Keeping.Idle.{decided_is_free, not_both}
 use Rattle.base_core.proofs.Keeping.LaneCounts.{done_same, done_other}
 use Rattle.base_core.proofs.Keeping.LaneSlots.{found_put}
-use Rattle.base_core.proofs.Building.BuildBegins.{kept_begin}
+use Rattle.base_core.proofs.Building.BuildBegins.{preserved_begin}
 
 -- what is kept where a build begins
-pub kept_opened : (log : Logged) (lanes : List LaneKept) (now rows count : ℕ) (story : List StoryStep) (tag : Tag) (build : Build) → log.story ≡ story → IsCoreKept log lanes now → IsNextBuild (state_of story) build → tag ≡ build.tag → rows ≡ build.rows → count ≡ length build.units
-    → IsCoreKept (with_step log (steps.Begin tag rows count)) (put_build lanes tag.lane (Some build)) now
-kept_opened log lanes now rows count story tag build same h next tagged at_rows counted =
+pub preserved_opened : (log : Logged) (lanes : List LaneState) (now rows count : ℕ) (story : List StoryStep) (tag : Tag) (build : Build) → log.story ≡ story → CoreInvariant log lanes now → IsNextBuild (state_of story) build → tag ≡ build.tag → rows ≡ build.rows → count ≡ length build.units
+    → CoreInvariant (with_step log (steps.Begin tag rows count)) (put_build lanes tag.lane (Some build)) now
+preserved_opened log lanes now rows count story tag build same h next tagged at_rows counted =
     let s = state_of log.story in
     let here : IsNextBuild s build = subst (λ t. IsNextBuild (state_of t) build) (sym same) next in
-    subst (λ t. IsCoreKept (with_step log (steps.Begin t rows count)) (put_build lanes t.lane (Some build)) now) (sym tagged)
-    (subst (λ r. IsCoreKept (with_step log (steps.Begin build.tag r count)) (put_build lanes build.tag.lane (Some build)) now) (sym (at_rows ∙ here.at_rows))
-    (subst (λ c. IsCoreKept (with_step log (steps.Begin build.tag (size s.base) c)) (put_build lanes build.tag.lane (Some build)) now) (sym counted)
-    (kept_begin log lanes now build.tag build h here.of_next.from (omega (arith, here.of_next.upto, h.replies.count)) here.made here.begins here.kept here.room)))
+    subst (λ t. CoreInvariant (with_step log (steps.Begin t rows count)) (put_build lanes t.lane (Some build)) now) (sym tagged)
+    (subst (λ r. CoreInvariant (with_step log (steps.Begin build.tag r count)) (put_build lanes build.tag.lane (Some build)) now) (sym (at_rows ∙ here.at_rows))
+    (subst (λ c. CoreInvariant (with_step log (steps.Begin build.tag (size s.base) c)) (put_build lanes build.tag.lane (Some build)) now) (sym counted)
+    (preserved_begin log lanes now build.tag build h here.of_next.from (omega (arith, here.of_next.upto, h.replies.count)) here.made here.begins here.kept here.room)))
 
 -- how the story went on
 pub opened_so : (log : Logged) (rows count : ℕ) (story : List StoryStep) (tag : Tag) (build : Build) → log.story ≡ story → IsNextBuild (state_of story) build → tag ≡ build.tag → GoesOn story (with_step log (steps.Begin tag rows count)).story build.tag.lane × IsBuilding (state_of (with_step log (steps.Begin tag rows count)).story) build.tag.lane (length build.units)
@@ -57,7 +57,7 @@ opened_so log rows count story tag build same next tagged = (
 
     state : state_of (log.story ++ x ∷ []) ≡ record s { active = put nat_cmp build.tag.lane build s.active }
     state = ap (λ t. state_of (t ++ x ∷ [])) same ∙ state_from-more start story x
-        ∙ ap (λ t. record s { active = with_build s.active t.lane (begun s t) }) tagged
+        ∙ ap (λ t. record s { active = with_build s.active t.lane (build_begun_by s t) }) tagged
         ∙ ap (λ o. record s { active = with_build s.active build.tag.lane o }) next.begins
 
 -- a step that finishes a command of a lane, and leaves the last phase and its other lanes as they are

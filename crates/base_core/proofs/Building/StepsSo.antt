@@ -16,20 +16,20 @@ use Rattle.legal_history.specs.Stories.States.{State, next_tag}
 use Rattle.legal_history.specs.Builds.UnitTurns.{IsOpen, Waits}
 use Rattle.legal_history.specs.Builds.Turns.{fault_of, standing_of_unit}
 use Rattle.base_core.specs.Calls.BuildCalls.{MayStart, StepsTo}
-use Rattle.base_core.specs.Calls.Building.{IsBuildKept}
+use Rattle.base_core.specs.Calls.Building.{BuildInvariant}
 use Rattle.base_core.proofs.Building.Closing.{build_is_by}
 use Rattle.base_core.proofs.Building.UnitCalls.{early_is, early_concludes, awaits_earlier, awaits_needed}
 
 -- a unit without an outcome waits
-waiting_unit : (s : State) (lane n : ℕ) (build : Build) (unit : Unit) → IsBuildKept s lane build → build_of s.active lane ≡ Some build → unit_at build n ≡ Some unit → is_outcome (came_to build n) ≡ false → Waits s (next_tag s lane) n build unit
+waiting_unit : (s : State) (lane n : ℕ) (build : Build) (unit : Unit) → BuildInvariant s lane build → build_of s.active lane ≡ Some build → unit_at build n ≡ Some unit → is_outcome (came_to build n) ≡ false → Waits s (next_tag s lane) n build unit
 waiting_unit s lane n build unit kept active is waits = record { active = build_is_by s lane build active kept.tag; is_unit = is; waits = waits }
 
 -- a unit that nothing ends is open
-opens : (s : State) (lane n : ℕ) (build : Build) (unit : Unit) → IsBuildKept s lane build → build_of s.active lane ≡ Some build → unit_at build n ≡ Some unit → is_outcome (came_to build n) ≡ false → unit_steps.IsOpen (first_rows build.rows s.base) build unit → IsOpen s (next_tag s lane) n build unit
+opens : (s : State) (lane n : ℕ) (build : Build) (unit : Unit) → BuildInvariant s lane build → build_of s.active lane ≡ Some build → unit_at build n ≡ Some unit → is_outcome (came_to build n) ≡ false → unit_steps.IsOpen (first_rows build.rows s.base) build unit → IsOpen s (next_tag s lane) n build unit
 opens s lane n build unit kept active is waits runs = record { waits = waiting_unit s lane n build unit kept active is waits; sound = kept.sound; ready = runs.ready; runs = runs.runs }
 
 -- one that may reuse no object may be started
-starts : (s : State) (lane n : ℕ) (build : Build) (unit : Unit) (fault : Option ScriptFault) → IsBuildKept s lane build → build_of s.active lane ≡ Some build → n < length build.units → unit_at build n ≡ Some unit → is_outcome (came_to build n) ≡ false → unit_steps.IsToRun s.base build n unit → fault ≡ fault_of (script_of (script_text unit.script)) → MayStart s lane n fault
+starts : (s : State) (lane n : ℕ) (build : Build) (unit : Unit) (fault : Option ScriptFault) → BuildInvariant s lane build → build_of s.active lane ≡ Some build → n < length build.units → unit_at build n ≡ Some unit → is_outcome (came_to build n) ≡ false → unit_steps.IsToRun s.base build n unit → fault ≡ fault_of (script_of (script_text unit.script)) → MayStart s lane n fault
 starts s lane n build unit fault kept active within is waits to_run fault_is = record {
   build = build;
   active = active;
@@ -42,7 +42,7 @@ starts s lane n build unit fault kept active within is waits to_run fault_is = r
 }
 
 -- what comes next, in the words of the calls
-pub steps_so : (s : State) (b : Base) (lane n : ℕ) (build : Build) (step : UnitStep) → IsBuildKept s lane build → build_of s.active lane ≡ Some build → n < length build.units → IsConsistent s.base build → s.base ≡ b → IsStep b build n step → StepsTo s lane n step
+pub steps_so : (s : State) (b : Base) (lane n : ℕ) (build : Build) (step : UnitStep) → BuildInvariant s lane build → build_of s.active lane ≡ Some build → n < length build.units → IsConsistent s.base build → s.base ≡ b → IsStep b build n step → StepsTo s lane n step
 steps_so s b lane n build step kept active within consistent same h = here step (subst (λ c. IsStep c build n step) (sym same) h)
   where
     here : (step : UnitStep) → IsStep s.base build n step → StepsTo s lane n step

@@ -7,7 +7,7 @@ use Rattle.std.specs.Prelude.{IsSome, bytes_eq, find, option_map, unwrap_or}
 use Rattle.std.proofs.lemmas.Bool.Decides.{Decides-eqb}
 use Rattle.std.proofs.lemmas.Slice.Eq.{bytes_eq-Decides}
 use Rattle.cc_names.specs.declared.commands.Command.{Command}
-use Rattle.cc_names.specs.declared.desks.Next.TheVariants as nexts
+use Rattle.cc_names.specs.declared.occasions.Next.TheVariants as nexts
 use Rattle.cc_names.specs.declared.refusals.UnitFault.TheVariants as faults
 use Rattle.cc_names.specs.declared.rows.Tag.{Tag}
 use Rattle.cc_names.specs.declared.steps.UnitEnd.{UnitEnd}
@@ -15,7 +15,7 @@ use Rattle.cc_names.specs.declared.steps.UnitEnd.TheVariants as ends
 use Rattle.cc_names.specs.declared.units.Unit.{Unit}
 use Rattle.cc_names.specs.declared.units.UnitScript.{UnitScript}
 use Rattle.cc_names.specs.declared.units.UnitScript.TheVariants as scripts
-use Rattle.build_core.specs.UnitSteps.{Awaits, awaited, first_awaited, unless_over}
+use Rattle.build_core.specs.UnitSteps.{Awaits, awaited_unit, first_awaited, unless_over}
 use Rattle.base_model.specs.Rows.{Base}
 use Rattle.legal_history.specs.Builds.Active.{Build, came_to, is_outcome, unit_at, unit_with}
 use Rattle.base_model.specs.Closures.{is_among}
@@ -96,7 +96,7 @@ made_later build path paths m (other, among, is) = (other, by_test (bytes_eq oth
     by_test true = refl
     by_test false = among
 
-awaited_or : (build : Build) (path : List ℕ) (paths : List (List ℕ)) (m : ℕ) (found : Option ℕ) → unit_with build path ≡ found → (first_awaited build paths ≡ Some m → IsMade build paths m) → option_or (awaited build found) (first_awaited build paths) ≡ Some m → IsMade build (path ∷ paths) m
+awaited_or : (build : Build) (path : List ℕ) (paths : List (List ℕ)) (m : ℕ) (found : Option ℕ) → unit_with build path ≡ found → (first_awaited build paths ≡ Some m → IsMade build paths m) → option_or (awaited_unit build found) (first_awaited build paths) ≡ Some m → IsMade build (path ∷ paths) m
 awaited_or build path paths m None is rest e = made_later build path paths m (rest e)
 awaited_or build path paths m (Some k) is rest e = by_over (is_outcome (came_to build k)) e
   where
@@ -121,7 +121,7 @@ makes found m = unwrap_or (option_map (λ k. k == m) found) false
 abbrev makes_one : Build → ℕ → List (List ℕ) → Bool
 makes_one build m paths = list_any (λ path. makes (unit_with build path) m) paths
 
-needed_or : (build : Build) (path : List ℕ) (paths : List (List ℕ)) (m : ℕ) (found : Option ℕ) → unit_with build path ≡ found → (first_awaited build paths ≡ Some m → makes_one build m paths ≡ true) → option_or (awaited build found) (first_awaited build paths) ≡ Some m → makes_one build m (path ∷ paths) ≡ true
+needed_or : (build : Build) (path : List ℕ) (paths : List (List ℕ)) (m : ℕ) (found : Option ℕ) → unit_with build path ≡ found → (first_awaited build paths ≡ Some m → makes_one build m paths ≡ true) → option_or (awaited_unit build found) (first_awaited build paths) ≡ Some m → makes_one build m (path ∷ paths) ≡ true
 needed_or build path paths m None is rest e = ap (λ found. makes found m || makes_one build m paths) is ∙ rest e
 needed_or build path paths m (Some k) is rest e = ap (λ found. makes found m || makes_one build m paths) is ∙ by_over (is_outcome (came_to build k)) e
   where

@@ -12,8 +12,8 @@ use Rattle.legal_history.specs.Stories.States.{State, start}
 use Rattle.legal_history.specs.Stories.Steps.{state_of, with_came}
 use Rattle.base_core.specs.Calls.BuildCalls.{Notes, Noted}
 use Rattle.clearmake.specs.Going.{BuildsOn}
-use Rattle.base_core.specs.Keeping.Kept.{IsCoreKept}
-use Rattle.base_core.specs.Keeping.Lanes.{LaneKept, build_at, put_build}
+use Rattle.base_core.specs.Keeping.CoreInvariants.{CoreInvariant}
+use Rattle.base_core.specs.Keeping.Lanes.{LaneState, build_at, put_build}
 use Rattle.story_log.specs.Logging.Logs.{Logged, with_step}
 use Rattle.base_core.specs.Story.Replying.{replies_after, replies_by, replies_of}
 use Rattle.story_log.specs.Story.Telling.{stands_alone}
@@ -21,7 +21,7 @@ use Rattle.story_log.proofs.Story.Growing.{state_from-more}
 use Rattle.story_log.proofs.Cases.{some_same}
 use Rattle.base_core.proofs.Keeping.LaneCounts.{one_or_two}
 use Rattle.base_core.proofs.Keeping.LaneSlots.{lane_slot, found_put, found_else}
-use Rattle.base_core.proofs.Building.Noting.{kept_note}
+use Rattle.base_core.proofs.Building.Noting.{preserved_note}
 
 -- the replies after a step that names no phase
 replies_alone : (s : State) (step : Step) (replies : ℕ → List Reply) (l : ℕ) → stands_alone step ≡ true → replies_after s (story_steps.Other step) replies l ≡ replies l ++ replies_by s l (story_steps.Other step)
@@ -32,13 +32,13 @@ true_or_false : (b : Bool) → b ≡ true → b ≡ false → ⊥
 true_or_false b t f = cc
 
 -- what is kept then
-pub kept_noted : (log : Logged) (lanes more : List LaneKept) (now : ℕ) (story : List StoryStep) (lane n : ℕ) (step : Step) (came : Came) → log.story ≡ story → IsCoreKept log lanes now → Notes (state_of story) lane n step came
-    → ((build : Build) → build_at lanes lane ≡ Some build → more ≡ put_build lanes lane (Some (with_came build (Some n) came))) → IsCoreKept (with_step log step) more now
-kept_noted log lanes more now story lane n step came same h notes set_so =
+pub preserved_noted : (log : Logged) (lanes more : List LaneState) (now : ℕ) (story : List StoryStep) (lane n : ℕ) (step : Step) (came : Came) → log.story ≡ story → CoreInvariant log lanes now → Notes (state_of story) lane n step came
+    → ((build : Build) → build_at lanes lane ≡ Some build → more ≡ put_build lanes lane (Some (with_came build (Some n) came))) → CoreInvariant (with_step log step) more now
+preserved_noted log lanes more now story lane n step came same h notes set_so =
     let here : Notes (state_of log.story) lane n step came = subst (λ t. Notes (state_of t) lane n step came) (sym same) notes in
     let slot = lane_slot log lanes now lane here.build h here.active in
-    subst (λ ls. IsCoreKept (with_step log step) ls now) (sym (set_so here.build slot.held))
-    (kept_note log lanes now step lane n here.build came h slot.from slot.upto here.active here.lawful here.leaves
+    subst (λ ls. CoreInvariant (with_step log step) ls now) (sym (set_so here.build slot.held))
+    (preserved_note log lanes now step lane n here.build came h slot.from slot.upto here.active here.lawful here.leaves
     (λ l. replies_alone (state_of log.story) step (replies_of log.story) l here.alone ∙ ap (λ more. replies_of log.story l ++ more) (here.silent l) ∙ append-nil (replies_of log.story l)) here.sound)
 
 -- a unit's outcomes after it was noted

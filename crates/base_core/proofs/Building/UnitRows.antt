@@ -30,7 +30,7 @@ use Rattle.legal_history.specs.Stories.States.{State, Committed, build_by, next_
 use Rattle.legal_history.specs.Stories.Steps.{active_after, after, done_after, noted_in, with_came}
 use Rattle.legal_history.proofs.Reuse.KeptObjects.{chosen_object}
 use Rattle.base_core.specs.Calls.BuildCalls.{GivesObject, Published, WinkedIn, IsObjectRow, IsWinkRow}
-use Rattle.base_core.specs.Calls.Building.{IsBuildKept}
+use Rattle.base_core.specs.Calls.Building.{BuildInvariant}
 use Rattle.base_core.specs.Story.Replying.{reply_to_row}
 use Rattle.base_core.proofs.Building.Closing.{build_is_by}
 use Rattle.story_log.proofs.Cases.{some_same}
@@ -64,13 +64,13 @@ first_place b build n unit (target ∷ targets) consistent is same some =
     consistent.in_order.one n unit target is (ap (is_among target) (sym same) ∙ first)
 
 -- and so it is with all targets of a unit of a build that is kept
-place_of : (s : State) (lane n : ℕ) (build : Build) (unit : Unit) (targets : List (List ℕ)) → IsBuildKept s lane build → IsConsistent s.base build → unit_at build n ≡ Some unit → targets ≡ unit.targets → unit_with_first build targets ≡ Some n
+place_of : (s : State) (lane n : ℕ) (build : Build) (unit : Unit) (targets : List (List ℕ)) → BuildInvariant s lane build → IsConsistent s.base build → unit_at build n ≡ Some unit → targets ≡ unit.targets → unit_with_first build targets ≡ Some n
 place_of s lane n build unit targets kept consistent is same =
     let formed : IsUnitFormed unit = all_at IsUnitFormed build.units n unit kept.formed.units is in
     first_place s.base build n unit targets consistent is same (λ e. formed.0.1 (sym same ∙ e))
 
 -- the build of a row's command
-build_by_row : (s : State) (lane : ℕ) (build : Build) (tag : Tag) → IsBuildKept s lane build → build_of s.active lane ≡ Some build → tag ≡ next_tag s lane → build_by s tag ≡ Some build
+build_by_row : (s : State) (lane : ℕ) (build : Build) (tag : Tag) → BuildInvariant s lane build → build_of s.active lane ≡ Some build → tag ≡ next_tag s lane → build_by s tag ≡ Some build
 build_by_row s lane build tag kept active of_tag = ap (build_by s) of_tag ∙ build_is_by s lane build active kept.tag
 
 -- the active builds of a state where a unit has come to something
@@ -95,7 +95,7 @@ deed_of_run build unit reads (Err fault) deed e = absurd (cc)
 deed_of_run build unit reads (Ok outputs) deed e = record { targets = unit.targets; script = script_text unit.script; reads = reads; outputs = outputs; of_unit = refl; is = sym (some_same _ deed e) }
 
 -- the row of what a unit's run gave
-published_gives : (s : State) (lane n : ℕ) (row : Plain) (h : IsObjectRow s lane n row) → IsBuildKept s lane h.build → IsConsistent s.base h.build → Gives s lane n row (size s.base)
+published_gives : (s : State) (lane n : ℕ) (row : Plain) (h : IsObjectRow s lane n row) → BuildInvariant s lane h.build → IsConsistent s.base h.build → Gives s lane n row (size s.base)
 published_gives s lane n row h kept consistent = record {
   build = h.build;
   active = h.active;
@@ -166,7 +166,7 @@ taken_gives s lane n object row h base consistent = record {
     place = place_of s lane n h.may.build h.may.unit (targets_of s.base object) h.may.kept consistent waits.is_unit (chosen_object s.base h.may.build n h.may.unit object base h.may.chosen).targets
 
 -- a row that gives a unit an object, of either kind
-pub gives_so : (s : State) (lane n : ℕ) (row : Plain) (object : ℕ) → is_base s.base ≡ true → ((build : Build) → build_of s.active lane ≡ Some build → IsBuildKept s lane build) → ((build : Build) → build_of s.active lane ≡ Some build → IsConsistent s.base build) → GivesObject s lane n row object → Gives s lane n row object
+pub gives_so : (s : State) (lane n : ℕ) (row : Plain) (object : ℕ) → is_base s.base ≡ true → ((build : Build) → build_of s.active lane ≡ Some build → BuildInvariant s lane build) → ((build : Build) → build_of s.active lane ≡ Some build → IsConsistent s.base build) → GivesObject s lane n row object → Gives s lane n row object
 gives_so s lane n row object base kept consistent (Published h newest) =
     subst (Gives s lane n row) (sym newest) (published_gives s lane n row h (kept h.build h.active) (consistent h.build h.active))
 gives_so s lane n row object base kept consistent (WinkedIn h) = taken_gives s lane n object row h base (consistent h.may.build h.may.active)

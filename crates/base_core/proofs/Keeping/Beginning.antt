@@ -8,20 +8,20 @@ use Rattle.cc_names.specs.declared.commands.Phase.{Phase}
 use Rattle.cc_names.specs.declared.steps.StoryStep.{StoryStep}
 use Rattle.cc_names.specs.declared.steps.StoryStep.TheVariants as story_steps
 use Rattle.session_text.specs.Formed.{IsPhase}
-use Rattle.build_core.specs.Slots.{numbered}
-use Rattle.legal_history.specs.Builds.Active.{build_of, reserved}
+use Rattle.build_core.specs.Slots.{numbered_slots}
+use Rattle.legal_history.specs.Builds.Active.{build_of, rows_reserved}
 use Rattle.legal_history.specs.Stories.Lawful.{last_moment}
 use Rattle.legal_history.specs.Stories.States.{State, start, all_done, done_of}
 use Rattle.legal_history.specs.Stories.Steps.{after, state_of}
-use Rattle.base_core.specs.Keeping.Kept.{last_phase, command_limit, IsStoryKept, IsPhaseKept, AreBuilds, IsCoreKept}
-use Rattle.base_core.specs.Keeping.Lanes.{LaneKept, no_lane, builds_in, begun_lane, fresh_lanes, commands_at, room_at}
+use Rattle.base_core.specs.Keeping.CoreInvariants.{last_phase, command_limit, StoryInvariant, PhaseInvariant, AreBuilds, CoreInvariant}
+use Rattle.base_core.specs.Keeping.Lanes.{LaneState, no_lane, builds_in, begun_lane, fresh_lanes, commands_at, room_at}
 use Rattle.story_log.specs.Logging.Logs.{Logged, with_phase}
 use Rattle.base_core.specs.Story.Replying.{no_replies}
 use Rattle.story_log.proofs.Story.Growing.{state_from-more}
 use Rattle.base_core.proofs.Story.Growing.{replies_from-more}
 use Rattle.base_core.proofs.Keeping.Idle.{nobody_builds}
 use Rattle.story_log.proofs.Cases.{some_same}
-use Rattle.base_core.proofs.Keeping.KeptSteps.{log_more, story_more}
+use Rattle.base_core.proofs.Keeping.PreservedSteps.{log_more, story_more}
 use Rattle.base_core.proofs.Keeping.LaneSets.{builds_count}
 use Rattle.base_core.proofs.Keeping.Phases.{last_phase-more}
 
@@ -54,21 +54,21 @@ left_of_lane phase (suc n) one is =
     let here : suc n - 1 ≡ n = omega arith in
     subst (λ i. (get_or (fresh_lanes phase.lanes) i no_lane).commands ≡ one.commands) (sym here) (fresh_commands phase.lanes n one is)
 
-fresh_builds : (k : ℕ) (lanes : List Lane) → numbered k (builds_in (fresh_lanes lanes)) ≡ []
+fresh_builds : (k : ℕ) (lanes : List Lane) → numbered_slots k (builds_in (fresh_lanes lanes)) ≡ []
 fresh_builds k [] = refl
 fresh_builds k (lane ∷ lanes) = fresh_builds (k + 1) lanes
 
 -- what is kept after the begin of a phase
-pub kept_plan : (log : Logged) (lanes : List LaneKept) (now moment : ℕ) (phase : Phase) → IsCoreKept log lanes now → all_done (state_of log.story) ≡ true → IsPhase command_limit phase → length log.phases + 1 < 2 ^ 32 → moment ≤ last_moment
-    → IsCoreKept (with_phase log phase moment) (fresh_lanes phase.lanes) moment
-kept_plan log lanes now moment phase h finished formed few in_time = record {
+pub preserved_plan : (log : Logged) (lanes : List LaneState) (now moment : ℕ) (phase : Phase) → CoreInvariant log lanes now → all_done (state_of log.story) ≡ true → IsPhase command_limit phase → length log.phases + 1 < 2 ^ 32 → moment ≤ last_moment
+    → CoreInvariant (with_phase log phase moment) (fresh_lanes phase.lanes) moment
+preserved_plan log lanes now moment phase h finished formed few in_time = record {
   story = record {
-    legal = told_phase.legal;
-    opened = told_phase.opened;
-    base = told_phase.base;
-    formed = told_phase.formed;
+    legal = story_with_phase.legal;
+    opened = story_with_phase.opened;
+    base = story_with_phase.base;
+    formed = story_with_phase.formed;
   };
-  phase = subst (λ t. IsPhaseKept t (log.phases ++ phase ∷ []) moment) (sym more) (record {
+  phase = subst (λ t. PhaseInvariant t (log.phases ++ phase ∷ []) moment) (sym more) (record {
     phase = sym last;
     number = omega (arith, h.phase.number, length-append log.phases (phase ∷ []));
     moment = refl;
@@ -87,7 +87,7 @@ kept_plan log lanes now moment phase h finished formed few in_time = record {
     count = builds_count (fresh_lanes phase.lanes) ∙ fresh_count;
     active = nobody ∙ sym (fresh_builds 1 phase.lanes);
     kept = λ lane build is. absurd (let none : build_of (after s x).active lane ≡ None = ap (λ a. build_of a lane) nobody in cc);
-    reserves = omega (arith, ap reserved nobody);
+    reserves = omega (arith, ap rows_reserved nobody);
   });
 }
   where
@@ -109,8 +109,8 @@ kept_plan log lanes now moment phase h finished formed few in_time = record {
     fresh_count : length (fresh_lanes phase.lanes) ≡ length phase.lanes
     fresh_count = length-map phase.lanes _
 
-    told_phase : IsStoryKept (log_more log x log.base log.sight)
-    told_phase = story_more log x log.base log.sight h.story (record { lawful = record { opened = h.story.opened; finished = finished; in_time = in_time }; names = tt; leads = h.story.base })
+    story_with_phase : StoryInvariant (log_more log x log.base log.ghost_state)
+    story_with_phase = story_more log x log.base log.ghost_state h.story (record { lawful = record { opened = h.story.opened; finished = finished; in_time = in_time }; names = tt; leads = h.story.base })
 
 -- the next of the lanes that are left
 pub next_lane : (found : Option Lane) (lane : Lane) (old new : List Lane) → MatchOption found ((old ≡ []) × (new ≡ [])) (λ one. old ≡ one ∷ new) → found ≡ Some lane → old ≡ lane ∷ new
@@ -118,6 +118,6 @@ next_lane None lane old new h e = absurd (cc)
 next_lane (Some one) lane old new h e = let same : one ≡ lane = cc in h ∙ ap (λ l. l ∷ new) same
 
 -- one more lane begins
-pub more_lanes : (all : List Lane) (front : List LaneKept) (lane : Lane) (left before : List Lane) (kept : LaneKept) → fresh_lanes all ≡ front ++ fresh_lanes before → before ≡ lane ∷ left → kept ≡ begun_lane lane → fresh_lanes all ≡ (front ++ kept ∷ []) ++ fresh_lanes left
-more_lanes all front lane left before kept h e is =
-    h ∙ ap (λ v. front ++ fresh_lanes v) e ∙ ap (λ k. front ++ k ∷ fresh_lanes left) (sym is) ∙ sym (append_assoc front (kept ∷ []) (fresh_lanes left))
+pub more_lanes : (all : List Lane) (prefix : List LaneState) (lane : Lane) (left before : List Lane) (kept : LaneState) → fresh_lanes all ≡ prefix ++ fresh_lanes before → before ≡ lane ∷ left → kept ≡ begun_lane lane → fresh_lanes all ≡ (prefix ++ kept ∷ []) ++ fresh_lanes left
+more_lanes all prefix lane left before kept h e is =
+    h ∙ ap (λ v. prefix ++ fresh_lanes v) e ∙ ap (λ k. prefix ++ k ∷ fresh_lanes left) (sym is) ∙ sym (append_assoc prefix (kept ∷ []) (fresh_lanes left))

@@ -6,19 +6,19 @@ use Rattle.std.proofs.lemmas.Option.{slice_get_past}
 use Rattle.cc_names.specs.Commands.{lane_at}
 use Rattle.cc_names.specs.declared.commands.Command.{Command}
 use Rattle.cc_names.specs.declared.commands.Lane.{Lane}
-use Rattle.cc_names.specs.declared.desks.Next.TheVariants as nexts
+use Rattle.cc_names.specs.declared.occasions.Next.TheVariants as nexts
 use Rattle.cc_names.specs.declared.refusals.Refusal.{Refusal}
 use Rattle.cc_names.specs.declared.rows.Tag.{Tag}
-use Rattle.build_core.specs.Slots.{numbered, held_in}
+use Rattle.build_core.specs.Slots.{numbered_slots, held_in}
 use Rattle.base_model.specs.Rows.{only_where}
 use Rattle.legal_history.specs.Builds.Active.{Build, build_of}
 use Rattle.legal_history.specs.Commands.Decisions.{Decision}
 use Rattle.legal_history.specs.Commands.Lines.{decision}
 use Rattle.legal_history.specs.Stories.Commanded.{command_of}
-use Rattle.legal_history.specs.Stories.States.{State, scene, done_of, command_behind, lanes_done, all_done, same_tag, next_tag, decided}
+use Rattle.legal_history.specs.Stories.States.{State, scene, done_of, command_behind, lanes_done, all_done, same_tag, next_tag, decision_for}
 use Rattle.legal_history.specs.Stories.Steps.{state_of}
-use Rattle.base_core.specs.Keeping.Kept.{IsCoreKept}
-use Rattle.base_core.specs.Keeping.Lanes.{LaneKept, builds_in}
+use Rattle.base_core.specs.Keeping.CoreInvariants.{CoreInvariant}
+use Rattle.base_core.specs.Keeping.Lanes.{LaneState, builds_in}
 use Rattle.story_log.specs.Logging.Logs.{Logged}
 use Rattle.clearmake.specs.Nexts.{next_by, next_of}
 use Rattle.build_core.proofs.SlotLaws.{find_numbered}
@@ -48,17 +48,17 @@ none_waits s (suc i) h =
     ap (λ n. option_and_then (command_behind (done_of s.done n)) (slice_get s.phase.lanes i)) here ∙ none_behind s.done 1 i s.phase.lanes h
 
 -- slots that hold nothing have no numbers
-none_numbered : {A : Type 0} (k : ℕ) (slots : List (Option A)) → ((i : ℕ) → held_in slots i ≡ None) → numbered k slots ≡ []
+none_numbered : {A : Type 0} (k : ℕ) (slots : List (Option A)) → ((i : ℕ) → held_in slots i ≡ None) → numbered_slots k slots ≡ []
 none_numbered k [] h = refl
 none_numbered k (None ∷ slots) h = none_numbered (k + 1) slots (λ i. h (suc i))
 none_numbered k (Some a ∷ slots) h = absurd (let e = h zero in cc)
 
 -- the build of a lane is the one in its slot
-pub build_in_slot : (s : State) (builds : List (Option Build)) (i : ℕ) → s.active ≡ numbered 1 builds → build_of s.active (suc i) ≡ held_in builds i
+pub build_in_slot : (s : State) (builds : List (Option Build)) (i : ℕ) → s.active ≡ numbered_slots 1 builds → build_of s.active (suc i) ≡ held_in builds i
 build_in_slot s builds i e = ap (λ active. build_of active (suc i)) e ∙ find_numbered (suc i) 1 i builds (omega arith)
 
 -- where each command is finished, nobody builds
-pub nobody_builds : (log : Logged) (lanes : List LaneKept) (now : ℕ) → IsCoreKept log lanes now → all_done (state_of log.story) ≡ true → (state_of log.story).active ≡ []
+pub nobody_builds : (log : Logged) (lanes : List LaneState) (now : ℕ) → CoreInvariant log lanes now → all_done (state_of log.story) ≡ true → (state_of log.story).active ≡ []
 nobody_builds log lanes now h finished = h.builds.active ∙ none_numbered 1 builds (λ i. by i (held_in builds i) refl)
   where
     builds : List (Option Build)
@@ -73,7 +73,7 @@ nobody_builds log lanes now h finished = h.builds.active ∙ none_numbered 1 bui
         absurd (cc)
 
 -- a lane that is to act does not build
-pub acting_is_free : (log : Logged) (lanes : List LaneKept) (now lane : ℕ) → IsCoreKept log lanes now → next_of (state_of log.story) lane ≡ nexts.Act → build_of (state_of log.story).active lane ≡ None
+pub acting_is_free : (log : Logged) (lanes : List LaneState) (now lane : ℕ) → CoreInvariant log lanes now → next_of (state_of log.story) lane ≡ nexts.Act → build_of (state_of log.story).active lane ≡ None
 acting_is_free log lanes now lane h act = by (build_of (state_of log.story).active lane) refl
   where
     by : (found : Option Build) → build_of (state_of log.story).active lane ≡ found → found ≡ None
@@ -81,7 +81,7 @@ acting_is_free log lanes now lane h act = by (build_of (state_of log.story).acti
     by (Some build) is = let waits : next_of (state_of log.story) lane ≡ nexts.Build (next_tag (state_of log.story) lane) = (h.builds.kept lane build is).waits in absurd (cc)
 
 -- nor does the lane of a command of which something is decided
-pub decided_is_free : (s : State) (tag : Tag) (result : Result Decision Refusal) → decided s tag ≡ Some result → build_of s.active tag.lane ≡ None
+pub decided_is_free : (s : State) (tag : Tag) (result : Result Decision Refusal) → decision_for s tag ≡ Some result → build_of s.active tag.lane ≡ None
 decided_is_free s tag result e = by (same_tag tag (next_tag s tag.lane)) (build_of s.active tag.lane) refl refl e
   where
     command : Option Command
@@ -93,7 +93,7 @@ decided_is_free s tag result e = by (same_tag tag (next_tag s tag.lane)) (build_
     by false (Some build) is some e = absurd (cc)
 
 -- and that lane waits with a command
-pub decided_waits : (s : State) (tag : Tag) (result : Result Decision Refusal) → decided s tag ≡ Some result → IsSome (command_of s tag.lane)
+pub decided_waits : (s : State) (tag : Tag) (result : Result Decision Refusal) → decision_for s tag ≡ Some result → IsSome (command_of s tag.lane)
 decided_waits s tag result e = by (same_tag tag (next_tag s tag.lane) && is_none (build_of s.active tag.lane)) (command_of s tag.lane) refl e
   where
     by : (free : Bool) (found : Option Command) → command_of s tag.lane ≡ found → option_map (decision (scene s)) (only_where free found) ≡ Some result → IsSome (command_of s tag.lane)

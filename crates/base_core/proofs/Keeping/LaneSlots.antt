@@ -8,39 +8,39 @@ use Rattle.std.proofs.lemmas.Bool.Decides.{nat_tests}
 use Rattle.std.proofs.lemmas.Option.{slice_get_within}
 use Rattle.cc_names.specs.declared.commands.Command.{Command}
 use Rattle.cc_names.specs.declared.commands.Lane.{Lane}
-use Rattle.build_core.specs.Slots.{numbered, held_in}
+use Rattle.build_core.specs.Slots.{numbered_slots, held_in}
 use Rattle.legal_history.specs.Builds.Active.{Build, build_of}
 use Rattle.legal_history.specs.Stories.Commanded.{command_of}
 use Rattle.legal_history.specs.Stories.States.{State, command_behind, done_of}
 use Rattle.legal_history.specs.Stories.Steps.{state_of}
-use Rattle.base_core.specs.Keeping.Kept.{IsCoreKept}
-use Rattle.base_core.specs.Keeping.Lanes.{LaneKept, build_at, builds_in, replies_at, room_at}
+use Rattle.base_core.specs.Keeping.CoreInvariants.{CoreInvariant}
+use Rattle.base_core.specs.Keeping.Lanes.{LaneState, build_at, builds_in, replies_at, room_at}
 use Rattle.story_log.specs.Logging.Logs.{Logged}
 use Rattle.base_core.proofs.Keeping.Idle.{build_in_slot, not_both}
 use Rattle.base_core.proofs.Keeping.LaneSets.{builds_count, builds_held}
 use Rattle.base_core.proofs.Keeping.SlotLists.{build_nowhere, build_zero}
 
 -- what a lane's slot holds is its build
-pub slot_of : (s : State) (builds : List (Option Build)) (lane : ℕ) → 1 ≤ lane → s.active ≡ numbered 1 builds → build_of s.active lane ≡ held_in builds (lane - 1)
+pub slot_of : (s : State) (builds : List (Option Build)) (lane : ℕ) → 1 ≤ lane → s.active ≡ numbered_slots 1 builds → build_of s.active lane ≡ held_in builds (lane - 1)
 slot_of s builds lane low e =
     let here : lane ≡ suc (lane - 1) = omega arith in
     ap (build_of s.active) here ∙ build_in_slot s builds (lane - 1) e
 
 -- where a lane is, and its build
-pub record IsSlot (lanes : List LaneKept) (lane : ℕ) (build : Build) : Type 0 where
+pub record IsSlot (lanes : List LaneState) (lane : ℕ) (build : Build) : Type 0 where
   pub from : 1 ≤ lane
   pub upto : lane ≤ length lanes
   pub held : build_at lanes lane ≡ Some build
 
 -- a lane that builds has a place
-pub lane_slot : (log : Logged) (lanes : List LaneKept) (now lane : ℕ) (build : Build) → IsCoreKept log lanes now → build_of (state_of log.story).active lane ≡ Some build → IsSlot lanes lane build
-lane_slot log lanes now zero build h is = absurd (not_both (build_of (numbered 1 (builds_in lanes)) 0) build (build_zero (builds_in lanes)) (ap (λ a. build_of a 0) (sym h.builds.active) ∙ is))
+pub lane_slot : (log : Logged) (lanes : List LaneState) (now lane : ℕ) (build : Build) → CoreInvariant log lanes now → build_of (state_of log.story).active lane ≡ Some build → IsSlot lanes lane build
+lane_slot log lanes now zero build h is = absurd (not_both (build_of (numbered_slots 1 (builds_in lanes)) 0) build (build_zero (builds_in lanes)) (ap (λ a. build_of a 0) (sym h.builds.active) ∙ is))
 lane_slot log lanes now (suc i) build h is = by (nat_lt (length (builds_in lanes)) (suc i)) refl
   where
     by : (past : Bool) → nat_lt (length (builds_in lanes)) (suc i) ≡ past → IsSlot lanes (suc i) build
     by true past =
         let beyond : length (builds_in lanes) < suc i = grind (arith, nat_tests) in
-        absurd (not_both (build_of (numbered 1 (builds_in lanes)) (suc i)) build (build_nowhere (builds_in lanes) (suc i) beyond) (ap (λ a. build_of a (suc i)) (sym h.builds.active) ∙ is))
+        absurd (not_both (build_of (numbered_slots 1 (builds_in lanes)) (suc i)) build (build_nowhere (builds_in lanes) (suc i) beyond) (ap (λ a. build_of a (suc i)) (sym h.builds.active) ∙ is))
     by false past =
         let within : suc i ≤ length (builds_in lanes) = grind (arith, nat_tests) in
         record {
@@ -49,17 +49,17 @@ lane_slot log lanes now (suc i) build h is = by (nat_lt (length (builds_in lanes
           held = sym (builds_held lanes (suc i - 1)) ∙ sym (slot_of (state_of log.story) (builds_in lanes) (suc i) (omega arith) h.builds.active) ∙ is;
         }
 
-pub slot_there : (lanes : List LaneKept) (lane : ℕ) (build : Build) → IsSlot lanes lane build → IsSome (build_at lanes lane)
+pub slot_there : (lanes : List LaneState) (lane : ℕ) (build : Build) → IsSlot lanes lane build → IsSome (build_at lanes lane)
 slot_there lanes lane build h = subst IsSome (sym h.held) refl
 
 -- where a lane is, and there is room for one more reply to it
-pub record HasRoom (lanes : List LaneKept) (lane : ℕ) : Type 0 where
+pub record HasRoom (lanes : List LaneState) (lane : ℕ) : Type 0 where
   pub from : 1 ≤ lane
   pub upto : lane ≤ length lanes
   pub room : length (replies_at lanes lane) < room_at lanes lane
 
 -- a lane that waits with a command has room for its reply
-pub has_room : (log : Logged) (lanes : List LaneKept) (now lane : ℕ) → IsCoreKept log lanes now → IsSome (command_of (state_of log.story) lane) → HasRoom lanes lane
+pub has_room : (log : Logged) (lanes : List LaneState) (now lane : ℕ) → CoreInvariant log lanes now → IsSome (command_of (state_of log.story) lane) → HasRoom lanes lane
 has_room log lanes now zero h waits = absurd (cc)
 has_room log lanes now (suc n) h waits = by (slice_get s.phase.lanes n) refl waits
   where

@@ -1,7 +1,7 @@
 -- The last of some phases.
 use Rattle.std.proofs.Common.{◌≡◌, ◌-◌, ◌<◌, suc, List, [], ◌∷◌, ◌++◌, length, get_or, refl, ap, sym, ◌∙◌, arith}
 use Rattle.cc_names.specs.declared.commands.Phase.{Phase}
-use Rattle.base_core.specs.Keeping.Kept.{last_phase}
+use Rattle.base_core.specs.Keeping.CoreInvariants.{last_phase}
 
 -- of phases and one more
 pub last_phase-more : (phases : List Phase) (phase : Phase) → last_phase (phases ++ phase ∷ []) ≡ phase

@@ -2,8 +2,8 @@
 use Rattle.std.proofs.Common.{◌≡◌, ℕ, zero, suc, ◌+◌, ◌-◌, ◌<◌, ◌≤◌, Bool, true, false, cond, Option, Some, None, List, [], ◌∷◌, ◌++◌, length, get_or, refl, ap, ◌∙◌, arith}
 use Rattle.std.specs.Prelude.{option_map, find, bytes_eq}
 use Rattle.cc_names.specs.declared.rows.Tag.{Tag}
-use Rattle.build_core.specs.Slots.{numbered, held_in}
-use Rattle.legal_history.specs.Builds.Active.{Build, build_of, building, is_of_view, tag_of, reserved}
+use Rattle.build_core.specs.Slots.{numbered_slots, held_in}
+use Rattle.legal_history.specs.Builds.Active.{Build, build_of, building, is_of_view, tag_of, rows_reserved}
 use Rattle.build_core.proofs.SlotLaws.{find_below, find_numbered}
 
 -- the rows that the builds in some slots reserve
@@ -12,7 +12,7 @@ rows_of [] = 0
 rows_of (None ∷ slots) = rows_of slots
 rows_of (Some build ∷ slots) = length build.units + rows_of slots
 
-pub reserved_rows : (k : ℕ) (slots : List (Option Build)) → reserved (numbered k slots) ≡ rows_of slots
+pub reserved_rows : (k : ℕ) (slots : List (Option Build)) → rows_reserved (numbered_slots k slots) ≡ rows_of slots
 reserved_rows k [] = refl
 reserved_rows k (None ∷ slots) = reserved_rows (k + 1) slots
 reserved_rows k (Some build ∷ slots) = ap (λ n. length build.units + n) (reserved_rows (k + 1) slots)
@@ -27,18 +27,18 @@ tag_of_found : (b : Bool) (k : ℕ) (build : Build) (found : Option (ℕ × Buil
 tag_of_found true k build found = refl
 tag_of_found false k build found = refl
 
-pub building_tag : (k : ℕ) (slots : List (Option Build)) (v : List ℕ) → building (numbered k slots) v ≡ tag_in slots v
+pub building_tag : (k : ℕ) (slots : List (Option Build)) (v : List ℕ) → building (numbered_slots k slots) v ≡ tag_in slots v
 building_tag k [] v = refl
 building_tag k (None ∷ slots) v = building_tag (k + 1) slots v
 building_tag k (Some build ∷ slots) v =
-    tag_of_found (bytes_eq build.view v) k build (find (is_of_view v) (numbered (k + 1) slots))
+    tag_of_found (bytes_eq build.view v) k build (find (is_of_view v) (numbered_slots (k + 1) slots))
     ∙ ap (cond (bytes_eq build.view v) (Some build.tag)) (building_tag (k + 1) slots v)
 
 -- one more slot that holds nothing has no number
-pub numbered-none : {A : Type 0} (k : ℕ) (slots : List (Option A)) → numbered k (slots ++ None ∷ []) ≡ numbered k slots
-numbered-none k [] = refl
-numbered-none k (None ∷ slots) = numbered-none (k + 1) slots
-numbered-none k (Some a ∷ slots) = ap (λ rest. (k, a) ∷ rest) (numbered-none (k + 1) slots)
+pub numbered_slots-none : {A : Type 0} (k : ℕ) (slots : List (Option A)) → numbered_slots k (slots ++ None ∷ []) ≡ numbered_slots k slots
+numbered_slots-none k [] = refl
+numbered_slots-none k (None ∷ slots) = numbered_slots-none (k + 1) slots
+numbered_slots-none k (Some a ∷ slots) = ap (λ rest. (k, a) ∷ rest) (numbered_slots-none (k + 1) slots)
 
 -- what a slot holds
 pub held_there : {A : Type 0} (slots : List (Option A)) (i : ℕ) (d : Option A) → i < length slots → held_in slots i ≡ get_or slots i d
@@ -52,13 +52,13 @@ held_past (slot ∷ slots) zero h = absurd (omega arith)
 held_past (slot ∷ slots) (suc i) h = held_past slots i (omega arith)
 
 -- the build of a lane
-pub build_there : (slots : List (Option Build)) (lane : ℕ) (d : Option Build) → 1 ≤ lane → lane ≤ length slots → build_of (numbered 1 slots) lane ≡ get_or slots (lane - 1) d
+pub build_there : (slots : List (Option Build)) (lane : ℕ) (d : Option Build) → 1 ≤ lane → lane ≤ length slots → build_of (numbered_slots 1 slots) lane ≡ get_or slots (lane - 1) d
 build_there slots lane d low high = find_numbered lane 1 (lane - 1) slots (omega arith) ∙ held_there slots (lane - 1) d (omega arith)
 
-pub build_nowhere : (slots : List (Option Build)) (lane : ℕ) → length slots < lane → build_of (numbered 1 slots) lane ≡ None
+pub build_nowhere : (slots : List (Option Build)) (lane : ℕ) → length slots < lane → build_of (numbered_slots 1 slots) lane ≡ None
 build_nowhere slots lane h = find_numbered lane 1 (lane - 1) slots (omega arith) ∙ held_past slots (lane - 1) (omega arith)
 
-pub build_zero : (slots : List (Option Build)) → build_of (numbered 1 slots) 0 ≡ None
+pub build_zero : (slots : List (Option Build)) → build_of (numbered_slots 1 slots) 0 ≡ None
 build_zero slots = find_below 0 1 slots (omega arith)
 
 -- no slot, no tag and no row

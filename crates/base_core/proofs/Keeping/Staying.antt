@@ -2,11 +2,11 @@
 use Rattle.std.proofs.Common.{◌≡◌, ℕ, ◌+◌, ◌≤◌, ap, ap₂, sym, ◌∙◌, arith}
 use Rattle.std.specs.Prelude.{option_and_then}
 use Rattle.cc_names.specs.Commands.{lane_at}
-use Rattle.cc_names.specs.declared.desks.Next.TheVariants as nexts
+use Rattle.cc_names.specs.declared.occasions.Next.TheVariants as nexts
 use Rattle.base_model.specs.Rows.{size}
 use Rattle.legal_history.specs.Builds.Active.{Build}
 use Rattle.legal_history.specs.Stories.States.{State, done_of, command_behind, next_tag}
-use Rattle.base_core.specs.Calls.Building.{IsBuildKept}
+use Rattle.base_core.specs.Calls.Building.{BuildInvariant}
 use Rattle.clearmake.specs.Nexts.{next_of, next_by}
 
 -- the next command of a lane where as many are finished
@@ -19,7 +19,7 @@ same_next_as s t lane phase number done =
     ∙ ap (next_by (option_and_then (command_behind (done_of s.done lane)) (lane_at s.phase lane))) (same_tag_as s t lane number done)
 
 -- a build is kept where its lane has finished as many commands and there are as many rows or more
-pub build_stays : (s t : State) (lane : ℕ) (build : Build) → IsBuildKept s lane build → t.phase ≡ s.phase → t.number ≡ s.number → done_of t.done lane ≡ done_of s.done lane → size s.base ≤ size t.base → IsBuildKept t lane build
+pub build_stays : (s t : State) (lane : ℕ) (build : Build) → BuildInvariant s lane build → t.phase ≡ s.phase → t.number ≡ s.number → done_of t.done lane ≡ done_of s.done lane → size s.base ≤ size t.base → BuildInvariant t lane build
 build_stays s t lane build h phase number done grows =
     let tag : next_tag t lane ≡ next_tag s lane = same_tag_as s t lane number done in
     record {

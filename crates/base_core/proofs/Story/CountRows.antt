@@ -5,15 +5,15 @@ use Rattle.cc_names.specs.declared.refusals.Refusal.{Refusal}
 use Rattle.cc_names.specs.declared.rows.Tag.{Tag}
 use Rattle.cc_names.specs.declared.steps.Step.TheVariants as steps
 use Rattle.cc_names.specs.declared.steps.StoryStep.TheVariants as story_steps
-use Rattle.disk_model.specs.Told.{Sight, IsCounted}
+use Rattle.disk_model.specs.DiskStates.{DiskState, IsCounted}
 use Rattle.base_core.specs.Story.Counted.{CountsStep, CountsSteps}
 
 -- a disk that tells nothing, with these counts
-abbrev counted : ℕ → ℕ → Sight
-counted ticks faults = record { told = None; ticks = ticks; faults = faults }
+abbrev counted : ℕ → ℕ → DiskState
+counted ticks faults = record { modeled = None; ticks = ticks; faults = faults }
 
 fit : (ticks faults : ℕ) → ticks < 2 ^ 64 → faults < 2 ^ 64 → IsCounted (counted ticks faults)
-fit ticks faults small few = record { ticks = small; faults = few; told = tt; failed = tt }
+fit ticks faults small few = record { ticks = small; faults = few; modeled = tt; failed = tt }
 
 -- a commit of four calls at the seventh tick ends at the eleventh, and not at the tenth
 commit_row : (row : Plain) → CountsStep (story_steps.Commit row 11) (counted 7 2) (counted 11 2)

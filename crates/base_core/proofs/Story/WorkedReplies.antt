@@ -171,8 +171,8 @@ first_steps more =
 abbrev out_line : (Digest → UnitWord) → Reply
 out_line word = replies.Built (record { path = codes "out"; word = word (digest_of hi) } ∷ [])
 
-the_length_is_told : (digest_of hi).length ≡ 3
-the_length_is_told = refl
+the_length_is_replied : (digest_of hi).length ≡ 3
+the_length_is_replied = refl
 
 -- the replies to the first twelve commands
 abbrev first_replies : List Reply

@@ -1,7 +1,7 @@
 -- What the command of a row is answered, by what became of the row.
 use Rattle.std.specs.Prelude.{ℕ, Option, List}
-use Rattle.cc_names.specs.declared.desks.Done.{Done}
-use Rattle.cc_names.specs.declared.desks.Done.TheVariants as dones
+use Rattle.cc_names.specs.declared.occasions.Done.{Done}
+use Rattle.cc_names.specs.declared.occasions.Done.TheVariants as dones
 use Rattle.cc_names.specs.declared.replies.Reply.{Reply}
 use Rattle.cc_names.specs.declared.replies.Reply.TheVariants as replies
 use Rattle.base_core.specs.Story.Replying.{row_reply}

@@ -28,7 +28,7 @@ use Rattle.legal_history.specs.Builds.UnitTurns.{IsOpen, ComesTo}
 use Rattle.legal_history.specs.Builds.Turns.{unreadable}
 use Rattle.clearmake.specs.Calls.{HasScript, WaitsFor}
 use Rattle.clearmake.specs.Going.{GoesOn, HasOutcome}
-use Rattle.base_core.specs.Calls.Building.{IsBuildKept}
+use Rattle.base_core.specs.Calls.Building.{BuildInvariant}
 use Rattle.story_log.specs.Story.Faults.{is_fault}
 use Rattle.base_core.specs.Story.Replying.{replies_by}
 use Rattle.story_log.specs.Story.Telling.{stands_alone}
@@ -57,7 +57,7 @@ pub record MayConclude (s : State) (lane n : ℕ) (end : UnitEnd) : Type 0 where
   pub build : Build
   pub active : build_of s.active lane ≡ Some build
   pub within : n < length build.units
-  pub kept : IsBuildKept s lane build
+  pub kept : BuildInvariant s lane build
   pub waits : is_outcome (came_to build n) ≡ false
   pub concludes : ComesTo s (next_tag s lane) n end
 
@@ -66,7 +66,7 @@ pub record MayStart (s : State) (lane n : ℕ) (fault : Option ScriptFault) : Ty
   pub build : Build
   pub active : build_of s.active lane ≡ Some build
   pub within : n < length build.units
-  pub kept : IsBuildKept s lane build
+  pub kept : BuildInvariant s lane build
   pub unit : Unit
   pub open_unit : IsOpen s (next_tag s lane) n build unit
   pub nothing : reusable s.base build n unit ≡ None
@@ -77,7 +77,7 @@ pub record MayWink (s : State) (lane n id : ℕ) : Type 0 where
   pub build : Build
   pub active : build_of s.active lane ≡ Some build
   pub within : n < length build.units
-  pub kept : IsBuildKept s lane build
+  pub kept : BuildInvariant s lane build
   pub unit : Unit
   pub may : MayTake s (next_tag s lane) n build unit
   pub chosen : reusable s.base build n unit ≡ Some id
@@ -124,7 +124,7 @@ pub record HasRun (s : State) (lane n : ℕ) (ran : Ran) : Type 0 where
   pub unit : Unit
   pub is_unit : unit_at build n ≡ Some unit
   pub started : came_to build n ≡ Some Started
-  pub kept : IsBuildKept s lane build
+  pub kept : BuildInvariant s lane build
   pub run : ran ≡ here s.base build n unit
 
 -- the run of unit n of a lane's build gave these outputs and asked for these paths, and the unit may reuse no object

@@ -3,19 +3,19 @@ use Rattle.std.specs.Prelude.{◌≡◌, ℕ, ◌+◌, ◌≤◌, false, Some, R
 use Rattle.cc_names.specs.declared.memory.Or.{Or}
 use Rattle.cc_names.specs.declared.refusals.Refusal.{Refusal}
 use Rattle.cc_names.specs.declared.rows.Tag.{Tag}
-use Rattle.cc_names.specs.declared.desks.Next.TheVariants as nexts
+use Rattle.cc_names.specs.declared.occasions.Next.TheVariants as nexts
 use Rattle.build_core.specs.BuildForms.{IsBuildFormed}
 use Rattle.base_model.specs.Rows.{size}
-use Rattle.legal_history.specs.Builds.Active.{Build, reserved}
+use Rattle.legal_history.specs.Builds.Active.{Build, rows_reserved}
 use Rattle.legal_history.specs.Commands.Decisions.{Begins}
 use Rattle.base_model.specs.Fits.{row_limit}
-use Rattle.legal_history.specs.Stories.States.{State, decided, next_tag}
-use Rattle.legal_history.specs.Stories.Steps.{begun}
+use Rattle.legal_history.specs.Stories.States.{State, decision_for, next_tag}
+use Rattle.legal_history.specs.Stories.Steps.{build_begun_by}
 use Rattle.base_core.specs.Calls.Acting.{IsNextTag, RefusalWas}
 use Rattle.clearmake.specs.Nexts.{next_of}
 
 -- The active build of a lane: it is that of the lane's next command, and the disk has not failed under it.
-pub record IsBuildKept (s : State) (lane : ℕ) (build : Build) : Type 0 where
+pub record BuildInvariant (s : State) (lane : ℕ) (build : Build) : Type 0 where
   pub tag : build.tag ≡ next_tag s lane
   pub waits : next_of s lane ≡ nexts.Build (next_tag s lane)
   pub from : 1 ≤ build.rows
@@ -26,11 +26,11 @@ pub record IsBuildKept (s : State) (lane : ℕ) (build : Build) : Type 0 where
 -- the build that was decided to begin for the next command of its lane, and there is room for its units
 pub record IsNextBuild (s : State) (build : Build) : Type 0 where
   pub of_next : IsNextTag s build.tag
-  pub made : decided s build.tag ≡ Some (Ok (Begins build.units))
-  pub begins : begun s build.tag ≡ Some build
+  pub made : decision_for s build.tag ≡ Some (Ok (Begins build.units))
+  pub begins : build_begun_by s build.tag ≡ Some build
   pub at_rows : build.rows ≡ size s.base
-  pub kept : IsBuildKept s build.tag.lane build
-  pub room : reserved s.active + length build.units ≤ row_limit
+  pub kept : BuildInvariant s build.tag.lane build
+  pub room : rows_reserved s.active + length build.units ≤ row_limit
 
 -- what was decided for the next command of a lane, which builds
 abbrev pub PlansNext : State → Tag → Result Build (Or Refusal) → Type 0

@@ -30,10 +30,10 @@ reply_to_row b (deeds.Wink v object) = None
 reply_to_row b deed = Some replies.Good
 
 -- how many things a row named, where its command is replied their number
-abbrev pub count_told : Deed → Option ℕ
-count_told (deeds.Scrub objects) = Some (length objects)
-count_told (deeds.Labels label placed) = Some (length placed)
-count_told deed = None
+abbrev pub replied_count : Deed → Option ℕ
+replied_count (deeds.Scrub objects) = Some (length objects)
+replied_count (deeds.Labels label placed) = Some (length placed)
+replied_count deed = None
 
 -- the reply to a row that takes out or makes a version of this name, or counts so many things, or does neither
 abbrev pub row_reply : Option (List ℕ) → Option ℕ → Reply

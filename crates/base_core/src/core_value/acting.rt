@@ -2,27 +2,27 @@
 
 ghost use Rattle.std.specs.Prelude.{◌≡◌};
 ghost use Rattle.base_core.specs.Calls.Answering.{append_reply, append_done};
-ghost use Rattle.base_core.specs.Story.Replying.{count_told, row_reply};
+ghost use Rattle.base_core.specs.Story.Replying.{replied_count, row_reply};
 
 use super::Core;
 use cc_names::commands::{Change, Command, Query};
 use cc_names::copies::Copied;
-use cc_names::desks::Done;
 use cc_names::memory::{NoMemory, Or};
+use cc_names::occasions::Done;
 use cc_names::refusals::Refusal;
 use cc_names::replies::Reply;
 use cc_names::rows::{Deed, Row, Tag};
 use cc_names::steps::Step;
 use cc_names::texts::Text;
 use checkout_desk::{decide, view_of};
-use cleartool::{answer, name_told};
+use cleartool::{answer, replied_name};
 use disk_model::Disk;
 use std::alloc::Global;
 use story_log::Appended;
 
 /// How many things a row of this deed names, where its command is replied their number.
-fn count_told(deed: &Deed) -> Option<u64>
-    ensures { result ≡ count_told deed.now }
+fn replied_count(deed: &Deed) -> Option<u64>
+    ensures { result ≡ replied_count deed.now }
 {
     match deed {
         Deed::Scrub { objects } => Some(objects.len() as u64),
@@ -69,9 +69,9 @@ impl<D: Disk> Core<D> {
     ghost use Rattle.std.specs.Prelude.{◌≡◌, Some, [], OnOk, OnErr, IfOk};
     ghost use Rattle.cc_names.specs.declared.commands.Command.TheVariants as commands;
     ghost use Rattle.session_text.specs.Formed.{IsChange};
-    ghost use Rattle.base_core.specs.Keeping.Kept.{command_limit};
-    ghost use Rattle.cc_names.specs.declared.desks.Done.TheVariants as dones;
-    ghost use Rattle.cc_names.specs.declared.desks.Next.TheVariants as nexts;
+    ghost use Rattle.base_core.specs.Keeping.CoreInvariants.{command_limit};
+    ghost use Rattle.cc_names.specs.declared.occasions.Done.TheVariants as dones;
+    ghost use Rattle.cc_names.specs.declared.occasions.Next.TheVariants as nexts;
     ghost use Rattle.cc_names.specs.declared.replies.Reply.TheVariants as replies;
     ghost use Rattle.legal_history.specs.Stories.Commanded.{command_of};
     ghost use Rattle.legal_history.specs.Stories.States.{next_tag};
@@ -119,8 +119,8 @@ impl<D: Disk> Core<D> {
         ensures counted { KeepsCount self.old self.new }
     {
         let lane = row.tag().lane;
-        let name = name_told(alloc, &self.log.rows(), row.deed())?;
-        let count = count_told(row.deed());
+        let name = replied_name(alloc, &self.log.rows(), row.deed())?;
+        let count = replied_count(row.deed());
         let appended = self.log.append(alloc, row, None)?;
         self.lanes.reply(lane, append_reply(appended, name, count));
         Ok(append_done(appended))
@@ -138,9 +138,9 @@ impl<D: Disk> Core<D> {
         ensures err { OnErr result (self.new ≡ self.old) }
         ensures counted { KeepsCount self.old self.new }
     {
-        let told = refusal.copy(alloc)?;
+        let modeled = refusal.copy(alloc)?;
         self.log.tell(Step::Refused { tag, refusal })?;
-        self.lanes.reply(tag.lane, Reply::Refused(told));
+        self.lanes.reply(tag.lane, Reply::Refused(modeled));
         Ok(())
     }
 
@@ -151,9 +151,9 @@ impl<D: Disk> Core<D> {
         ensures err { OnErr result (self.new ≡ self.old) }
         ensures counted { KeepsCount self.old self.new }
     {
-        let told = text.copy(alloc)?;
+        let modeled = text.copy(alloc)?;
         self.log.tell(Step::Answer { tag, text })?;
-        self.lanes.reply(tag.lane, Reply::Answer(told));
+        self.lanes.reply(tag.lane, Reply::Answer(modeled));
         Ok(())
     }
 

@@ -1,7 +1,7 @@
 //! What a core answers the builders of a lane's build.
 
 use super::Core;
-use build_core::{fetch_for_unit, released};
+use build_core::{fetch_for_unit, released_units};
 use build_script::files::Got;
 use cc_names::memory::NoMemory;
 use cc_names::paths::Path;
@@ -10,13 +10,13 @@ use std::alloc::Global;
 
 impl<D: Disk> Core<D> {
     ghost use Rattle.std.specs.Prelude.{◌≡◌, ◌<◌, ◌≤◌, ℕ, Some, IfOk};
-    ghost use Rattle.cc_names.specs.declared.desks.Next.TheVariants as nexts;
+    ghost use Rattle.cc_names.specs.declared.occasions.Next.TheVariants as nexts;
     ghost use Rattle.legal_history.specs.Stories.Commanded.{command_of};
     ghost use Rattle.legal_history.specs.Stories.States.{next_tag};
     ghost use Rattle.legal_history.specs.Stories.Steps.{state_of};
-    ghost use Rattle.clearmake.specs.Calls.{IsBuilding, WasStarted, released};
+    ghost use Rattle.clearmake.specs.Calls.{IsBuilding, WasStarted, released_units};
     ghost use Rattle.clearmake.specs.Nexts.{jobs_of, next_of};
-    ghost use Rattle.clearmake.specs.Sights.{IsFetched, sees};
+    ghost use Rattle.clearmake.specs.FoundTexts.{IsFetched, sees};
 
     /// How many units at once a lane's next command, which builds, asks to have built. Takes what reading the command takes.
     pub fn jobs(&self, alloc: Global, lane: u32) -> Result<u32, NoMemory>
@@ -26,7 +26,7 @@ impl<D: Disk> Core<D> {
             (λ jobs. jobs_of (command_of (state_of self.now.story) lane) ≡ Some jobs) }
         ensures within { IfOk result (λ jobs. (1 ≤ jobs) × (jobs ≤ 64)) }
     {
-        let asked = self.asked(alloc, lane)?;
+        let asked = self.asked_build(alloc, lane)?;
         Ok(asked.jobs)
     }
 
@@ -45,11 +45,11 @@ impl<D: Disk> Core<D> {
     /// which every unit that they need has its outcome. Fails only where memory runs out.
     ///
     /// Takes time linear in the units that need it and in the prerequisites of these.
-    pub fn released(&self, alloc: Global, lane: u32, unit: u32) -> Result<Vec<u32>, NoMemory>
+    pub fn released_units(&self, alloc: Global, lane: u32, unit: u32) -> Result<Vec<u32>, NoMemory>
         requires { (count : ℕ) × IsBuilding (state_of self.now.story) lane count × (unit < count) }
         ensures { IfOk result
-            (λ units. units.items ≡ released (state_of self.now.story) lane unit) }
+            (λ units. units.items ≡ released_units (state_of self.now.story) lane unit) }
     {
-        released(alloc, self.build_at(lane), unit)
+        released_units(alloc, self.build_at(lane), unit)
     }
 }

@@ -2,8 +2,8 @@
 
 use super::Core;
 use build_core::{ActiveBuild, plan_build, reply_of};
-use cc_names::desks::Begun;
 use cc_names::memory::{NoMemory, Or};
+use cc_names::occasions::Begun;
 use cc_names::refusals::Refusal;
 use cc_names::steps::Step;
 use disk_model::Disk;
@@ -11,8 +11,8 @@ use std::alloc::Global;
 
 impl<D: Disk> Core<D> {
     ghost use Rattle.std.specs.Prelude.{◌≡◌, OnOk, OnErr, IfOk, None, length};
-    ghost use Rattle.cc_names.specs.declared.desks.Begun.TheVariants as begins;
-    ghost use Rattle.cc_names.specs.declared.desks.Next.TheVariants as nexts;
+    ghost use Rattle.cc_names.specs.declared.occasions.Begun.TheVariants as begins;
+    ghost use Rattle.cc_names.specs.declared.occasions.Next.TheVariants as nexts;
     ghost use Rattle.legal_history.specs.Builds.Active.{build_of};
     ghost use Rattle.legal_history.specs.Stories.States.{next_tag};
     ghost use Rattle.legal_history.specs.Stories.Steps.{state_of};
@@ -30,7 +30,7 @@ impl<D: Disk> Core<D> {
         ensures { PlansNext (state_of self.now.story) (next_tag (state_of self.now.story) lane)
             result }
     {
-        let asked = self.asked(alloc, lane)?;
+        let asked = self.asked_build(alloc, lane)?;
         let occasion = self.occasion(lane, asked.view.as_bytes());
         plan_build(alloc, self.hashing, &self.rows(), &asked, occasion)
     }

@@ -3,8 +3,8 @@
 use super::Core;
 use build_core::ActiveBuild;
 use cc_names::commands::{Clearmake, Command};
-use cc_names::desks::{Next, Occasion};
 use cc_names::memory::NoMemory;
+use cc_names::occasions::{Next, Occasion};
 use cc_names::rows::Tag;
 use disk_model::Disk;
 use session_text::Ahead;
@@ -14,16 +14,16 @@ use view_lookup::FirstRows;
 impl<D: Disk> Core<D> {
     ghost use Rattle.std.specs.Prelude.{◌≡◌, ◌<◌, ◌≤◌, ◌+◌, ◌^◌, true, Some, IfOk, IsSome, option_copied};
     ghost use Rattle.cc_names.specs.declared.commands.Command.TheVariants as commands;
-    ghost use Rattle.cc_names.specs.declared.desks.Next.TheVariants as nexts;
+    ghost use Rattle.cc_names.specs.declared.occasions.Next.TheVariants as nexts;
     ghost use Rattle.session_text.specs.Formed.{IsClearmake, IsCommand};
     ghost use Rattle.base_model.specs.Rows.{size};
-    ghost use Rattle.legal_history.specs.Builds.Active.{Build, build_of, building, reserved};
+    ghost use Rattle.legal_history.specs.Builds.Active.{Build, build_of, building, rows_reserved};
     ghost use Rattle.legal_history.specs.Stories.Commanded.{command_of};
     ghost use Rattle.legal_history.specs.Stories.Lawful.{Legal};
     ghost use Rattle.legal_history.specs.Stories.States.{next_tag};
     ghost use Rattle.legal_history.specs.Stories.Steps.{state_of};
-    ghost use Rattle.base_core.specs.Calls.Building.{IsBuildKept};
-    ghost use Rattle.base_core.specs.Keeping.Kept.{command_limit};
+    ghost use Rattle.base_core.specs.Calls.Building.{BuildInvariant};
+    ghost use Rattle.base_core.specs.Keeping.CoreInvariants.{command_limit};
     ghost use Rattle.clearmake.specs.Nexts.{next_of};
 
     /// The story is legal, at every moment.
@@ -48,7 +48,7 @@ impl<D: Disk> Core<D> {
         Tag {
             phase: self.log.phases().len() as u32,
             lane,
-            command: self.lanes.finished(lane) as u32 + 1,
+            command: self.lanes.finished_count(lane) as u32 + 1,
         }
     }
 
@@ -59,14 +59,14 @@ impl<D: Disk> Core<D> {
         ensures moment { result.moment ≡ (state_of self.now.story).moment }
         ensures busy { result.busy ≡ building (state_of self.now.story).active view.now }
         ensures taken { result.taken
-            ≡ size (state_of self.now.story).base + reserved (state_of self.now.story).active }
+            ≡ size (state_of self.now.story).base + rows_reserved (state_of self.now.story).active }
         ensures few { result.taken < 2 ^ 63 }
     {
         Occasion {
             tag: self.tag(lane),
             moment: self.moment,
             busy: self.lanes.building(view),
-            taken: self.log.rows().size() + self.lanes.reserved(),
+            taken: self.log.rows().size() + self.lanes.rows_reserved(),
         }
     }
 
@@ -84,7 +84,7 @@ impl<D: Disk> Core<D> {
 
     /// The build that a lane's next command asks for. Takes what `command` takes.
     #[tactic(auto, using(crate::proofs::Acting::Commanded::builds_no_change, crate::proofs::Acting::Commanded::builds_no_query, crate::proofs::Building::UnitCalls::builds_waits))]
-    pub(super) fn asked(&self, alloc: Global, lane: u32) -> Result<Clearmake, NoMemory>
+    pub(super) fn asked_build(&self, alloc: Global, lane: u32) -> Result<Clearmake, NoMemory>
         requires { next_of (state_of self.now.story) lane
             ≡ nexts.Build (next_tag (state_of self.now.story) lane) }
         ensures next { IfOk result
@@ -112,7 +112,7 @@ impl<D: Disk> Core<D> {
     pub(super) fn find_build(&self, lane: u32) -> Option<&ActiveBuild>
         ensures active { option_copied result ≡ build_of (state_of self.now.story).active lane }
         ensures kept { (build : Build) → build_of (state_of self.now.story).active lane ≡ Some build
-            → IsBuildKept (state_of self.now.story) lane build }
+            → BuildInvariant (state_of self.now.story) lane build }
     {
         self.lanes.build(lane)
     }
@@ -121,7 +121,7 @@ impl<D: Disk> Core<D> {
     pub(super) fn build_at(&self, lane: u32) -> &ActiveBuild
         requires { IsSome (build_of (state_of self.now.story).active lane) }
         ensures active { build_of (state_of self.now.story).active lane ≡ Some result.now }
-        ensures kept { IsBuildKept (state_of self.now.story) lane result.now }
+        ensures kept { BuildInvariant (state_of self.now.story) lane result.now }
         ensures legal { Legal self.now.story }
     {
         self.lanes.build_at(lane)

@@ -124,7 +124,7 @@ impl<D: Disk> Core<D> {
                 Ok(UnitTurn::End(TurnEnd::Concluded))
             }
             UnitStep::Keep(object) => {
-                self.conclude(alloc, lane, unit, UnitEnd::Kept(object))?;
+                self.conclude(alloc, lane, unit, UnitEnd::Preserved(object))?;
                 Ok(UnitTurn::End(TurnEnd::Concluded))
             }
             UnitStep::Wink(object) => Ok(UnitTurn::End(self.wink(alloc, lane, unit, object)?)),

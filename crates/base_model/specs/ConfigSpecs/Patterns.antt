@@ -8,7 +8,7 @@ use Rattle.cc_names.specs.declared.refusals.SpecCause.TheVariants.{BadPattern}
 use Rattle.cc_names.specs.declared.selection.Pattern.{Pattern}
 use Rattle.cc_names.specs.declared.selection.Segment.{Segment}
 use Rattle.cc_names.specs.declared.selection.Segment.TheVariants.{AnyNames, OneName}
-use Rattle.base_model.specs.ConfigSpecs.WildCards.{tails, has_none, cards_match}
+use Rattle.base_model.specs.ConfigSpecs.WildCards.{list_suffixes, has_none, cards_match}
 
 -- whether a byte is `*`
 abbrev pub is_star : ℕ → Bool
@@ -48,7 +48,7 @@ is_lone_star _ = false
 -- whether segments match names: all of them where they are anchored, else those from some name on or behind the last
 abbrev pub matches_where : Bool → List Segment → List (List ℕ) → Bool
 matches_where true segments names = matches_names segments names
-matches_where false segments names = list_any (matches_names segments) (tails names)
+matches_where false segments names = list_any (matches_names segments) (list_suffixes names)
 
 -- Whether a pattern matches the path of these names. The pattern `*` matches the root too.
 abbrev pub matches : Pattern → List (List ℕ) → Bool

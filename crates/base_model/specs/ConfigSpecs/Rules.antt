@@ -5,7 +5,7 @@ use Rattle.std.specs.Option.{option_map, option_and_then}
 use Rattle.std.specs.Str.{bytes_eq}
 use Rattle.cc_names.specs.Branches.{branch_named, branch_behind}
 use Rattle.cc_names.specs.Labels.{holder, labels_of_first_rows}
-use Rattle.cc_names.specs.Versions.{latest, numbered, of_first_rows}
+use Rattle.cc_names.specs.Versions.{latest, version_of_number, of_first_rows}
 use Rattle.cc_names.specs.declared.changes.LabelChange.{LabelChange}
 use Rattle.cc_names.specs.declared.changes.TreeChange.{TreeChange}
 use Rattle.cc_names.specs.declared.selection.Picked.{Picked}
@@ -47,7 +47,7 @@ finds sources element before (Label name) = holder sources.labels name element
 finds sources element before (Latest names) = latest_on sources before (branch_behind sources.tree element names)
 finds sources element before (Wherever name) = latest_on sources before (branch_of_type sources element name)
 finds sources element before (Numbered names number) =
-    option_and_then (λ b. numbered sources.tree b number) (branch_behind sources.tree element names)
+    option_and_then (λ b. version_of_number sources.tree b number) (branch_behind sources.tree element names)
 finds sources element before (Config target object) = sources.listed object target element
 finds sources element before Nothing = None
 

@@ -3,9 +3,9 @@ use Rattle.std.specs.Prelude.{Bool, true, false, ◌&&◌, List, [], ◌∷◌}
 use Rattle.std.specs.List.{list_any}
 
 -- the ends of a list, the longest first: the list itself, then without its first member, and so on to the empty list
-abbrev pub tails : {A : Type 0} → List A → List (List A)
-tails [] = [] ∷ []
-tails (x ∷ xs) = (x ∷ xs) ∷ tails xs
+abbrev pub list_suffixes : {A : Type 0} → List A → List (List A)
+list_suffixes [] = [] ∷ []
+list_suffixes (x ∷ xs) = (x ∷ xs) ∷ list_suffixes xs
 
 -- whether a list is empty
 abbrev pub has_none : {A : Type 0} → List A → Bool
@@ -19,7 +19,7 @@ first_fits fits behind (x ∷ xs) = fits x && behind xs
 
 -- what one card and those behind it cover: a wild one stands for any members, none and all included
 abbrev pub matches_from : {A : Type 0} → Bool → (A → Bool) → (List A → Bool) → List A → Bool
-matches_from true fits behind xs = list_any behind (tails xs)
+matches_from true fits behind xs = list_any behind (list_suffixes xs)
 matches_from false fits behind xs = first_fits fits behind xs
 
 -- Whether cards cover a list: each card that is not wild stands for one member that fits it.

@@ -4,7 +4,7 @@ ghost use Rattle.std.specs.Prelude.{◌≡◌, ◌||◌, ℕ, List, IfOk, OnOk};
 ghost use Rattle.std.specs.List.{list_any};
 ghost use Rattle.std.specs.Option.{option_copied};
 ghost use Rattle.cc_names.specs.References.{count};
-ghost use Rattle.base_model.specs.Changes.{held};
+ghost use Rattle.base_model.specs.Changes.{objects_held};
 ghost use Rattle.base_model.specs.Closures.{is_among};
 ghost use Rattle.base_model.specs.Rows.{deed_at};
 ghost use Rattle.cleartool.specs.Owned.{is_name, maker_by, winker, winker_at};
@@ -73,14 +73,14 @@ fn add_winkers(
     Ok(())
 }
 
-/// How many views hold the object. Takes for each of its targets the time of `held`: once for the view that made it, and once for
+/// How many views hold the object. Takes for each of its targets the time of `objects_held`: once for the view that made it, and once for
 /// each wink of it.
 pub(crate) fn count_holders(
     alloc: Global,
     rows: &FirstRows<'_>,
     object: u64,
 ) -> Result<usize, NoMemory>
-    ensures { IfOk result (λ views. views ≡ count (held rows.now) object) }
+    ensures { IfOk result (λ views. views ≡ count (objects_held rows.now) object) }
 {
     let mut views = BTreeSet::new(alloc);
     add_name(alloc, &mut views, maker_of(rows, object))?;

@@ -4,7 +4,7 @@ use Rattle.std.specs.Prelude.{bytes_eq, find, option_map}
 use Rattle.std.specs.Ordering.{nat_cmp, eq_by_cmp}
 use Rattle.std.specs.FinMap.Entries.{put}
 use Rattle.legal_history.specs.Builds.Active.{Active, Build, Came, build_of, building, is_of_view, tag_of}
-use Rattle.legal_history.specs.Stories.Steps.{noted, noted_in, with_came, with_build, without_build, faulted_in}
+use Rattle.legal_history.specs.Stories.Steps.{with_outcome, noted_in, with_came, with_build, without_build, faulted_in}
 use Rattle.legal_history.proofs.Builds.FreshSeen.{bytes_itself}
 use Rattle.base_model.proofs.Tables.{same_number, find_after_put, find_without}
 
@@ -34,7 +34,7 @@ each_without P Q active lane h as_other = record { holds = λ other build is. by
     by other build true here is = absurd (cc)
 
 pub each_noted : (P : ℕ → Build → Type 0) (active : Active) (lane : ℕ) (unit : Build → Option ℕ) (came : Came) → Each P active →
-    ((build : Build) → build_of active lane ≡ Some build → P lane (with_came build (unit build) came)) → Each P (noted active lane unit came)
+    ((build : Build) → build_of active lane ≡ Some build → P lane (with_came build (unit build) came)) → Each P (with_outcome active lane unit came)
 each_noted P active lane unit came h own = by (build_of active lane) own
   where
     by : (o : Option Build) → ((build : Build) → o ≡ Some build → P lane (with_came build (unit build) came)) → Each P (noted_in active lane o unit came)

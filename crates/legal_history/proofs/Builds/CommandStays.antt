@@ -10,8 +10,8 @@ use Rattle.base_model.specs.Rows.{size, first_rows, only_where}
 use Rattle.legal_history.specs.Builds.Active.{Build, Came, build_of}
 use Rattle.legal_history.specs.Commands.Decisions.{Begins}
 use Rattle.legal_history.specs.Builds.Fresh.{all_finished, fresh, fresh_of}
-use Rattle.legal_history.specs.Stories.States.{State, all_done, command_behind, decided, done_of, is_next, lanes_done, next_command, next_tag, same_tag, with_done}
-use Rattle.legal_history.specs.Stories.Steps.{begun, build_asked, with_came}
+use Rattle.legal_history.specs.Stories.States.{State, all_done, command_behind, decision_for, done_of, is_next, lanes_done, next_command, next_tag, same_tag, with_done}
+use Rattle.legal_history.specs.Stories.Steps.{build_begun_by, build_asked, with_came}
 use Rattle.base_model.proofs.Tables.{same_number, find_put_other}
 use Rattle.base_model.proofs.Owned.{and_first, and_second}
 use Rattle.base_model.proofs.Stay.{all_rows}
@@ -101,7 +101,7 @@ next_is s tag command h = by (is_next s tag) refl h
     by false next h = absurd (cc)
 
 -- the build that a command begins is its own
-pub begun_commanded : (s : State) (tag : Tag) (us : List Unit) → decided s tag ≡ Some (Ok (Begins us)) → (build : Build) → begun s tag ≡ Some build → IsOfCommand s tag.lane build
+pub begun_commanded : (s : State) (tag : Tag) (us : List Unit) → decision_for s tag ≡ Some (Ok (Begins us)) → (build : Build) → build_begun_by s tag ≡ Some build → IsOfCommand s tag.lane build
 begun_commanded s tag us h build is =
     let d = decided_of s tag (Begins us) h in
     let says = says_of s tag (Begins us) d in

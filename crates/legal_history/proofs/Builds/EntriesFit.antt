@@ -19,7 +19,7 @@ use Rattle.base_model.specs.Closures.{is_among}
 use Rattle.base_model.specs.Conditions.{is_entry, makes_file_text}
 use Rattle.legal_history.specs.Builds.Consistency.{IsObjectOf, IsReady, IsConsistent}
 use Rattle.base_model.specs.Seen.{file_at}
-use Rattle.legal_history.specs.Builds.Serials.{makes, needed}
+use Rattle.legal_history.specs.Builds.Serials.{makes, needed_units}
 use Rattle.base_model.proofs.FilesBelow.{beyond}
 use Rattle.base_model.proofs.Either.{or_first, or_second}
 use Rattle.legal_history.proofs.Builds.Pairs.{Pair, unit_in, member_of, pairs_before, members_paired, needed_mapped}
@@ -48,10 +48,10 @@ object_has b path id (p ∷ pairs) all is = by (makes path p.unit) refl is (obje
 -- the entry of what a ready unit sees
 entry_fits : (b : Base) (build : Build) (n : ℕ) (u : Unit) (path : List ℕ) → IsConsistent b build → IsReady build u →
     is_entry b (record { path = path; row = entry_row (visible b build n u path) }) ≡ true
-entry_fits b build n u path h ready = by (object_among path (needed unit_of_member u.prerequisites (members_before build n))) (file_at (first_rows build.rows b) build.view path) refl refl
+entry_fits b build n u path h ready = by (object_among path (needed_units unit_of_member u.prerequisites (members_before build n))) (file_at (first_rows build.rows b) build.view path) refl refl
   where
-    paired : needed unit_of_member u.prerequisites (members_before build n) ≡ map member_of (needed unit_in u.prerequisites (pairs_before (first_rows build.rows b) build n))
-    paired = ap (needed unit_of_member u.prerequisites) (members_paired (first_rows build.rows b) build n) ∙ needed_mapped member_of unit_of_member u.prerequisites (pairs_before (first_rows build.rows b) build n)
+    paired : needed_units unit_of_member u.prerequisites (members_before build n) ≡ map member_of (needed_units unit_in u.prerequisites (pairs_before (first_rows build.rows b) build n))
+    paired = ap (needed_units unit_of_member u.prerequisites) (members_paired (first_rows build.rows b) build n) ∙ needed_mapped member_of unit_of_member u.prerequisites (pairs_before (first_rows build.rows b) build n)
 
     of_file : (r : ℕ) → file_at (first_rows build.rows b) build.view path ≡ Some r → is_entry b (record { path = path; row = r }) ≡ true
     of_file zero is = refl
@@ -61,11 +61,11 @@ entry_fits b build n u path h ready = by (object_among path (needed unit_of_memb
         or_first ((suc r == 0) || makes_file_text b (suc r) (deed_at b (suc r))) (is_among path (targets_of b (suc r)))
         (or_second (suc r == 0) (makes_file_text b (suc r) (deed_at b (suc r))) text.makes)
 
-    by : (o file : Option ℕ) → object_among path (needed unit_of_member u.prerequisites (members_before build n)) ≡ o → file_at (first_rows build.rows b) build.view path ≡ file →
+    by : (o file : Option ℕ) → object_among path (needed_units unit_of_member u.prerequisites (members_before build n)) ≡ o → file_at (first_rows build.rows b) build.view path ≡ file →
         is_entry b (record { path = path; row = entry_row (option_or o file) }) ≡ true
     by (Some id) file of_object of_path =
         or_second ((id == 0) || makes_file_text b id (deed_at b id)) (is_among path (targets_of b id))
-        (object_has b path id (needed unit_in u.prerequisites (pairs_before (first_rows build.rows b) build n))
+        (object_has b path id (needed_units unit_in u.prerequisites (pairs_before (first_rows build.rows b) build n))
         (needed_each (HasItsTargets b) b build n u.prerequisites h (λ m unit is outcome id own. h.objects m unit id is own) (ready_over b build u h ready)) (sym (ap (object_among path) paired) ∙ of_object))
     by None None of_object of_path = refl
     by None (Some r) of_object of_path = of_file r of_path

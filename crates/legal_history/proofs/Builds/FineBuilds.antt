@@ -3,7 +3,7 @@ use Rattle.std.proofs.Common.{◌≡◌, refl, ap, sym, subst, ◌∙◌, inl, i
 use Rattle.std.proofs.lemmas.Slice.Eq.{bytes_eq-Decides}
 use Rattle.std.specs.Prelude.{is_some, bytes_eq}
 use Rattle.cc_names.specs.Formed.{Plain}
-use Rattle.cc_names.specs.Last.{Ends, Sets, only_if, left}
+use Rattle.cc_names.specs.Last.{Ends, Sets, only_if, value_after}
 use Rattle.cc_names.specs.declared.rows.Deed.{Deed}
 use Rattle.cc_names.specs.declared.rows.Deed.TheVariants as deeds
 use Rattle.cc_names.specs.declared.rows.Tag.{Tag}
@@ -12,7 +12,7 @@ use Rattle.base_model.specs.Rows.{Base, size}
 use Rattle.legal_history.specs.Builds.Active.{Build, Came, build_of, building, came_to, is_outcome, unit_at}
 use Rattle.base_model.specs.Conditions.{exists}
 use Rattle.legal_history.specs.Stories.States.{State}
-use Rattle.legal_history.specs.Stories.Steps.{noted, with_came}
+use Rattle.legal_history.specs.Stories.Steps.{with_outcome, with_came}
 use Rattle.legal_history.specs.Laws.FromNothing.{MayTake}
 use Rattle.base_model.specs.Views.{view_row}
 use Rattle.legal_history.specs.Builds.Consistency.{IsReady, IsConsistent}
@@ -32,12 +32,12 @@ view_stays : (s : State) (tag : Tag) (moment : ℕ) (deed : Deed) (lane : ℕ) (
     exists s.base build.view ≡ true → exists (record { tag = tag; moment = moment; deed = deed } ∷ s.base) build.view ≡ true
 view_stays s tag moment (deeds.Mkview w) lane build spares is there = by (bytes_eq w build.view)
   where
-    by : (t : Bool) → is_some (left (only_if t (Sets (size s.base))) (view_row s.base build.view)) ≡ true
+    by : (t : Bool) → is_some (value_after (only_if t (Sets (size s.base))) (view_row s.base build.view)) ≡ true
     by true = refl
     by false = there
 view_stays s tag moment (deeds.Rmview w) lane build spares is there = by (bytes_eq w build.view) refl
   where
-    by : (t : Bool) → bytes_eq w build.view ≡ t → is_some (left (only_if t Ends) (view_row s.base build.view)) ≡ true
+    by : (t : Bool) → bytes_eq w build.view ≡ t → is_some (value_after (only_if t Ends) (view_row s.base build.view)) ≡ true
     by true same =
         let one : w ≡ build.view = (bytes_eq-Decides w build.view).0 same in
         absurd (builds_there s.active lane build is (subst (λ v. building s.active v ≡ None) one spares))
@@ -57,7 +57,7 @@ some_same e = cc
 
 -- a unit of the lane's build comes to something, and what holds of each build holds still where it holds of that one
 pub each_waited : (P : Build → Type 0) (s : State) (tag : Tag) (n : ℕ) (build : Build) (number : Build → Option ℕ) (came : Came) → Each (λ lane. P) s.active → build_of s.active tag.lane ≡ Some build → number build ≡ Some n →
-    P (with_came build (Some n) came) → Each (λ lane. P) (noted s.active tag.lane number came)
+    P (with_came build (Some n) came) → Each (λ lane. P) (with_outcome s.active tag.lane number came)
 each_waited P s tag n build number came h there place after = each_noted (λ lane. P) s.active tag.lane number came h own
   where
     own : (other : Build) → build_of s.active tag.lane ≡ Some other → P (with_came other (number other) came)
@@ -67,7 +67,7 @@ each_waited P s tag n build number came h there place after = each_noted (λ lan
 
 -- so where it comes to what may stand
 pub waited_fine : (s : State) (b : Base) (tag : Tag) (n : ℕ) (build : Build) (unit : Unit) (number : Build → Option ℕ) (came : Came) → Each (λ lane. IsFine b) s.active → build_of s.active tag.lane ≡ Some build → number build ≡ Some n →
-    KeepsConsistent b build n unit came → Each (λ lane. IsFine b) (noted s.active tag.lane number came)
+    KeepsConsistent b build n unit came → Each (λ lane. IsFine b) (with_outcome s.active tag.lane number came)
 waited_fine s b tag n build unit number came h there place may =
     let fine = h.holds tag.lane build there in
     each_waited (IsFine b) s tag n build number came h there place (record { consistent = consistent_came b build n unit came fine.consistent may; there = fine.there })

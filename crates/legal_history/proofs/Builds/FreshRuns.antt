@@ -15,7 +15,7 @@ use Rattle.legal_history.specs.Builds.Fresh.{output_of, output_or_file, script_t
 use Rattle.legal_history.specs.Builds.Freshness.{Agrees, HasOutputs, AgreesSoFar, done_in}
 use Rattle.legal_history.specs.Builds.Consistency.{IsReady}
 use Rattle.base_model.specs.Seen.{file_at}
-use Rattle.legal_history.specs.Builds.Serials.{Outcome, Made, Without, unit_of, makes, needed}
+use Rattle.legal_history.specs.Builds.Serials.{Outcome, Made, Without, unit_of, makes, needed_units}
 use Rattle.base_model.proofs.FilesBelow.{file_text}
 use Rattle.legal_history.proofs.Builds.FreshSeen.{bytes_turned}
 use Rattle.legal_history.proofs.Builds.Pairs.{Pair, unit_in, member_of, finished_of, pairs_before, members_paired, done_paired, needed_mapped}
@@ -69,19 +69,19 @@ text_same b files path (p ∷ pairs) row h same = by h.0.came p.outcome h.0.is r
 -- what a ready unit sees is what it sees from nothing
 pub seen_same : (b : Base) (build : Build) (n : ℕ) (u : Unit) (path : List ℕ) → AgreesSoFar b build → IsReady build u →
     text_of_row b path (visible b build n u path)
-    ≡ output_or_file (texts (first_rows build.rows b) build.view) (needed unit_of u.prerequisites (done_in (first_rows build.rows b) build n)) path
+    ≡ output_or_file (texts (first_rows build.rows b) build.view) (needed_units unit_of u.prerequisites (done_in (first_rows build.rows b) build n)) path
 seen_same b build n u path h ready =
     ap (λ ms. text_of_row b path (option_or (object_among path ms) (file_at rows build.view path)))
-    (ap (needed unit_of_member u.prerequisites) (members_paired rows build n) ∙ needed_mapped member_of unit_of_member u.prerequisites (pairs_before rows build n))
-    ∙ text_same b (texts rows build.view) path (needed unit_in u.prerequisites (pairs_before rows build n)) (file_at rows build.view path)
+    (ap (needed_units unit_of_member u.prerequisites) (members_paired rows build n) ∙ needed_mapped member_of unit_of_member u.prerequisites (pairs_before rows build n))
+    ∙ text_same b (texts rows build.view) path (needed_units unit_in u.prerequisites (pairs_before rows build n)) (file_at rows build.view path)
     (needed_agree b build n u.prerequisites h (ready_over b build u h.consistent ready)) (file_text b build.rows build.view path h.consistent.base)
     ∙ ap (λ fs. output_or_file (texts rows build.view) fs path)
-    (sym (ap (needed unit_of u.prerequisites) (done_paired rows build n) ∙ needed_mapped finished_of unit_of u.prerequisites (pairs_before rows build n)))
+    (sym (ap (needed_units unit_of u.prerequisites) (done_paired rows build n) ∙ needed_mapped finished_of unit_of u.prerequisites (pairs_before rows build n)))
   where
     rows : Base
     rows = first_rows build.rows b
 
 -- the run of a ready unit is the run from nothing
 pub run_same : (b : Base) (build : Build) (n : ℕ) (u : Unit) → AgreesSoFar b build → IsReady build u →
-    here b build n u ≡ run (script_text u.script) u.targets (output_or_file (texts (first_rows build.rows b) build.view) (needed unit_of u.prerequisites (done_in (first_rows build.rows b) build n)))
+    here b build n u ≡ run (script_text u.script) u.targets (output_or_file (texts (first_rows build.rows b) build.view) (needed_units unit_of u.prerequisites (done_in (first_rows build.rows b) build n)))
 run_same b build n u h ready = λ i. run (script_text u.script) u.targets (λ path. seen_same b build n u path h ready i)

@@ -8,7 +8,7 @@ use Rattle.legal_history.specs.Builds.Active.{Build, Came, came_to, is_outcome, 
 use Rattle.base_model.specs.Closures.{is_among}
 use Rattle.legal_history.specs.Builds.Freshness.{Agrees, AgreesSoFar, outcome_in}
 use Rattle.legal_history.specs.Builds.Consistency.{IsReady, IsConsistent}
-use Rattle.legal_history.specs.Builds.Serials.{makes, needed}
+use Rattle.legal_history.specs.Builds.Serials.{makes, needed_units}
 use Rattle.base_model.proofs.Either.{or_first, or_second}
 use Rattle.legal_history.proofs.Builds.FreshSeen.{bytes_itself, outcome_there}
 use Rattle.legal_history.proofs.Builds.Pairs.{Pair, unit_in, with_pair, pairs_before}
@@ -65,15 +65,15 @@ EachOver P b build = (m : ℕ) (u : Unit) → unit_at build m ≡ Some u → is_
 
 -- holds of all that is needed for paths whose units have their outcomes
 pub needed_each : (P : Pair → Type 0) (b : Base) (build : Build) (n : ℕ) (paths : List (List ℕ)) → IsConsistent b build → EachOver P b build → AreOver build paths →
-    AllByRecursion P (needed unit_in paths (pairs_before (first_rows build.rows b) build n))
+    AllByRecursion P (needed_units unit_in paths (pairs_before (first_rows build.rows b) build n))
 needed_each P b build zero paths h each over = tt
 needed_each P b build (suc n) paths h each over = by (unit_at build n) refl (λ more over. needed_each P b build n more h each over)
   where
     by_unit : (u : Unit) (t : Bool) → unit_at build n ≡ Some u → list_any (λ path. makes path u) paths ≡ t →
-        ((more : List (List ℕ)) → AreOver build more → AllByRecursion P (needed unit_in more (pairs_before (first_rows build.rows b) build n))) →
+        ((more : List (List ℕ)) → AreOver build more → AllByRecursion P (needed_units unit_in more (pairs_before (first_rows build.rows b) build n))) →
         AllByRecursion P (elim t as (λ x. List Pair) [
-          | true ↦ record { unit = u; came = came_to build n; outcome = outcome_in (first_rows build.rows b) build n u } ∷ needed unit_in (paths ++ u.prerequisites) (pairs_before (first_rows build.rows b) build n)
-          | false ↦ needed unit_in paths (pairs_before (first_rows build.rows b) build n)
+          | true ↦ record { unit = u; came = came_to build n; outcome = outcome_in (first_rows build.rows b) build n u } ∷ needed_units unit_in (paths ++ u.prerequisites) (pairs_before (first_rows build.rows b) build n)
+          | false ↦ needed_units unit_in paths (pairs_before (first_rows build.rows b) build n)
         ])
     by_unit u true is test rest =
         let made = some_made u paths test in
@@ -83,13 +83,13 @@ needed_each P b build (suc n) paths h each over = by (unit_at build n) refl (λ 
         (each n u is outcome, rest (paths ++ u.prerequisites) (over_both build paths u.prerequisites over (ready_over b build u h ready)))
     by_unit u false is test rest = rest paths over
 
-    by : (o : Option Unit) → unit_at build n ≡ o → ((more : List (List ℕ)) → AreOver build more → AllByRecursion P (needed unit_in more (pairs_before (first_rows build.rows b) build n))) →
-        AllByRecursion P (needed unit_in paths (with_pair (first_rows build.rows b) build n o (pairs_before (first_rows build.rows b) build n)))
+    by : (o : Option Unit) → unit_at build n ≡ o → ((more : List (List ℕ)) → AreOver build more → AllByRecursion P (needed_units unit_in more (pairs_before (first_rows build.rows b) build n))) →
+        AllByRecursion P (needed_units unit_in paths (with_pair (first_rows build.rows b) build n o (pairs_before (first_rows build.rows b) build n)))
     by None is rest = rest paths over
     by (Some u) is rest = by_unit u (list_any (λ path. makes path u) paths) is refl rest
 
 -- all that is needed for such paths agrees
-pub needed_agree : (b : Base) (build : Build) (n : ℕ) (paths : List (List ℕ)) → AgreesSoFar b build → AreOver build paths → PairsAgree b (needed unit_in paths (pairs_before (first_rows build.rows b) build n))
+pub needed_agree : (b : Base) (build : Build) (n : ℕ) (paths : List (List ℕ)) → AgreesSoFar b build → AreOver build paths → PairsAgree b (needed_units unit_in paths (pairs_before (first_rows build.rows b) build n))
 needed_agree b build n paths h over = needed_each (PairAgrees b) b build n paths h.consistent (λ m u is outcome.
     let there = outcome_there (came_to build m) outcome in
     record { came = there.0; is = there.1; agrees = h.agrees m u there.0 is there.1 (subst (λ o. is_outcome o ≡ true) there.1 outcome) }) over

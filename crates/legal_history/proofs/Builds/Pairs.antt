@@ -10,7 +10,7 @@ use Rattle.legal_history.specs.Builds.Choices.{Member, members_from, members_bef
 use Rattle.legal_history.specs.Builds.Fresh.{serial, sees_file, sees_directory}
 use Rattle.base_model.specs.Texts.{texts}
 use Rattle.legal_history.specs.Builds.Freshness.{done_in, outcome_in}
-use Rattle.legal_history.specs.Builds.Serials.{Outcome, Finished, makes, needed}
+use Rattle.legal_history.specs.Builds.Serials.{Outcome, Finished, makes, needed_units}
 
 -- a unit with what it has come to, and with what it comes to from nothing
 pub record Pair : Type 0 where
@@ -95,11 +95,11 @@ done_paired rows build zero = refl
 done_paired rows build (suc n) = done_next rows build n (unit_at build n) refl (done_paired rows build n)
 
 -- what is needed of mapped units
-pub needed_mapped : {A B : Type 0} (f : A → B) (unit : B → Unit) (paths : List (List ℕ)) (xs : List A) → needed unit paths (map f xs) ≡ map f (needed (λ a. unit (f a)) paths xs)
+pub needed_mapped : {A B : Type 0} (f : A → B) (unit : B → Unit) (paths : List (List ℕ)) (xs : List A) → needed_units unit paths (map f xs) ≡ map f (needed_units (λ a. unit (f a)) paths xs)
 needed_mapped f unit paths [] = refl
 needed_mapped {A} {B} f unit paths (x ∷ xs) = elim (list_any (λ path. makes path (unit (f x))) paths) as (λ (b : Bool).
-    elim b as (λ (b : Bool). List B) [ true ↦ f x ∷ needed unit (paths ++ (unit (f x)).prerequisites) (map f xs) | false ↦ needed unit paths (map f xs) ]
-    ≡ map f (elim b as (λ (b : Bool). List A) [ true ↦ x ∷ needed (λ a. unit (f a)) (paths ++ (unit (f x)).prerequisites) xs | false ↦ needed (λ a. unit (f a)) paths xs ])) [
+    elim b as (λ (b : Bool). List B) [ true ↦ f x ∷ needed_units unit (paths ++ (unit (f x)).prerequisites) (map f xs) | false ↦ needed_units unit paths (map f xs) ]
+    ≡ map f (elim b as (λ (b : Bool). List A) [ true ↦ x ∷ needed_units (λ a. unit (f a)) (paths ++ (unit (f x)).prerequisites) xs | false ↦ needed_units (λ a. unit (f a)) paths xs ])) [
       | true ↦ ap (λ ys. f x ∷ ys) (needed_mapped f unit (paths ++ (unit (f x)).prerequisites) xs)
       | false ↦ needed_mapped f unit paths xs
     ]

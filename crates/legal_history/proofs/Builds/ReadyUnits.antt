@@ -8,9 +8,9 @@ use Rattle.cc_names.specs.declared.refusals.ScriptFault.{ScriptFault}
 use Rattle.cc_names.specs.declared.steps.UnitEnd.{UnitEnd}
 use Rattle.cc_names.specs.declared.units.Unit.{Unit}
 use Rattle.script_grammar.specs.Lines.{script_of}
-use Rattle.script_grammar.specs.Run.{State, Done, Ran, run, run_of, after_lines, nothing_written, carried_out, traced, unless_fault, output_before, outputs_of}
+use Rattle.script_grammar.specs.Run.{State, Done, Ran, run, run_of, after_lines, nothing_written, carried_out, trace_of, unless_fault, output_before, outputs_of}
 use Rattle.script_grammar.specs.declared.lines.Line.{Line}
-use Rattle.script_grammar.proofs.CarriedLemmas.{traced-and_then}
+use Rattle.script_grammar.proofs.CarriedLemmas.{trace_of-and_then}
 use Rattle.base_model.specs.Rows.{Base, first_rows}
 use Rattle.legal_history.specs.Builds.Active.{Build, came_to, is_outcome, number_from, unit_with}
 use Rattle.legal_history.specs.Builds.Choices.{here}
@@ -19,7 +19,7 @@ use Rattle.legal_history.specs.Builds.Fresh.{outcome_of_run, end_or_run, output_
 use Rattle.base_model.specs.Texts.{texts, output_at}
 use Rattle.legal_history.specs.Builds.Freshness.{AgreesSoFar, done_in, outcome_in, early_from_nothing}
 use Rattle.legal_history.specs.Builds.Consistency.{IsReady}
-use Rattle.legal_history.specs.Builds.Serials.{Without, unit_of, needed}
+use Rattle.legal_history.specs.Builds.Serials.{Without, unit_of, needed_units}
 use Rattle.legal_history.specs.Builds.Turns.{is_over, is_ready}
 use Rattle.legal_history.proofs.Builds.FreshSeen.{bytes_turned}
 use Rattle.base_model.proofs.Owned.{and_first, and_second}
@@ -46,13 +46,13 @@ ready_by build unit h = over_at build unit.prerequisites h
 -- a unit that ends early from nothing comes to that end
 pub outcome_by_end : (rows : Base) (build : Build) (n : ℕ) (unit : Unit) (end : UnitEnd) → early_from_nothing rows build n unit ≡ Some end → outcome_in rows build n unit ≡ Without end
 outcome_by_end rows build n unit end h =
-    ap (λ o. end_or_run o unit (output_or_file (texts rows build.view) (needed unit_of unit.prerequisites (done_in rows build n)))) h
+    ap (λ o. end_or_run o unit (output_or_file (texts rows build.view) (needed_units unit_of unit.prerequisites (done_in rows build n)))) h
 
 -- a unit that does not comes to what its run gives here
 pub outcome_by_run : (b : Base) (build : Build) (n : ℕ) (unit : Unit) → AgreesSoFar b build → IsReady build unit → early_from_nothing (first_rows build.rows b) build n unit ≡ None →
     outcome_in (first_rows build.rows b) build n unit ≡ outcome_of_run (here b build n unit).result
 outcome_by_run b build n unit h ready early =
-    ap (λ o. end_or_run o unit (output_or_file (texts (first_rows build.rows b) build.view) (needed unit_of unit.prerequisites (done_in (first_rows build.rows b) build n)))) early
+    ap (λ o. end_or_run o unit (output_or_file (texts (first_rows build.rows b) build.view) (needed_units unit_of unit.prerequisites (done_in (first_rows build.rows b) build n)))) early
     ∙ ap (λ (ran : Ran). outcome_of_run ran.result) (sym (run_same b build n unit h ready))
 
 -- a script that cannot be read is the fault of its run
@@ -88,7 +88,7 @@ outputs_there (target ∷ targets) outputs own h path among = by (own target) (o
         (at_target bytes more (bytes_eq target path) refl (subst (λ t. (t || is_among path targets) ≡ true) (eq_turned path target) among) (rest more is))
 
 written : (targets outputs : List (List ℕ)) (files : Files) (reads : List (List ℕ)) (after : Result State ScriptFault) →
-    (traced files reads (unless_fault (λ state. Done (outputs_of targets state.own)) after)).value ≡ Ok outputs → (own : Files) × (outputs_of targets own ≡ Ok outputs)
+    (trace_of files reads (unless_fault (λ state. Done (outputs_of targets state.own)) after)).value ≡ Ok outputs → (own : Files) × (outputs_of targets own ≡ Ok outputs)
 written targets outputs files reads (Err fault) h = absurd (cc)
 written targets outputs files reads (Ok state) h = (state.own, h)
 
@@ -99,7 +99,7 @@ outputs_whole script targets outputs files h = by (script_of script) refl h
     by : (read : Result (List Line) ScriptFault) → script_of script ≡ read → (carried_out files (run_of targets read)).result ≡ Ok outputs → (path : List ℕ) → is_among path targets ≡ true → is_some (output_at path targets outputs) ≡ true
     by (Err fault) is h = absurd (cc)
     by (Ok lines) is h =
-        let ran = traced files [] (after_lines targets lines nothing_written) in
+        let ran = trace_of files [] (after_lines targets lines nothing_written) in
         let own = written targets outputs files ran.reads ran.value
-        (sym (ap (λ t. t.value) (traced-and_then files [] (after_lines targets lines nothing_written) (unless_fault (λ after. Done (outputs_of targets after.own))))) ∙ h) in
+        (sym (ap (λ t. t.value) (trace_of-and_then files [] (after_lines targets lines nothing_written) (unless_fault (λ after. Done (outputs_of targets after.own))))) ∙ h) in
         outputs_there targets outputs own.0 own.1

@@ -8,7 +8,7 @@ use Rattle.std.specs.declared.cmp.Ordering.TheVariants.{Less, Equal, Greater}
 use Rattle.std.specs.FinMap.Entries.{put, find, where_key, by_order, below_all, is_sorted}
 use Rattle.cc_names.specs.References.{one_where}
 use Rattle.cc_names.specs.declared.units.Unit.{Unit}
-use Rattle.legal_history.specs.Builds.Active.{Active, Build, Came, build_of, is_outcome, reserved}
+use Rattle.legal_history.specs.Builds.Active.{Active, Build, Came, build_of, is_outcome, rows_reserved}
 use Rattle.base_model.proofs.Tables.{same_number, find_after_put, find_put_same}
 
 -- how many of some units, numbered from n on, have no outcome
@@ -33,7 +33,7 @@ pub few_wait : (comes : List (ℕ × Came)) (n : ℕ) (units : List Unit) → wa
 few_wait comes n [] = omega arith
 few_wait comes n (unit ∷ units) = let rest = few_wait comes (n + 1) units in let one = one_at_most (not (is_outcome (find nat_cmp n comes))) in omega arith
 
-pub all_reserved : (active : Active) → all_waiting active ≤ reserved active
+pub all_reserved : (active : Active) → all_waiting active ≤ rows_reserved active
 all_reserved [] = omega arith
 all_reserved (entry ∷ active) = let rest = all_reserved active in let own = few_wait entry.1.comes 0 entry.1.units in omega arith
 

@@ -22,8 +22,8 @@ use Rattle.legal_history.specs.Builds.Active.{Active, Build, Came, Given, Conclu
 use Rattle.base_model.specs.Changes.{targets_of}
 use Rattle.legal_history.specs.Commands.Decisions.{Makes, Begins}
 use Rattle.base_model.specs.Fits.{row_limit}
-use Rattle.legal_history.specs.Stories.States.{State, decided, build_by}
-use Rattle.legal_history.specs.Stories.Steps.{after, after_step, noted, noted_in, with_came, came_by_starting, active_after, begun, build_asked, with_build, without_build, faulted_in}
+use Rattle.legal_history.specs.Stories.States.{State, decision_for, build_by}
+use Rattle.legal_history.specs.Stories.Steps.{after, after_step, with_outcome, noted_in, with_came, came_by_starting, active_after, build_begun_by, build_asked, with_build, without_build, faulted_in}
 use Rattle.legal_history.specs.Stories.Committing.{MakesRow}
 use Rattle.legal_history.specs.Stories.Lawful.{Lawful, LawfulStep}
 use Rattle.legal_history.specs.Builds.UnitTurns.{ComesTo, Waits}
@@ -38,14 +38,14 @@ pub record HasRoom (b : Base) (active : Active) : Type 0 where
 
 -- a unit of the lane's build that waits comes to something
 noted_waiting : (s : State) (tag : Tag) (n : ℕ) (build : Build) (unit : Unit) (number : Build → Option ℕ) (came : Came) → T (is_sorted nat_cmp s.active) → Waits s tag n build unit → number build ≡ Some n →
-    all_waiting (noted s.active tag.lane number came) + waiting build ≡ all_waiting s.active + waiting (with_came build (Some n) came)
+    all_waiting (with_outcome s.active tag.lane number came) + waiting build ≡ all_waiting s.active + waiting (with_came build (Some n) came)
 noted_waiting s tag n build unit number came sorted waits place =
     let there = of_lane s tag build waits.active in
     ap (λ o. all_waiting (noted_in s.active tag.lane o number came) + waiting build) there
     ∙ ap (λ k. all_waiting (put nat_cmp tag.lane (with_came build k came) s.active) + waiting build) place
     ∙ put_waiting s.active tag.lane build (with_came build (Some n) came) sorted there
 
-noted_sorted : (active : Active) (lane : ℕ) (number : Build → Option ℕ) (came : Came) → T (is_sorted nat_cmp active) → T (is_sorted nat_cmp (noted active lane number came))
+noted_sorted : (active : Active) (lane : ℕ) (number : Build → Option ℕ) (came : Came) → T (is_sorted nat_cmp active) → T (is_sorted nat_cmp (with_outcome active lane number came))
 noted_sorted active lane number came sorted = by (build_of active lane)
   where
     by : (o : Option Build) → T (is_sorted nat_cmp (noted_in active lane o number came))
@@ -53,7 +53,7 @@ noted_sorted active lane number came sorted = by (build_of active lane)
     by (Some build) = is_sorted-put nat_cmp nat_cmp_total lane (with_came build (number build) came) active sorted
 
 waited_room : (s : State) (tag : Tag) (n : ℕ) (build : Build) (unit : Unit) (number : Build → Option ℕ) (came : Came) → HasRoom s.base s.active → Waits s tag n build unit → number build ≡ Some n →
-    HasRoom s.base (noted s.active tag.lane number came)
+    HasRoom s.base (with_outcome s.active tag.lane number came)
 waited_room s tag n build unit number came h waits place = record {
   sorted = noted_sorted s.active tag.lane number came h.sorted;
   room =
@@ -65,7 +65,7 @@ waited_room s tag n build unit number came h waits place = record {
 
 -- a unit that waits leaves room for its own row, and takes it with it
 row_room : (s : State) (row : Plain) (tag : Tag) (n : ℕ) (build : Build) (unit : Unit) (number : Build → Option ℕ) (came : Came) → HasRoom s.base s.active → Waits s tag n build unit → number build ≡ Some n →
-    is_outcome (Some came) ≡ true → HasRoom (row ∷ s.base) (noted s.active tag.lane number came)
+    is_outcome (Some came) ≡ true → HasRoom (row ∷ s.base) (with_outcome s.active tag.lane number came)
 row_room s row tag n build unit number came h waits place over = record {
   sorted = noted_sorted s.active tag.lane number came h.sorted;
   room =
@@ -79,7 +79,7 @@ row_room s row tag n build unit number came h waits place over = record {
 pub room_for : (b : Base) (row : Plain) (active : Active) → HasRoom (row ∷ b) active → nat_lt (size b) row_limit ≡ true
 room_for b row active h = let room = h.room in lt-ltb _ _ (omega arith)
 
-begun_room : (s : State) (tag : Tag) (us : List Unit) → HasRoom s.base s.active → decided s tag ≡ Some (Ok (Begins us)) → HasRoom s.base (with_build s.active tag.lane (begun s tag))
+begun_room : (s : State) (tag : Tag) (us : List Unit) → HasRoom s.base s.active → decision_for s tag ≡ Some (Ok (Begins us)) → HasRoom s.base (with_build s.active tag.lane (build_begun_by s tag))
 begun_room s tag us h e =
     let says = says_of s tag (Begins us) (decided_of s tag (Begins us) e) in
     let new : Build = build_asked tag (size s.base) us says.asked in
@@ -109,19 +109,19 @@ ended_room b active lane h = record {
   room = let fewer = without_waiting active (λ key. not (key == lane)) in let room = h.room in omega arith;
 }
 
-settled_room : (s : State) (tag : Tag) (n : ℕ) (end : UnitEnd) → HasRoom s.base s.active → ComesTo s tag n end → HasRoom s.base (noted s.active tag.lane (λ b. Some n) (Concluded end))
+settled_room : (s : State) (tag : Tag) (n : ℕ) (end : UnitEnd) → HasRoom s.base s.active → ComesTo s tag n end → HasRoom s.base (with_outcome s.active tag.lane (λ b. Some n) (Concluded end))
 settled_room s tag n (ends.Kept id) h e = waited_room s tag n e.build e.unit (λ b. Some n) (Concluded (ends.Kept id)) h e.open_unit.waits refl
 settled_room s tag n (ends.Failed (unit_faults.Script fault)) h e =
     waited_room s tag n e.build e.unit (λ b. Some n) (Concluded (ends.Failed (unit_faults.Script fault))) h e.running.waits refl
 settled_room s tag n end h e = waited_room s tag n e.build e.unit (λ b. Some n) (Concluded end) h e.waits refl
 
-told_room : (s : State) (step : Step) → HasRoom s.base s.active → LawfulStep s step → HasRoom (after_step s step).base (after_step s step).active
-told_room s (steps.Begin tag rows count) h e = begun_room s tag e.units h e.chosen
-told_room s (steps.Start tag n) h e = waited_room s tag n e.build e.unit (λ b. Some n) (came_by_starting (build_of s.active tag.lane) n) h e.open_unit.waits refl
-told_room s (steps.Concluded tag n end) h e = settled_room s tag n end h e
-told_room s (steps.End tag) h e = ended_room s.base s.active tag.lane h
-told_room s (steps.Fault tag left before faults tick) h e = faulted_room s tag h
-told_room s step h e = h
+any_step_room : (s : State) (step : Step) → HasRoom s.base s.active → LawfulStep s step → HasRoom (after_step s step).base (after_step s step).active
+any_step_room s (steps.Begin tag rows count) h e = begun_room s tag e.units h e.chosen
+any_step_room s (steps.Start tag n) h e = waited_room s tag n e.build e.unit (λ b. Some n) (came_by_starting (build_of s.active tag.lane) n) h e.open_unit.waits refl
+any_step_room s (steps.Concluded tag n end) h e = settled_room s tag n end h e
+any_step_room s (steps.End tag) h e = ended_room s.base s.active tag.lane h
+any_step_room s (steps.Fault tag left before faults tick) h e = faulted_room s tag h
+any_step_room s step h e = h
 
 committed_room : (s : State) (tag : Tag) (moment : ℕ) (deed : Deed) → HasRoom s.base s.active → MakesRow s (record { tag = tag; moment = moment; deed = deed }) deed →
     HasRoom (record { tag = tag; moment = moment; deed = deed } ∷ s.base) (active_after s.base s.active tag.lane deed)
@@ -140,4 +140,4 @@ pub step_room : (s : State) (x : StoryStep) → is_some s.opened ≡ true → Ha
 step_room s (story_steps.Opened rows counts tells) o h e = absurd (let first = e.first in cc)
 step_room s (story_steps.PhaseBegun phase moment) o h e = h
 step_room s (story_steps.Commit row tick) o h e = committed_room s row.tag row.moment row.deed h e.may.made
-step_room s (story_steps.Other step) o h e = told_room s step h e
+step_room s (story_steps.Other step) o h e = any_step_room s step h e

@@ -8,7 +8,7 @@ use Rattle.base_model.specs.Rows.{Base}
 use Rattle.legal_history.specs.Builds.Active.{Build, Came, Started, Concluded, Given, came_to, object_of}
 use Rattle.legal_history.specs.Builds.Freshness.{Agrees}
 use Rattle.legal_history.specs.Builds.Serials.{Outcome, Made, Without, Finished}
-use Rattle.legal_history.specs.Builds.Replied.{digest_at, word_of_object, word_of_end, word_of_came, word_of_outcome, told_targets, has_outputs, lines_of, lines_from, finished_from}
+use Rattle.legal_history.specs.Builds.Replied.{digest_at, word_of_object, word_of_end, word_of_came, word_of_outcome, reported_targets, has_outputs, lines_of, lines_from, finished_from}
 
 -- the words are the same where the outcome agrees
 same_word : (b : Base) (build : Build) (unit : Unit) (path : List ℕ) (came : Came) (outcome : Outcome) → Agrees b unit came outcome →
@@ -32,7 +32,7 @@ made_same b unit Started outcome h = absurd h
 -- the lines of unit n
 pub same_lines : (b : Base) (build : Build) (n : ℕ) (unit : Unit) (outcome : Outcome) (came : Came) → came_to build n ≡ Some came → Agrees b unit came outcome →
     finished_from b build n (record { unit = unit; outcome = outcome } ∷ []) ≡ lines_from b build n (unit ∷ [])
-same_lines b build n unit outcome came is h = λ i. lines_of (λ path. word path i) (told_targets (made i) unit.targets) ++ []
+same_lines b build n unit outcome came is h = λ i. lines_of (λ path. word path i) (reported_targets (made i) unit.targets) ++ []
   where
     word : (path : List ℕ) → Some (word_of_outcome b build path unit.targets (came_to build n) outcome) ≡ word_of_came b build path (came_to build n)
     word path =
@@ -53,7 +53,7 @@ finished_behind b build k (f ∷ fs) gs =
     ∙ ap (λ m. (own ++ finished_from b build (k + 1) fs) ++ finished_from b build m gs) later
   where
     own : List UnitLine
-    own = lines_of (λ path. Some (word_of_outcome b build path f.unit.targets (came_to build k) f.outcome)) (told_targets (has_outputs f.outcome) f.unit.targets)
+    own = lines_of (λ path. Some (word_of_outcome b build path f.unit.targets (came_to build k) f.outcome)) (reported_targets (has_outputs f.outcome) f.unit.targets)
 
     later : (k + 1) + length fs ≡ k + suc (length fs)
     later = omega arith
@@ -69,7 +69,7 @@ lines_behind b build k (u ∷ us) vs =
     ∙ ap (λ m. (own ++ lines_from b build (k + 1) us) ++ lines_from b build m vs) later
   where
     own : List UnitLine
-    own = lines_of (λ path. word_of_came b build path (came_to build k)) (told_targets (is_some (object_of (came_to build k))) u.targets)
+    own = lines_of (λ path. word_of_came b build path (came_to build k)) (reported_targets (is_some (object_of (came_to build k))) u.targets)
 
     later : (k + 1) + length us ≡ k + suc (length us)
     later = omega arith

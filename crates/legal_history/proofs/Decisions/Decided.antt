@@ -9,7 +9,7 @@ use Rattle.cc_names.specs.declared.rows.Kind.{Kind}
 use Rattle.cc_names.specs.declared.rows.Kind.TheVariants.{File, Directory}
 use Rattle.cc_names.specs.declared.rows.TypeKind.TheVariants as type_kinds
 use Rattle.legal_history.specs.Builds.Active.{building}
-use Rattle.base_model.specs.Changes.{held}
+use Rattle.base_model.specs.Changes.{objects_held}
 use Rattle.legal_history.specs.Commands.CheckoutLines.{checkout_of, mkbranch_of, mkbranch_tests, out_unless, checkin_of, checkin_tests, uncheckout_of}
 use Rattle.legal_history.specs.Commands.CheckoutTests.{needs_out}
 use Rattle.legal_history.specs.Commands.Decisions.{Scene}
@@ -19,7 +19,7 @@ use Rattle.legal_history.specs.Commands.Found.{for_selected, for_element, for_ob
 use Rattle.legal_history.specs.Commands.LabelLines.{mklabel_of, mklabel_tests, rmlabel_of, rmlabel_tests, mklabel_config_of, mklabel_config_tests, mkarrow_of, mkarrow_from, mkarrow_tests, version_named}
 use Rattle.base_model.specs.Closures.{placed_by}
 use Rattle.legal_history.specs.Commands.Lines.{decision}
-use Rattle.legal_history.specs.Commands.ObjectLines.{rmdo_tests, due}
+use Rattle.legal_history.specs.Commands.ObjectLines.{rmdo_tests, due_objects}
 use Rattle.base_model.specs.Seen.{at}
 use Rattle.base_model.specs.Views.{out}
 use Rattle.legal_history.specs.Commands.Tests.{needs_view, needs_idle, needs_free_path, needs_free_type}
@@ -66,10 +66,10 @@ decided_says s (commands.Change (changes.Rmlabel v label path)) =
     past_is (Says s _) (needs_view s.base v ∷ []) (for_element path (at s.base v path) (rmlabel_of s label path))
     (λ before. element_is (Says s _) path (at s.base v path) (rmlabel_of s label path) (λ e. by_row s _ (rmlabel_tests s label path e) (deeds.Unlabel label e) (λ p. tt)))
 decided_says s (commands.Change (changes.Rmdo v path)) = by_row s _ (rmdo_tests s v path) (deeds.Drop v path) (λ p. was_idle (building s.active v) p.1.0)
-decided_says s (commands.Change (changes.Scrub age)) = by_scrub s age (due s.base s.moment age)
+decided_says s (commands.Change (changes.Scrub age)) = by_scrub s age (due_objects s.base s.moment age)
 decided_says s (commands.Change (changes.MklabelConfig v replace path label)) =
-    past_is (Says s _) (needs_view s.base v ∷ []) (for_object path (held_at (held s.base) v path) (mklabel_config_of s replace label))
-    (λ before. object_is (Says s _) path (held_at (held s.base) v path) (mklabel_config_of s replace label)
+    past_is (Says s _) (needs_view s.base v ∷ []) (for_object path (held_at (objects_held s.base) v path) (mklabel_config_of s replace label))
+    (λ before. object_is (Says s _) path (held_at (objects_held s.base) v path) (mklabel_config_of s replace label)
     (λ id is. by_labels s _ (mklabel_config_tests s replace label id) label (placed_by s.base id)))
 decided_says s (commands.Change (changes.Mkarrow v path version)) =
     past_is (Says s _) (needs_view s.base v ∷ []) (for_selected path (at s.base v path) (mkarrow_of s v path version))

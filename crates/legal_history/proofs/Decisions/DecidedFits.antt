@@ -25,7 +25,7 @@ use Rattle.make_grammar.specs.Graphs.{units}
 use Rattle.base_model.specs.Rows.{Base, size}
 use Rattle.legal_history.specs.Commands.Found.{for_object}
 use Rattle.legal_history.specs.Commands.Tests.{needs_view}
-use Rattle.base_model.specs.Changes.{tree, held, live}
+use Rattle.base_model.specs.Changes.{tree, objects_held, live_row}
 use Rattle.base_model.specs.Closures.{Inputs, Listing, closure, listing, listing_of, version_listed, with_version_at, greater_of, is_version_of, as_placed, placed_by}
 use Rattle.base_model.specs.Conditions.{is_label_type, is_placed, may_be_scrubbed}
 use Rattle.legal_history.specs.Commands.Decisions.{Makes, Begins, Scene, first_refusal, unless_refused, needs_room}
@@ -33,10 +33,11 @@ use Rattle.base_model.specs.Fits.{fits, is_base}
 use Rattle.base_model.specs.Texts.{texts}
 use Rattle.legal_history.specs.Commands.LabelLines.{mklabel_config, mklabel_config_of, mklabel_config_tests, labels_or_nothing}
 use Rattle.legal_history.specs.Commands.Lines.{decision}
-use Rattle.legal_history.specs.Commands.ObjectLines.{due_among, due, scrub, scrub_of, clearmake_tests, build_unless}
-use Rattle.legal_history.proofs.Decisions.CheckoutFits.{save_fits, checkin_fits}
-use Rattle.legal_history.proofs.Decisions.DirectoryFits.{mkelem_fits, rmname_fits, mv_fits, uncheckout_fits, rmlabel_fits}
-use Rattle.legal_history.proofs.Decisions.ElementFits.{checkout_fits, mkbranch_fits, mklabel_fits, mkarrow_fits}
+use Rattle.legal_history.specs.Commands.ObjectLines.{due_among, due_objects, scrub, scrub_of, clearmake_tests, build_unless}
+use Rattle.legal_history.proofs.Decisions.CheckoutFits.{checkout_fits, mkbranch_fits, uncheckout_fits, checkin_fits}
+use Rattle.legal_history.proofs.Decisions.DirectoryFits.{mkelem_fits, rmname_fits, mv_fits}
+use Rattle.legal_history.proofs.Decisions.LabelFits.{mklabel_fits, rmlabel_fits, mkarrow_fits}
+use Rattle.legal_history.proofs.Decisions.SaveFits.{save_fits}
 use Rattle.legal_history.proofs.Decisions.FileFits.{Fits, RowFits, mkview_fits, rmview_fits, setcs_fits, rm_fits, mktype_fits, rmdo_fits}
 use Rattle.legal_history.proofs.Decisions.Handed.{past_is, object_is, row_is, answer_is}
 use Rattle.legal_history.proofs.Decisions.Queried.{query_is}
@@ -95,8 +96,8 @@ labels_made s tests label (one ∷ more) all type =
 
 mklabel_config_fits : (s : Scene) (v : List ℕ) (replace : Bool) (path label : List ℕ) → RowFits s (mklabel_config s v replace path label)
 mklabel_config_fits s v replace path label =
-    past_is (Fits s) (needs_view s.base v ∷ []) (for_object path (held_at (held s.base) v path) (mklabel_config_of s replace label))
-    (λ before. object_is (Fits s) path (held_at (held s.base) v path) (mklabel_config_of s replace label) (λ id is.
+    past_is (Fits s) (needs_view s.base v ∷ []) (for_object path (held_at (objects_held s.base) v path) (mklabel_config_of s replace label))
+    (λ before. object_is (Fits s) path (held_at (objects_held s.base) v path) (mklabel_config_of s replace label) (λ id is.
     labels_made s (mklabel_config_tests s replace label id) label (placed_by s.base id)
     (all_placed s.base (listing s.base id) (all_versions s.base (closure s.base id))) (λ pass. unless_passes _ _ pass.0)))
 
@@ -115,7 +116,7 @@ list_all_reversed test (x ∷ xs) h =
 
 due_fit : (b : Base) (moment age : ℕ) (rows : Base) → list_all (may_be_scrubbed b) (due_among b moment age rows) ≡ true
 due_fit b moment age [] = refl
-due_fit b moment age (row ∷ older) = by (is_some (live b (size older)) && not (is_held (held b) (size older))) (nat_le (row.moment + age) moment) refl (due_fit b moment age older)
+due_fit b moment age (row ∷ older) = by (is_some (live_row b (size older)) && not (is_held (objects_held b) (size older))) (nat_le (row.moment + age) moment) refl (due_fit b moment age older)
   where
     by : (x y : Bool) → may_be_scrubbed b (size older) ≡ x → list_all (may_be_scrubbed b) (due_among b moment age older) ≡ true →
         list_all (may_be_scrubbed b) (put_if (x && y) (size older) (due_among b moment age older)) ≡ true
@@ -129,7 +130,7 @@ scrub_made s [] all = answer_is (Fits s) [] [] tt
 scrub_made s (id ∷ ids) all = row_is (Fits s) s [] (deeds.Scrub (id ∷ ids)) (λ m. fits_by s.base (deeds.Scrub (id ∷ ids)) m.room all)
 
 scrub_fits : (s : Scene) (age : ℕ) → RowFits s (scrub s age)
-scrub_fits s age = scrub_made s (due s.base s.moment age) (list_all_reversed (may_be_scrubbed s.base) (due_among s.base s.moment age s.base) (due_fit s.base s.moment age s.base))
+scrub_fits s age = scrub_made s (due_objects s.base s.moment age) (list_all_reversed (may_be_scrubbed s.base) (due_among s.base s.moment age s.base) (due_fit s.base s.moment age s.base))
 
 -- a build makes no row at its begin
 begin_fits : (s : Scene) (refusal : Option Refusal) (us : List Unit) → RowFits s (unless_refused refusal (Begins us))

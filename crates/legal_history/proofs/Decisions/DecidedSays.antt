@@ -21,7 +21,7 @@ use Rattle.cc_names.specs.declared.selection.Seen.TheVariants.{Private, Element,
 use Rattle.cc_names.specs.declared.units.Unit.{Unit}
 use Rattle.make_grammar.specs.Graphs.{units}
 use Rattle.base_model.specs.Rows.{size}
-use Rattle.legal_history.specs.Builds.Active.{Active, building, reserved}
+use Rattle.legal_history.specs.Builds.Active.{Active, building, rows_reserved}
 use Rattle.legal_history.specs.Commands.CheckoutLines.{checkout_of, checkout_by_rule, checkout_tests, checkout_deed, branch_by, deciding_rule}
 use Rattle.base_model.specs.Conditions.{exists}
 use Rattle.legal_history.specs.Commands.Decisions.{Decision, Makes, Answers, Begins, Scene, first_refusal, unless_refused, needs_room, makes, answers}
@@ -31,7 +31,7 @@ use Rattle.base_model.specs.Texts.{texts}
 use Rattle.legal_history.specs.Commands.LabelLines.{labels_or_nothing}
 use Rattle.legal_history.specs.Commands.ObjectLines.{scrub_of, clearmake, clearmake_tests, build_unless}
 use Rattle.legal_history.proofs.Decisions.Handed.{IfDecided, answer_is}
-use Rattle.legal_history.proofs.Decisions.Passed.{AllPass, all_pass, front_passes, rest_passes, unless_passes}
+use Rattle.legal_history.proofs.Decisions.Passed.{AllPass, all_pass, prefix_passes, rest_passes, unless_passes}
 
 -- a deed takes a view or an object only where no build of the view is active
 abbrev pub Idle : Active → Deed → Type 0
@@ -70,7 +70,7 @@ scrubs_of active command deed h = h
 
 -- a row that was decided
 pub record IsMade (s : Scene) (command : Command) (deed : Deed) : Type 0 where
-  pub room : size s.base + reserved s.active + 1 ≤ row_limit
+  pub room : size s.base + rows_reserved s.active + 1 ≤ row_limit
   pub idle : Idle s.active deed
   pub scrubs : ScrubsBy command deed
 
@@ -80,7 +80,7 @@ pub record BeginsBy (s : Scene) (command : Command) (us : List Unit) : Type 0 wh
   pub is : command ≡ commands.Build asked
   pub there : exists s.base asked.view ≡ true
   pub of_makefile : units (texts s.base asked.view) asked.file asked.macros asked.goals ≡ Ok us
-  pub room : size s.base + reserved s.active + length us ≤ row_limit
+  pub room : size s.base + rows_reserved s.active + length us ≤ row_limit
 
 abbrev pub Says : Scene → Command → Decision → Type 0
 Says s command (Makes deed) = IsMade s command deed
@@ -96,14 +96,14 @@ not_refused : (b : Bool) (refusal : Refusal) → (if b then Some refusal else No
 not_refused true refusal h = absurd (cc)
 not_refused false refusal h = refl
 
-has_room : (s : Scene) (rows : ℕ) → needs_room s rows ≡ None → size s.base + reserved s.active + rows ≤ row_limit
+has_room : (s : Scene) (rows : ℕ) → needs_room s rows ≡ None → size s.base + rows_reserved s.active + rows ≤ row_limit
 has_room s rows h = ltb-false _ _ (not_refused _ _ h)
 
 pub by_row : (s : Scene) (command : Command) (tests : List (Option Refusal)) (deed : Deed) → (AllPass tests → Suits s.active command deed) → IfDecided (Says s command) (makes s tests deed)
 by_row s command tests deed suits d h =
     let p = passed (first_refusal (tests ++ needs_room s 1 ∷ [])) (Makes deed) d h in
     let all = all_pass (tests ++ needs_room s 1 ∷ []) p.0 in
-    let suit = suits (front_passes tests (needs_room s 1 ∷ []) all) in
+    let suit = suits (prefix_passes tests (needs_room s 1 ∷ []) all) in
     subst (Says s command) p.1 (record {
       room = has_room s 1 (rest_passes tests (needs_room s 1 ∷ []) all).0;
       idle = idle_of s.active command deed suit;

@@ -13,7 +13,7 @@ use Rattle.cc_names.specs.declared.rows.Deed.{Deed}
 use Rattle.cc_names.specs.declared.rows.Deed.TheVariants as deeds
 use Rattle.base_model.specs.Rows.{Base, size, row_at}
 use Rattle.legal_history.specs.Commands.Decisions.{Scene, Makes}
-use Rattle.legal_history.specs.Commands.ObjectLines.{due, due_among, is_due, scrub_of}
+use Rattle.legal_history.specs.Commands.ObjectLines.{due_objects, due_among, is_due, scrub_of}
 use Rattle.base_model.proofs.Tables.{same_number}
 use Rattle.legal_history.proofs.Decisions.Passed.{answers_nothing, made_by}
 use Rattle.legal_history.specs.Laws.Dues.{due_by, is_due_object}
@@ -49,9 +49,9 @@ unfolding some_objects
 scrubbed_of s [] objects h = absurd (answers_nothing [] [] (deeds.Scrub objects) h)
 scrubbed_of s (id ∷ ids) objects h = ap (some_objects []) (made_by s [] (deeds.Scrub (id ∷ ids)) (deeds.Scrub objects) h).is
 
-pub scrub_lists : (s : Scene) (age : ℕ) (objects : List ℕ) (id : ℕ) → scrub_of s (due s.base s.moment age) ≡ Ok (Makes (deeds.Scrub objects)) → list_any (λ object. object == id) objects ≡ is_due_object s.base s.moment age id
+pub scrub_lists : (s : Scene) (age : ℕ) (objects : List ℕ) (id : ℕ) → scrub_of s (due_objects s.base s.moment age) ≡ Ok (Makes (deeds.Scrub objects)) → list_any (λ object. object == id) objects ≡ is_due_object s.base s.moment age id
 scrub_lists s age objects id h =
-    ap (list_any (λ object. object == id)) (scrubbed_of s (due s.base s.moment age) objects h)
+    ap (list_any (λ object. object == id)) (scrubbed_of s (due_objects s.base s.moment age) objects h)
     ∙ sym (list_any-IsPermutation (λ object. object == id) (due_among s.base s.moment age s.base) (reverse (due_among s.base s.moment age s.base)) (IsPermutation-reverse (due_among s.base s.moment age s.base)))
     ∙ listed_among s.base s.moment age id s.base
 
@@ -64,7 +64,7 @@ falls_wider : (n : ℕ) (xs : List ℕ) → FallsBelow n xs → FallsBelow (suc 
 falls_wider n [] h = tt
 falls_wider n (x ∷ xs) h = let low : x < n = h.0 in (omega arith, h.1)
 
-falls_with : (due : Bool) (n : ℕ) (xs : List ℕ) → FallsBelow n xs → FallsBelow (suc n) (put_if due n xs)
+falls_with : (due_objects : Bool) (n : ℕ) (xs : List ℕ) → FallsBelow n xs → FallsBelow (suc n) (put_if due_objects n xs)
 falls_with true n xs h = (omega arith, h)
 falls_with false n xs h = falls_wider n xs h
 
@@ -87,7 +87,7 @@ rises_back n xs h k low =
     (subst (λ m. get_or xs (suc (length xs - 1 - (k + 1))) 0 < m) (sym (get_or-reverse xs (k + 1) 0 within))
     (falls_at n xs (length xs - 1 - (k + 1)) h (omega (arith, within))))
 
-pub scrub_ascends : (s : Scene) (age : ℕ) (objects : List ℕ) → scrub_of s (due s.base s.moment age) ≡ Ok (Makes (deeds.Scrub objects)) → IsStrictlyIncreasing objects
+pub scrub_ascends : (s : Scene) (age : ℕ) (objects : List ℕ) → scrub_of s (due_objects s.base s.moment age) ≡ Ok (Makes (deeds.Scrub objects)) → IsStrictlyIncreasing objects
 scrub_ascends s age objects h =
-    subst IsStrictlyIncreasing (sym (scrubbed_of s (due s.base s.moment age) objects h))
+    subst IsStrictlyIncreasing (sym (scrubbed_of s (due_objects s.base s.moment age) objects h))
     (rises_back (size s.base) (due_among s.base s.moment age s.base) (due_falls s.base s.moment age s.base))

@@ -11,8 +11,8 @@ use Rattle.cc_names.specs.declared.selection.Rule.{Rule}
 use Rattle.cc_names.specs.declared.selection.Seen.{Seen}
 use Rattle.cc_names.specs.declared.selection.Seen.TheVariants.{Private, Element, Unselected, Nothing}
 use Rattle.base_model.specs.ConfigSpecs.Specs.{rules_of}
-use Rattle.cc_names.specs.Paths.{joined, names_of}
-use Rattle.cc_names.proofs.PathParts.{joined-names_of}
+use Rattle.cc_names.specs.Paths.{path_of_names, names_of}
+use Rattle.cc_names.proofs.PathParts.{path_of_names-names_of}
 use Rattle.base_model.specs.Views.{private}
 use Rattle.base_model.specs.Conditions.{exists}
 use Rattle.legal_history.specs.Commands.Decisions.{Decision, Makes, Answers, Begins, Scene}
@@ -67,8 +67,8 @@ was_private path Nothing h = absurd (cc)
 pub rm_fits : (s : Scene) (v path : List ℕ) → RowFits s (rm s v path)
 rm_fits s v path = row_is (Fits s) s (rm_tests s v path) (deeds.Rm v path) by
   where
-    back : joined (reverse (reverse (names_of path))) ≡ path
-    back = ap joined (reverse-reverse (names_of path)) ∙ joined-names_of path
+    back : path_of_names (reverse (reverse (names_of path))) ≡ path
+    back = ap path_of_names (reverse-reverse (names_of path)) ∙ path_of_names-names_of path
 
     by : Made s (rm_tests s v path) (deeds.Rm v path) (deeds.Rm v path) → fits s.base (deeds.Rm v path) ≡ true
     by m =

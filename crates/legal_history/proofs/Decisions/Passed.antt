@@ -5,7 +5,7 @@ use Rattle.std.specs.Bool.{⊤}
 use Rattle.cc_names.specs.declared.refusals.Refusal.{Refusal}
 use Rattle.cc_names.specs.declared.rows.Deed.{Deed}
 use Rattle.base_model.specs.Rows.{Base, size}
-use Rattle.legal_history.specs.Builds.Active.{reserved}
+use Rattle.legal_history.specs.Builds.Active.{rows_reserved}
 use Rattle.legal_history.specs.Commands.Decisions.{Decision, Makes, Scene, first_refusal, unless_refused, needs_room, makes, answers}
 use Rattle.base_model.specs.Fits.{deed_fits, fits, row_limit}
 use Rattle.legal_history.specs.Commands.Tests.{refused_where, refused_unless}
@@ -20,9 +20,9 @@ all_pass [] h = tt
 all_pass (Some refusal ∷ tests) h = absurd (cc)
 all_pass (None ∷ tests) h = (refl, all_pass tests h)
 
-pub front_passes : (tests more : List (Option Refusal)) → AllPass (tests ++ more) → AllPass tests
-front_passes [] more h = tt
-front_passes (test ∷ tests) more h = (h.0, front_passes tests more h.1)
+pub prefix_passes : (tests more : List (Option Refusal)) → AllPass (tests ++ more) → AllPass tests
+prefix_passes [] more h = tt
+prefix_passes (test ∷ tests) more h = (h.0, prefix_passes tests more h.1)
 
 pub rest_passes : (tests more : List (Option Refusal)) → AllPass (tests ++ more) → AllPass more
 rest_passes [] more h = h
@@ -43,7 +43,7 @@ no_refusal false refusal e = refl
 
 room_left : (s : Scene) → needs_room s 1 ≡ None → nat_lt (size s.base) row_limit ≡ true
 room_left s h =
-    let within : size s.base + reserved s.active + 1 ≤ row_limit = ltb-false _ _ (no_refusal _ _ h) in
+    let within : size s.base + rows_reserved s.active + 1 ≤ row_limit = ltb-false _ _ (no_refusal _ _ h) in
     lt-ltb _ _ (omega arith)
 
 -- what a command that makes a row has met: its tests pass, there is room, and the row is the one that it names
@@ -57,7 +57,7 @@ made_by s tests deed made h =
     let passed = all_pass (tests ++ needs_room s 1 ∷ []) (none_refused _ _ _ h) in
     let same = decided_of _ _ _ h in
     record {
-      pass = front_passes tests (needs_room s 1 ∷ []) passed;
+      pass = prefix_passes tests (needs_room s 1 ∷ []) passed;
       room = room_left s (rest_passes tests (needs_room s 1 ∷ []) passed).0;
       is = cc;
     }

@@ -18,8 +18,8 @@ use Rattle.cc_names.specs.declared.refusals.Refusal.TheVariants as refusals
 use Rattle.cc_names.specs.declared.rows.Deed.TheVariants as deeds
 use Rattle.cc_names.specs.declared.rows.Placed.{Placed}
 use Rattle.base_model.specs.Rows.{Base, only_where}
-use Rattle.base_model.specs.Changes.{held, targets_of, tree}
-use Rattle.base_model.specs.Closures.{Input, Inputs, Listing, closure, is_among, listing, listed, as_placed, placed_by}
+use Rattle.base_model.specs.Changes.{objects_held, targets_of, tree}
+use Rattle.base_model.specs.Closures.{Input, Inputs, Listing, closure, is_among, listing, recorded_version, as_placed, placed_by}
 use Rattle.legal_history.specs.Commands.Decisions.{Decision, Scene, Makes}
 use Rattle.legal_history.specs.Commands.LabelLines.{labels_or_nothing, mklabel_config_of, mklabel_config_tests, outsider_among}
 use Rattle.legal_history.specs.Commands.Found.{for_object}
@@ -31,7 +31,7 @@ use Rattle.base_model.proofs.Owned.{and_first, and_second}
 use Rattle.legal_history.proofs.Decisions.Passed.{AllPass}
 use Rattle.base_model.specs.Listed.{IsListed}
 use Rattle.base_model.proofs.HeldObjects.{true_by}
-use Rattle.base_model.proofs.Listings.{SaysOf, one_of, in_front, behind, none_of, listing_says, in_order}
+use Rattle.base_model.proofs.Listings.{SaysOf, one_of, at_head, behind, none_of, listing_says, in_order}
 
 -- a number that comes before another is below it
 lower : (x y : ℕ) → is_lt (nat_cmp x y) ≡ true → x < y
@@ -89,7 +89,7 @@ placed (entry ∷ entries) one is = by (one.element == entry.0) refl (ap (λ t. 
         let element : one.element ≡ entry.0 = same_number one.element entry.0 here in
         let version : entry.1 ≡ one.version = cc in
         let same : as_placed entry ≡ one = λ i. record { element = sym element i; version = version i } in
-        in_front (as_placed entry) one (map as_placed entries) same
+        at_head (as_placed entry) one (map as_placed entries) same
     by false here is rest = behind (as_placed entry) one (map as_placed entries) (rest is)
 
 -- what the listing of an object says of an element, from both sides
@@ -123,7 +123,7 @@ no_refusal f (Some a) h = absurd (cc)
 -- the labels of a row that was decided: of the object that the view holds, with what was tested
 record Labelled (s : Scene) (v path label : List ℕ) (replace : Bool) (given : List Placed) : Type 0 where
   id : ℕ
-  is_held : held_at (held s.base) v path ≡ Some id
+  is_held : held_at (objects_held s.base) v path ≡ Some id
   pass : AllPass (mklabel_config_tests s replace label id)
   are : given ≡ placed_by s.base id
 
@@ -131,7 +131,7 @@ IsLabelled : (s : Scene) (v path label : List ℕ) (replace : Bool) → Decision
 IsLabelled s v path label replace (Makes (deeds.Labels name given)) = Labelled s v path label replace given
 IsLabelled s v path label replace d = ⊤
 
-labelled_by : (s : Scene) (v path label : List ℕ) (replace : Bool) (id : ℕ) (places : List Placed) → held_at (held s.base) v path ≡ Some id → places ≡ placed_by s.base id →
+labelled_by : (s : Scene) (v path label : List ℕ) (replace : Bool) (id : ℕ) (places : List Placed) → held_at (objects_held s.base) v path ≡ Some id → places ≡ placed_by s.base id →
     IfDecided (IsLabelled s v path label replace) (labels_or_nothing s (mklabel_config_tests s replace label id) label places)
 unfolding IsLabelled
 labelled_by s v path label replace id [] is are = answer_is (IsLabelled s v path label replace) (mklabel_config_tests s replace label id) [] tt
@@ -146,12 +146,12 @@ labelled s v path label name replace given h = by (Makes (deeds.Labels name give
   where
     by : IfDecided (IsLabelled s v path label replace) (decision s (commands.Change (changes.MklabelConfig v replace path label)))
     by =
-        past_is (IsLabelled s v path label replace) (needs_view s.base v ∷ []) (for_object path (held_at (held s.base) v path) (mklabel_config_of s replace label))
-        (λ before. object_is (IsLabelled s v path label replace) path (held_at (held s.base) v path) (mklabel_config_of s replace label)
+        past_is (IsLabelled s v path label replace) (needs_view s.base v ∷ []) (for_object path (held_at (objects_held s.base) v path) (mklabel_config_of s replace label))
+        (λ before. object_is (IsLabelled s v path label replace) path (held_at (objects_held s.base) v path) (mklabel_config_of s replace label)
         (λ id is. labelled_by s v path label replace id (placed_by s.base id) is refl))
 
 -- the object is the one that is held
-same_object : (s : Scene) (v path label : List ℕ) (replace : Bool) (given : List Placed) (l : Labelled s v path label replace given) (id : ℕ) → held_at (held s.base) v path ≡ Some id → l.id ≡ id
+same_object : (s : Scene) (v path label : List ℕ) (replace : Bool) (given : List Placed) (l : Labelled s v path label replace given) (id : ℕ) → held_at (objects_held s.base) v path ≡ Some id → l.id ≡ id
 same_object s v path label replace given l id is = let held_is = l.is_held in cc
 
 pub labels_in_order : (s : Scene) (v path label name : List ℕ) (replace : Bool) (given : List Placed) → decision s (commands.Change (changes.MklabelConfig v replace path label)) ≡ Ok (Makes (deeds.Labels name given)) → IsStrictlyIncreasing (map (λ one. one.element) given)
@@ -161,7 +161,7 @@ labels_in_order s v path label name replace given h =
     subst (λ places. IsStrictlyIncreasing (map (λ one. one.element) places)) (sym l.are) (ascending (listing s.base l.id) sorted)
 
 -- what is labelled is what is found
-labels_found : (s : Scene) (v path label name : List ℕ) (replace : Bool) (given : List Placed) (id : ℕ) (one : Placed) → decision s (commands.Change (changes.MklabelConfig v replace path label)) ≡ Ok (Makes (deeds.Labels name given)) → held_at (held s.base) v path ≡ Some id →
+labels_found : (s : Scene) (v path label name : List ℕ) (replace : Bool) (given : List Placed) (id : ℕ) (one : Placed) → decision s (commands.Change (changes.MklabelConfig v replace path label)) ≡ Ok (Makes (deeds.Labels name given)) → held_at (objects_held s.base) v path ≡ Some id →
     Contains given one ↔ (find nat_cmp one.element (listing s.base id) ≡ Some one.version)
 labels_found s v path label name replace given id one h is =
     let sorted = true_by (is_sorted nat_cmp (listing s.base id)) (in_order s.base (closure s.base id)) in
@@ -171,7 +171,7 @@ labels_found s v path label name replace given id one h is =
       λ at. subst (λ places. Contains places one) (sym are) (placed (listing s.base id) one at),
     )
 
-pub labels_exactly : (s : Scene) (v path label name : List ℕ) (replace : Bool) (given : List Placed) (id : ℕ) (one : Placed) → decision s (commands.Change (changes.MklabelConfig v replace path label)) ≡ Ok (Makes (deeds.Labels name given)) → held_at (held s.base) v path ≡ Some id →
+pub labels_exactly : (s : Scene) (v path label name : List ℕ) (replace : Bool) (given : List Placed) (id : ℕ) (one : Placed) → decision s (commands.Change (changes.MklabelConfig v replace path label)) ≡ Ok (Makes (deeds.Labels name given)) → held_at (objects_held s.base) v path ≡ Some id →
     Contains given one ↔ IsListed s.base (closure s.base id) one.element one.version
 labels_exactly s v path label name replace given id one h is =
     let both = labels_found s v path label name replace given id one h is in
@@ -180,16 +180,16 @@ labels_exactly s v path label name replace given id one h is =
       λ greatest. both.1 (is_listed s.base (closure s.base id) one.element one.version _ says greatest),
     )
 
-pub labels_selected : (s : Scene) (v path label name : List ℕ) (replace : Bool) (given : List Placed) (id : ℕ) (target : List ℕ) (one : Placed) → decision s (commands.Change (changes.MklabelConfig v replace path label)) ≡ Ok (Makes (deeds.Labels name given)) → held_at (held s.base) v path ≡ Some id →
-    is_among target (targets_of s.base id) ≡ true → Contains given one ↔ (listed s.base id target one.element ≡ Some one.version)
+pub labels_selected : (s : Scene) (v path label name : List ℕ) (replace : Bool) (given : List Placed) (id : ℕ) (target : List ℕ) (one : Placed) → decision s (commands.Change (changes.MklabelConfig v replace path label)) ≡ Ok (Makes (deeds.Labels name given)) → held_at (objects_held s.base) v path ≡ Some id →
+    is_among target (targets_of s.base id) ≡ true → Contains given one ↔ (recorded_version s.base id target one.element ≡ Some one.version)
 labels_selected s v path label name replace given id target one h is of_object =
     let both = labels_found s v path label name replace given id one h is in
-    let there : listed s.base id target one.element ≡ find nat_cmp one.element (listing s.base id) = ap (λ t. only_where t (find nat_cmp one.element (listing s.base id))) of_object in (
+    let there : recorded_version s.base id target one.element ≡ find nat_cmp one.element (listing s.base id) = ap (λ t. only_where t (find nat_cmp one.element (listing s.base id))) of_object in (
       λ among. there ∙ both.0 among,
       λ at. both.1 (sym there ∙ at),
     )
 
-pub labels_versions : (s : Scene) (v path label name : List ℕ) (replace : Bool) (given : List Placed) (id : ℕ) (input : Input × ℕ) → decision s (commands.Change (changes.MklabelConfig v replace path label)) ≡ Ok (Makes (deeds.Labels name given)) → held_at (held s.base) v path ≡ Some id →
+pub labels_versions : (s : Scene) (v path label name : List ℕ) (replace : Bool) (given : List Placed) (id : ℕ) (input : Input × ℕ) → decision s (commands.Change (changes.MklabelConfig v replace path label)) ≡ Ok (Makes (deeds.Labels name given)) → held_at (objects_held s.base) v path ≡ Some id →
     Contains (closure s.base id) input → 0 < input.1 → is_some (version_id (tree s.base) input.1) ≡ true
 labels_versions s v path label name replace given id input h is among there =
     let l = labelled s v path label name replace given h in

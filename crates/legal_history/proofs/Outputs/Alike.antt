@@ -4,7 +4,7 @@ use Rattle.std.specs.Prelude.{is_some}
 use Rattle.cc_names.specs.declared.rows.Deed.{Deed}
 use Rattle.cc_names.specs.declared.rows.Deed.TheVariants as deeds
 use Rattle.base_model.specs.Blanked.{blank_deed, blanked, AreSameButForOutputs, AreSameButForScrubbedOutputs}
-use Rattle.base_model.specs.Changes.{live, targets_of}
+use Rattle.base_model.specs.Changes.{live_row, targets_of}
 use Rattle.base_model.specs.Closures.{is_publish, is_publish_deed}
 use Rattle.base_model.specs.Fits.{fits, is_base}
 use Rattle.base_model.specs.Rows.{Base, size, deed_at}
@@ -30,8 +30,8 @@ fits_alike one two deed other same deeds = sym (fits_same two other) ∙ (λ i. 
 pub base_alike : (one two : Base) → AreSameButForOutputs one two → is_base two ≡ is_base one
 base_alike = by_blanked is_base base_same
 
-pub live_alike : (one two : Base) (id : ℕ) → AreSameButForOutputs one two → live two id ≡ live one id
-live_alike one two id = by_blanked (λ b. live b id) (λ b. live_same b id) one two
+pub live_alike : (one two : Base) (id : ℕ) → AreSameButForOutputs one two → live_row two id ≡ live_row one id
+live_alike one two id = by_blanked (λ b. live_row b id) (λ b. live_same b id) one two
 
 pub targets_alike : (one two : Base) (id : ℕ) → AreSameButForOutputs one two → targets_of two id ≡ targets_of one id
 targets_alike one two id = by_blanked (λ b. targets_of b id) (λ b. targets_same b id) one two
@@ -49,27 +49,27 @@ rerun_alike one two id same base =
 
 pub sound_alike : (one two : Base) → AreSameButForScrubbedOutputs one two → is_base one ≡ true → IsSound one → IsSound two
 sound_alike one two h base sound id =
-    (λ i. not (is_some (live_alike one two id h.rows i)) || is_true two id) ∙ by (is_some (live one id)) refl
+    (λ i. not (is_some (live_alike one two id h.rows i)) || is_true two id) ∙ by (is_some (live_row one id)) refl
   where
-    by : (t : Bool) → is_some (live one id) ≡ t → (not t || is_true two id) ≡ true
+    by : (t : Bool) → is_some (live_row one id) ≡ t → (not t || is_true two id) ≡ true
     by true lives =
         (λ i. is_true_deed (rerun_alike one two id h.rows base i) (h.kept id lives i)) ∙ live_is_true one id sound lives
     by false dead = refl
 
-live_is_publish : (b : Base) (id : ℕ) → is_some (live b id) ≡ true → is_publish b id ≡ true
+live_is_publish : (b : Base) (id : ℕ) → is_some (live_row b id) ≡ true → is_publish b id ≡ true
 live_is_publish [] id h = absurd (cc)
 live_is_publish (row ∷ older) id h = by (size older == id) refl (live_is_publish older id)
   where
-    by : (t : Bool) → (size older == id) ≡ t → (is_some (live older id) ≡ true → is_publish older id ≡ true) →
+    by : (t : Bool) → (size older == id) ≡ t → (is_some (live_row older id) ≡ true → is_publish older id ≡ true) →
         is_publish_deed (deed_among t row older id) ≡ true
     by true e rest =
         let number = same_number (size older) id e in
-        is_new (size older) id row.deed (live older id) (λ before. let low = live_below older id before in omega arith) h
-    by false e rest = rest (lived_before (size older) id row.deed (live older id) e h)
+        is_new (size older) id row.deed (live_row older id) (λ before. let low = live_below older id before in omega arith) h
+    by false e rest = rest (lived_before (size older) id row.deed (live_row older id) e h)
 
 -- the text of a live object is one of its outputs, which are the same in both
 pub live_text_alike : (one two : Base) (id : ℕ) (path : List ℕ) → AreSameButForScrubbedOutputs one two →
-    is_some (live one id) ≡ true → text two id path ≡ text one id path
+    is_some (live_row one id) ≡ true → text two id path ≡ text one id path
 live_text_alike one two id path h lives = by (deed_at one id) refl (live_is_publish one id lives)
   where
     by : (o : Option Deed) → deed_at one id ≡ o → is_publish_deed o ≡ true → text two id path ≡ text one id path

@@ -1,7 +1,7 @@
 -- What asks a row for no output says the same of a blanked base: of its rows, and of what the last of them set.
 use Rattle.std.proofs.Common.{◌≡◌, refl, ap, ◌∙◌, ℕ, suc, Bool, true, false, ◌==◌, Option, Some, List, [], ◌∷◌}
 use Rattle.cc_names.specs.Formed.{Plain}
-use Rattle.cc_names.specs.Last.{Effect, left, last}
+use Rattle.cc_names.specs.Last.{Effect, value_after, last}
 use Rattle.cc_names.specs.declared.rows.Deed.{Deed}
 use Rattle.cc_names.specs.declared.rows.Deed.TheVariants as deeds
 use Rattle.cc_names.specs.declared.rows.ReadOf.{ReadOf}
@@ -36,7 +36,7 @@ pub last_same : {A : Type 0} (effect : ℕ → Deed → Effect A) → ((n : ℕ)
     ≡ last (λ older (row : Plain). effect (size older) row.deed) b
 last_same effect h [] = refl
 last_same effect h (row ∷ older) =
-    λ i. left (deed_same (effect (size_same older i)) (h (size_same older i)) row.deed i) (last_same effect h older i)
+    λ i. value_after (deed_same (effect (size_same older i)) (h (size_same older i)) row.deed i) (last_same effect h older i)
 
 -- the deed of a row where a test holds, else that of row n below it
 abbrev pub deed_among : Bool → Plain → Base → ℕ → Option Deed

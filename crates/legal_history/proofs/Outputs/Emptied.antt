@@ -5,7 +5,7 @@ use Rattle.cc_names.specs.Formed.{Plain}
 use Rattle.cc_names.specs.declared.rows.Deed.{Deed}
 use Rattle.cc_names.specs.declared.rows.Deed.TheVariants as deeds
 use Rattle.base_model.specs.Blanked.{blank_outputs, blank_deed, blank_row, blank_unless, blanked_but, blanked, emptied, AreSameButForScrubbedOutputs}
-use Rattle.base_model.specs.Changes.{live}
+use Rattle.base_model.specs.Changes.{live_row}
 use Rattle.base_model.specs.Fits.{is_base}
 use Rattle.base_model.specs.Rows.{Base, size, deed_at}
 use Rattle.legal_history.specs.Builds.Values.{IsSound}
@@ -47,7 +47,7 @@ but_kept keeps (row ∷ older) id keep =
 
 pub emptied_alike : (b : Base) → AreSameButForScrubbedOutputs b (emptied b)
 emptied_alike b =
-    let lives : ℕ → Bool = λ id. is_some (live b id) in
+    let lives : ℕ → Bool = λ id. is_some (live_row b id) in
     record { rows = sym (but_same lives b); kept = λ id is. but_kept lives b id is }
 
 pub emptied_is_base : (b : Base) → is_base (emptied b) ≡ is_base b

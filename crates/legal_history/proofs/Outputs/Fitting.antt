@@ -13,7 +13,7 @@ use Rattle.cc_names.specs.declared.rows.Placed.{Placed}
 use Rattle.cc_names.specs.declared.rows.ReadOf.{ReadOf}
 use Rattle.base_model.specs.ConfigSpecs.Specs.{rules_of}
 use Rattle.base_model.specs.Blanked.{blank_deed, blanked}
-use Rattle.base_model.specs.Catalogs.{named}
+use Rattle.base_model.specs.Catalogs.{element_named}
 use Rattle.base_model.specs.Checkouts.{is_latest}
 use Rattle.base_model.specs.Closures.{is_among, is_of_element, is_version_of}
 use Rattle.base_model.specs.Conditions.{exists, has_out, is_file, is_file_kind, is_directory_kind, has_name, may_check_in, is_label_kind, is_branch_kind, is_reserved_name, is_put, is_some_file, makes_file_text, is_entry, may_be_scrubbed, is_arrow, arrow_row}
@@ -42,7 +42,7 @@ file_same : (b : Base) (e : ℕ) → is_file (blanked b) e ≡ is_file b e
 file_same b e = λ i. is_file_kind (kind_of (tree_same b i) e)
 
 has_name_same : (b : Base) (v : List ℕ) (d : ℕ) (name : List ℕ) → has_name (blanked b) v d name ≡ has_name b v d name
-has_name_same b v d name = λ i. is_some (named name (own_same b v d i))
+has_name_same b v d name = λ i. is_some (element_named name (own_same b v d i))
 
 reserve_same : (b : Base) (origin : ℕ) (reserved : Bool) → may_reserve (blanked b) origin reserved ≡ may_reserve b origin reserved
 reserve_same b origin true =
@@ -98,7 +98,7 @@ deed_fits_same b (deeds.Checkin v e) = λ i. check_in_same b v (out_same b v e i
 deed_fits_same b (deeds.Uncheckout v e) = has_out_same b v e
 deed_fits_same b (deeds.Rmname v d name) =
     λ i. has_out_same b v d i && has_name_same b v d name i
-    && not (is_some (option_and_then (λ e. out_same b v e i) (named name (own_same b v d i))))
+    && not (is_some (option_and_then (λ e. out_same b v e i) (element_named name (own_same b v d i))))
 deed_fits_same b (deeds.Mv v d from_name to_name) =
     λ i. has_out_same b v d i && has_name_same b v d from_name i && not (has_name_same b v d to_name i)
 deed_fits_same b (deeds.Put v path text) = exists_same b v

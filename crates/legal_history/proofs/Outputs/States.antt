@@ -11,8 +11,8 @@ use Rattle.cc_names.specs.declared.changes.ReferenceChange.TheVariants.{Won}
 use Rattle.cc_names.specs.declared.rows.Deed.{Deed}
 use Rattle.cc_names.specs.declared.rows.Deed.TheVariants as deeds
 use Rattle.base_model.specs.Blanked.{blank_deed, blanked}
-use Rattle.base_model.specs.Catalogs.{catalog_of, own_of, catalog_source, edit_of, edited, made_or_older}
-use Rattle.base_model.specs.Changes.{tree, tree_after, with_checkin, labels, labels_after, targets_of, targets_of_deed, holdings, holdings_after, held, live, live_effect, kind_of_type, type_effect}
+use Rattle.base_model.specs.Catalogs.{catalog_of, own_of, catalog_source, edit_of, catalog_after, made_or_older}
+use Rattle.base_model.specs.Changes.{tree, tree_after, with_checkin, labels, labels_after, targets_of, targets_of_deed, holdings, holdings_after, objects_held, live_row, live_effect, kind_of_type, type_effect}
 use Rattle.base_model.specs.Checkouts.{row_of_checkout, with_standing, standing_among, view_of, reserves, reserver, other_reserver}
 use Rattle.base_model.specs.Closures.{is_publish, is_publish_deed}
 use Rattle.base_model.specs.Rows.{Base}
@@ -34,7 +34,7 @@ private_same b v path = last_same (private_effect v path) (λ n. refl) b
 pub type_same : (b : Base) (name : List ℕ) → kind_of_type (blanked b) name ≡ kind_of_type b name
 type_same b name = last_same (λ n. type_effect name) (λ n. refl) b
 
-pub live_same : (b : Base) (id : ℕ) → live (blanked b) id ≡ live b id
+pub live_same : (b : Base) (id : ℕ) → live_row (blanked b) id ≡ live_row b id
 live_same b id = last_same (live_effect id) (λ n. refl) b
 
 pub targets_same : (b : Base) (id : ℕ) → targets_of (blanked b) id ≡ targets_of b id
@@ -70,7 +70,7 @@ holdings_same : (b : Base) → holdings (blanked b) ≡ holdings b
 holdings_same [] = refl
 holdings_same (row ∷ older) = λ i. holdings_step older row.deed (holdings_same older i) i
 
-pub held_same : (b : Base) → held (blanked b) ≡ held b
+pub held_same : (b : Base) → objects_held (blanked b) ≡ objects_held b
 held_same b = λ i. references (holdings_same b i)
 
 record SameCatalogs (b : Base) : Type 0 where
@@ -84,7 +84,7 @@ catalogs_same (row ∷ older) =
     record {
       versions = λ r i. made_or_older (size_same older i == r) (deed_same catalog_source refl row.deed i)
           (λ r. before.versions r i) (λ v d. before.checkouts v d i) r;
-      checkouts = λ v d i. edited (deed_same (edit_of v d (size_same older i)) refl row.deed i) (λ r. before.versions r i)
+      checkouts = λ v d i. catalog_after (deed_same (edit_of v d (size_same older i)) refl row.deed i) (λ r. before.versions r i)
           (before.checkouts v d i);
     }
 

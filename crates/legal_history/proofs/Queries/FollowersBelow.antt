@@ -2,7 +2,7 @@
 use Rattle.std.proofs.Common.{◌≡◌, refl, ap, sym, subst, ◌∙◌, ℕ, suc, ◌<◌, Bool, true, false, ◌&&◌, ◌||◌, ◌==◌, Option, Some, None, List, [], ◌∷◌, arith}
 use Rattle.std.specs.Prelude.{cond, find, not, option_and_then, option_map}
 use Rattle.cc_names.specs.Branches.{origin_by}
-use Rattle.cc_names.specs.Versions.{Version, change_at, is_number, numbered, row_of_change, row_of_version, version_at, versions_on}
+use Rattle.cc_names.specs.Versions.{Version, change_at, is_number, version_of_number, row_of_change, row_of_version, version_at, versions_on}
 use Rattle.cc_names.specs.declared.changes.TreeChange.{TreeChange}
 use Rattle.cc_names.specs.declared.rows.Deed.{Deed}
 use Rattle.cc_names.specs.declared.rows.Deed.TheVariants as deeds
@@ -29,7 +29,7 @@ version_below : (b : Base) (e r : ℕ) → is_version_of b e r ≡ true → r < 
 version_below b e r h = let p = of_element b e r h in let parts = parts_of (tree b) r p.0 p.1 in (within b).numbers r parts.change parts.made
 
 -- a version on a branch is one
-numbered_below : (b : Base) (branch k r : ℕ) → numbered (tree b) branch k ≡ Some r → r < size b
+numbered_below : (b : Base) (branch k r : ℕ) → version_of_number (tree b) branch k ≡ Some r → r < size b
 numbered_below b branch k r h = by (find (λ v. v.number == k) (versions_on (tree b) branch)) refl h
   where
     by : (o : Option Version) → find (λ v. v.number == k) (versions_on (tree b) branch) ≡ o → option_map row_of_version o ≡ Some r → r < size b
@@ -39,9 +39,9 @@ numbered_below b branch k r h = by (find (λ v. v.number == k) (versions_on (tre
         subst (λ n. n < size b) (some_same h) ((within b).numbers v.row stands.change stands.made)
 
 successor_below : (b : Base) (one two : ℕ) → is_successor b one two ≡ true → two < size b
-successor_below b one two h = by (version_at (tree b) one) (number_is two (option_and_then (λ version. numbered (tree b) version.branch (suc version.number)) (version_at (tree b) one)) h)
+successor_below b one two h = by (version_at (tree b) one) (number_is two (option_and_then (λ version. version_of_number (tree b) version.branch (suc version.number)) (version_at (tree b) one)) h)
   where
-    by : (o : Option Version) → option_and_then (λ version. numbered (tree b) version.branch (suc version.number)) o ≡ Some two → two < size b
+    by : (o : Option Version) → option_and_then (λ version. version_of_number (tree b) version.branch (suc version.number)) o ≡ Some two → two < size b
     by None h = absurd (cc)
     by (Some version) h = numbered_below b version.branch (suc version.number) two h
 
@@ -61,9 +61,9 @@ branch_below b one two h = let c = found_change (tree b) one two h in (within b)
 head_below : (b : Base) (one two : ℕ) (deed : Deed) → deed_fits b deed ≡ true → leads one two deed ≡ true → two < size b
 head_below b one two (deeds.Arrow e tail head) fit h =
     let number = same_number head two (and_second (tail == one) (head == two) h) in
-    let front = and_first (is_version_of b e tail && is_version_of b e head && not (tail == head)) _ fit in
+    let prefix = and_first (is_version_of b e tail && is_version_of b e head && not (tail == head)) _ fit in
     subst (λ n. n < size b) number
-    (version_below b e head (and_second (is_version_of b e tail) (is_version_of b e head) (and_first (is_version_of b e tail && is_version_of b e head) (not (tail == head)) front)))
+    (version_below b e head (and_second (is_version_of b e tail) (is_version_of b e head) (and_first (is_version_of b e tail && is_version_of b e head) (not (tail == head)) prefix)))
 head_below b one two deed fit h = absurd (cc)
 
 arrow_below : (b : Base) (one two : ℕ) → is_base b ≡ true → is_arrow_between b one two ≡ true → two < size b

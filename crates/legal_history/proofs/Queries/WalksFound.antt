@@ -136,9 +136,9 @@ none_or_new b versions n most found low (inl none) = by (is_in n versions) (list
     by false false e = inl none
     by false true e = inr (record { number = n; low = low; new = e; in_found = or_first (n == n) (is_in n found) (same_is_same n) })
 
-takes_in : (b : Base) (versions : List ℕ) (rows : Base) (most : ℕ) → size rows ≤ most → (followers b versions rows ≡ []) ⊎ NewOne b versions (followers b versions rows) most
-takes_in b versions [] most h = none_or_new b versions 0 most [] (omega arith) (inl refl)
-takes_in b versions (row ∷ older) most h = none_or_new b versions (size older) most (followers b versions older) (omega arith) (takes_in b versions older most (omega arith))
+walk_adds : (b : Base) (versions : List ℕ) (rows : Base) (most : ℕ) → size rows ≤ most → (followers b versions rows ≡ []) ⊎ NewOne b versions (followers b versions rows) most
+walk_adds b versions [] most h = none_or_new b versions 0 most [] (omega arith) (inl refl)
+walk_adds b versions (row ∷ older) most h = none_or_new b versions (size older) most (followers b versions older) (omega arith) (walk_adds b versions older most (omega arith))
 
 -- versions that nothing more follows are closed, and stay so
 closed_by_none : (b : Base) (versions : List ℕ) → is_base b ≡ true → followers b versions b ≡ [] → Closed b versions
@@ -157,7 +157,7 @@ stays_the_same (suc rounds) b versions none = ap (λ found. within rounds b (fou
 
 closed_within : (rounds : ℕ) (b : Base) (versions : List ℕ) → is_base b ≡ true → size b ≤ having (size b) versions + rounds → Closed b (within rounds b versions)
 closed_within zero b versions base h = record { onward = λ c d is f. has_all (size b) versions (omega arith) d (follower_below b c d base f) }
-closed_within (suc rounds) b versions base h = by (takes_in b versions b (size b) (omega arith)) (λ more. closed_within rounds b (followers b versions b ++ versions) base more)
+closed_within (suc rounds) b versions base h = by (walk_adds b versions b (size b) (omega arith)) (λ more. closed_within rounds b (followers b versions b ++ versions) base more)
   where
     by : (followers b versions b ≡ []) ⊎ NewOne b versions (followers b versions b) (size b) → (size b ≤ having (size b) (followers b versions b ++ versions) + rounds → Closed b (within rounds b (followers b versions b ++ versions))) →
         Closed b (within (suc rounds) b versions)

@@ -20,8 +20,8 @@ use Rattle.legal_history.specs.Commands.Decisions.{Begins}
 use Rattle.base_model.specs.Fits.{is_base}
 use Rattle.legal_history.specs.Builds.Freshness.{AgreesSoFar}
 use Rattle.legal_history.specs.Builds.Values as values
-use Rattle.legal_history.specs.Stories.States.{State, decided, build_by}
-use Rattle.legal_history.specs.Stories.Steps.{after, after_step, active_after, begun, build_asked, came_by_starting, noted}
+use Rattle.legal_history.specs.Stories.States.{State, decision_for, build_by}
+use Rattle.legal_history.specs.Stories.Steps.{after, after_step, active_after, build_begun_by, build_asked, came_by_starting, with_outcome}
 use Rattle.legal_history.specs.Stories.Lawful.{Lawful, LawfulStep}
 use Rattle.legal_history.specs.Builds.Turns.{came_by_start, unreadable}
 use Rattle.legal_history.specs.Builds.UnitTurns.{EndsEarly, ComesTo, Starts}
@@ -35,7 +35,7 @@ use Rattle.legal_history.proofs.Builds.ReadyUnits.{ready_by}
 use Rattle.legal_history.proofs.Builds.UnitsCome.{start_came, start_may, early_may, fails_may, given_may}
 use Rattle.legal_history.proofs.Stories.DecidedSteps.{decided_of, says_of, begun_is}
 use Rattle.legal_history.proofs.Stories.Goes.{of_lane}
-use Rattle.legal_history.proofs.Stories.SoundStories.{IsSound}
+use Rattle.legal_history.proofs.Stories.ConsistentStories.{IsConsistentState}
 use Rattle.legal_history.proofs.Reuse.GivenCommits.{AllHeld}
 use Rattle.legal_history.proofs.Reuse.SoundBases.{gives_live}
 use Rattle.legal_history.proofs.Reuse.TakenObjects.{kept_agrees, may_take_may_run, winked_agrees}
@@ -44,14 +44,14 @@ use Rattle.legal_history.proofs.Reuse.TakenObjects.{kept_agrees, may_take_may_ru
 abbrev pub BuildsAgree : State → Type 0
 BuildsAgree s = Each (λ lane. AgreesSoFar s.base) s.active
 
-early_agrees : (s : State) (tag : Tag) (n : ℕ) (end : UnitEnd) → BuildsAgree s → EndsEarly s tag n end → object_of (Some (Concluded end)) ≡ None → Each (λ lane. AgreesSoFar s.base) (noted s.active tag.lane (λ b. Some n) (Concluded end))
+early_agrees : (s : State) (tag : Tag) (n : ℕ) (end : UnitEnd) → BuildsAgree s → EndsEarly s tag n end → object_of (Some (Concluded end)) ≡ None → Each (λ lane. AgreesSoFar s.base) (with_outcome s.active tag.lane (λ b. Some n) (Concluded end))
 early_agrees s tag n end h e plain =
     let there = of_lane s tag e.build e.waits.active in
     let agrees = h.holds tag.lane e.build there in
     each_waited (AgreesSoFar s.base) s tag n e.build (λ b. Some n) (Concluded end) h there refl
     (came_so s.base e.build n e.unit (Concluded end) agrees (early_may s.base e.build n e.unit end agrees e.waits.is_unit e.waits.waits (ready_by e.build e.unit e.ready) e.ends plain))
 
-settled_agrees : (s : State) (tag : Tag) (n : ℕ) (end : UnitEnd) → values.IsSound s.base → is_base s.base ≡ true → AllHeld s → BuildsAgree s → ComesTo s tag n end → Each (λ lane. AgreesSoFar s.base) (noted s.active tag.lane (λ b. Some n) (Concluded end))
+settled_agrees : (s : State) (tag : Tag) (n : ℕ) (end : UnitEnd) → values.IsSound s.base → is_base s.base ≡ true → AllHeld s → BuildsAgree s → ComesTo s tag n end → Each (λ lane. AgreesSoFar s.base) (with_outcome s.active tag.lane (λ b. Some n) (Concluded end))
 settled_agrees s tag n (ends.Kept id) whole base held h e =
     let there = of_lane s tag e.build e.open_unit.waits.active in
     each_waited (AgreesSoFar s.base) s tag n e.build (λ b. Some n) (Concluded (ends.Kept id)) h there refl
@@ -67,31 +67,31 @@ settled_agrees s tag n (ends.Failed fault) whole base held h e = early_agrees s 
 settled_agrees s tag n (ends.Blocked path) whole base held h e = early_agrees s tag n (ends.Blocked path) h e refl
 settled_agrees s tag n ends.Bare whole base held h e = early_agrees s tag n ends.Bare h e refl
 
-started_agrees : (s : State) (tag : Tag) (n : ℕ) → BuildsAgree s → Starts s tag n → Each (λ lane. AgreesSoFar s.base) (noted s.active tag.lane (λ b. Some n) (came_by_starting (build_of s.active tag.lane) n))
+started_agrees : (s : State) (tag : Tag) (n : ℕ) → BuildsAgree s → Starts s tag n → Each (λ lane. AgreesSoFar s.base) (with_outcome s.active tag.lane (λ b. Some n) (came_by_starting (build_of s.active tag.lane) n))
 started_agrees s tag n h e =
     let waits = e.open_unit.waits in
     let there = of_lane s tag e.build waits.active in
     let agrees = h.holds tag.lane e.build there in
     let ready = ready_by e.build e.unit e.open_unit.ready in
-    subst (λ came. Each (λ lane. AgreesSoFar s.base) (noted s.active tag.lane (λ b. Some n) came)) (sym (start_came s tag n e.build e.unit there waits.is_unit))
+    subst (λ came. Each (λ lane. AgreesSoFar s.base) (with_outcome s.active tag.lane (λ b. Some n) came)) (sym (start_came s tag n e.build e.unit there waits.is_unit))
     (each_waited (AgreesSoFar s.base) s tag n e.build (λ b. Some n) (came_by_start (unreadable e.unit)) h there refl
     (came_so s.base e.build n e.unit (came_by_start (unreadable e.unit)) agrees
     (start_may s.base e.build n e.unit agrees waits.is_unit waits.waits ready (sym (early_same s.base e.build n e.unit agrees waits.is_unit ready) ∙ e.open_unit.runs))))
 
-begun_agrees : (s : State) (tag : Tag) (us : List Unit) → is_base s.base ≡ true → decided s tag ≡ Some (Ok (Begins us)) → (build : Build) → begun s tag ≡ Some build → AgreesSoFar s.base build
+begun_agrees : (s : State) (tag : Tag) (us : List Unit) → is_base s.base ≡ true → decision_for s tag ≡ Some (Ok (Begins us)) → (build : Build) → build_begun_by s tag ≡ Some build → AgreesSoFar s.base build
 begun_agrees s tag us base h build is =
     let says = says_of s tag (Begins us) (decided_of s tag (Begins us) h) in
     let made : Some (build_asked tag (size s.base) us says.asked) ≡ Some build = sym (begun_is s tag us h) ∙ is in
     subst (AgreesSoFar s.base) (some_same made) (begins_so s.base (build_asked tag (size s.base) us says.asked) (begun_begins s tag us base h))
 
-told_agrees : (s : State) (step : Step) → values.IsSound s.base → is_base s.base ≡ true → AllHeld s → BuildsAgree s → LawfulStep s step → Each (λ lane. AgreesSoFar (after_step s step).base) (after_step s step).active
-told_agrees s (steps.Begin tag rows count) whole base held h e = each_begun (λ lane. AgreesSoFar s.base) s.active tag.lane (begun s tag) h (begun_agrees s tag e.units base e.chosen)
-told_agrees s (steps.Start tag n) whole base held h e = started_agrees s tag n h e
-told_agrees s (steps.Concluded tag n end) whole base held h e = settled_agrees s tag n end whole base held h e
-told_agrees s (steps.End tag) whole base held h e = each_without (λ lane. AgreesSoFar s.base) (λ lane. AgreesSoFar s.base) s.active tag.lane h (λ lane build apart agrees. agrees)
-told_agrees s (steps.Fault tag left before faults tick) whole base held h e =
+any_step_agrees : (s : State) (step : Step) → values.IsSound s.base → is_base s.base ≡ true → AllHeld s → BuildsAgree s → LawfulStep s step → Each (λ lane. AgreesSoFar (after_step s step).base) (after_step s step).active
+any_step_agrees s (steps.Begin tag rows count) whole base held h e = each_begun (λ lane. AgreesSoFar s.base) s.active tag.lane (build_begun_by s tag) h (begun_agrees s tag e.units base e.chosen)
+any_step_agrees s (steps.Start tag n) whole base held h e = started_agrees s tag n h e
+any_step_agrees s (steps.Concluded tag n end) whole base held h e = settled_agrees s tag n end whole base held h e
+any_step_agrees s (steps.End tag) whole base held h e = each_without (λ lane. AgreesSoFar s.base) (λ lane. AgreesSoFar s.base) s.active tag.lane h (λ lane build apart agrees. agrees)
+any_step_agrees s (steps.Fault tag left before faults tick) whole base held h e =
     each_faulted (λ lane. AgreesSoFar s.base) s.active tag.lane (build_by s tag) h (λ build is. faulted_agrees s.base build (h.holds tag.lane build (of_lane s tag build is)))
-told_agrees s step whole base held h e = h
+any_step_agrees s step whole base held h e = h
 
 -- a row of whatever deed
 agrees_on : (s : State) (row : Plain) → BuildsAgree s → Each (λ lane. AgreesSoFar (row ∷ s.base)) s.active
@@ -116,8 +116,8 @@ committed_agrees s tag moment (deeds.Wink view id) whole base held h e =
 committed_agrees s tag moment deed whole base held h e = agrees_on s (record { tag = tag; moment = moment; deed = deed }) h
 
 -- Each lawful step leaves each active build agreeing.
-pub agree_step : (s : State) (x : StoryStep) → IsSound s → values.IsSound s.base → AllHeld s → BuildsAgree s → Lawful s x → BuildsAgree (after s x)
+pub agree_step : (s : State) (x : StoryStep) → IsConsistentState s → values.IsSound s.base → AllHeld s → BuildsAgree s → Lawful s x → BuildsAgree (after s x)
 agree_step s (story_steps.Opened rows counts tells) sound whole held h e = absurd (let first = e.first in let opened = sound.opened in cc)
 agree_step s (story_steps.PhaseBegun phase moment) sound whole held h e = h
 agree_step s (story_steps.Commit row tick) sound whole held h e = committed_agrees s row.tag row.moment row.deed whole sound.base held h e.may.made
-agree_step s (story_steps.Other step) sound whole held h e = told_agrees s step whole sound.base held h e
+agree_step s (story_steps.Other step) sound whole held h e = any_step_agrees s step whole sound.base held h e

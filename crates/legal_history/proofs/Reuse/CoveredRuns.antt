@@ -11,7 +11,7 @@ use Rattle.base_model.specs.Changes.{targets_of}
 use Rattle.base_model.specs.Closures.{Inputs, inputs_of_entry, inputs_of, closure, entries_of_deed, is_publish}
 use Rattle.base_model.specs.Fits.{is_base}
 use Rattle.base_model.specs.Texts.{texts, text}
-use Rattle.base_model.specs.Objects.{row_in, uncovered}
+use Rattle.base_model.specs.Objects.{row_in, uncovered_path}
 use Rattle.base_model.specs.Seen.{file_at}
 use Rattle.legal_history.specs.Builds.Values.{output_of_run, outputs_of_run, text_of_entry, texts_of_entries, run_of_deed, rerun, text_seen, texts_seen, rerun_on, again, is_true}
 use Rattle.base_model.proofs.Owned.{row_fits, rows_below}
@@ -69,7 +69,7 @@ same_rerun rows seen (row ∷ older) base as_text id covers = by (size older == 
     by false covers rest = rest id covers
 
 -- The law of a covered record.
-pub covered_runs_again : (b : Base) (v : List ℕ) (id : ℕ) → is_base b ≡ true → is_true b id ≡ true → uncovered b v id ≡ None → again b v id ≡ outputs_of b id
+pub covered_runs_again : (b : Base) (v : List ℕ) (id : ℕ) → is_base b ≡ true → is_true b id ≡ true → uncovered_path b v id ≡ None → again b v id ≡ outputs_of b id
 covered_runs_again b v id base true_one covered =
     let o = true_object b id true_one in
     ap outputs_of_run (same_rerun (file_at b v) (texts b v) b base (λ path r low is. ap (option_and_then (λ row. text b row path)) is) id (closure_covered b v id covered))

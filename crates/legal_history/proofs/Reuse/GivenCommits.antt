@@ -16,8 +16,8 @@ use Rattle.base_model.specs.Changes.{targets_of}
 use Rattle.base_model.specs.Fits.{deed_fits, is_base}
 use Rattle.legal_history.specs.Builds.Reuse.{reusable}
 use Rattle.legal_history.specs.Builds.Serials.{makes}
-use Rattle.legal_history.specs.Stories.States.{State, scene, decided}
-use Rattle.legal_history.specs.Stories.Steps.{noted, active_after, with_came}
+use Rattle.legal_history.specs.Stories.States.{State, scene, decision_for}
+use Rattle.legal_history.specs.Stories.Steps.{with_outcome, active_after, with_came}
 use Rattle.legal_history.specs.Stories.Committing.{MakesRow}
 use Rattle.legal_history.specs.Builds.UnitTurns.{Winks, Publishes}
 use Rattle.legal_history.proofs.Stories.Goes.{of_lane}
@@ -25,7 +25,7 @@ use Rattle.legal_history.proofs.Builds.AllBuilds.{Each, each_noted}
 use Rattle.legal_history.proofs.Stories.DecidedSteps.{decided_of}
 use Rattle.legal_history.proofs.Builds.FineBuilds.{TakesFor, some_same, takes_for}
 use Rattle.legal_history.proofs.Builds.Published.{IsPublish, is_publish}
-use Rattle.legal_history.proofs.Stories.SoundStories.{IsSound}
+use Rattle.legal_history.proofs.Stories.ConsistentStories.{IsConsistentState}
 use Rattle.legal_history.specs.Laws.Given.{IsHeld, HoldsGiven}
 use Rattle.legal_history.proofs.Decisions.DecidedIdle.{decided_idle}
 use Rattle.legal_history.proofs.Reuse.GivenRows.{IsOfCommand, given_stays, given_by_command, came_given, object_is_outcome, publish_held, wink_held}
@@ -56,7 +56,7 @@ pub publish_is : (b : Base) (build : Build) (n : ℕ) (unit : Unit) (view : List
 publish_is b build n unit view targets script entries outputs p = record { same_view = sym (ap view_of_deed p.is); same_targets = sym (ap targets_in_deed p.is) }
 
 -- a publish by a build leaves the targets of each unit that has an object
-leaves_given : (s : State) (tag : Tag) (view : List ℕ) (targets : List (List ℕ)) (build other : Build) (lane n m id : ℕ) (unit of_m : Unit) (path : List ℕ) → IsSound s → AllHeld s →
+leaves_given : (s : State) (tag : Tag) (view : List ℕ) (targets : List (List ℕ)) (build other : Build) (lane n m id : ℕ) (unit of_m : Unit) (path : List ℕ) → IsConsistentState s → AllHeld s →
     build_of s.active tag.lane ≡ Some build → unit_at build n ≡ Some unit → is_outcome (came_to build n) ≡ false → PublishIs build unit view targets →
     build_of s.active lane ≡ Some other → unit_at other m ≡ Some of_m → object_of (came_to other m) ≡ Some id → makes path of_m ≡ true → (bytes_eq other.view view && is_among path targets) ≡ false
 leaves_given s tag view targets build other lane n m id unit of_m path sound h there is_unit waits p is is_m own made = by_view (bytes_eq other.view view) refl
@@ -85,9 +85,9 @@ leaves_given s tag view targets build other lane n m id unit of_m path sound h t
         let same : build ≡ other = some_same (sym there ∙ ap (build_of s.active) (sym lanes) ∙ is) in
         by_path same (is_among path targets) refl
 
-published_given : (s : State) (tag : Tag) (moment : ℕ) (view : List ℕ) (targets : List (List ℕ)) (script : List ℕ) (entries : List ReadOf) (outputs : List (List ℕ)) → IsSound s → AllHeld s →
+published_given : (s : State) (tag : Tag) (moment : ℕ) (view : List ℕ) (targets : List (List ℕ)) (script : List ℕ) (entries : List ReadOf) (outputs : List (List ℕ)) → IsConsistentState s → AllHeld s →
     deed_fits s.base (deeds.Publish view targets script entries outputs) ≡ true → Publishes s (record { tag = tag; moment = moment; deed = deeds.Publish view targets script entries outputs }) targets →
-    Each (λ lane. HoldsGiven (record { tag = tag; moment = moment; deed = deeds.Publish view targets script entries outputs } ∷ s.base)) (noted s.active tag.lane (λ build. unit_with_first build targets) (Given (size s.base)))
+    Each (λ lane. HoldsGiven (record { tag = tag; moment = moment; deed = deeds.Publish view targets script entries outputs } ∷ s.base)) (with_outcome s.active tag.lane (λ build. unit_with_first build targets) (Given (size s.base)))
 published_given s tag moment view targets script entries outputs sound h fit e =
     each_noted (λ lane. HoldsGiven (row ∷ s.base)) s.active tag.lane (λ build. unit_with_first build targets) (Given (size s.base)) before own
   where
@@ -126,8 +126,8 @@ pub wink_is : (b : Base) (build : Build) (n : ℕ) (unit : Unit) (view : List �
 wink_is b build n unit view id base of_view chosen =
     record { same_view = of_view; same_targets = sym (chosen_object b build n unit id base chosen).targets }
 
-winked_given : (s : State) (tag : Tag) (moment : ℕ) (view : List ℕ) (id : ℕ) → IsSound s → AllHeld s → deed_fits s.base (deeds.Wink view id) ≡ true → Winks s (record { tag = tag; moment = moment; deed = deeds.Wink view id }) view id →
-    Each (λ lane. HoldsGiven (record { tag = tag; moment = moment; deed = deeds.Wink view id } ∷ s.base)) (noted s.active tag.lane (λ build. unit_with_first build (targets_of s.base id)) (Given id))
+winked_given : (s : State) (tag : Tag) (moment : ℕ) (view : List ℕ) (id : ℕ) → IsConsistentState s → AllHeld s → deed_fits s.base (deeds.Wink view id) ≡ true → Winks s (record { tag = tag; moment = moment; deed = deeds.Wink view id }) view id →
+    Each (λ lane. HoldsGiven (record { tag = tag; moment = moment; deed = deeds.Wink view id } ∷ s.base)) (with_outcome s.active tag.lane (λ build. unit_with_first build (targets_of s.base id)) (Given id))
 winked_given s tag moment view id sound h fit e = each_noted (λ lane. HoldsGiven (row ∷ s.base)) s.active tag.lane (λ build. unit_with_first build (targets_of s.base id)) (Given id) before own
   where
     row : Plain
@@ -161,7 +161,7 @@ winked_given s tag moment view id sound h fit e = each_noted (λ lane. HoldsGive
         (reusable_matches s.base e.build e.n e.unit id sound.base e.chosen).lives w.is_unit e.place))
         (before.holds tag.lane e.build w.there)))
 
-commanded_given : (s : State) (tag : Tag) (moment : ℕ) (deed : Deed) → AllHeld s → deed_fits s.base deed ≡ true → IsOfCommand deed → decided s tag ≡ Some (Ok (Makes deed)) →
+commanded_given : (s : State) (tag : Tag) (moment : ℕ) (deed : Deed) → AllHeld s → deed_fits s.base deed ≡ true → IsOfCommand deed → decision_for s tag ≡ Some (Ok (Makes deed)) →
     Each (λ lane. HoldsGiven (record { tag = tag; moment = moment; deed = deed } ∷ s.base)) s.active
 commanded_given s tag moment deed h fit plain e =
     let d = decided_of s tag (Makes deed) e in
@@ -170,7 +170,7 @@ commanded_given s tag moment deed h fit plain e =
           given_by_command (record { tag = tag; moment = moment; deed = deed }) s.base s.active lane build fit plain (decided_idle (scene s) d.command deed d.is) is (h.given.holds lane build is);
     }
 
-pub committed_given : (s : State) (tag : Tag) (moment : ℕ) (deed : Deed) → IsSound s → AllHeld s → deed_fits s.base deed ≡ true → MakesRow s (record { tag = tag; moment = moment; deed = deed }) deed →
+pub committed_given : (s : State) (tag : Tag) (moment : ℕ) (deed : Deed) → IsConsistentState s → AllHeld s → deed_fits s.base deed ≡ true → MakesRow s (record { tag = tag; moment = moment; deed = deed }) deed →
     Each (λ lane. HoldsGiven (record { tag = tag; moment = moment; deed = deed } ∷ s.base)) (active_after s.base s.active tag.lane deed)
 committed_given s tag moment (deeds.Publish view targets script entries outputs) sound h fit e = published_given s tag moment view targets script entries outputs sound h fit e
 committed_given s tag moment (deeds.Wink view id) sound h fit e = winked_given s tag moment view id sound h fit e

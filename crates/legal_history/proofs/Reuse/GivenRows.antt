@@ -4,7 +4,7 @@ use Rattle.std.proofs.lemmas.Slice.Eq.{bytes_eq-Decides}
 use Rattle.std.specs.Bool.{⊤}
 use Rattle.std.specs.Prelude.{is_some, bytes_eq}
 use Rattle.cc_names.specs.Formed.{Plain}
-use Rattle.cc_names.specs.Last.{Sets, only_if, left}
+use Rattle.cc_names.specs.Last.{Sets, only_if, value_after}
 use Rattle.cc_names.specs.References.{held_at}
 use Rattle.cc_names.specs.declared.rows.Deed.{Deed}
 use Rattle.cc_names.specs.declared.rows.Deed.TheVariants as deeds
@@ -13,7 +13,7 @@ use Rattle.cc_names.specs.declared.rows.Tag.{Tag}
 use Rattle.cc_names.specs.declared.units.Unit.{Unit}
 use Rattle.base_model.specs.Rows.{Base, size}
 use Rattle.legal_history.specs.Builds.Active.{Active, Build, Came, Started, Concluded, Given, build_of, building, came_to, is_outcome, object_of, unit_at, unit_with_first}
-use Rattle.base_model.specs.Changes.{held, live, targets_of}
+use Rattle.base_model.specs.Changes.{objects_held, live_row, targets_of}
 use Rattle.base_model.specs.Closures.{is_among}
 use Rattle.base_model.specs.Fits.{deed_fits}
 use Rattle.legal_history.specs.Builds.Serials.{makes}
@@ -107,17 +107,17 @@ publish_held tag moment view targets script entries outputs b build n unit same_
     record {
       unit = unit;
       is_unit = is;
-      lives = ap (λ t. is_some (left (only_if t (Sets (size b))) (live b (size b)))) (same_is_same (size b));
+      lives = ap (λ t. is_some (value_after (only_if t (Sets (size b))) (live_row b (size b)))) (same_is_same (size b));
       target = first.0;
       is_target = ap (is_among first.0) same_targets ∙ first.1;
       holds = λ path made.
-          held_after_won build.view path view (size b) targets (held b)
-          ∙ ap₂ (λ s t. cond (s && t) (Some (size b)) (held_at (held b) build.view path))
+          held_after_won build.view path view (size b) targets (objects_held b)
+          ∙ ap₂ (λ s t. cond (s && t) (Some (size b)) (held_at (objects_held b) build.view path))
           ((bytes_eq-Decides build.view view).1 same_view) (ap (is_among path) (sym same_targets) ∙ made);
     }
 
 -- the object that a unit winks in is held at each target of the unit
-pub wink_held : (tag : Tag) (moment : ℕ) (view : List ℕ) (id : ℕ) (b : Base) (build : Build) (n : ℕ) (unit : Unit) → build.view ≡ view → unit.targets ≡ targets_of b id → is_some (live b id) ≡ true → unit_at build n ≡ Some unit →
+pub wink_held : (tag : Tag) (moment : ℕ) (view : List ℕ) (id : ℕ) (b : Base) (build : Build) (n : ℕ) (unit : Unit) → build.view ≡ view → unit.targets ≡ targets_of b id → is_some (live_row b id) ≡ true → unit_at build n ≡ Some unit →
     unit_with_first build (targets_of b id) ≡ Some n → IsHeld (record { tag = tag; moment = moment; deed = deeds.Wink view id } ∷ b) build n id
 wink_held tag moment view id b build n unit same_view same_targets lives is place =
     let first = target_there build (targets_of b id) n place in
@@ -128,7 +128,7 @@ wink_held tag moment view id b build n unit same_view same_targets lives is plac
       target = first.0;
       is_target = ap (is_among first.0) same_targets ∙ first.1;
       holds = λ path made.
-          held_after_won build.view path view id (targets_of b id) (held b)
-          ∙ ap₂ (λ s t. cond (s && t) (Some id) (held_at (held b) build.view path))
+          held_after_won build.view path view id (targets_of b id) (objects_held b)
+          ∙ ap₂ (λ s t. cond (s && t) (Some id) (held_at (objects_held b) build.view path))
           ((bytes_eq-Decides build.view view).1 same_view) (ap (is_among path) (sym same_targets) ∙ made);
     }

@@ -12,8 +12,8 @@ use Rattle.base_model.specs.Rows.{size}
 use Rattle.legal_history.specs.Builds.Active.{Build, Came, Concluded, build_of, object_of, unit_at}
 use Rattle.legal_history.specs.Commands.Decisions.{Begins}
 use Rattle.base_model.specs.Fits.{is_base}
-use Rattle.legal_history.specs.Stories.States.{State, decided, build_by}
-use Rattle.legal_history.specs.Stories.Steps.{after, after_step, noted, came_by_starting, came_of_unit, begun, build_asked, with_came}
+use Rattle.legal_history.specs.Stories.States.{State, decision_for, build_by}
+use Rattle.legal_history.specs.Stories.Steps.{after, after_step, with_outcome, came_by_starting, came_of_unit, build_begun_by, build_asked, with_came}
 use Rattle.legal_history.specs.Stories.Lawful.{Lawful, LawfulStep}
 use Rattle.legal_history.specs.Builds.UnitTurns.{ComesTo, Keeps}
 use Rattle.legal_history.specs.Builds.Turns.{unreadable}
@@ -23,7 +23,7 @@ use Rattle.legal_history.proofs.Builds.AllBuilds.{Each, each_noted, each_without
 use Rattle.legal_history.proofs.Stories.DecidedSteps.{decided_of, says_of, begun_is}
 use Rattle.legal_history.proofs.Builds.FineBuilds.{some_same}
 use Rattle.legal_history.proofs.Builds.UnitsCome.{start_without}
-use Rattle.legal_history.proofs.Stories.SoundStories.{IsSound, sound_step}
+use Rattle.legal_history.proofs.Stories.ConsistentStories.{IsConsistentState, consistent_step}
 use Rattle.legal_history.specs.Laws.Given.{IsHeld, HoldsGiven}
 use Rattle.legal_history.proofs.Reuse.GivenRows.{came_given, came_without}
 use Rattle.legal_history.proofs.Reuse.KeptObjects.{kept_held}
@@ -39,12 +39,12 @@ starting_without : (o : Option Build) (n : ℕ) → object_of (Some (came_by_sta
 starting_without None n = start_without None
 starting_without (Some build) n = unit_without (unit_at build n)
 
-without_object : (s : State) (lane : ℕ) (number : Build → Option ℕ) (came : Came) → object_of (Some came) ≡ None → AllHeld s → Each (λ lane. HoldsGiven s.base) (noted s.active lane number came)
+without_object : (s : State) (lane : ℕ) (number : Build → Option ℕ) (came : Came) → object_of (Some came) ≡ None → AllHeld s → Each (λ lane. HoldsGiven s.base) (with_outcome s.active lane number came)
 without_object s lane number came none h =
     each_noted (λ lane. HoldsGiven s.base) s.active lane number came h.given (λ build is. came_without s.base build (number build) came none (h.given.holds lane build is))
 
 -- a unit keeps what the view holds at every target
-kept_given : (s : State) (tag : Tag) (n id : ℕ) → is_base s.base ≡ true → AllHeld s → Keeps s tag n id → Each (λ lane. HoldsGiven s.base) (noted s.active tag.lane (λ b. Some n) (Concluded (ends.Kept id)))
+kept_given : (s : State) (tag : Tag) (n id : ℕ) → is_base s.base ≡ true → AllHeld s → Keeps s tag n id → Each (λ lane. HoldsGiven s.base) (with_outcome s.active tag.lane (λ b. Some n) (Concluded (ends.Kept id)))
 kept_given s tag n id base h e =
     each_noted (λ lane. HoldsGiven s.base) s.active tag.lane (λ b. Some n) (Concluded (ends.Kept id)) h.given own
   where
@@ -60,43 +60,43 @@ kept_given s tag n id base h e =
         subst (IsHeld s.base e.build n) number (kept_held s.base e.build n e.unit id base e.open_unit.waits.is_unit e.holds))
         (h.given.holds tag.lane e.build there))
 
-settled_given : (s : State) (tag : Tag) (n : ℕ) (end : UnitEnd) → is_base s.base ≡ true → AllHeld s → ComesTo s tag n end → Each (λ lane. HoldsGiven s.base) (noted s.active tag.lane (λ b. Some n) (Concluded end))
+settled_given : (s : State) (tag : Tag) (n : ℕ) (end : UnitEnd) → is_base s.base ≡ true → AllHeld s → ComesTo s tag n end → Each (λ lane. HoldsGiven s.base) (with_outcome s.active tag.lane (λ b. Some n) (Concluded end))
 settled_given s tag n (ends.Kept id) base h e = kept_given s tag n id base h e
 settled_given s tag n (ends.Failed fault) base h e = without_object s tag.lane (λ b. Some n) (Concluded (ends.Failed fault)) refl h
 settled_given s tag n (ends.Blocked path) base h e = without_object s tag.lane (λ b. Some n) (Concluded (ends.Blocked path)) refl h
 settled_given s tag n ends.Bare base h e = without_object s tag.lane (λ b. Some n) (Concluded ends.Bare) refl h
 
-begun_given : (s : State) (tag : Tag) (us : List Unit) → decided s tag ≡ Some (Ok (Begins us)) → (build : Build) → begun s tag ≡ Some build → HoldsGiven s.base build
+begun_given : (s : State) (tag : Tag) (us : List Unit) → decision_for s tag ≡ Some (Ok (Begins us)) → (build : Build) → build_begun_by s tag ≡ Some build → HoldsGiven s.base build
 begun_given s tag us h build is =
     let says = says_of s tag (Begins us) (decided_of s tag (Begins us) h) in
     let made : build_asked tag (size s.base) us says.asked ≡ build = some_same (sym (begun_is s tag us h) ∙ is) in
     subst (HoldsGiven s.base) made (record { given = λ n id own. absurd (cc) })
 
-told_given : (s : State) (step : Step) → is_base s.base ≡ true → AllHeld s → LawfulStep s step → Each (λ lane. HoldsGiven (after_step s step).base) (after_step s step).active
-told_given s (steps.Begin tag rows count) base h e = each_begun (λ lane. HoldsGiven s.base) s.active tag.lane (begun s tag) h.given (begun_given s tag e.units e.chosen)
-told_given s (steps.Start tag n) base h e = without_object s tag.lane (λ b. Some n) (came_by_starting (build_of s.active tag.lane) n) (starting_without (build_of s.active tag.lane) n) h
-told_given s (steps.Concluded tag n end) base h e = settled_given s tag n end base h e
-told_given s (steps.End tag) base h e = each_without (λ lane. HoldsGiven s.base) (λ lane. HoldsGiven s.base) s.active tag.lane h.given (λ lane build apart given. given)
-told_given s (steps.Fault tag left before faults tick) base h e = each_faulted (λ lane. HoldsGiven s.base) s.active tag.lane (build_by s tag) h.given (λ build is.
+any_step_given : (s : State) (step : Step) → is_base s.base ≡ true → AllHeld s → LawfulStep s step → Each (λ lane. HoldsGiven (after_step s step).base) (after_step s step).active
+any_step_given s (steps.Begin tag rows count) base h e = each_begun (λ lane. HoldsGiven s.base) s.active tag.lane (build_begun_by s tag) h.given (begun_given s tag e.units e.chosen)
+any_step_given s (steps.Start tag n) base h e = without_object s tag.lane (λ b. Some n) (came_by_starting (build_of s.active tag.lane) n) (starting_without (build_of s.active tag.lane) n) h
+any_step_given s (steps.Concluded tag n end) base h e = settled_given s tag n end base h e
+any_step_given s (steps.End tag) base h e = each_without (λ lane. HoldsGiven s.base) (λ lane. HoldsGiven s.base) s.active tag.lane h.given (λ lane build apart given. given)
+any_step_given s (steps.Fault tag left before faults tick) base h e = each_faulted (λ lane. HoldsGiven s.base) s.active tag.lane (build_by s tag) h.given (λ build is.
     record {
       given = λ n id own.
           let held = (h.given.holds tag.lane build (of_lane s tag build is)).given n id own in
           record { unit = held.unit; is_unit = held.is_unit; lives = held.lives; target = held.target; is_target = held.is_target; holds = held.holds };
     })
-told_given s step base h e = h.given
+any_step_given s step base h e = h.given
 
-told_apart : (s : State) (step : Step) → AllHeld s → LawfulStep s step → ViewsApart (after_step s step).active
-told_apart s (steps.Begin tag rows count) h e = apart_begun s.active tag.lane (begun s tag) (begun_idle s tag e.units e.chosen) h.apart
-told_apart s (steps.Start tag n) h e = apart_noted s.active tag.lane (λ b. Some n) (came_by_starting (build_of s.active tag.lane) n) h.apart
-told_apart s (steps.Concluded tag n end) h e = apart_noted s.active tag.lane (λ b. Some n) (Concluded end) h.apart
-told_apart s (steps.End tag) h e = apart_without s.active tag.lane h.apart
-told_apart s (steps.Fault tag left before faults tick) h e = apart_faulted s.active tag.lane (build_by s tag) (λ build is. of_lane s tag build is) h.apart
-told_apart s step h e = h.apart
+any_step_apart : (s : State) (step : Step) → AllHeld s → LawfulStep s step → ViewsApart (after_step s step).active
+any_step_apart s (steps.Begin tag rows count) h e = apart_begun s.active tag.lane (build_begun_by s tag) (begun_idle s tag e.units e.chosen) h.apart
+any_step_apart s (steps.Start tag n) h e = apart_noted s.active tag.lane (λ b. Some n) (came_by_starting (build_of s.active tag.lane) n) h.apart
+any_step_apart s (steps.Concluded tag n end) h e = apart_noted s.active tag.lane (λ b. Some n) (Concluded end) h.apart
+any_step_apart s (steps.End tag) h e = apart_without s.active tag.lane h.apart
+any_step_apart s (steps.Fault tag left before faults tick) h e = apart_faulted s.active tag.lane (build_by s tag) (λ build is. of_lane s tag build is) h.apart
+any_step_apart s step h e = h.apart
 
-pub held_step : (s : State) (x : StoryStep) → IsSound s → AllHeld s → Lawful s x → AllHeld (after s x)
+pub held_step : (s : State) (x : StoryStep) → IsConsistentState s → AllHeld s → Lawful s x → AllHeld (after s x)
 held_step s (story_steps.Opened rows counts tells) sound h e = absurd (let first = e.first in let opened = sound.opened in cc)
 held_step s (story_steps.PhaseBegun phase moment) sound h e = record { given = h.given; apart = h.apart }
 held_step s (story_steps.Commit row tick) sound h e =
-    let fit = row_fits row s.base (sound_step s (story_steps.Commit row tick) sound e).base in
+    let fit = row_fits row s.base (consistent_step s (story_steps.Commit row tick) sound e).base in
     record { given = committed_given s row.tag row.moment row.deed sound h fit e.may.made; apart = committed_apart s row.tag.lane row.deed h }
-held_step s (story_steps.Other step) sound h e = record { given = told_given s step sound.base h e; apart = told_apart s step h e }
+held_step s (story_steps.Other step) sound h e = record { given = any_step_given s step sound.base h e; apart = any_step_apart s step h e }

@@ -12,7 +12,7 @@ use Rattle.cc_names.specs.declared.steps.StoryStep.{StoryStep}
 use Rattle.cc_names.specs.declared.steps.StoryStep.TheVariants as story_steps
 use Rattle.cc_names.specs.declared.units.Unit.{Unit}
 use Rattle.base_model.specs.Rows.{Base, deed_at, deed_of, only_where, size}
-use Rattle.base_model.specs.Changes.{held, targets_of}
+use Rattle.base_model.specs.Changes.{objects_held, targets_of}
 use Rattle.base_model.specs.Closures.{is_among}
 use Rattle.base_model.specs.Fits.{is_base}
 use Rattle.legal_history.specs.Builds.Active.{Build, Came, Concluded, Given, Started, build_of, came_to, is_outcome, unit_at, unit_with_first}
@@ -25,8 +25,8 @@ use Rattle.legal_history.specs.Builds.UnitTurns.{IsRunning, Starts}
 use Rattle.legal_history.specs.Commands.Decisions.{Begins}
 use Rattle.legal_history.specs.Stories.Growth.{Continues, On, Over, StaysTheBuild}
 use Rattle.legal_history.specs.Stories.Lawful.{Lawful, Legal, LegalFrom, LawfulStep}
-use Rattle.legal_history.specs.Stories.States.{State, build_by, decided, start}
-use Rattle.legal_history.specs.Stories.Steps.{active_after, after, after_step, begun, build_asked, came_by_starting, noted, state_from, state_of, with_came}
+use Rattle.legal_history.specs.Stories.States.{State, build_by, decision_for, start}
+use Rattle.legal_history.specs.Stories.Steps.{active_after, after, after_step, build_begun_by, build_asked, came_by_starting, with_outcome, state_from, state_of, with_came}
 use Rattle.base_model.proofs.Stay.{row_stays_all}
 use Rattle.legal_history.proofs.Builds.AllBuilds.{Each, each_begun, each_faulted, each_noted, each_without}
 use Rattle.legal_history.proofs.Builds.FineBuilds.{some_same}
@@ -38,7 +38,7 @@ use Rattle.legal_history.proofs.Stories.Goes.{of_lane, step_goes}
 use Rattle.base_model.proofs.Tables.{same_number, find_after_put}
 use Rattle.legal_history.proofs.Stories.GoingOn.{GoesOnSo}
 use Rattle.legal_history.proofs.Stories.Grows.{step_extends}
-use Rattle.legal_history.proofs.Stories.SoundStories.{IsSound, none_active, sound_first, sound_step, story_is_sound}
+use Rattle.legal_history.proofs.Stories.ConsistentStories.{IsConsistentState, none_active, consistent_first, consistent_step, story_is_consistent}
 use Rattle.legal_history.proofs.Stories.Started.{same_selection}
 use Rattle.legal_history.proofs.Reuse.GivenCommits.{AllHeld}
 use Rattle.legal_history.proofs.Reuse.GivenSteps.{held_step}
@@ -72,23 +72,23 @@ nothing_passes b build n unit none = record {
 }
 
 -- what a view holds at the same places is held at all of them as before
-each_same : (b later : Base) (v : List ℕ) (targets : List (List ℕ)) (id : ℕ) → ((path : List ℕ) → is_among path targets ≡ true → held_at (held later) v path ≡ held_at (held b) v path) → held_at_each later v targets id ≡ held_at_each b v targets id
+each_same : (b later : Base) (v : List ℕ) (targets : List (List ℕ)) (id : ℕ) → ((path : List ℕ) → is_among path targets ≡ true → held_at (objects_held later) v path ≡ held_at (objects_held b) v path) → held_at_each later v targets id ≡ held_at_each b v targets id
 each_same b later v [] id h = refl
 each_same b later v (target ∷ targets) id h =
     let rest = each_same b later v targets id (λ path among. h path (or_second (bytes_eq path target) (is_among path targets) among)) in
     λ i. is_number id (h target (or_first (bytes_eq target target) (is_among target targets) (bytes_itself target)) i) && rest i
 
-all_same : (b later : Base) (v : List ℕ) (targets : List (List ℕ)) → ((path : List ℕ) → is_among path targets ≡ true → held_at (held later) v path ≡ held_at (held b) v path) → held_at_all later v targets ≡ held_at_all b v targets
+all_same : (b later : Base) (v : List ℕ) (targets : List (List ℕ)) → ((path : List ℕ) → is_among path targets ≡ true → held_at (objects_held later) v path ≡ held_at (objects_held b) v path) → held_at_all later v targets ≡ held_at_all b v targets
 all_same b later v [] h = refl
 all_same b later v (target ∷ targets) h =
-    ap (held_at_others later v targets) (h target (or_first (bytes_eq target target) (is_among target targets) (bytes_itself target))) ∙ others (held_at (held b) v target)
+    ap (held_at_others later v targets) (h target (or_first (bytes_eq target target) (is_among target targets) (bytes_itself target))) ∙ others (held_at (objects_held b) v target)
   where
     others : (o : Option ℕ) → held_at_others later v targets o ≡ held_at_others b v targets o
     others None = refl
     others (Some id) = ap (λ t. only_where t (Some id)) (each_same b later v targets id (λ path among. h path (or_second (bytes_eq path target) (is_among path targets) among)))
 
 -- so it passes on where a build goes on and its view holds the same at the unit's targets
-passes_on : (b later : Base) (old new : Build) (n : ℕ) (unit : Unit) → GoesOnSo b later old new unit → is_base b ≡ true → ((path : List ℕ) → makes path unit ≡ true → held_at (held later) old.view path ≡ held_at (held b) old.view path) →
+passes_on : (b later : Base) (old new : Build) (n : ℕ) (unit : Unit) → GoesOnSo b later old new unit → is_base b ≡ true → ((path : List ℕ) → makes path unit ≡ true → held_at (objects_held later) old.view path ≡ held_at (objects_held b) old.view path) →
     PassesItsOwn b old n unit → PassesItsOwn later new n unit
 passes_on b later old new n unit on base places h = record {
   passed = λ id reuses holds.
@@ -120,10 +120,10 @@ came_before s lane build (Some m) came is over n e = by (n == m) (sym (find_afte
     by true e = absurd (let waits : is_outcome (Some came) ≡ false = ap is_outcome e in cc)
     by false e = Before build is e
 
-noted_before : (s : State) (lane : ℕ) (unit : Build → Option ℕ) (came : Came) → is_outcome (Some came) ≡ true → Each (AreStartedBy s) (noted s.active lane unit came)
+noted_before : (s : State) (lane : ℕ) (unit : Build → Option ℕ) (came : Came) → is_outcome (Some came) ≡ true → Each (AreStartedBy s) (with_outcome s.active lane unit came)
 noted_before s lane unit came over = each_noted (AreStartedBy s) s.active lane unit came (started_before s) (λ build is. came_before s lane build (unit build) came is over)
 
-started_now : (s : State) (tag : Tag) (m : ℕ) (came : Came) → Starts s tag m → Each (AreStartedBy s) (noted s.active tag.lane (λ b. Some m) came)
+started_now : (s : State) (tag : Tag) (m : ℕ) (came : Came) → Starts s tag m → Each (AreStartedBy s) (with_outcome s.active tag.lane (λ b. Some m) came)
 started_now s tag m came starts = each_noted (AreStartedBy s) s.active tag.lane (λ b. Some m) came (started_before s) own
   where
     own : (build : Build) → build_of s.active tag.lane ≡ Some build → (n : ℕ) → came_to (with_came build (Some m) came) n ≡ Some Started → StartedBy s tag.lane n
@@ -134,21 +134,21 @@ started_now s tag m came starts = each_noted (AreStartedBy s) s.active tag.lane 
         by false other e = Before build is e
 
 -- a build that begins has none
-begun_before : (s : State) (tag : Tag) (us : List Unit) → decided s tag ≡ Some (Ok (Begins us)) → (build : Build) → begun s tag ≡ Some build → (n : ℕ) → came_to build n ≡ Some Started → StartedBy s tag.lane n
+begun_before : (s : State) (tag : Tag) (us : List Unit) → decision_for s tag ≡ Some (Ok (Begins us)) → (build : Build) → build_begun_by s tag ≡ Some build → (n : ℕ) → came_to build n ≡ Some Started → StartedBy s tag.lane n
 begun_before s tag us h build is n e =
     let says = says_of s tag (Begins us) (decided_of s tag (Begins us) h) in
     let made : build_asked tag (size s.base) us says.asked ≡ build = some_same (sym (begun_is s tag us h) ∙ is) in
     let nothing : None ≡ Some Started = ap (λ (b : Build). came_to b n) made ∙ e in
     absurd (cc)
 
-told_before : (s : State) (step : Step) → LawfulStep s step → Each (AreStartedBy s) (after_step s step).active
-told_before s (steps.Begin tag rows count) e = each_begun (AreStartedBy s) s.active tag.lane (begun s tag) (started_before s) (begun_before s tag e.units e.chosen)
-told_before s (steps.Start tag n) e = started_now s tag n (came_by_starting (build_of s.active tag.lane) n) e
-told_before s (steps.Concluded tag n end) e = noted_before s tag.lane (λ b. Some n) (Concluded end) refl
-told_before s (steps.End tag) e = each_without (AreStartedBy s) (AreStartedBy s) s.active tag.lane (started_before s) (λ lane build apart before. before)
-told_before s (steps.Fault tag left before faults tick) e =
+any_step_before : (s : State) (step : Step) → LawfulStep s step → Each (AreStartedBy s) (after_step s step).active
+any_step_before s (steps.Begin tag rows count) e = each_begun (AreStartedBy s) s.active tag.lane (build_begun_by s tag) (started_before s) (begun_before s tag e.units e.chosen)
+any_step_before s (steps.Start tag n) e = started_now s tag n (came_by_starting (build_of s.active tag.lane) n) e
+any_step_before s (steps.Concluded tag n end) e = noted_before s tag.lane (λ b. Some n) (Concluded end) refl
+any_step_before s (steps.End tag) e = each_without (AreStartedBy s) (AreStartedBy s) s.active tag.lane (started_before s) (λ lane build apart before. before)
+any_step_before s (steps.Fault tag left before faults tick) e =
     each_faulted (AreStartedBy s) s.active tag.lane (build_by s tag) (started_before s) (λ build is n started. Before build (of_lane s tag build is) started)
-told_before s step e = started_before s
+any_step_before s step e = started_before s
 
 committed_before : (s : State) (lane : ℕ) (deed : Deed) → Each (AreStartedBy s) (active_after s.base s.active lane deed)
 committed_before s lane (deeds.Publish view targets script entries outputs) = noted_before s lane (λ build. unit_with_first build targets) (Given (size s.base)) refl
@@ -157,7 +157,7 @@ committed_before s lane deed = started_before s
 
 step_before : (s : State) (x : StoryStep) → Lawful s x → Each (AreStartedBy s) (after s x).active
 step_before s (story_steps.Commit row tick) e = committed_before s row.tag.lane row.deed
-step_before s (story_steps.Other step) e = told_before s step e
+step_before s (story_steps.Other step) e = any_step_before s step e
 step_before s x e = started_before s
 
 -- a unit of an old build is ready, and the object that the view holds at its targets does not match it
@@ -169,9 +169,9 @@ record WasPassed (s : State) (old : Build) (n : ℕ) (unit : Unit) : Type 0 wher
 abbrev AllPass : State → Type 0
 AllPass s = Each (λ lane build. (n : ℕ) (unit : Unit) → unit_at build n ≡ Some unit → came_to build n ≡ Some Started → PassesItsOwn s.base build n unit) s.active
 
-passes_after : (s : State) (x : StoryStep) (lane : ℕ) (old new : Build) (n : ℕ) (unit : Unit) → IsSound s → AllHeld s → Lawful s x → build_of s.active lane ≡ Some old → build_of (after s x).active lane ≡ Some new →
+passes_after : (s : State) (x : StoryStep) (lane : ℕ) (old new : Build) (n : ℕ) (unit : Unit) → IsConsistentState s → AllHeld s → Lawful s x → build_of s.active lane ≡ Some old → build_of (after s x).active lane ≡ Some new →
     unit_at new n ≡ Some unit → came_to new n ≡ Some Started → (unit_at old n ≡ Some unit → WasPassed s old n unit) → PassesItsOwn (after s x).base new n unit
-passes_after s x lane old new n unit sound held e was is is_unit started before = by (step_goes s x lane old was e)
+passes_after s x lane old new n unit sound objects_held e was is is_unit started before = by (step_goes s x lane old was e)
   where
     on_by : Continues old new → PassesItsOwn (after s x).base new n unit
     on_by c =
@@ -180,29 +180,29 @@ passes_after s x lane old new n unit sound held e was is is_unit started before 
         passes_on s.base (after s x).base old new n unit
         (record { grown = step_extends s x sound.opened e; on = c; consistent = (sound.fine.holds lane old was).consistent; ready = passed.ready })
         sound.base
-        (λ path made. place_step s x lane old new n unit path sound held e (record { was = was; is = is; is_unit = of_old; waits = ap is_outcome started; made = made }))
+        (λ path made. place_step s x lane old new n unit path sound objects_held e (record { was = was; is = is; is_unit = of_old; waits = ap is_outcome started; made = made }))
         passed.passes
 
     by : StaysTheBuild old (build_of (after s x).active lane) → PassesItsOwn (after s x).base new n unit
     by (Over none) = absurd (cc)
     by (On on is_on c) = on_by (subst (Continues old) (some_same (sym is_on ∙ is)) c)
 
-passes_step : (s : State) (x : StoryStep) → IsSound s → AllHeld s → AllPass s → Lawful s x → AllPass (after s x)
-passes_step s x sound held h e = record { holds = λ lane new is n unit is_unit started. by lane new n unit is is_unit started ((step_before s x e).holds lane new is n started) }
+passes_step : (s : State) (x : StoryStep) → IsConsistentState s → AllHeld s → AllPass s → Lawful s x → AllPass (after s x)
+passes_step s x sound objects_held h e = record { holds = λ lane new is n unit is_unit started. by lane new n unit is is_unit started ((step_before s x e).holds lane new is n started) }
   where
     by : (lane : ℕ) (new : Build) (n : ℕ) (unit : Unit) → build_of (after s x).active lane ≡ Some new → unit_at new n ≡ Some unit → came_to new n ≡ Some Started → StartedBy s lane n → PassesItsOwn (after s x).base new n unit
     by lane new n unit is is_unit started (Before old was before) =
-        passes_after s x lane old new n unit sound held e was is is_unit started
+        passes_after s x lane old new n unit sound objects_held e was is is_unit started
         (λ of_old. record { ready = (sound.fine.holds lane old was).consistent.ready n unit of_old (ap is_some before); passes = h.holds lane old was n unit of_old before })
     by lane new n unit is is_unit started (Now tag same starts) =
         let was : build_of s.active lane ≡ Some starts.build = ap (build_of s.active) (sym same) ∙ of_lane s tag starts.build starts.open_unit.waits.active in
-        passes_after s x lane starts.build new n unit sound held e was is is_unit started
+        passes_after s x lane starts.build new n unit sound objects_held e was is is_unit started
         (λ of_old. subst (WasPassed s starts.build n) (some_same (sym starts.open_unit.waits.is_unit ∙ of_old))
         (record { ready = ready_by starts.build starts.unit starts.open_unit.ready; passes = nothing_passes s.base starts.build n starts.unit starts.nothing }))
 
-passes_from : (s : State) (story : List StoryStep) → IsSound s → AllHeld s → AllPass s → LegalFrom s story → AllPass (state_from s story)
-passes_from s [] sound held h e = h
-passes_from s (x ∷ story) sound held h e = passes_from (after s x) story (sound_step s x sound e.0) (held_step s x sound held e.0) (passes_step s x sound held h e.0) e.1
+passes_from : (s : State) (story : List StoryStep) → IsConsistentState s → AllHeld s → AllPass s → LegalFrom s story → AllPass (state_from s story)
+passes_from s [] sound objects_held h e = h
+passes_from s (x ∷ story) sound objects_held h e = passes_from (after s x) story (consistent_step s x sound e.0) (held_step s x sound objects_held e.0) (passes_step s x sound objects_held h e.0) e.1
 
 none_pass : (x : StoryStep) → Lawful start x → AllPass (after start x)
 none_pass x e = record { holds = λ lane build is. absurd (let none : build_of (after start x).active lane ≡ None = ap (λ active. build_of active lane) (none_active x e) in cc) }
@@ -229,5 +229,5 @@ pub found_is_not_held : (story : List StoryStep) (tag : Tag) (n : ℕ) (build : 
     is_number id (held_at_all (state_of story).base build.view unit.targets) ≡ false
 found_is_not_held [] tag n build unit id legal running chosen = absurd (let none = running.waits.active in cc)
 found_is_not_held (x ∷ story) tag n build unit id legal running chosen =
-    not_held (state_of (x ∷ story)) tag n build unit id (story_is_sound x story legal).base
-    (passes_from (after start x) story (sound_first x legal.0) (held_first x legal.0) (none_pass x legal.0) legal.1) running chosen
+    not_held (state_of (x ∷ story)) tag n build unit id (story_is_consistent x story legal).base
+    (passes_from (after start x) story (consistent_first x legal.0) (held_first x legal.0) (none_pass x legal.0) legal.1) running chosen

@@ -7,7 +7,7 @@ use Rattle.cc_names.specs.Versions.{is_number}
 use Rattle.cc_names.specs.declared.units.Unit.{Unit}
 use Rattle.base_model.specs.Rows.{Base}
 use Rattle.legal_history.specs.Builds.Active.{Build, unit_at}
-use Rattle.base_model.specs.Changes.{held}
+use Rattle.base_model.specs.Changes.{objects_held}
 use Rattle.base_model.specs.Closures.{is_among}
 use Rattle.base_model.specs.Fits.{is_base}
 use Rattle.legal_history.specs.Builds.Consistency.{IsObjectOf}
@@ -29,25 +29,25 @@ chosen_object b build n unit id base h =
     record { below = live_below b id m.lives; targets = match_targets b build n unit id m.matches_unit }
 
 -- at the first of some paths, or at each of the others
-among_others : (b : Base) (v path target : List ℕ) (targets : List (List ℕ)) (id : ℕ) → held_at (held b) v target ≡ Some id → (is_among path targets ≡ true → held_at (held b) v path ≡ Some id) → is_among path (target ∷ targets) ≡ true →
-    held_at (held b) v path ≡ Some id
+among_others : (b : Base) (v path target : List ℕ) (targets : List (List ℕ)) (id : ℕ) → held_at (objects_held b) v target ≡ Some id → (is_among path targets ≡ true → held_at (objects_held b) v path ≡ Some id) → is_among path (target ∷ targets) ≡ true →
+    held_at (objects_held b) v path ≡ Some id
 among_others b v path target targets id first rest among = by (bytes_eq path target) refl among
   where
-    by : (t : Bool) → bytes_eq path target ≡ t → (t || is_among path targets) ≡ true → held_at (held b) v path ≡ Some id
-    by true e among = let same : path ≡ target = (bytes_eq-Decides path target).0 e in ap (held_at (held b) v) same ∙ first
+    by : (t : Bool) → bytes_eq path target ≡ t → (t || is_among path targets) ≡ true → held_at (objects_held b) v path ≡ Some id
+    by true e among = let same : path ≡ target = (bytes_eq-Decides path target).0 e in ap (held_at (objects_held b) v) same ∙ first
     by false e among = rest among
 
-held_each : (b : Base) (v : List ℕ) (targets : List (List ℕ)) (id : ℕ) (path : List ℕ) → held_at_each b v targets id ≡ true → is_among path targets ≡ true → held_at (held b) v path ≡ Some id
+held_each : (b : Base) (v : List ℕ) (targets : List (List ℕ)) (id : ℕ) (path : List ℕ) → held_at_each b v targets id ≡ true → is_among path targets ≡ true → held_at (objects_held b) v path ≡ Some id
 held_each b v [] id path h among = absurd (cc)
 held_each b v (target ∷ targets) id path h among =
-    among_others b v path target targets id (number_is id (held_at (held b) v target) (and_first (is_number id (held_at (held b) v target)) (held_at_each b v targets id) h))
-    (held_each b v targets id path (and_second (is_number id (held_at (held b) v target)) (held_at_each b v targets id) h)) among
+    among_others b v path target targets id (number_is id (held_at (objects_held b) v target) (and_first (is_number id (held_at (objects_held b) v target)) (held_at_each b v targets id) h))
+    (held_each b v targets id path (and_second (is_number id (held_at (objects_held b) v target)) (held_at_each b v targets id) h)) among
 
-held_all : (b : Base) (v : List ℕ) (targets : List (List ℕ)) (id : ℕ) (path : List ℕ) → held_at_all b v targets ≡ Some id → is_among path targets ≡ true → held_at (held b) v path ≡ Some id
+held_all : (b : Base) (v : List ℕ) (targets : List (List ℕ)) (id : ℕ) (path : List ℕ) → held_at_all b v targets ≡ Some id → is_among path targets ≡ true → held_at (objects_held b) v path ≡ Some id
 held_all b v [] id path h among = absurd (cc)
-held_all b v (target ∷ targets) id path h among = by (held_at (held b) v target) refl h
+held_all b v (target ∷ targets) id path h among = by (held_at (objects_held b) v target) refl h
   where
-    by : (o : Option ℕ) → held_at (held b) v target ≡ o → held_at_others b v targets o ≡ Some id → held_at (held b) v path ≡ Some id
+    by : (o : Option ℕ) → held_at (objects_held b) v target ≡ o → held_at_others b v targets o ≡ Some id → held_at (objects_held b) v path ≡ Some id
     by None is h = absurd (cc)
     by (Some k) is h =
         let one = only_one (held_at_each b v targets k) k id h in

@@ -19,8 +19,8 @@ use Rattle.legal_history.proofs.Builds.FineBuilds.{some_same}
 use Rattle.legal_history.proofs.Reuse.GivenCommits.{AllHeld}
 use Rattle.legal_history.proofs.Reuse.GivenSteps.{held_step}
 use Rattle.legal_history.proofs.Reuse.SoundBases.{base_step, held_first, opened_from, opened_is_base}
-use Rattle.legal_history.proofs.Stories.Fronts.{front_is_legal, rest_is_legal, nothing_is_committed}
-use Rattle.legal_history.proofs.Stories.SoundStories.{IsSound, opens_first, sound_first, sound_step}
+use Rattle.legal_history.proofs.Stories.Prefixes.{prefix_is_legal, rest_is_legal, nothing_is_committed}
+use Rattle.legal_history.proofs.Stories.ConsistentStories.{IsConsistentState, opens_first, consistent_first, consistent_step}
 
 -- rows that are a base, and a sound one where something is given
 record IsGood (given : Type 0) (b : Base) : Type 0 where
@@ -28,8 +28,8 @@ record IsGood (given : Type 0) (b : Base) : Type 0 where
   sound : given → values.IsSound b
 
 -- what is known of a state: its rows are such a base, and so they are with the row that a fault left behind them
-record IsKept (given : Type 0) (s : State) : Type 0 where
-  sound : IsSound s
+record IsKnown (given : Type 0) (s : State) : Type 0 where
+  sound : IsConsistentState s
   held : AllHeld s
   base : given → values.IsSound s.base
   left : (row : Plain) → hanging s.ends ≡ Some row → IsGood given (row ∷ s.base)
@@ -43,32 +43,32 @@ next_rises n =
 commits : (s : State) (row : Plain) → MayCommit s row → Commits s row (ticks_of s.opened s.ends + 1)
 commits s row may = record { may = may; ticked = next_rises (ticks_of s.opened s.ends) }
 
-in_flight : (given : Type 0) (s : State) (row : Plain) → IsKept given s → MayCommit s row → IsGood given (row ∷ s.base)
+in_flight : (given : Type 0) (s : State) (row : Plain) → IsKnown given s → MayCommit s row → IsGood given (row ∷ s.base)
 in_flight given s row h may =
     let x = story_steps.Commit row (ticks_of s.opened s.ends + 1) in
-    record { fits = (sound_step s x h.sound (commits s row may)).base; sound = λ given. base_step s x h.sound h.held (h.base given) (commits s row may) }
+    record { fits = (consistent_step s x h.sound (commits s row may)).base; sound = λ given. base_step s x h.sound h.held (h.base given) (commits s row may) }
 
 -- what a fault leaves is such a row, or was left before
-fault_leaves : (given : Type 0) (s : State) (tag : Tag) (left : Option Plain) (row : Plain) → IsKept given s → LeavesRow s tag left → left ≡ Some row → IsGood given (row ∷ s.base)
+fault_leaves : (given : Type 0) (s : State) (tag : Tag) (left : Option Plain) (row : Plain) → IsKnown given s → LeavesRow s tag left → left ≡ Some row → IsGood given (row ∷ s.base)
 fault_leaves given s tag None row h leaves is = absurd (cc)
 fault_leaves given s tag (Some own) row h (inl made) is = subst (λ r. IsGood given (r ∷ s.base)) (some_same is) (in_flight given s own h made.1)
 fault_leaves given s tag (Some own) row h (inr earlier) is = h.left row (earlier ∙ is)
 
-left_step : (given : Type 0) (s : State) (x : StoryStep) (row : Plain) → IsKept given s → Lawful s x → hanging (after s x).ends ≡ Some row → IsGood given (row ∷ (after s x).base)
+left_step : (given : Type 0) (s : State) (x : StoryStep) (row : Plain) → IsKnown given s → Lawful s x → hanging (after s x).ends ≡ Some row → IsGood given (row ∷ (after s x).base)
 left_step given s (story_steps.Opened rows counts tells) row h e is = absurd (let first = e.first in let opened = h.sound.opened in cc)
 left_step given s (story_steps.Commit made tick) row h e is = absurd (cc)
 left_step given s (story_steps.Other (steps.Fault tag left before faults tick)) row h e is = fault_leaves given s tag left row h e.leaves is
 left_step given s x row h e is = h.left row is
 
-kept_step : (given : Type 0) (s : State) (x : StoryStep) → IsKept given s → Lawful s x → IsKept given (after s x)
+kept_step : (given : Type 0) (s : State) (x : StoryStep) → IsKnown given s → Lawful s x → IsKnown given (after s x)
 kept_step given s x h e = record {
-  sound = sound_step s x h.sound e;
+  sound = consistent_step s x h.sound e;
   held = held_step s x h.sound h.held e;
   base = λ given. base_step s x h.sound h.held (h.base given) e;
   left = λ row is. left_step given s x row h e is;
 }
 
-kept_from : (given : Type 0) (s : State) (story : List StoryStep) → IsKept given s → LegalFrom s story → IsKept given (state_from s story)
+kept_from : (given : Type 0) (s : State) (story : List StoryStep) → IsKnown given s → LegalFrom s story → IsKnown given (state_from s story)
 kept_from given s [] h e = h
 kept_from given s (x ∷ story) h e = kept_from given (after s x) story (kept_step given s x h e.0) e.1
 
@@ -77,19 +77,19 @@ none_left : (x : StoryStep) (row : Plain) → Lawful start x → hanging (after 
 none_left (story_steps.Opened rows counts tells) row e is = cc
 none_left x row e is = opens_first x e
 
-kept_first : (x : StoryStep) → Lawful start x → IsKept (values.IsSound (after start x).base) (after start x)
+kept_first : (x : StoryStep) → Lawful start x → IsKnown (values.IsSound (after start x).base) (after start x)
 kept_first x e = record {
-  sound = sound_first x e;
+  sound = consistent_first x e;
   held = held_first x e;
   base = λ given. given;
   left = λ row is. absurd (none_left x row e is);
 }
 
-story_kept : (x : StoryStep) (story : List StoryStep) → Legal (x ∷ story) → IsKept (values.IsSound (after start x).base) (state_of (x ∷ story))
+story_kept : (x : StoryStep) (story : List StoryStep) → Legal (x ∷ story) → IsKnown (values.IsSound (after start x).base) (state_of (x ∷ story))
 story_kept x story legal = kept_from (values.IsSound (after start x).base) (after start x) story (kept_first x legal.0) legal.1
 
 -- whatever a stop leaves of such a state
-left_is_good : (given : Type 0) (s : State) (b : Base) → IsKept given s → IsLeftByStop s b → IsGood given b
+left_is_good : (given : Type 0) (s : State) (b : Base) → IsKnown given s → IsLeftByStop s b → IsGood given b
 left_is_good given s b h (OfCommits is) = subst (IsGood given) (sym is) (record { fits = h.sound.base; sound = h.base })
 left_is_good given s b h (WithRowLeft row left is) = subst (IsGood given) (sym is) (h.left row left)
 left_is_good given s b h (WithRowInFlight row may is) = subst (IsGood given) (sym is) (in_flight given s row h may)
@@ -103,16 +103,16 @@ stop_leaves_base (x ∷ story) b legal left = (left_is_good _ (state_of (x ∷ s
 pub stop_leaves_sound : (story : List StoryStep) (o : Opening) (b : Base) → Legal story → (state_of story).opened ≡ Some o → values.IsSound o.base → IsLeftByStop (state_of story) b → values.IsSound b
 stop_leaves_sound [] o b legal is sound left = absurd (cc)
 stop_leaves_sound (x ∷ story) o b legal is sound left =
-    let opened : (after start x).opened ≡ Some o = sym (opened_from (after start x) story (sound_first x legal.0) legal.1) ∙ is in
+    let opened : (after start x).opened ≡ Some o = sym (opened_from (after start x) story (consistent_first x legal.0) legal.1) ∙ is in
     (left_is_good _ (state_of (x ∷ story)) b (story_kept x story legal) left).sound (subst values.IsSound (opened_is_base x o legal.0 opened) sound)
 
-pub fault_leaves_sound : (front rest : List StoryStep) (tag : Tag) (row : Plain) (before faults tick : ℕ) (o : Opening) → Legal (front ++ story_steps.Other (steps.Fault tag (Some row) before faults tick) ∷ rest) → (state_of front).opened ≡ Some o → values.IsSound o.base →
-    values.IsSound (row ∷ (state_of front).base)
-fault_leaves_sound front rest tag row before faults tick o legal is sound =
+pub fault_leaves_sound : (prefix rest : List StoryStep) (tag : Tag) (row : Plain) (before faults tick : ℕ) (o : Opening) → Legal (prefix ++ story_steps.Other (steps.Fault tag (Some row) before faults tick) ∷ rest) → (state_of prefix).opened ≡ Some o → values.IsSound o.base →
+    values.IsSound (row ∷ (state_of prefix).base)
+fault_leaves_sound prefix rest tag row before faults tick o legal is sound =
     let x = story_steps.Other (steps.Fault tag (Some row) before faults tick) in
-    stop_leaves_sound front o (row ∷ (state_of front).base) (front_is_legal start front (x ∷ rest) legal) is sound
-    (by (rest_is_legal start front (x ∷ rest) legal).0.leaves)
+    stop_leaves_sound prefix o (row ∷ (state_of prefix).base) (prefix_is_legal start prefix (x ∷ rest) legal) is sound
+    (by (rest_is_legal start prefix (x ∷ rest) legal).0.leaves)
   where
-    by : LeavesRow (state_of front) tag (Some row) → IsLeftByStop (state_of front) (row ∷ (state_of front).base)
+    by : LeavesRow (state_of prefix) tag (Some row) → IsLeftByStop (state_of prefix) (row ∷ (state_of prefix).base)
     by (inl own) = WithRowInFlight row own.1 refl
     by (inr earlier) = WithRowLeft row earlier refl

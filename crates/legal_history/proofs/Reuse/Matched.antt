@@ -69,10 +69,10 @@ pub record MatchingRecord (targets : List (List ℕ)) (script : List ℕ) (rows 
 pub matching : (targets : List (List ℕ)) (script : List ℕ) (rows : List ℕ → Option ℕ) (v : List ℕ) (made : List (List ℕ)) (words : List ℕ) (entries : List ReadOf) (outputs : List (List ℕ)) →
     record_matches targets script rows (Some (deeds.Publish v made words entries outputs)) ≡ true → MatchingRecord targets script rows made words entries
 matching targets script rows v made words entries outputs h =
-    let front = and_first (are_same_paths made targets && bytes_eq words script) (list_all (entry_agrees rows) entries) h in
+    let prefix = and_first (are_same_paths made targets && bytes_eq words script) (list_all (entry_agrees rows) entries) h in
     record {
-      same_targets = same_texts made targets (and_first (are_same_paths made targets) (bytes_eq words script) front);
-      same_script = (bytes_eq-Decides words script).0 (and_second (are_same_paths made targets) (bytes_eq words script) front);
+      same_targets = same_texts made targets (and_first (are_same_paths made targets) (bytes_eq words script) prefix);
+      same_script = (bytes_eq-Decides words script).0 (and_second (are_same_paths made targets) (bytes_eq words script) prefix);
       agree = and_second (are_same_paths made targets && bytes_eq words script) (list_all (entry_agrees rows) entries) h;
     }
 

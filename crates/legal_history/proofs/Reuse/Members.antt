@@ -9,7 +9,7 @@ use Rattle.legal_history.specs.Builds.Choices.{unit_of_member, members_before, o
 use Rattle.base_model.specs.Closures.{is_among}
 use Rattle.legal_history.specs.Builds.Freshness.{outcome_in}
 use Rattle.base_model.specs.Seen.{file_at}
-use Rattle.legal_history.specs.Builds.Serials.{makes, needed}
+use Rattle.legal_history.specs.Builds.Serials.{makes, needed_units}
 use Rattle.legal_history.proofs.Builds.Pairs.{Pair, unit_in, member_of, with_pair, pairs_before, members_paired, needed_mapped}
 use Rattle.legal_history.proofs.Builds.NeededAgree.{some_made, among_both}
 use Rattle.legal_history.specs.Laws.Given.{MakesOne, IsNeeded, AtOnce, Through, GivenBefore, SeenBy, ByUnit, ByFile}
@@ -37,7 +37,7 @@ given_later build n paths path id g =
 
 -- an object that is found among the needed units was given to one of them
 given_before : (rows : Base) (build : Build) (first : List (List ℕ)) (n : ℕ) (paths : List (List ℕ)) (path : List ℕ) (id : ℕ) → AreWanted build first paths →
-    object_among path (map member_of (needed unit_in paths (pairs_before rows build n))) ≡ Some id → GivenBefore build n first path id
+    object_among path (map member_of (needed_units unit_in paths (pairs_before rows build n))) ≡ Some id → GivenBefore build n first path id
 given_before rows build first zero paths path id wanted found = absurd (cc)
 given_before rows build first (suc n) paths path id wanted found =
     by (unit_at build n) refl found (λ more wanted found. given_later build n first path id (given_before rows build first n more path id wanted found))
@@ -50,31 +50,31 @@ given_before rows build first (suc n) paths path id wanted found =
 
     by_unit : (u : Unit) (t : Bool) → unit_at build n ≡ Some u → list_any (λ path. makes path u) paths ≡ t →
         object_among path (map member_of (elim t as (λ x. List Pair) [
-          | true ↦ record { unit = u; came = came_to build n; outcome = outcome_in rows build n u } ∷ needed unit_in (paths ++ u.prerequisites) (pairs_before rows build n)
-          | false ↦ needed unit_in paths (pairs_before rows build n)
+          | true ↦ record { unit = u; came = came_to build n; outcome = outcome_in rows build n u } ∷ needed_units unit_in (paths ++ u.prerequisites) (pairs_before rows build n)
+          | false ↦ needed_units unit_in paths (pairs_before rows build n)
         ])) ≡ Some id →
-        ((more : List (List ℕ)) → AreWanted build first more → object_among path (map member_of (needed unit_in more (pairs_before rows build n))) ≡ Some id → GivenBefore build (suc n) first path id) →
+        ((more : List (List ℕ)) → AreWanted build first more → object_among path (map member_of (needed_units unit_in more (pairs_before rows build n))) ≡ Some id → GivenBefore build (suc n) first path id) →
         GivenBefore build (suc n) first path id
     by_unit u true is test found rest =
         let made = some_made u paths test in
         let one = wanted n (record { unit = u; is_unit = is; path = made.0; among = made.1; is_target = made.2 }) in
-        by_object u (makes path u) (object_of (came_to build n)) (object_among path (map member_of (needed unit_in (paths ++ u.prerequisites) (pairs_before rows build n))))
+        by_object u (makes path u) (object_of (came_to build n)) (object_among path (map member_of (needed_units unit_in (paths ++ u.prerequisites) (pairs_before rows build n))))
         is one refl refl found (rest (paths ++ u.prerequisites) (wanted_on build first paths n u wanted one is))
     by_unit u false is test found rest = rest paths wanted found
 
-    by : (o : Option Unit) → unit_at build n ≡ o → object_among path (map member_of (needed unit_in paths (with_pair rows build n o (pairs_before rows build n)))) ≡ Some id →
-        ((more : List (List ℕ)) → AreWanted build first more → object_among path (map member_of (needed unit_in more (pairs_before rows build n))) ≡ Some id → GivenBefore build (suc n) first path id) →
+    by : (o : Option Unit) → unit_at build n ≡ o → object_among path (map member_of (needed_units unit_in paths (with_pair rows build n o (pairs_before rows build n)))) ≡ Some id →
+        ((more : List (List ℕ)) → AreWanted build first more → object_among path (map member_of (needed_units unit_in more (pairs_before rows build n))) ≡ Some id → GivenBefore build (suc n) first path id) →
         GivenBefore build (suc n) first path id
     by None is found rest = rest paths wanted found
     by (Some u) is found rest = by_unit u (list_any (λ path. makes path u) paths) is refl found rest
 
 pub seen_by : (b : Base) (build : Build) (n : ℕ) (unit : Unit) (path : List ℕ) (row : ℕ) → visible b build n unit path ≡ Some row → SeenBy b build n unit path row
-seen_by b build n unit path row is = by (object_among path (needed unit_of_member unit.prerequisites (members_before build n))) refl is
+seen_by b build n unit path row is = by (object_among path (needed_units unit_of_member unit.prerequisites (members_before build n))) refl is
   where
-    paired : needed unit_of_member unit.prerequisites (members_before build n) ≡ map member_of (needed unit_in unit.prerequisites (pairs_before (first_rows build.rows b) build n))
-    paired = ap (needed unit_of_member unit.prerequisites) (members_paired (first_rows build.rows b) build n) ∙ needed_mapped member_of unit_of_member unit.prerequisites (pairs_before (first_rows build.rows b) build n)
+    paired : needed_units unit_of_member unit.prerequisites (members_before build n) ≡ map member_of (needed_units unit_in unit.prerequisites (pairs_before (first_rows build.rows b) build n))
+    paired = ap (needed_units unit_of_member unit.prerequisites) (members_paired (first_rows build.rows b) build n) ∙ needed_mapped member_of unit_of_member unit.prerequisites (pairs_before (first_rows build.rows b) build n)
 
-    by : (o : Option ℕ) → object_among path (needed unit_of_member unit.prerequisites (members_before build n)) ≡ o →
+    by : (o : Option ℕ) → object_among path (needed_units unit_of_member unit.prerequisites (members_before build n)) ≡ o →
         option_or o (file_at (first_rows build.rows b) build.view path) ≡ Some row → SeenBy b build n unit path row
     by (Some id) found is = ByUnit (given_before (first_rows build.rows b) build unit.prerequisites n unit.prerequisites path row AtOnce (sym (ap (object_among path) paired) ∙ found ∙ is))
     by None found is = ByFile is

@@ -10,7 +10,7 @@ use Rattle.std.specs.Ordering.{nat_cmp, is_eq}
 use Rattle.std.specs.Prelude.{is_some, bytes_eq, reverse}
 use Rattle.std.specs.declared.cmp.Ordering.{Ordering}
 use Rattle.std.specs.declared.cmp.Ordering.TheVariants.{Less, Equal, Greater}
-use Rattle.cc_names.specs.Paths.{names_of, joined}
+use Rattle.cc_names.specs.Paths.{names_of, path_of_names}
 use Rattle.cc_names.specs.Versions.{kind_of}
 use Rattle.cc_names.specs.declared.rows.Deed.TheVariants as deeds
 use Rattle.cc_names.specs.declared.rows.Kind.{Kind}
@@ -21,7 +21,7 @@ use Rattle.cc_names.specs.declared.selection.Seen.TheVariants.{Private, Element,
 use Rattle.cc_names.specs.declared.units.Unit.{Unit}
 use Rattle.base_model.specs.Rows.{Base, first_rows, deed_at}
 use Rattle.legal_history.specs.Builds.Active.{Build}
-use Rattle.base_model.specs.Changes.{live, tree}
+use Rattle.base_model.specs.Changes.{live_row, tree}
 use Rattle.legal_history.specs.Builds.Choices.{as_entry, entries, entry_row, here, in_order, visible}
 use Rattle.base_model.specs.Closures.{is_version_of}
 use Rattle.base_model.specs.Fits.{is_base}
@@ -65,7 +65,7 @@ no_root_file b v path base h = by (at b v path) refl h
     by : (seen : Seen) → at b v path ≡ seen → file_seen b seen ≡ Some 0 → ⊥
     by (Private row) is h =
         let same : row ≡ 0 = cc in
-        let put_it = private_put b v (joined (reverse (reverse (names_of path)))) row (private_at b v (reverse (names_of path)) row is) in
+        let put_it = private_put b v (path_of_names (reverse (reverse (names_of path)))) row (private_at b v (reverse (names_of path)) row is) in
         no_row b put_it.deed (ap (deed_at b) (sym same) ∙ put_it.made)
     by (Element e picked) is h =
         let seen = seen_element b v (reverse (names_of path)) e picked is in
@@ -128,10 +128,10 @@ same_matches b build n unit id v outputs base gives is =
     reads = (here b build n unit).reads
 
 pub no_second_record : (b : Base) (build : Build) (n : ℕ) (unit : Unit) (id : ℕ) (v : List ℕ) (outputs : List (List ℕ)) → is_base b ≡ true → GivesLive b build → build.own_only ≡ false → build.rebuild ≡ false → reusable b build n unit ≡ None →
-    deed_at b id ≡ Some (deeds.Publish v unit.targets (script_text unit.script) (entries (visible b build n unit) (here b build n unit).reads) outputs) → is_some (live b id) ≡ false
-no_second_record b build n unit id v outputs base gives own_only rebuild none is = by (is_some (live b id)) refl
+    deed_at b id ≡ Some (deeds.Publish v unit.targets (script_text unit.script) (entries (visible b build n unit) (here b build n unit).reads) outputs) → is_some (live_row b id) ≡ false
+no_second_record b build n unit id v outputs base gives own_only rebuild none is = by (is_some (live_row b id)) refl
   where
-    by : (t : Bool) → is_some (live b id) ≡ t → t ≡ false
+    by : (t : Bool) → is_some (live_row b id) ≡ t → t ≡ false
     by false e = refl
     by true e =
         let passed = nothing_passed_over b build n unit id own_only rebuild none e in

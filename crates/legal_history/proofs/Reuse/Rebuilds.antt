@@ -5,7 +5,7 @@ use Rattle.cc_names.specs.declared.rows.Tag.{Tag}
 use Rattle.cc_names.specs.declared.steps.StoryStep.{StoryStep}
 use Rattle.cc_names.specs.declared.units.Unit.{Unit}
 use Rattle.legal_history.specs.Builds.Active.{Build, build_of}
-use Rattle.base_model.specs.Changes.{live}
+use Rattle.base_model.specs.Changes.{live_row}
 use Rattle.legal_history.specs.Builds.Reuse.{matches, reusable}
 use Rattle.legal_history.specs.Stories.States.{Opening}
 use Rattle.legal_history.specs.Stories.Steps.{state_of}
@@ -14,7 +14,7 @@ use Rattle.legal_history.specs.Builds.Values.{IsSound}
 use Rattle.legal_history.specs.Laws.FromNothing.{IsAsFromNothing, MayTake}
 use Rattle.legal_history.specs.Laws.Objects.{IsTheRun}
 use Rattle.legal_history.proofs.Builds.FineBuilds.{takes_for}
-use Rattle.legal_history.proofs.Stories.SoundStories.{base_fits}
+use Rattle.legal_history.proofs.Stories.ConsistentStories.{base_fits}
 use Rattle.legal_history.proofs.Reuse.AgreedStories.{story_agrees_so_far}
 use Rattle.legal_history.proofs.Reuse.Matched.{match_is_run}
 use Rattle.legal_history.proofs.Reuse.Reusables.{first_are_base, reusable_matches}
@@ -24,7 +24,7 @@ use Rattle.legal_history.proofs.Reuse.TrueObjects.{live_is_true}
 
 -- in a legal story over a sound base a live object whose record matches is the run
 pub story_match : (story : List StoryStep) (opening : Opening) (lane : ℕ) (build : Build) (n : ℕ) (unit : Unit) (id : ℕ) → Legal story → (state_of story).opened ≡ Some opening → IsSound opening.base → build_of (state_of story).active lane ≡ Some build →
-    is_some (live (state_of story).base id) ≡ true → matches (state_of story).base build n unit id ≡ true → IsTheRun (state_of story).base build n unit id
+    is_some (live_row (state_of story).base id) ≡ true → matches (state_of story).base build n unit id ≡ true → IsTheRun (state_of story).base build n unit id
 story_match story opening lane build n unit id legal opened sound is lives match =
     let b = (state_of story).base in
     let base = base_fits story legal in

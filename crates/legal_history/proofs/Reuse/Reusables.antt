@@ -5,7 +5,7 @@ use Rattle.cc_names.specs.References.{held_at}
 use Rattle.cc_names.specs.declared.units.Unit.{Unit}
 use Rattle.base_model.specs.Rows.{Base, size, first_rows, only_where}
 use Rattle.legal_history.specs.Builds.Active.{Build}
-use Rattle.base_model.specs.Changes.{held, live}
+use Rattle.base_model.specs.Changes.{objects_held, live_row}
 use Rattle.base_model.specs.Fits.{is_base}
 use Rattle.legal_history.specs.Builds.Reuse.{matches, if_matches, newest_match, by_options, reusable}
 use Rattle.base_model.specs.Objects.{held_at_each, held_at_others, held_at_all}
@@ -14,18 +14,18 @@ use Rattle.base_model.proofs.HeldObjects.{held_is_live}
 
 -- an object that is live and whose record matches the unit
 pub record LiveMatch (b : Base) (build : Build) (n : ℕ) (unit : Unit) (id : ℕ) : Type 0 where
-  pub lives : is_some (live b id) ≡ true
+  pub lives : is_some (live_row b id) ≡ true
   pub matches_unit : matches b build n unit id ≡ true
 
 pub only_one : (t : Bool) (k id : ℕ) → only_where t (Some k) ≡ Some id → (t ≡ true) × (k ≡ id)
 only_one true k id h = (refl, cc)
 only_one false k id h = absurd (cc)
 
-pub held_lives : (b : Base) (v : List ℕ) (targets : List (List ℕ)) (id : ℕ) → is_base b ≡ true → held_at_all b v targets ≡ Some id → is_some (live b id) ≡ true
+pub held_lives : (b : Base) (v : List ℕ) (targets : List (List ℕ)) (id : ℕ) → is_base b ≡ true → held_at_all b v targets ≡ Some id → is_some (live_row b id) ≡ true
 held_lives b v [] id base h = absurd (cc)
-held_lives b v (target ∷ targets) id base h = by (held_at (held b) v target) refl h
+held_lives b v (target ∷ targets) id base h = by (held_at (objects_held b) v target) refl h
   where
-    by : (o : Option ℕ) → held_at (held b) v target ≡ o → held_at_others b v targets o ≡ Some id → is_some (live b id) ≡ true
+    by : (o : Option ℕ) → held_at (objects_held b) v target ≡ o → held_at_others b v targets o ≡ Some id → is_some (live_row b id) ≡ true
     by None is h = absurd (cc)
     by (Some k) is h = let one = only_one (held_at_each b v targets k) k id h in held_is_live b v target id base (is ∙ ap Some one.1)
 
@@ -40,15 +40,15 @@ own_match b build n unit id base h = by (held_at_all b build.view unit.targets) 
 
 newest_matches : (b : Base) (build : Build) (n : ℕ) (unit : Unit) (rows : Base) (id : ℕ) → newest_match b build n unit rows ≡ Some id → LiveMatch b build n unit id
 newest_matches b build n unit [] id h = absurd (cc)
-newest_matches b build n unit (row ∷ older) id h = by (is_some (live b (size older)) && matches b build n unit (size older)) refl h (newest_matches b build n unit older id)
+newest_matches b build n unit (row ∷ older) id h = by (is_some (live_row b (size older)) && matches b build n unit (size older)) refl h (newest_matches b build n unit older id)
   where
-    by : (t : Bool) → (is_some (live b (size older)) && matches b build n unit (size older)) ≡ t →
+    by : (t : Bool) → (is_some (live_row b (size older)) && matches b build n unit (size older)) ≡ t →
         elim t as (λ x. Option ℕ) [ true ↦ Some (size older) | false ↦ newest_match b build n unit older ] ≡ Some id → (newest_match b build n unit older ≡ Some id → LiveMatch b build n unit id) → LiveMatch b build n unit id
     by true test h rest =
         let number : size older ≡ id = cc in
         subst (LiveMatch b build n unit) number (record {
-          lives = and_first (is_some (live b (size older))) (matches b build n unit (size older)) test;
-          matches_unit = and_second (is_some (live b (size older))) (matches b build n unit (size older)) test;
+          lives = and_first (is_some (live_row b (size older))) (matches b build n unit (size older)) test;
+          matches_unit = and_second (is_some (live_row b (size older))) (matches b build n unit (size older)) test;
         })
     by false test h rest = rest h
 

@@ -18,7 +18,7 @@ use Rattle.legal_history.specs.Builds.Values.{is_true}
 use Rattle.legal_history.specs.Builds.Values as values
 use Rattle.legal_history.proofs.Stories.Goes.{of_lane}
 use Rattle.legal_history.proofs.Builds.Published.{is_publish}
-use Rattle.legal_history.proofs.Stories.SoundStories.{IsSound, sound_step, sound_first, none_active}
+use Rattle.legal_history.proofs.Stories.ConsistentStories.{IsConsistentState, consistent_step, consistent_first, none_active}
 use Rattle.legal_history.specs.Laws.Given.{HoldsGiven}
 use Rattle.legal_history.specs.Laws.Objects.{GivesLive}
 use Rattle.legal_history.proofs.Reuse.GivenCommits.{AllHeld}
@@ -29,7 +29,7 @@ use Rattle.legal_history.proofs.Reuse.SoundRows.{sound_row}
 pub gives_live : (b : Base) (build : Build) → HoldsGiven b build → GivesLive b build
 gives_live b build h = record { lives = λ n id own. (h.given n id own).lives }
 
-new_is_true : (s : State) (tag : Tag) (moment : ℕ) (deed : Deed) → IsSound s → AllHeld s → values.IsSound s.base → MakesRow s (record { tag = tag; moment = moment; deed = deed }) deed → is_publish_deed (Some deed) ≡ true →
+new_is_true : (s : State) (tag : Tag) (moment : ℕ) (deed : Deed) → IsConsistentState s → AllHeld s → values.IsSound s.base → MakesRow s (record { tag = tag; moment = moment; deed = deed }) deed → is_publish_deed (Some deed) ≡ true →
     is_true (record { tag = tag; moment = moment; deed = deed } ∷ s.base) (size s.base) ≡ true
 new_is_true s tag moment (deeds.Publish view targets script entries outputs) sound h true_base e publish =
     let there = of_lane s tag e.build e.running.waits.active in
@@ -38,28 +38,28 @@ new_is_true s tag moment (deeds.Publish view targets script entries outputs) sou
     (is_publish s.base e.build e.n e.unit (deeds.Publish view targets script entries outputs) e.made)
 new_is_true s tag moment deed sound h true_base e publish = absurd (cc)
 
-pub base_step : (s : State) (x : StoryStep) → IsSound s → AllHeld s → values.IsSound s.base → Lawful s x → values.IsSound (after s x).base
+pub base_step : (s : State) (x : StoryStep) → IsConsistentState s → AllHeld s → values.IsSound s.base → Lawful s x → values.IsSound (after s x).base
 base_step s (story_steps.Opened rows counts tells) sound h true_base e = absurd (let first = e.first in let opened = sound.opened in cc)
 base_step s (story_steps.Commit row tick) sound h true_base e = sound_row row s.base true_base (new_is_true s row.tag row.moment row.deed sound h true_base e.may.made)
 base_step s (story_steps.Other (steps.Refused tag refusal)) sound h true_base e = true_base
 base_step s x sound h true_base e = true_base
 
-opened_step : (s : State) (x : StoryStep) → IsSound s → Lawful s x → (after s x).opened ≡ s.opened
+opened_step : (s : State) (x : StoryStep) → IsConsistentState s → Lawful s x → (after s x).opened ≡ s.opened
 opened_step s (story_steps.Opened rows counts tells) sound e = absurd (let first = e.first in let opened = sound.opened in cc)
 opened_step s (story_steps.Other (steps.Refused tag refusal)) sound e = refl
 opened_step s x sound e = refl
 
-held_from : (s : State) (story : List StoryStep) → IsSound s → AllHeld s → LegalFrom s story → AllHeld (state_from s story)
+held_from : (s : State) (story : List StoryStep) → IsConsistentState s → AllHeld s → LegalFrom s story → AllHeld (state_from s story)
 held_from s [] sound h e = h
-held_from s (x ∷ story) sound h e = held_from (after s x) story (sound_step s x sound e.0) (held_step s x sound h e.0) e.1
+held_from s (x ∷ story) sound h e = held_from (after s x) story (consistent_step s x sound e.0) (held_step s x sound h e.0) e.1
 
-base_from : (s : State) (story : List StoryStep) → IsSound s → AllHeld s → values.IsSound s.base → LegalFrom s story → values.IsSound (state_from s story).base
+base_from : (s : State) (story : List StoryStep) → IsConsistentState s → AllHeld s → values.IsSound s.base → LegalFrom s story → values.IsSound (state_from s story).base
 base_from s [] sound h true_base e = true_base
-base_from s (x ∷ story) sound h true_base e = base_from (after s x) story (sound_step s x sound e.0) (held_step s x sound h e.0) (base_step s x sound h true_base e.0) e.1
+base_from s (x ∷ story) sound h true_base e = base_from (after s x) story (consistent_step s x sound e.0) (held_step s x sound h e.0) (base_step s x sound h true_base e.0) e.1
 
-pub opened_from : (s : State) (story : List StoryStep) → IsSound s → LegalFrom s story → (state_from s story).opened ≡ s.opened
+pub opened_from : (s : State) (story : List StoryStep) → IsConsistentState s → LegalFrom s story → (state_from s story).opened ≡ s.opened
 opened_from s [] sound e = refl
-opened_from s (x ∷ story) sound e = opened_from (after s x) story (sound_step s x sound e.0) e.1 ∙ opened_step s x sound e.0
+opened_from s (x ∷ story) sound e = opened_from (after s x) story (consistent_step s x sound e.0) e.1 ∙ opened_step s x sound e.0
 
 -- after the first step
 pub held_first : (x : StoryStep) → Lawful start x → AllHeld (after start x)
@@ -77,7 +77,7 @@ opened_is_base x o e is = absurd (cc)
 
 -- The laws of whole stories.
 pub story_all_held : (x : StoryStep) (story : List StoryStep) → Legal (x ∷ story) → AllHeld (state_of (x ∷ story))
-story_all_held x story legal = held_from (after start x) story (sound_first x legal.0) (held_first x legal.0) legal.1
+story_all_held x story legal = held_from (after start x) story (consistent_first x legal.0) (held_first x legal.0) legal.1
 
 pub story_holds : (story : List StoryStep) (lane : ℕ) (build : Build) → Legal story → build_of (state_of story).active lane ≡ Some build → HoldsGiven (state_of story).base build
 story_holds [] lane build legal is = absurd (cc)
@@ -90,7 +90,7 @@ one_build (x ∷ story) lane other one two legal is_one is_two same = (story_all
 pub story_stays_sound : (story : List StoryStep) (o : Opening) → Legal story → (state_of story).opened ≡ Some o → values.IsSound o.base → values.IsSound (state_of story).base
 story_stays_sound [] o legal is true_base = absurd (cc)
 story_stays_sound (x ∷ story) o legal is true_base =
-    let sound = sound_first x legal.0 in
+    let sound = consistent_first x legal.0 in
     let opened : (after start x).opened ≡ Some o = sym (opened_from (after start x) story sound legal.1) ∙ is in
     base_from (after start x) story sound (held_first x legal.0) (subst values.IsSound (opened_is_base x o legal.0 opened) true_base) legal.1
 

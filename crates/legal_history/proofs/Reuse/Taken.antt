@@ -10,7 +10,7 @@ use Rattle.cc_names.specs.declared.steps.StoryStep.{StoryStep}
 use Rattle.cc_names.specs.declared.steps.StoryStep.TheVariants as story_steps
 use Rattle.cc_names.specs.declared.steps.UnitEnd.TheVariants as ends
 use Rattle.cc_names.specs.declared.units.Unit.{Unit}
-use Rattle.base_model.specs.Changes.{live}
+use Rattle.base_model.specs.Changes.{live_row}
 use Rattle.base_model.specs.Fits.{is_base}
 use Rattle.base_model.specs.Rows.{deed_at}
 use Rattle.legal_history.specs.Builds.Active.{Build, unit_at, unit_with_first}
@@ -28,9 +28,9 @@ use Rattle.legal_history.specs.Stories.States.{State, build_by, start}
 use Rattle.legal_history.specs.Stories.Steps.{state_of}
 use Rattle.legal_history.proofs.Builds.FineBuilds.{some_same}
 use Rattle.legal_history.proofs.Builds.Published.{is_publish}
-use Rattle.legal_history.proofs.Stories.Fronts.{front_is_legal, rest_is_legal}
+use Rattle.legal_history.proofs.Stories.Prefixes.{prefix_is_legal, rest_is_legal}
 use Rattle.legal_history.proofs.Stories.Goes.{of_lane}
-use Rattle.legal_history.proofs.Stories.SoundStories.{base_fits}
+use Rattle.legal_history.proofs.Stories.ConsistentStories.{base_fits}
 use Rattle.legal_history.proofs.Reuse.Matched.{match_script, match_targets}
 use Rattle.legal_history.proofs.Reuse.MatchedEntries.{absent_is_unseen, entry_is_seen}
 use Rattle.legal_history.proofs.Reuse.OwnRecords.{no_second_record}
@@ -60,36 +60,36 @@ view_takes_seen : (s : State) (tag : Tag) (n id : ℕ) (view : List ℕ) (build 
 unfolding takes_seen
 view_takes_seen s tag n id view build unit base own of_view chosen = record { n = n; takes = takes_seen s tag n id build unit base own.0 own.1 chosen; of_view = of_view }
 
-pub story_kept : (front rest : List StoryStep) (tag : Tag) (n id : ℕ) → Legal (front ++ story_steps.Other (steps.Concluded tag n (ends.Kept id)) ∷ rest) → TakesWhatItSees (state_of front) tag n id
-story_kept front rest tag n id legal =
-    let keeps = (rest_is_legal start front (story_steps.Other (steps.Concluded tag n (ends.Kept id)) ∷ rest) legal).0 in
+pub story_kept : (prefix rest : List StoryStep) (tag : Tag) (n id : ℕ) → Legal (prefix ++ story_steps.Other (steps.Concluded tag n (ends.Kept id)) ∷ rest) → TakesWhatItSees (state_of prefix) tag n id
+story_kept prefix rest tag n id legal =
+    let keeps = (rest_is_legal start prefix (story_steps.Other (steps.Concluded tag n (ends.Kept id)) ∷ rest) legal).0 in
     let waits = keeps.open_unit.waits in
-    takes_seen (state_of front) tag n id keeps.build keeps.unit (base_fits front (front_is_legal start front _ legal)) waits.active waits.is_unit keeps.chosen
+    takes_seen (state_of prefix) tag n id keeps.build keeps.unit (base_fits prefix (prefix_is_legal start prefix _ legal)) waits.active waits.is_unit keeps.chosen
 
 -- a unit that may take an object in place of a run is one of the command's active build
 active_of : (s : State) (tag : Tag) (n : ℕ) (build : Build) (unit : Unit) → MayTake s tag n build unit → (build_by s tag ≡ Some build) × (unit_at build n ≡ Some unit)
 active_of s tag n build unit (inl o) = (o.waits.active, o.waits.is_unit)
 active_of s tag n build unit (inr r) = (r.waits.active, r.waits.is_unit)
 
-pub story_winked : (front rest : List StoryStep) (row : Plain) (tick : ℕ) (view : List ℕ) (id : ℕ) → Legal (front ++ story_steps.Commit row tick ∷ rest) → row.deed ≡ deeds.Wink view id → ViewTakesWhatItSees (state_of front) row.tag view id
-story_winked front rest row tick view id legal is =
-    let commits = (rest_is_legal start front (story_steps.Commit row tick ∷ rest) legal).0 in
-    let winks : Winks (state_of front) row view id = subst (MakesRow (state_of front) row) is commits.may.made in
-    let own = active_of (state_of front) row.tag winks.n winks.build winks.unit winks.may in
-    view_takes_seen (state_of front) row.tag winks.n id view winks.build winks.unit (base_fits front (front_is_legal start front _ legal)) own winks.of_view winks.chosen
+pub story_winked : (prefix rest : List StoryStep) (row : Plain) (tick : ℕ) (view : List ℕ) (id : ℕ) → Legal (prefix ++ story_steps.Commit row tick ∷ rest) → row.deed ≡ deeds.Wink view id → ViewTakesWhatItSees (state_of prefix) row.tag view id
+story_winked prefix rest row tick view id legal is =
+    let commits = (rest_is_legal start prefix (story_steps.Commit row tick ∷ rest) legal).0 in
+    let winks : Winks (state_of prefix) row view id = subst (MakesRow (state_of prefix) row) is commits.may.made in
+    let own = active_of (state_of prefix) row.tag winks.n winks.build winks.unit winks.may in
+    view_takes_seen (state_of prefix) row.tag winks.n id view winks.build winks.unit (base_fits prefix (prefix_is_legal start prefix _ legal)) own winks.of_view winks.chosen
 
-pub story_starts : (front rest : List StoryStep) (tag : Tag) (n : ℕ) (build : Build) (unit : Unit) (id : ℕ) → Legal (front ++ story_steps.Other (steps.Start tag n) ∷ rest) → ReusesAny (state_of front) tag build → unit_at build n ≡ Some unit →
-    is_some (live (state_of front).base id) ≡ true → matches (state_of front).base build n unit id ≡ false
-story_starts front rest tag n build unit id legal any is_unit lives =
-    let b = (state_of front).base in
-    let starts = (rest_is_legal start front (story_steps.Other (steps.Start tag n) ∷ rest) legal).0 in
+pub story_starts : (prefix rest : List StoryStep) (tag : Tag) (n : ℕ) (build : Build) (unit : Unit) (id : ℕ) → Legal (prefix ++ story_steps.Other (steps.Start tag n) ∷ rest) → ReusesAny (state_of prefix) tag build → unit_at build n ≡ Some unit →
+    is_some (live_row (state_of prefix).base id) ≡ true → matches (state_of prefix).base build n unit id ≡ false
+story_starts prefix rest tag n build unit id legal any is_unit lives =
+    let b = (state_of prefix).base in
+    let starts = (rest_is_legal start prefix (story_steps.Other (steps.Start tag n) ∷ rest) legal).0 in
     let same_build : starts.build ≡ build = some_same (sym starts.open_unit.waits.active ∙ any.active) in
     let same_unit : starts.unit ≡ unit = some_same (sym starts.open_unit.waits.is_unit ∙ ap (λ (x : Build). unit_at x n) same_build ∙ is_unit) in
     nothing_passed_over b build n unit id any.of_any any.reuses (subst (λ x. reusable b build n x ≡ None) same_unit (subst (λ x. reusable b x n starts.unit ≡ None) same_build starts.nothing)) lives
 
 -- a row of a unit that may reuse nothing has a record that no live object has
 publishes_new : (s : State) (row : Plain) (build : Build) (id : ℕ) (view other : List ℕ) (targets : List (List ℕ)) (script : List ℕ) (reads : List ReadOf) (outputs stored : List (List ℕ)) → is_base s.base ≡ true → Publishes s row targets →
-    row.deed ≡ deeds.Publish view targets script reads outputs → HoldsGiven s.base build → ReusesAny s row.tag build → deed_at s.base id ≡ Some (deeds.Publish other targets script reads stored) → is_some (live s.base id) ≡ false
+    row.deed ≡ deeds.Publish view targets script reads outputs → HoldsGiven s.base build → ReusesAny s row.tag build → deed_at s.base id ≡ Some (deeds.Publish other targets script reads stored) → is_some (live_row s.base id) ≡ false
 publishes_new s row build id view other targets script reads outputs stored base e is held any object =
     let b = s.base in
     let made = is_publish b e.build e.n e.unit row.deed e.made in
@@ -99,14 +99,14 @@ publishes_new s row build id view other targets script reads outputs stored base
     no_second_record b e.build e.n e.unit id other stored base (subst (GivesLive b) (sym same) (gives_live b build held)) (ap (λ (x : Build). x.own_only) same ∙ any.of_any) (ap (λ (x : Build). x.rebuild) same ∙ any.reuses)
     e.nothing own
 
-pub story_publishes : (front rest : List StoryStep) (row : Plain) (tick : ℕ) (build : Build) (id : ℕ) (view other : List ℕ) (targets : List (List ℕ)) (script : List ℕ) (reads : List ReadOf) (outputs stored : List (List ℕ)) →
-    Legal (front ++ story_steps.Commit row tick ∷ rest) → row.deed ≡ deeds.Publish view targets script reads outputs → ReusesAny (state_of front) row.tag build →
-    deed_at (state_of front).base id ≡ Some (deeds.Publish other targets script reads stored) → is_some (live (state_of front).base id) ≡ false
-story_publishes front rest row tick build id view other targets script reads outputs stored legal is any object =
-    let commits = (rest_is_legal start front (story_steps.Commit row tick ∷ rest) legal).0 in
-    let before = front_is_legal start front _ legal in
-    publishes_new (state_of front) row build id view other targets script reads outputs stored (base_fits front before) (subst (MakesRow (state_of front) row) is commits.may.made) is
-    (story_holds front row.tag.lane build before (of_lane (state_of front) row.tag build any.active)) any object
+pub story_publishes : (prefix rest : List StoryStep) (row : Plain) (tick : ℕ) (build : Build) (id : ℕ) (view other : List ℕ) (targets : List (List ℕ)) (script : List ℕ) (reads : List ReadOf) (outputs stored : List (List ℕ)) →
+    Legal (prefix ++ story_steps.Commit row tick ∷ rest) → row.deed ≡ deeds.Publish view targets script reads outputs → ReusesAny (state_of prefix) row.tag build →
+    deed_at (state_of prefix).base id ≡ Some (deeds.Publish other targets script reads stored) → is_some (live_row (state_of prefix).base id) ≡ false
+story_publishes prefix rest row tick build id view other targets script reads outputs stored legal is any object =
+    let commits = (rest_is_legal start prefix (story_steps.Commit row tick ∷ rest) legal).0 in
+    let before = prefix_is_legal start prefix _ legal in
+    publishes_new (state_of prefix) row build id view other targets script reads outputs stored (base_fits prefix before) (subst (MakesRow (state_of prefix) row) is commits.may.made) is
+    (story_holds prefix row.tag.lane build before (of_lane (state_of prefix) row.tag build any.active)) any object
 
 -- the row of a publish is that of its unit's run
 publishes_read : (s : State) (row : Plain) (view : List ℕ) (targets : List (List ℕ)) (script : List ℕ) (reads : List ReadOf) (outputs : List (List ℕ)) → Publishes s row targets → row.deed ≡ deeds.Publish view targets script reads outputs →
@@ -128,15 +128,15 @@ publishes_read s row view targets script reads outputs e is =
       outputs_are = cc;
     }
 
-pub story_records : (front rest : List StoryStep) (row : Plain) (tick : ℕ) (view : List ℕ) (targets : List (List ℕ)) (script : List ℕ) (reads : List ReadOf) (outputs : List (List ℕ)) →
-    Legal (front ++ story_steps.Commit row tick ∷ rest) → row.deed ≡ deeds.Publish view targets script reads outputs → PublishesWhatItRead (state_of front) row targets script reads outputs
-story_records front rest row tick view targets script reads outputs legal is =
-    let commits = (rest_is_legal start front (story_steps.Commit row tick ∷ rest) legal).0 in
-    publishes_read (state_of front) row view targets script reads outputs (subst (MakesRow (state_of front) row) is commits.may.made) is
+pub story_records : (prefix rest : List StoryStep) (row : Plain) (tick : ℕ) (view : List ℕ) (targets : List (List ℕ)) (script : List ℕ) (reads : List ReadOf) (outputs : List (List ℕ)) →
+    Legal (prefix ++ story_steps.Commit row tick ∷ rest) → row.deed ≡ deeds.Publish view targets script reads outputs → PublishesWhatItRead (state_of prefix) row targets script reads outputs
+story_records prefix rest row tick view targets script reads outputs legal is =
+    let commits = (rest_is_legal start prefix (story_steps.Commit row tick ∷ rest) legal).0 in
+    publishes_read (state_of prefix) row view targets script reads outputs (subst (MakesRow (state_of prefix) row) is commits.may.made) is
 
 -- a unit for which a row is published is matched by no live object
 publishes_unmatched : (s : State) (row : Plain) (build : Build) (n : ℕ) (unit : Unit) (id : ℕ) (targets : List (List ℕ)) → Publishes s row targets → ReusesAny s row.tag build → unit_with_first build targets ≡ Some n → unit_at build n ≡ Some unit →
-    is_some (live s.base id) ≡ true → matches s.base build n unit id ≡ false
+    is_some (live_row s.base id) ≡ true → matches s.base build n unit id ≡ false
 publishes_unmatched s row build n unit id targets e any place is_unit lives =
     let b = s.base in
     let same_build : e.build ≡ build = some_same (sym e.running.waits.active ∙ any.active) in
@@ -146,9 +146,9 @@ publishes_unmatched s row build n unit id targets e any place is_unit lives =
     let nothing : reusable b build n unit ≡ None = subst (λ x. reusable b build n x ≡ None) same_unit (subst (λ k. reusable b build k e.unit ≡ None) same_place (subst (λ x. reusable b x e.n e.unit ≡ None) same_build e.nothing)) in
     nothing_passed_over b build n unit id any.of_any any.reuses nothing lives
 
-pub story_matches : (front rest : List StoryStep) (row : Plain) (tick : ℕ) (build : Build) (n : ℕ) (unit : Unit) (id : ℕ) (view : List ℕ) (targets : List (List ℕ)) (script : List ℕ) (reads : List ReadOf) (outputs : List (List ℕ)) →
-    Legal (front ++ story_steps.Commit row tick ∷ rest) → row.deed ≡ deeds.Publish view targets script reads outputs → ReusesAny (state_of front) row.tag build → unit_with_first build targets ≡ Some n → unit_at build n ≡ Some unit →
-    is_some (live (state_of front).base id) ≡ true → matches (state_of front).base build n unit id ≡ false
-story_matches front rest row tick build n unit id view targets script reads outputs legal is any place is_unit lives =
-    let commits = (rest_is_legal start front (story_steps.Commit row tick ∷ rest) legal).0 in
-    publishes_unmatched (state_of front) row build n unit id targets (subst (MakesRow (state_of front) row) is commits.may.made) any place is_unit lives
+pub story_matches : (prefix rest : List StoryStep) (row : Plain) (tick : ℕ) (build : Build) (n : ℕ) (unit : Unit) (id : ℕ) (view : List ℕ) (targets : List (List ℕ)) (script : List ℕ) (reads : List ReadOf) (outputs : List (List ℕ)) →
+    Legal (prefix ++ story_steps.Commit row tick ∷ rest) → row.deed ≡ deeds.Publish view targets script reads outputs → ReusesAny (state_of prefix) row.tag build → unit_with_first build targets ≡ Some n → unit_at build n ≡ Some unit →
+    is_some (live_row (state_of prefix).base id) ≡ true → matches (state_of prefix).base build n unit id ≡ false
+story_matches prefix rest row tick build n unit id view targets script reads outputs legal is any place is_unit lives =
+    let commits = (rest_is_legal start prefix (story_steps.Commit row tick ∷ rest) legal).0 in
+    publishes_unmatched (state_of prefix) row build n unit id targets (subst (MakesRow (state_of prefix) row) is commits.may.made) any place is_unit lives

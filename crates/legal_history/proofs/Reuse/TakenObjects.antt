@@ -9,7 +9,7 @@ use Rattle.cc_names.specs.declared.steps.UnitEnd.TheVariants.{Kept}
 use Rattle.cc_names.specs.declared.units.Unit.{Unit}
 use Rattle.base_model.specs.Rows.{Base, first_rows}
 use Rattle.legal_history.specs.Builds.Active.{Build, Came, Started, Concluded, Given, came_to, is_outcome, object_of, unit_at}
-use Rattle.base_model.specs.Changes.{live}
+use Rattle.base_model.specs.Changes.{live_row}
 use Rattle.base_model.specs.Closures.{is_publish_deed}
 use Rattle.base_model.specs.Fits.{is_base}
 use Rattle.legal_history.specs.Builds.Freshness.{Agrees, HasOutputs, AgreesSoFar, early_from_nothing}
@@ -83,13 +83,13 @@ winked_agrees row b build n unit id base sound gives h is may chosen wink =
     row_added row b (with_came build (Some n) (Given id)) (taken_agrees b build n unit id (Given id) (λ outputs has. has) refl (λ e. cc) base sound gives h is may chosen)
 
 -- a unit comes to something: where that is an object that lives, the objects given live still
-came_lives : (b : Base) (build : Build) (n id : ℕ) (came : Came) → object_of (Some came) ≡ Some id → is_some (live b id) ≡ true → GivesLive b build → GivesLive b (with_came build (Some n) came)
+came_lives : (b : Base) (build : Build) (n id : ℕ) (came : Came) → object_of (Some came) ≡ Some id → is_some (live_row b id) ≡ true → GivesLive b build → GivesLive b (with_came build (Some n) came)
 came_lives b build n id came own lives gives = record { lives = λ m other is. by m other (m == n) refl is }
   where
-    by : (m other : ℕ) (t : Bool) → (m == n) ≡ t → object_of (came_to (with_came build (Some n) came) m) ≡ Some other → is_some (live b other) ≡ true
+    by : (m other : ℕ) (t : Bool) → (m == n) ≡ t → object_of (came_to (with_came build (Some n) came) m) ≡ Some other → is_some (live_row b other) ≡ true
     by m other true e is =
         let same : id ≡ other = some_same (sym own ∙ sym (ap object_of (came_now build n m came true e)) ∙ is) in
-        subst (λ k. is_some (live b k) ≡ true) same lives
+        subst (λ k. is_some (live_row b k) ≡ true) same lives
     by m other false e is = gives.lives m other (sym (ap object_of (came_now build n m came false e)) ∙ is)
 
 pub kept_lives : (b : Base) (build : Build) (n : ℕ) (unit : Unit) (id : ℕ) → is_base b ≡ true → GivesLive b build → reusable b build n unit ≡ Some id → GivesLive b (with_came build (Some n) (Concluded (Kept id)))

@@ -7,7 +7,7 @@ use Rattle.cc_names.specs.declared.rows.Deed.{Deed}
 use Rattle.cc_names.specs.declared.rows.Deed.TheVariants as deeds
 use Rattle.cc_names.specs.declared.rows.ReadOf.{ReadOf}
 use Rattle.base_model.specs.Rows.{Base, size, row_at, deed_of, deed_at}
-use Rattle.base_model.specs.Changes.{live}
+use Rattle.base_model.specs.Changes.{live_row}
 use Rattle.base_model.specs.Objects.{are_same_paths}
 use Rattle.base_model.specs.Texts.{Bytes, OfRow, NoText, of_output, output_at, source_of, text}
 use Rattle.legal_history.specs.Builds.Values.{outputs_of_run, reads_of_run, has_entries, are_stored, is_true, is_true_deed, rerun, IsSound}
@@ -63,7 +63,7 @@ true_object b id h = by (deed_at b id) refl h
     by (Some deed) is h = by_deed deed is h
 
 -- in a sound base a live object is true
-pub live_is_true : (b : Base) (id : ℕ) → IsSound b → is_some (live b id) ≡ true → is_true b id ≡ true
+pub live_is_true : (b : Base) (id : ℕ) → IsSound b → is_some (live_row b id) ≡ true → is_true b id ≡ true
 live_is_true b id sound lives = ap (λ t. not t || is_true b id) (sym lives) ∙ sound id
 
 -- the text of an object at a path is its output there

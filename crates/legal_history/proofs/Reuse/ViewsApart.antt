@@ -13,8 +13,8 @@ use Rattle.legal_history.specs.Commands.Decisions.{Scene, Begins, first_refusal}
 use Rattle.base_model.specs.Texts.{texts}
 use Rattle.legal_history.specs.Commands.Lines.{decision}
 use Rattle.legal_history.specs.Commands.ObjectLines.{clearmake_tests, build_unless}
-use Rattle.legal_history.specs.Stories.States.{State, scene, decided}
-use Rattle.legal_history.specs.Stories.Steps.{begun, build_asked, noted, with_came, with_build, without_build, faulted_in}
+use Rattle.legal_history.specs.Stories.States.{State, scene, decision_for}
+use Rattle.legal_history.specs.Stories.Steps.{build_begun_by, build_asked, with_outcome, with_came, with_build, without_build, faulted_in}
 use Rattle.base_model.proofs.Tables.{same_number, find_after_put}
 use Rattle.legal_history.proofs.Decisions.Passed.{all_pass}
 use Rattle.legal_history.proofs.Builds.AllBuilds.{Each, each_noted, each_without, each_faulted, builds_there}
@@ -46,9 +46,9 @@ same_view : (build : Build) (o : Option ℕ) (came : Came) → build.view ≡ (w
 same_view build None came = refl
 same_view build (Some n) came = refl
 
-pub apart_noted : (active : Active) (lane : ℕ) (unit : Build → Option ℕ) (came : Came) → ViewsApart active → ViewsApart (noted active lane unit came)
+pub apart_noted : (active : Active) (lane : ℕ) (unit : Build → Option ℕ) (came : Came) → ViewsApart active → ViewsApart (with_outcome active lane unit came)
 apart_noted active lane unit came h =
-    apart_after active (noted active lane unit came)
+    apart_after active (with_outcome active lane unit came)
     (each_noted (WasActive active) active lane unit came (all_were active) (λ build is. record { before = build; is = is; same = same_view build (unit build) came })) h
 
 pub apart_without : (active : Active) (lane : ℕ) → ViewsApart active → ViewsApart (without_build active lane)
@@ -87,7 +87,7 @@ clearmake_idle s v us read h = by (first_refusal (clearmake_tests s v)) refl h
     by (Some refusal) passes h = absurd (cc)
     by None passes h = was_idle (building s.active v) (all_pass (clearmake_tests s v) passes).1.0
 
-pub begun_idle : (s : State) (tag : Tag) (us : List Unit) → decided s tag ≡ Some (Ok (Begins us)) → (build : Build) → begun s tag ≡ Some build → building s.active build.view ≡ None
+pub begun_idle : (s : State) (tag : Tag) (us : List Unit) → decision_for s tag ≡ Some (Ok (Begins us)) → (build : Build) → build_begun_by s tag ≡ Some build → building s.active build.view ≡ None
 begun_idle s tag us h build is =
     let d = decided_of s tag (Begins us) h in
     let says = says_of s tag (Begins us) d in

@@ -9,8 +9,8 @@ use Rattle.base_model.specs.Rows.{size}
 use Rattle.legal_history.specs.Builds.Active.{Build}
 use Rattle.legal_history.specs.Commands.Decisions.{Decision, Begins}
 use Rattle.legal_history.specs.Commands.Lines.{decision}
-use Rattle.legal_history.specs.Stories.States.{State, scene, decided, next_command}
-use Rattle.legal_history.specs.Stories.Steps.{begun, build_asked, new_build, units_begun}
+use Rattle.legal_history.specs.Stories.States.{State, scene, decision_for, next_command}
+use Rattle.legal_history.specs.Stories.Steps.{build_begun_by, build_asked, new_build, units_begun}
 use Rattle.legal_history.proofs.Decisions.Decided.{decided_says}
 use Rattle.legal_history.proofs.Decisions.DecidedSays.{Says}
 
@@ -20,7 +20,7 @@ pub record DecidedOf (s : State) (tag : Tag) (d : Decision) : Type 0 where
   pub next : next_command s tag ≡ Some command
   pub is : decision (scene s) command ≡ Ok d
 
-pub decided_of : (s : State) (tag : Tag) (d : Decision) → decided s tag ≡ Some (Ok d) → DecidedOf s tag d
+pub decided_of : (s : State) (tag : Tag) (d : Decision) → decision_for s tag ≡ Some (Ok d) → DecidedOf s tag d
 decided_of s tag d h = by (next_command s tag) refl h
   where
     by : (o : Option Command) → next_command s tag ≡ o → option_map (decision (scene s)) o ≡ Some (Ok d) → DecidedOf s tag d
@@ -31,10 +31,10 @@ pub says_of : (s : State) (tag : Tag) (d : Decision) (h : DecidedOf s tag d) →
 says_of s tag d h = decided_says (scene s) h.command d h.is
 
 -- the build that a command begins is the one that it asks for
-pub begun_is : (s : State) (tag : Tag) (us : List Unit) (h : decided s tag ≡ Some (Ok (Begins us))) → let says = says_of s tag (Begins us) (decided_of s tag (Begins us) h) in
-    begun s tag ≡ Some (build_asked tag (size s.base) us says.asked)
+pub begun_is : (s : State) (tag : Tag) (us : List Unit) (h : decision_for s tag ≡ Some (Ok (Begins us))) → let says = says_of s tag (Begins us) (decided_of s tag (Begins us) h) in
+    build_begun_by s tag ≡ Some (build_asked tag (size s.base) us says.asked)
 begun_is s tag us h =
     let d = decided_of s tag (Begins us) h in
     let says = says_of s tag (Begins us) d in
-    ap (λ o. option_and_then (new_build tag (size s.base) (units_begun (decided s tag))) o) (d.next ∙ ap Some says.is)
+    ap (λ o. option_and_then (new_build tag (size s.base) (units_begun (decision_for s tag))) o) (d.next ∙ ap Some says.is)
     ∙ ap (λ o. new_build tag (size s.base) (units_begun o) (commands.Build says.asked)) h

@@ -23,8 +23,8 @@ use Rattle.legal_history.specs.Stories.Growth.{Continues, StaysTheBuild, Over, O
 use Rattle.cc_names.specs.declared.refusals.Refusal.{Refusal}
 use Rattle.legal_history.specs.Commands.Decisions.{Decision}
 use Rattle.legal_history.specs.Commands.Lines.{decision}
-use Rattle.legal_history.specs.Stories.States.{State, scene, decided, command_behind, done_of, is_next, build_by, build_if, same_tag}
-use Rattle.legal_history.specs.Stories.Steps.{after, after_step, noted, with_came, begun, with_build, without_build, faulted_in, active_after}
+use Rattle.legal_history.specs.Stories.States.{State, scene, decision_for, command_behind, done_of, is_next, build_by, build_if, same_tag}
+use Rattle.legal_history.specs.Stories.Steps.{after, after_step, with_outcome, with_came, build_begun_by, with_build, without_build, faulted_in, active_after}
 use Rattle.legal_history.specs.Stories.Committing.{MakesRow}
 use Rattle.legal_history.specs.Stories.Lawful.{Lawful, LawfulStep}
 use Rattle.legal_history.specs.Builds.UnitTurns.{ComesTo, Waits}
@@ -83,7 +83,7 @@ of_lane s tag build e = by (build_of s.active tag.lane) e
 -- a build of one lane, after a unit of some lane's build came to something
 noted_goes : (active : Active) (lane other : ℕ) (build b : Build) (unit : Build → Option ℕ) (n : ℕ) (came : Came) →
     build_of active lane ≡ Some build → build_of active other ≡ Some b → unit b ≡ Some n → is_outcome (came_to b n) ≡ false →
-    StaysTheBuild build (build_of (noted active other unit came) lane)
+    StaysTheBuild build (build_of (with_outcome active other unit came) lane)
 noted_goes active lane other build b unit n came is of_other number waits =
     rw of_other (put_in active lane other build (with_came b (unit b) came) is (λ e. goes_on (same_number lane other e)))
   where
@@ -107,10 +107,10 @@ where_holds true f o e = refl
 where_holds false f o e = absurd (cc)
 
 -- a command on which something is decided is its lane's next, and its lane builds nothing
-pub decided_is_next : (s : State) (tag : Tag) {d : Result Decision Refusal} → decided s tag ≡ Some d → is_next s tag ≡ true
+pub decided_is_next : (s : State) (tag : Tag) {d : Result Decision Refusal} → decision_for s tag ≡ Some d → is_next s tag ≡ true
 decided_is_next s tag e = where_holds (is_next s tag) (decision (scene s)) (option_and_then (command_behind (done_of s.done tag.lane)) (lane_at s.phase tag.lane)) e
 
-pub decided_is_idle : (s : State) (tag : Tag) {d : Result Decision Refusal} → decided s tag ≡ Some d → build_of s.active tag.lane ≡ None
+pub decided_is_idle : (s : State) (tag : Tag) {d : Result Decision Refusal} → decision_for s tag ≡ Some d → build_of s.active tag.lane ≡ None
 decided_is_idle s tag e = lane_is_idle s tag (decided_is_next s tag e)
 
 -- a build of one lane, after another lane that was idle began one
@@ -152,12 +152,12 @@ faulted_goes active lane other build (Some b) is of_other = put_in active lane o
 
 -- a build of one lane, after a unit that waits of some lane's build came to something
 waited_goes : (s : State) (tag : Tag) (n : ℕ) (b : Build) (u : Unit) (lane : ℕ) (build : Build) (unit : Build → Option ℕ) (came : Came) →
-    build_of s.active lane ≡ Some build → Waits s tag n b u → unit b ≡ Some n → StaysTheBuild build (build_of (noted s.active tag.lane unit came) lane)
+    build_of s.active lane ≡ Some build → Waits s tag n b u → unit b ≡ Some n → StaysTheBuild build (build_of (with_outcome s.active tag.lane unit came) lane)
 waited_goes s tag n b u lane build unit came is h number =
     noted_goes s.active lane tag.lane build b unit n came is (of_lane s tag b h.active) number h.waits
 
 settled_goes : (s : State) (tag : Tag) (n : ℕ) (outcome : UnitEnd) (lane : ℕ) (build : Build) (came : Came) → build_of s.active lane ≡ Some build →
-    ComesTo s tag n outcome → StaysTheBuild build (build_of (noted s.active tag.lane (λ b. Some n) came) lane)
+    ComesTo s tag n outcome → StaysTheBuild build (build_of (with_outcome s.active tag.lane (λ b. Some n) came) lane)
 settled_goes s tag n (ends.Kept id) lane build came is h = waited_goes s tag n h.build h.unit lane build (λ b. Some n) came is h.open_unit.waits refl
 settled_goes s tag n (ends.Failed (unit_faults.Script fault)) lane build came is h =
     waited_goes s tag n h.build h.unit lane build (λ b. Some n) came is h.running.waits refl
@@ -173,19 +173,19 @@ committed_goes s row (deeds.Wink view id) lane build is h = elim h.may [
 ]
 committed_goes s row deed lane build is h = On build is (continues_itself build)
 
-told_goes : (s : State) (step : Step) (lane : ℕ) (build : Build) → build_of s.active lane ≡ Some build → LawfulStep s step →
+any_step_goes : (s : State) (step : Step) (lane : ℕ) (build : Build) → build_of s.active lane ≡ Some build → LawfulStep s step →
     StaysTheBuild build (build_of (after_step s step).active lane)
-told_goes s (steps.Begin tag rows units) lane build is h = begun_goes s.active lane tag.lane build (begun s tag) is (decided_is_idle s tag h.chosen)
-told_goes s (steps.Start tag n) lane build is h =
+any_step_goes s (steps.Begin tag rows units) lane build is h = begun_goes s.active lane tag.lane build (build_begun_by s tag) is (decided_is_idle s tag h.chosen)
+any_step_goes s (steps.Start tag n) lane build is h =
     waited_goes s tag n h.build h.unit lane build (λ b. Some n) _ is h.open_unit.waits refl
-told_goes s (steps.Concluded tag n outcome) lane build is h = settled_goes s tag n outcome lane build _ is h
-told_goes s (steps.End tag) lane build is h = ended_goes s.active lane tag.lane build is
-told_goes s (steps.Fault tag left before faults tick) lane build is h = faulted_goes s.active lane tag.lane build (build_by s tag) is (λ x e. of_lane s tag x e)
-told_goes s step lane build is h = On build is (continues_itself build)
+any_step_goes s (steps.Concluded tag n outcome) lane build is h = settled_goes s tag n outcome lane build _ is h
+any_step_goes s (steps.End tag) lane build is h = ended_goes s.active lane tag.lane build is
+any_step_goes s (steps.Fault tag left before faults tick) lane build is h = faulted_goes s.active lane tag.lane build (build_by s tag) is (λ x e. of_lane s tag x e)
+any_step_goes s step lane build is h = On build is (continues_itself build)
 
 -- each lawful step leaves an active build going on, or ends it
 pub step_goes : (s : State) (x : StoryStep) (lane : ℕ) (build : Build) → build_of s.active lane ≡ Some build → Lawful s x →
     StaysTheBuild build (build_of (after s x).active lane)
 step_goes s (story_steps.Commit row tick) lane build is h = committed_goes s row row.deed lane build is h.may.made
-step_goes s (story_steps.Other step) lane build is h = told_goes s step lane build is h
+step_goes s (story_steps.Other step) lane build is h = any_step_goes s step lane build is h
 step_goes s x lane build is h = On build is (continues_itself build)

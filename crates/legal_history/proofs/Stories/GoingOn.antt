@@ -10,11 +10,11 @@ use Rattle.legal_history.specs.Stories.Growth.{Continues, StaysTheBuild, Over, O
 use Rattle.legal_history.specs.Stories.States.{State, start}
 use Rattle.legal_history.specs.Stories.Steps.{after, state_of}
 use Rattle.legal_history.specs.Stories.Lawful.{Lawful, Legal}
-use Rattle.legal_history.proofs.Stories.Fronts.{first_opens}
+use Rattle.legal_history.proofs.Stories.Prefixes.{first_opens}
 use Rattle.legal_history.proofs.Stories.Goes.{step_goes}
 use Rattle.legal_history.proofs.Stories.Grows.{is_opened, step_extends}
 use Rattle.base_model.proofs.Stay.{first_rows_stay_all}
-use Rattle.legal_history.proofs.Stories.SoundStories.{build_is_consistent}
+use Rattle.legal_history.proofs.Stories.ConsistentStories.{build_is_consistent}
 
 -- a consistent build goes on while its base grows, and a unit of it is ready
 pub record GoesOnSo (b later : Base) (old new : Build) (unit : Unit) : Type 0 where

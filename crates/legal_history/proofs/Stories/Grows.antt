@@ -10,7 +10,7 @@ use Rattle.base_model.specs.Rows.{Base, Extends}
 use Rattle.legal_history.specs.Stories.States.{State, start}
 use Rattle.legal_history.specs.Stories.Steps.{after, after_step, state_from, state_of}
 use Rattle.legal_history.specs.Stories.Lawful.{Lawful, LegalFrom, Legal}
-use Rattle.legal_history.proofs.Stories.Fronts.{state_goes_on, rest_is_legal, first_opens}
+use Rattle.legal_history.proofs.Stories.Prefixes.{state_goes_on, rest_is_legal, first_opens}
 
 pub extends_itself : (b : Base) → Extends b b
 extends_itself b = record { more = []; is = refl }
@@ -29,13 +29,13 @@ step_extends s (story_steps.PhaseBegun phase moment) o h = extends_itself s.base
 step_extends s (story_steps.Commit row tick) o h = record { more = row ∷ []; is = refl }
 step_extends s (story_steps.Other step) o h = record { more = []; is = base_stays s step }
 
-opened_stays_told : (s : State) (step : Step) → (after_step s step).opened ≡ s.opened
-opened_stays_told s (steps.Refused tag refusal) = refl
-opened_stays_told s step = refl
+opened_stays_by_step : (s : State) (step : Step) → (after_step s step).opened ≡ s.opened
+opened_stays_by_step s (steps.Refused tag refusal) = refl
+opened_stays_by_step s step = refl
 
 pub stays_opened : (s : State) (x : StoryStep) → is_some s.opened ≡ true → is_some (after s x).opened ≡ true
 stays_opened s (story_steps.Opened rows counts tells) o = refl
-stays_opened s (story_steps.Other step) o = rw (opened_stays_told s step) o
+stays_opened s (story_steps.Other step) o = rw (opened_stays_by_step s step) o
 stays_opened s x o = o
 
 pub story_extends : (s : State) (story : List StoryStep) → is_some s.opened ≡ true → LegalFrom s story → Extends s.base (state_from s story).base
@@ -47,8 +47,8 @@ pub is_opened : (s : State) (story : List StoryStep) → is_some s.opened ≡ tr
 is_opened s [] o = o
 is_opened s (x ∷ story) o = is_opened (after s x) story (stays_opened s x o)
 
-pub base_grows : (front rest : List StoryStep) → Legal (front ++ rest) → Extends (state_of front).base (state_of (front ++ rest)).base
+pub base_grows : (prefix rest : List StoryStep) → Legal (prefix ++ rest) → Extends (state_of prefix).base (state_of (prefix ++ rest)).base
 base_grows [] rest h = record { more = (state_of rest).base; is = sym (append-nil _) }
-base_grows (x ∷ front) rest h =
-    subst (λ s. Extends (state_of (x ∷ front)).base s.base) (sym (state_goes_on (after start x) front rest))
-    (story_extends (state_of (x ∷ front)) rest (is_opened (after start x) front (first_opens x h.0)) (rest_is_legal (after start x) front rest h.1))
+base_grows (x ∷ prefix) rest h =
+    subst (λ s. Extends (state_of (x ∷ prefix)).base s.base) (sym (state_goes_on (after start x) prefix rest))
+    (story_extends (state_of (x ∷ prefix)) rest (is_opened (after start x) prefix (first_opens x h.0)) (rest_is_legal (after start x) prefix rest h.1))

@@ -20,7 +20,7 @@ use Rattle.legal_history.specs.Commands.Lines.{decision}
 use Rattle.legal_history.specs.Stories.Commanded.{command_of}
 use Rattle.legal_history.specs.Stories.Committing.{MakesRow}
 use Rattle.legal_history.specs.Stories.Lanes.{count_of, IsFinished, IsWithin}
-use Rattle.legal_history.specs.Stories.States.{State, build_by, command_behind, decided, done_of, next_command, scene, start, with_done}
+use Rattle.legal_history.specs.Stories.States.{State, build_by, command_behind, decision_for, done_of, next_command, scene, start, with_done}
 use Rattle.legal_history.specs.Stories.Steps.{after, after_step, done_after, done_by_fault, state_from, state_of}
 use Rattle.legal_history.specs.Stories.Lawful.{Lawful, LawfulStep, Legal, LegalFrom}
 use Rattle.legal_history.proofs.Builds.CommandStays.{next_is, other_done}
@@ -29,14 +29,14 @@ use Rattle.legal_history.proofs.Stories.Goes.{of_lane}
 use Rattle.base_model.proofs.Tables.{same_number}
 use Rattle.legal_history.proofs.Stories.LaterSteps.{own_done}
 use Rattle.legal_history.proofs.Stories.LaterStories.{story_later}
-use Rattle.legal_history.proofs.Stories.SoundStories.{IsSound, sound_first, sound_step}
+use Rattle.legal_history.proofs.Stories.ConsistentStories.{IsConsistentState, consistent_first, consistent_step}
 
 -- a command of the lane is left
 record HasNext (s : State) (lane : ℕ) : Type 0 where
   command : Command
   is : command_of s lane ≡ Some command
 
-decided_has_next : (s : State) (tag : Tag) (r : Result Decision Refusal) → decided s tag ≡ Some r → HasNext s tag.lane
+decided_has_next : (s : State) (tag : Tag) (r : Result Decision Refusal) → decision_for s tag ≡ Some r → HasNext s tag.lane
 decided_has_next s tag r h = by (next_command s tag) refl h
   where
     by : (o : Option Command) → next_command s tag ≡ o → option_map (decision (scene s)) o ≡ Some r → HasNext s tag.lane
@@ -82,39 +82,39 @@ faulted_within : (s : State) (other : ℕ) (o : Option Build) → HasNext s othe
 faulted_within s other None next h = with_one_more s other next h
 faulted_within s other (Some build) next h = h
 
-told_within : (s : State) (step : Step) → AllCommanded s → LawfulStep s step → AllWithin s → AllWithin (after_step s step)
-told_within s (steps.Refused tag refusal) all e h = with_one_more s tag.lane (decided_has_next s tag _ e) h
-told_within s (steps.Answer tag text) all e h = with_one_more s tag.lane (decided_has_next s tag _ e) h
-told_within s (steps.End tag) all e h = with_one_more s tag.lane (built_has_next s tag e.build all e.active) h
-told_within s (steps.Fault tag left before faults tick) all e h =
+any_step_within : (s : State) (step : Step) → AllCommanded s → LawfulStep s step → AllWithin s → AllWithin (after_step s step)
+any_step_within s (steps.Refused tag refusal) all e h = with_one_more s tag.lane (decided_has_next s tag _ e) h
+any_step_within s (steps.Answer tag text) all e h = with_one_more s tag.lane (decided_has_next s tag _ e) h
+any_step_within s (steps.End tag) all e h = with_one_more s tag.lane (built_has_next s tag e.build all e.active) h
+any_step_within s (steps.Fault tag left before faults tick) all e h =
     let next = row_has_next s e.wanted.row e.wanted.row.deed all e.wanted.may.made in
     faulted_within s tag.lane (build_by s tag) (subst (λ (t : Tag). HasNext s t.lane) e.wanted.of_tag next) h
-told_within s step all e h = h
+any_step_within s step all e h = h
 
 step_within : (s : State) (x : StoryStep) → AllCommanded s → Lawful s x → AllWithin s → AllWithin (after s x)
 step_within s (story_steps.Opened rows counts tells) all e h = h
 step_within s (story_steps.PhaseBegun phase moment) all e h = λ lane. omega arith
 step_within s (story_steps.Commit row tick) all e h = committed_within s row.tag.lane row.deed (row_has_next s row row.deed all e.may.made) h
-step_within s (story_steps.Other step) all e h = told_within s step all e h
+step_within s (story_steps.Other step) all e h = any_step_within s step all e h
 
-within_from : (s : State) (story : List StoryStep) → IsSound s → AllCommanded s → LegalFrom s story → AllWithin s → AllWithin (state_from s story)
+within_from : (s : State) (story : List StoryStep) → IsConsistentState s → AllCommanded s → LegalFrom s story → AllWithin s → AllWithin (state_from s story)
 within_from s [] sound all e h = h
-within_from s (x ∷ story) sound all e h = within_from (after s x) story (sound_step s x sound e.0) (step_commanded s x sound all e.0) e.1 (step_within s x all e.0 h)
+within_from s (x ∷ story) sound all e h = within_from (after s x) story (consistent_step s x sound e.0) (step_commanded s x sound all e.0) e.1 (step_within s x all e.0 h)
 
 within_first : (x : StoryStep) → Lawful start x → AllWithin (after start x)
 within_first x e = step_within start x (record { holds = λ lane build is. absurd (cc) }) e (λ lane. omega arith)
 
 pub lane_within : (story : List StoryStep) (lane : ℕ) → Legal story → IsWithin (state_of story) lane
 lane_within [] lane legal = omega arith
-lane_within (x ∷ story) lane legal = within_from (after start x) story (sound_first x legal.0) (none_begun x legal.0) legal.1 (within_first x legal.0) lane
+lane_within (x ∷ story) lane legal = within_from (after start x) story (consistent_first x legal.0) (none_begun x legal.0) legal.1 (within_first x legal.0) lane
 
 -- what has come as far as it can stays there
 all_there : (old new all goal : ℕ) → old ≤ new → new ≤ goal → old ≡ all → goal ≡ all → new ≡ goal
 all_there old new all goal low high first same = omega arith
 
-pub stays_finished : (front rest : List StoryStep) (lane : ℕ) → Legal (front ++ rest) → (state_of (front ++ rest)).number ≡ (state_of front).number →
-    IsFinished (state_of front) lane → IsFinished (state_of (front ++ rest)) lane
-stays_finished front rest lane legal same h =
-    let later = story_later front rest legal in
-    all_there (done_of (state_of front).done lane) (done_of (state_of (front ++ rest)).done lane) (count_of (lane_at (state_of front).phase lane)) (count_of (lane_at (state_of (front ++ rest)).phase lane))
-    (later.done same lane) (lane_within (front ++ rest) lane legal) h (ap (λ phase. count_of (lane_at phase lane)) (later.phase same))
+pub stays_finished : (prefix rest : List StoryStep) (lane : ℕ) → Legal (prefix ++ rest) → (state_of (prefix ++ rest)).number ≡ (state_of prefix).number →
+    IsFinished (state_of prefix) lane → IsFinished (state_of (prefix ++ rest)) lane
+stays_finished prefix rest lane legal same h =
+    let later = story_later prefix rest legal in
+    all_there (done_of (state_of prefix).done lane) (done_of (state_of (prefix ++ rest)).done lane) (count_of (lane_at (state_of prefix).phase lane)) (count_of (lane_at (state_of (prefix ++ rest)).phase lane))
+    (later.done same lane) (lane_within (prefix ++ rest) lane legal) h (ap (λ phase. count_of (lane_at phase lane)) (later.phase same))

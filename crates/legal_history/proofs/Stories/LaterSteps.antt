@@ -66,12 +66,12 @@ record StaysInPhase (s t : State) : Type 0 where
   moment : t.moment ≡ s.moment
   done : (lane : ℕ) → done_of s.done lane ≤ done_of t.done lane
 
-told_stays : (s : State) (step : Step) → StaysInPhase s (after_step s step)
-told_stays s (steps.Refused tag refusal) = record { number = refl; phase = refl; moment = refl; done = no_fewer s.done tag.lane }
-told_stays s (steps.Answer tag text) = record { number = refl; phase = refl; moment = refl; done = no_fewer s.done tag.lane }
-told_stays s (steps.End tag) = record { number = refl; phase = refl; moment = refl; done = no_fewer s.done tag.lane }
-told_stays s (steps.Fault tag left before faults tick) = record { number = refl; phase = refl; moment = refl; done = faulted_no_fewer s.done tag.lane (build_by s tag) }
-told_stays s step = record { number = refl; phase = refl; moment = refl; done = λ lane. omega arith }
+any_step_stays : (s : State) (step : Step) → StaysInPhase s (after_step s step)
+any_step_stays s (steps.Refused tag refusal) = record { number = refl; phase = refl; moment = refl; done = no_fewer s.done tag.lane }
+any_step_stays s (steps.Answer tag text) = record { number = refl; phase = refl; moment = refl; done = no_fewer s.done tag.lane }
+any_step_stays s (steps.End tag) = record { number = refl; phase = refl; moment = refl; done = no_fewer s.done tag.lane }
+any_step_stays s (steps.Fault tag left before faults tick) = record { number = refl; phase = refl; moment = refl; done = faulted_no_fewer s.done tag.lane (build_by s tag) }
+any_step_stays s step = record { number = refl; phase = refl; moment = refl; done = λ lane. omega arith }
 
 within_phase : (s : State) (x : StoryStep) → Lawful s x → StaysInPhase s (after s x) → GoesLater s (after s x)
 within_phase s x e h = record {
@@ -98,4 +98,4 @@ step_later s (story_steps.Opened rows counts tells) e =
 step_later s (story_steps.PhaseBegun phase moment) e = next_phase s (after s (story_steps.PhaseBegun phase moment)) refl
 step_later s (story_steps.Commit row tick) e =
     within_phase s (story_steps.Commit row tick) e (record { number = refl; phase = refl; moment = refl; done = committed_no_fewer s.done row.tag.lane row.deed })
-step_later s (story_steps.Other step) e = within_phase s (story_steps.Other step) e (told_stays s step)
+step_later s (story_steps.Other step) e = within_phase s (story_steps.Other step) e (any_step_stays s step)

@@ -6,7 +6,7 @@ use Rattle.legal_history.specs.Stories.Growth.{Continues, GoesLater, StillBuilds
 use Rattle.legal_history.specs.Stories.States.{State, done_of, start}
 use Rattle.legal_history.specs.Stories.Steps.{after, state_from, state_of}
 use Rattle.legal_history.specs.Stories.Lawful.{Legal, LegalFrom}
-use Rattle.legal_history.proofs.Stories.Fronts.{rest_is_legal, state_goes_on}
+use Rattle.legal_history.proofs.Stories.Prefixes.{rest_is_legal, state_goes_on}
 use Rattle.legal_history.proofs.Stories.Goes.{continues_itself}
 use Rattle.legal_history.proofs.Stories.LaterSteps.{step_later}
 
@@ -72,6 +72,6 @@ later_from : (s : State) (story : List StoryStep) → LegalFrom s story → Goes
 later_from s [] legal = later_itself s
 later_from s (x ∷ story) legal = later_on s (after s x) (state_from (after s x) story) (step_later s x legal.0) (later_from (after s x) story legal.1)
 
-pub story_later : (front rest : List StoryStep) → Legal (front ++ rest) → GoesLater (state_of front) (state_of (front ++ rest))
-story_later front rest legal =
-    subst (GoesLater (state_of front)) (sym (state_goes_on start front rest)) (later_from (state_of front) rest (rest_is_legal start front rest legal))
+pub story_later : (prefix rest : List StoryStep) → Legal (prefix ++ rest) → GoesLater (state_of prefix) (state_of (prefix ++ rest))
+story_later prefix rest legal =
+    subst (GoesLater (state_of prefix)) (sym (state_goes_on start prefix rest)) (later_from (state_of prefix) rest (rest_is_legal start prefix rest legal))

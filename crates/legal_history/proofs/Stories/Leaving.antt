@@ -12,7 +12,7 @@ use Rattle.cc_names.specs.declared.steps.StoryStep.TheVariants as story_steps
 use Rattle.base_model.specs.Rows.{Base}
 use Rattle.legal_history.specs.Builds.Active.{Active, Build, Came, build_of}
 use Rattle.legal_history.specs.Stories.States.{State, build_by}
-use Rattle.legal_history.specs.Stories.Steps.{after, after_step, noted_in, with_came, with_build, without_build, faulted_in, active_after, begun}
+use Rattle.legal_history.specs.Stories.Steps.{after, after_step, noted_in, with_came, with_build, without_build, faulted_in, active_after, build_begun_by}
 use Rattle.legal_history.specs.Stories.Lawful.{Lawful, LawfulStep, EndsBuild}
 use Rattle.legal_history.specs.Builds.Turns.{is_complete}
 use Rattle.legal_history.proofs.Stories.Goes.{of_lane}
@@ -61,15 +61,15 @@ by_its_end s tag lane build is e none = by (lane == tag.lane) refl (sym (find_wi
     by false e2 h = absurd (cc)
     by true e2 h = ends_so s tag lane build is e (same_number lane tag.lane e2)
 
-told_left : (s : State) (step : Step) (lane : ℕ) (build : Build) → build_of s.active lane ≡ Some build → LawfulStep s step → build_of (after_step s step).active lane ≡ None → IsLeft s (story_steps.Other step) lane build
-told_left s (steps.Begin tag rows count) lane build is e none = absurd (begun_there s.active lane tag.lane build (begun s tag) is none)
-told_left s (steps.Start tag n) lane build is e none = absurd (noted_there s.active lane tag.lane build (build_of s.active tag.lane) _ _ is none)
-told_left s (steps.Concluded tag n end) lane build is e none = absurd (noted_there s.active lane tag.lane build (build_of s.active tag.lane) _ _ is none)
-told_left s (steps.End tag) lane build is e none = by_its_end s tag lane build is e none
-told_left s (steps.Fault tag left before faults tick) lane build is e none = absurd (faulted_there s.active lane tag.lane build (build_by s tag) is none)
-told_left s step lane build is e none = absurd (cc)
+any_step_left : (s : State) (step : Step) (lane : ℕ) (build : Build) → build_of s.active lane ≡ Some build → LawfulStep s step → build_of (after_step s step).active lane ≡ None → IsLeft s (story_steps.Other step) lane build
+any_step_left s (steps.Begin tag rows count) lane build is e none = absurd (begun_there s.active lane tag.lane build (build_begun_by s tag) is none)
+any_step_left s (steps.Start tag n) lane build is e none = absurd (noted_there s.active lane tag.lane build (build_of s.active tag.lane) _ _ is none)
+any_step_left s (steps.Concluded tag n end) lane build is e none = absurd (noted_there s.active lane tag.lane build (build_of s.active tag.lane) _ _ is none)
+any_step_left s (steps.End tag) lane build is e none = by_its_end s tag lane build is e none
+any_step_left s (steps.Fault tag left before faults tick) lane build is e none = absurd (faulted_there s.active lane tag.lane build (build_by s tag) is none)
+any_step_left s step lane build is e none = absurd (cc)
 
 pub is_left : (s : State) (x : StoryStep) (lane : ℕ) (build : Build) → build_of s.active lane ≡ Some build → Lawful s x → build_of (after s x).active lane ≡ None → IsLeft s x lane build
 is_left s (story_steps.Commit row tick) lane build is e none = absurd (committed_there s.base s.active lane row.tag.lane build row.deed is none)
-is_left s (story_steps.Other step) lane build is e none = told_left s step lane build is e none
+is_left s (story_steps.Other step) lane build is e none = any_step_left s step lane build is e none
 is_left s x lane build is e none = absurd (cc)

@@ -7,7 +7,7 @@ use Rattle.cc_names.specs.declared.steps.StoryStep.TheVariants as story_steps
 use Rattle.legal_history.specs.Stories.States.{State, start}
 use Rattle.legal_history.specs.Stories.Steps.{after, state_from, state_of}
 use Rattle.legal_history.specs.Stories.Lawful.{Lawful, LegalFrom, Legal}
-use Rattle.legal_history.proofs.Stories.Fronts.{first_opens}
+use Rattle.legal_history.proofs.Stories.Prefixes.{first_opens}
 use Rattle.legal_history.proofs.Stories.Grows.{stays_opened}
 use Rattle.legal_history.specs.Laws.Ends.{AreRising}
 

@@ -9,7 +9,7 @@ use Rattle.base_model.specs.Fits.{row_limit}
 use Rattle.legal_history.specs.Stories.Steps.{state_of}
 use Rattle.legal_history.specs.Stories.Lawful.{Legal}
 use Rattle.legal_history.proofs.Builds.Room.{waits_from, all_waiting}
-use Rattle.legal_history.proofs.Stories.SoundStories.{story_is_sound}
+use Rattle.legal_history.proofs.Stories.ConsistentStories.{story_is_consistent}
 use Rattle.legal_history.specs.Laws.Unfinished.{unfinished_from, all_unfinished}
 
 as_waiting : (build : Build) (n : ℕ) (units : List Unit) → waits_from build.comes n units ≡ unfinished_from build n units
@@ -23,4 +23,4 @@ all_as_waiting (entry ∷ active) = ap₂ ◌+◌ (as_waiting entry.1 0 entry.1.
 pub within_limit : (story : List StoryStep) → Legal story → size (state_of story).base + all_unfinished (state_of story).active ≤ row_limit
 within_limit [] legal = omega arith
 within_limit (x ∷ story) legal =
-    subst (λ k. size (state_of (x ∷ story)).base + k ≤ row_limit) (all_as_waiting (state_of (x ∷ story)).active) (story_is_sound x story legal).room.room
+    subst (λ k. size (state_of (x ∷ story)).base + k ≤ row_limit) (all_as_waiting (state_of (x ∷ story)).active) (story_is_consistent x story legal).room.room

@@ -13,7 +13,7 @@ use Rattle.legal_history.specs.Builds.Fresh.{script_text}
 use Rattle.legal_history.specs.Builds.Consistency.{IsReady, IsConsistent}
 use Rattle.legal_history.specs.Stories.Growth.{Continues}
 use Rattle.base_model.specs.Seen.{file_at}
-use Rattle.legal_history.specs.Builds.Serials.{makes, needed}
+use Rattle.legal_history.specs.Builds.Serials.{makes, needed_units}
 use Rattle.legal_history.proofs.Builds.Pairs.{Pair, unit_in, member_of, pairs_before, members_paired, needed_mapped}
 use Rattle.legal_history.proofs.Builds.NeededAgree.{needed_each, ready_over}
 use Rattle.legal_history.proofs.Stories.GoingOn.{GoesOnSo, rows_stay}
@@ -37,18 +37,18 @@ all_go_on : (old new : Build) (n : ℕ) → Continues old new → AllGoOn (membe
 all_go_on old new n c = subst (λ units. AllGoOn (members_before old n) (members_from new 0 (take n units) [])) (sym c.units) (members_go_on old new 0 (take n old.units) [] [] c tt)
 
 -- so those that are needed go on
-needed_go_on : (paths : List (List ℕ)) (olds news : List Member) → AllGoOn olds news → AllGoOn (needed unit_of_member paths olds) (needed unit_of_member paths news)
+needed_go_on : (paths : List (List ℕ)) (olds news : List Member) → AllGoOn olds news → AllGoOn (needed_units unit_of_member paths olds) (needed_units unit_of_member paths news)
 needed_go_on paths [] [] h = h
 needed_go_on paths [] (new ∷ news) h = absurd h
 needed_go_on paths (old ∷ olds) [] h = absurd h
-needed_go_on paths (old ∷ olds) (new ∷ news) h = subst (λ u. AllGoOn (needed unit_of_member paths (old ∷ olds)) (with_new u)) (sym h.0.unit) (by (list_any (λ path. makes path old.unit) paths) (λ ps. needed_go_on ps olds news h.1))
+needed_go_on paths (old ∷ olds) (new ∷ news) h = subst (λ u. AllGoOn (needed_units unit_of_member paths (old ∷ olds)) (with_new u)) (sym h.0.unit) (by (list_any (λ path. makes path old.unit) paths) (λ ps. needed_go_on ps olds news h.1))
   where
     with_new : Unit → List Member
-    with_new u = elim (list_any (λ path. makes path u) paths) as (λ x. List Member) [ true ↦ new ∷ needed unit_of_member (paths ++ u.prerequisites) news | false ↦ needed unit_of_member paths news ]
+    with_new u = elim (list_any (λ path. makes path u) paths) as (λ x. List Member) [ true ↦ new ∷ needed_units unit_of_member (paths ++ u.prerequisites) news | false ↦ needed_units unit_of_member paths news ]
 
-    by : (t : Bool) → ((ps : List (List ℕ)) → AllGoOn (needed unit_of_member ps olds) (needed unit_of_member ps news)) → AllGoOn
-        (elim t as (λ x. List Member) [ true ↦ old ∷ needed unit_of_member (paths ++ old.unit.prerequisites) olds | false ↦ needed unit_of_member paths olds ])
-        (elim t as (λ x. List Member) [ true ↦ new ∷ needed unit_of_member (paths ++ old.unit.prerequisites) news | false ↦ needed unit_of_member paths news ])
+    by : (t : Bool) → ((ps : List (List ℕ)) → AllGoOn (needed_units unit_of_member ps olds) (needed_units unit_of_member ps news)) → AllGoOn
+        (elim t as (λ x. List Member) [ true ↦ old ∷ needed_units unit_of_member (paths ++ old.unit.prerequisites) olds | false ↦ needed_units unit_of_member paths olds ])
+        (elim t as (λ x. List Member) [ true ↦ new ∷ needed_units unit_of_member (paths ++ old.unit.prerequisites) news | false ↦ needed_units unit_of_member paths news ])
     by true rest = (h.0, rest (paths ++ old.unit.prerequisites))
     by false rest = rest paths
 
@@ -65,11 +65,11 @@ all_over [] h = tt
 all_over (pair ∷ pairs) h = (h.0, all_over pairs h.1)
 
 -- what a ready unit needs has its outcomes
-needed_over : (b : Base) (build : Build) (n : ℕ) (unit : Unit) → IsConsistent b build → IsReady build unit → AllOver (needed unit_of_member unit.prerequisites (members_before build n))
+needed_over : (b : Base) (build : Build) (n : ℕ) (unit : Unit) → IsConsistent b build → IsReady build unit → AllOver (needed_units unit_of_member unit.prerequisites (members_before build n))
 needed_over b build n unit h ready =
     subst AllOver
-    (sym (ap (needed unit_of_member unit.prerequisites) (members_paired (first_rows build.rows b) build n) ∙ needed_mapped member_of unit_of_member unit.prerequisites (pairs_before (first_rows build.rows b) build n)))
-    (all_over (needed unit_in unit.prerequisites (pairs_before (first_rows build.rows b) build n)) (needed_each IsOver b build n unit.prerequisites h (λ m u is outcome. outcome) (ready_over b build unit h ready)))
+    (sym (ap (needed_units unit_of_member unit.prerequisites) (members_paired (first_rows build.rows b) build n) ∙ needed_mapped member_of unit_of_member unit.prerequisites (pairs_before (first_rows build.rows b) build n)))
+    (all_over (needed_units unit_in unit.prerequisites (pairs_before (first_rows build.rows b) build n)) (needed_each IsOver b build n unit.prerequisites h (λ m u is outcome. outcome) (ready_over b build unit h ready)))
 
 -- the object at a path among such members stays
 object_stays : (path : List ℕ) (olds news : List Member) → AllGoOn olds news → AllOver olds → object_among path news ≡ object_among path olds
@@ -82,7 +82,7 @@ object_stays path (old ∷ olds) (new ∷ news) h over = λ i. option_or (only_w
 pub same_selection : (b later : Base) (old new : Build) (n : ℕ) (unit : Unit) (path : List ℕ) → GoesOnSo b later old new unit → visible later new n unit path ≡ visible b old n unit path
 same_selection b later old new n unit path h =
     let rows : first_rows new.rows later ≡ first_rows old.rows b = rows_stay b later old new unit h in
-    let objects = object_stays path (needed unit_of_member unit.prerequisites (members_before old n)) (needed unit_of_member unit.prerequisites (members_before new n))
+    let objects = object_stays path (needed_units unit_of_member unit.prerequisites (members_before old n)) (needed_units unit_of_member unit.prerequisites (members_before new n))
     (needed_go_on unit.prerequisites (members_before old n) (members_before new n) (all_go_on old new n h.on)) (needed_over b old n unit h.consistent h.ready) in
     λ i. option_or (objects i) (file_at (rows i) (h.on.view i) path)
 

@@ -73,11 +73,11 @@ branched_twice = base_of (all_deeds ++ (deeds.Mktype type_kinds.Branch (codes "f
 both_branches_fit : is_base branched_twice ≡ true
 both_branches_fit = refl
 
-branches_are_told_behind_their_versions :
+branches_are_listed_after_their_versions :
     decisions branched_twice (commands.Query (queries.Lsvtree v a_file) ∷ [])
     ≡ Ok (Answers (line (codes "in@@/main") ++ line (codes "in@@/main/0") ++ line (codes "in@@/main/1")
     ++ line (codes "in@@/main/fix") ++ line (codes "in@@/main/fix/0") ++ line (codes "in@@/main/fix/1")
     ++ line (codes "in@@/main/fix/sub") ++ line (codes "in@@/main/fix/sub/0")
     ++ line (codes "in@@/main/two") ++ line (codes "in@@/main/two/0"))) ∷ []
 unfolding digits
-branches_are_told_behind_their_versions = refl
+branches_are_listed_after_their_versions = refl

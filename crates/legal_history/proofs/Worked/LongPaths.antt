@@ -1,14 +1,14 @@
 -- A directory that is renamed makes the paths below it longer. One that passes 1,024 bytes is seen by nothing.
 use Rattle.std.proofs.Common.{◌≡◌, refl, ℕ, true, false, List, [], ◌∷◌, ◌++◌}
 use Rattle.std.specs.Prelude.{codes, replicate}
-use Rattle.cc_names.specs.Paths.{joined}
+use Rattle.cc_names.specs.Paths.{path_of_names}
 use Rattle.cc_names.specs.declared.rows.Deed.{Deed}
 use Rattle.cc_names.specs.declared.rows.Deed.TheVariants as deeds
 use Rattle.cc_names.specs.declared.rows.Kind.TheVariants.{File, Directory}
 use Rattle.cc_names.specs.declared.selection.Seen.TheVariants.{Element, Nothing}
 use Rattle.base_model.specs.Rows.{Base}
 use Rattle.base_model.specs.Fits.{is_base}
-use Rattle.legal_history.specs.Queries.ListingTexts.{ls_text}
+use Rattle.legal_history.specs.Queries.DirectoryTexts.{ls_text}
 use Rattle.base_model.specs.Seen.{at, at_names}
 use Rattle.legal_history.specs.Worked.{base_of}
 use Rattle.legal_history.proofs.Worked.TwoViews.{v}
@@ -45,5 +45,5 @@ the_last_directory_is_seen = refl
 the_file_is_not : at_names renamed v (codes "in" ∷ long ∷ long ∷ long ∷ long ∷ []) ≡ Nothing
 the_file_is_not = refl
 
-nor_is_it_listed : ls_text renamed v (joined (long ∷ long ∷ long ∷ long ∷ [])) ≡ []
+nor_is_it_listed : ls_text renamed v (path_of_names (long ∷ long ∷ long ∷ long ∷ [])) ≡ []
 nor_is_it_listed = refl

@@ -14,7 +14,7 @@ use Rattle.base_model.specs.Changes.{targets_of}
 use Rattle.legal_history.specs.Builds.Choices.{here, publish_of}
 use Rattle.legal_history.specs.Commands.Decisions.{Answers, Begins}
 use Rattle.base_model.specs.Objects.{held_at_all}
-use Rattle.legal_history.specs.Stories.States.{State, decided, build_by}
+use Rattle.legal_history.specs.Stories.States.{State, decision_for, build_by}
 use Rattle.legal_history.specs.Stories.Committing.{MakesRow, RowFor}
 use Rattle.legal_history.specs.Stories.Lawful.{BeginsBuild, EndsBuild}
 use Rattle.legal_history.specs.Builds.UnitTurns.{Waits, Starts, Keeps, Fails, EndsEarly, Winks, Publishes}
@@ -26,18 +26,18 @@ apart test e first second = cc (ap test e)
 
 -- a build begins with the units that are decided, at the rows that there are
 pub units_are : {s : State} {tag : Tag} {rows count : ℕ} {units : List Unit} →
-    decided s tag ≡ Some (Ok (Begins units)) → BeginsBuild s tag rows count → count ≡ length units
+    decision_for s tag ≡ Some (Ok (Begins units)) → BeginsBuild s tag rows count → count ≡ length units
 units_are d h = let c = h.chosen in let l = h.of_units in cc
 
 -- a command that is answered makes no row
-no_row_of : {tag : Tag} {text : List ℕ} (s : State) (row : Plain) (deed : Deed) → decided s tag ≡ Some (Ok (Answers text)) → build_by s tag ≡ None →
+no_row_of : {tag : Tag} {text : List ℕ} (s : State) (row : Plain) (deed : Deed) → decision_for s tag ≡ Some (Ok (Answers text)) → build_by s tag ≡ None →
     row.tag ≡ tag → MakesRow s row deed → ⊥
 no_row_of s row (deeds.Publish view targets script entries outputs) d b of_tag h = let a = h.running.waits.active in cc
 no_row_of s row (deeds.Wink view id) d b of_tag h =
     ⊎_elim (λ may. let a = may.waits.active in cc) (λ may. let a = may.waits.active in cc) h.may
 no_row_of s row deed d b of_tag h = cc
 
-pub no_row : {s : State} {tag : Tag} {text : List ℕ} → decided s tag ≡ Some (Ok (Answers text)) → build_by s tag ≡ None → RowFor s tag → ⊥
+pub no_row : {s : State} {tag : Tag} {text : List ℕ} → decision_for s tag ≡ Some (Ok (Answers text)) → build_by s tag ≡ None → RowFor s tag → ⊥
 no_row {s = s} d b h = no_row_of s h.row h.row.deed d b h.of_tag h.may.made
 
 -- what a unit may publish is what its run gives

@@ -45,8 +45,8 @@ what_is_kept_is_held = refl
 the_first_view_runs : reusable (first_rows 10 two_views) (build_in v 10) 0 unit ≡ None
 the_first_view_runs = refl
 
-another_view_takes_in : reusable (first_rows 12 two_views) (build_in w 12) 0 unit ≡ Some 10
-another_view_takes_in = refl
+another_view_winks_in : reusable (first_rows 12 two_views) (build_in w 12) 0 unit ≡ Some 10
+another_view_winks_in = refl
 
 it_holds_nothing_yet : held_at_all (first_rows 12 two_views) w (codes "out" ∷ []) ≡ None
 it_holds_nothing_yet = refl

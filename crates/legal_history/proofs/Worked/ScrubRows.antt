@@ -6,7 +6,7 @@ use Rattle.cc_names.specs.declared.commands.Query.TheVariants as queries
 use Rattle.cc_names.specs.declared.commands.Change.TheVariants as changes
 use Rattle.cc_names.specs.declared.rows.Deed.TheVariants as deeds
 use Rattle.base_model.specs.Rows.{Base, first_rows}
-use Rattle.base_model.specs.Changes.{held, live}
+use Rattle.base_model.specs.Changes.{objects_held, live_row}
 use Rattle.legal_history.specs.Commands.Decisions.{Makes, Answers, Begins}
 use Rattle.base_model.specs.Fits.{is_base}
 use Rattle.legal_history.specs.Builds.Fresh.{fresh}
@@ -44,7 +44,7 @@ a_drop_is_not_due = refl
 scrubbed_is_a_base : is_base scrubbed ≡ true
 scrubbed_is_a_base = refl
 
-the_object_is_gone : live scrubbed 10 ≡ None
+the_object_is_gone : live_row scrubbed 10 ≡ None
 the_object_is_gone = refl
 
 a_scrubbed_object_is_built_anew : reusable (first_rows 16 scrubbed) (build_in w 16) 0 unit ≡ None
@@ -59,5 +59,5 @@ the_new_object_has_its_text = refl
 the_other_view_holds_nothing : decisions scrubbed (commands.Query (queries.Lsdo v) ∷ []) ≡ Ok (Answers []) ∷ []
 the_other_view_holds_nothing = refl
 
-one_view_holds_it : held scrubbed ≡ ((w, codes "out"), 16) ∷ []
+one_view_holds_it : objects_held scrubbed ≡ ((w, codes "out"), 16) ∷ []
 one_view_holds_it = refl

@@ -7,7 +7,7 @@ use Rattle.cc_names.specs.declared.rows.Deed.TheVariants as deeds
 use Rattle.base_model.specs.Rows.{Base}
 use Rattle.base_model.specs.Closures.{Input, input_cmp, closure}
 use Rattle.base_model.specs.Fits.{is_base}
-use Rattle.base_model.specs.Objects.{uncovered}
+use Rattle.base_model.specs.Objects.{uncovered_path}
 use Rattle.legal_history.specs.Queries.VersionNames.{line}
 use Rattle.legal_history.specs.Worked.{base_of}
 use Rattle.legal_history.proofs.Worked.TwoViews.{all_deeds, v}
@@ -27,7 +27,7 @@ it_is_a_base = refl
 the_closure : closure selected_by_record 10 ≡ ((codes "in", 8), 8) ∷ []
 the_closure = refl
 
-it_is_covered : uncovered selected_by_record x 10 ≡ None
+it_is_covered : uncovered_path selected_by_record x 10 ≡ None
 it_is_covered = refl
 
 by_the_record : SeesByRecord selected_by_record x (codes "out") 10 (codes "in") 6

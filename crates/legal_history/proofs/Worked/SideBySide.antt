@@ -13,7 +13,7 @@ use Rattle.cc_names.specs.declared.rows.Kind.TheVariants.{File}
 use Rattle.cc_names.specs.declared.steps.Step.TheVariants as steps
 use Rattle.cc_names.specs.declared.steps.StoryStep.{StoryStep}
 use Rattle.cc_names.specs.declared.steps.StoryStep.TheVariants as story_steps
-use Rattle.base_model.specs.Changes.{held}
+use Rattle.base_model.specs.Changes.{objects_held}
 use Rattle.legal_history.specs.Stories.States.{all_done}
 use Rattle.legal_history.specs.Stories.Steps.{state_of}
 use Rattle.legal_history.specs.Stories.Lawful.{Legal}
@@ -124,5 +124,5 @@ side_by_side_is_legal = (
 both_lanes_are_finished : all_done (state_of side_by_side) ≡ true
 both_lanes_are_finished = refl
 
-both_views_hold_it : held (state_of side_by_side).base ≡ ((v, codes "out"), 11) ∷ ((w, codes "out"), 11) ∷ []
+both_views_hold_it : objects_held (state_of side_by_side).base ≡ ((v, codes "out"), 11) ∷ ((w, codes "out"), 11) ∷ []
 both_views_hold_it = refl

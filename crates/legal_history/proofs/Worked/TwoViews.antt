@@ -13,7 +13,7 @@ use Rattle.cc_names.specs.declared.units.Unit.{Unit}
 use Rattle.cc_names.specs.declared.units.UnitScript.TheVariants as scripts
 use Rattle.base_model.specs.Rows.{Base, first_rows}
 use Rattle.base_model.specs.Catalogs.{catalog_of}
-use Rattle.base_model.specs.Changes.{held}
+use Rattle.base_model.specs.Changes.{objects_held}
 use Rattle.legal_history.specs.Commands.Decisions.{Makes, Begins}
 use Rattle.base_model.specs.Fits.{is_base}
 use Rattle.legal_history.specs.Builds.Fresh.{fresh}
@@ -135,5 +135,5 @@ catalog_has_both = refl
 checkin_keeps_the_text : text two_views 8 (codes "in") ≡ Some hi
 checkin_keeps_the_text = refl
 
-both_hold_the_object : held two_views ≡ ((v, codes "out"), 10) ∷ ((w, codes "out"), 10) ∷ []
+both_hold_the_object : objects_held two_views ≡ ((v, codes "out"), 10) ∷ ((w, codes "out"), 10) ∷ []
 both_hold_the_object = refl

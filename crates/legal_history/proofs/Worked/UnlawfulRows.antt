@@ -11,7 +11,7 @@ use Rattle.cc_names.specs.declared.steps.Step.TheVariants as steps
 use Rattle.cc_names.specs.declared.steps.StoryStep.{StoryStep}
 use Rattle.cc_names.specs.declared.steps.StoryStep.TheVariants as story_steps
 use Rattle.legal_history.specs.Commands.Decisions.{Decision, Makes, Answers}
-use Rattle.legal_history.specs.Stories.States.{State, decided, start}
+use Rattle.legal_history.specs.Stories.States.{State, decision_for, start}
 use Rattle.legal_history.specs.Stories.Steps.{state_of}
 use Rattle.legal_history.specs.Stories.Lawful.{Lawful}
 use Rattle.legal_history.specs.Queries.VersionNames.{line}
@@ -50,13 +50,13 @@ scrubbing = state_of (
     story_steps.Opened (reverse (base_of (all_deeds ++ (publish ∷ deeds.Drop w (codes "out") ∷ [])))) (record { ticks = 0; faults = 0 }) true
     ∷ story_steps.PhaseBegun (one_lane (commands.Change (changes.Scrub 0) ∷ commands.Query (queries.Lsdo v) ∷ [])) 1700000000 ∷ [])
 
-the_scrub_takes_one : decided scrubbing (tag 1 1 1) ≡ Some (Ok (Makes (deeds.Scrub (10 ∷ []))))
+the_scrub_takes_one : decision_for scrubbing (tag 1 1 1) ≡ Some (Ok (Makes (deeds.Scrub (10 ∷ []))))
 the_scrub_takes_one = refl
 
 -- whether a decision is to make a row that scrubs this many objects
 scrubs : ℕ → Option (Result Decision Refusal) → Bool
 scrubs n (Some (Ok (Makes (deeds.Scrub objects)))) = nat_eq (length objects) n
-scrubs n decided = false
+scrubs n decision_for = false
 
 a_scrub_of_one_too_many : Lawful scrubbing (story_steps.Commit (row 1 (deeds.Scrub (10 ∷ 13 ∷ []))) 1) → ⊥
 unfolding scrubs
@@ -74,7 +74,7 @@ an_answer_out_of_turn h = apart is_none h refl refl
 -- whether a decision is a refusal
 is_refused : Option (Result Decision Refusal) → Bool
 is_refused (Some (Err refusal)) = true
-is_refused decided = false
+is_refused decision_for = false
 
 a_refusal_without_a_reason : Lawful scrubbing (story_steps.Other (steps.Refused (tag 1 1 1) refusals.NoView)) → ⊥
 unfolding is_refused
@@ -83,7 +83,7 @@ a_refusal_without_a_reason h = apart (λ d. not (is_refused d)) h refl refl
 -- whether a decision is to answer this text
 answers : List ℕ → Option (Result Decision Refusal) → Bool
 answers text (Some (Ok (Answers answer))) = bytes_eq text answer
-answers text decided = false
+answers text decision_for = false
 
 -- a fault where the scrub's row was to be committed
 abbrev scrub_fault : List ℕ → ℕ → ℕ → StoryStep

@@ -47,9 +47,9 @@ abbrev pub building : Active → List ℕ → Option Tag
 building active v = option_map tag_of (find (is_of_view v) active)
 
 -- one row for each unit of the active builds
-abbrev pub reserved : Active → ℕ
-reserved [] = 0
-reserved (entry ∷ active) = length entry.1.units + reserved active
+abbrev pub rows_reserved : Active → ℕ
+rows_reserved [] = 0
+rows_reserved (entry ∷ active) = length entry.1.units + rows_reserved active
 
 -- the unit of this number
 abbrev pub unit_at : Build → ℕ → Option Unit

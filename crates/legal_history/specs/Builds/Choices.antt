@@ -14,7 +14,7 @@ use Rattle.base_model.specs.Rows.{Base, first_rows, only_where}
 use Rattle.legal_history.specs.Builds.Active.{Build, Came, came_to, object_of}
 use Rattle.legal_history.specs.Builds.Fresh.{script_text}
 use Rattle.base_model.specs.Seen.{file_at}
-use Rattle.legal_history.specs.Builds.Serials.{makes, needed}
+use Rattle.legal_history.specs.Builds.Serials.{makes, needed_units}
 use Rattle.base_model.specs.Texts.{text_of_row}
 
 -- a unit of a build with what it has come to
@@ -48,7 +48,7 @@ object_among path (member ∷ members) = option_or (object_at path member) (obje
 -- needs, directly or through others, else the file of the view
 abbrev pub visible_in : Base → Build → ℕ → Unit → List ℕ → Option ℕ
 visible_in rows build n unit path =
-    option_or (object_among path (needed unit_of_member unit.prerequisites (members_before build n))) (file_at rows build.view path)
+    option_or (object_among path (needed_units unit_of_member unit.prerequisites (members_before build n))) (file_at rows build.view path)
 
 -- what unit n of a build sees at a path
 abbrev pub visible : Base → Build → ℕ → Unit → List ℕ → Option ℕ

@@ -15,7 +15,7 @@ use Rattle.script_grammar.specs.Run.{run}
 use Rattle.make_grammar.specs.Graphs.{units}
 use Rattle.base_model.specs.Rows.{Base}
 use Rattle.base_model.specs.Seen.{file_at, directory_at}
-use Rattle.legal_history.specs.Builds.Serials.{Outcome, Made, Without, Finished, unit_of, early_end, standing_in, needed}
+use Rattle.legal_history.specs.Builds.Serials.{Outcome, Made, Without, Finished, unit_of, early_end, standing_in, needed_units}
 use Rattle.base_model.specs.Texts.{output_at, text, texts}
 
 -- whether the view sees a file at the path
@@ -54,7 +54,7 @@ end_or_run None unit files = outcome_of_run (run (script_text unit.script) unit.
 -- what a unit comes to where these earlier ones are finished: its script sees the files and the outputs of what it needs
 abbrev pub serial_of : Files → (List ℕ → Bool) → (List ℕ → Bool) → List Finished → Unit → Outcome
 serial_of files is_file is_directory earlier unit =
-    end_or_run (early_end is_directory (standing_in is_file earlier) unit) unit (output_or_file files (needed unit_of unit.prerequisites earlier))
+    end_or_run (early_end is_directory (standing_in is_file earlier) unit) unit (output_or_file files (needed_units unit_of unit.prerequisites earlier))
 
 -- what units come to one after the other, the last first in both lists
 abbrev pub serial : Files → (List ℕ → Bool) → (List ℕ → Bool) → List Unit → List Finished

@@ -73,9 +73,9 @@ line_before path None lines = lines
 line_before path (Some word) lines = record { path = path; word = word } ∷ lines
 
 -- the targets at which a unit is told: each of them where it has an object, else the first
-abbrev pub told_targets : Bool → List (List ℕ) → List (List ℕ)
-told_targets true targets = targets
-told_targets false targets = take 1 targets
+abbrev pub reported_targets : Bool → List (List ℕ) → List (List ℕ)
+reported_targets true targets = targets
+reported_targets false targets = take 1 targets
 
 -- whether a unit that was finished from nothing has outputs
 abbrev pub has_outputs : Outcome → Bool
@@ -91,7 +91,7 @@ lines_of word (path ∷ paths) = line_before path (word path) (lines_of word pat
 abbrev pub lines_from : Base → Build → ℕ → List Unit → List UnitLine
 lines_from b build n [] = []
 lines_from b build n (unit ∷ units) =
-    lines_of (λ path. word_of_came b build path (came_to build n)) (told_targets (is_some (object_of (came_to build n))) unit.targets)
+    lines_of (λ path. word_of_came b build path (came_to build n)) (reported_targets (is_some (object_of (came_to build n))) unit.targets)
     ++ lines_from b build (n + 1) units
 
 -- the lines of finished units that are numbered from n on
@@ -99,7 +99,7 @@ abbrev pub finished_from : Base → Build → ℕ → List Finished → List Uni
 finished_from b build n [] = []
 finished_from b build n (finished ∷ more) =
     lines_of (λ path. Some (word_of_outcome b build path finished.unit.targets (came_to build n) finished.outcome))
-    (told_targets (has_outputs finished.outcome) finished.unit.targets)
+    (reported_targets (has_outputs finished.outcome) finished.unit.targets)
     ++ finished_from b build (n + 1) more
 
 -- The reply of a build by what its units have come to: unit by unit in order, one with an object by a line for each of its

@@ -8,7 +8,7 @@ use Rattle.cc_names.specs.declared.rows.ReadOf.{ReadOf}
 use Rattle.cc_names.specs.declared.units.Unit.{Unit}
 use Rattle.base_model.specs.Rows.{Base, size, deed_at, only_where}
 use Rattle.legal_history.specs.Builds.Active.{Build}
-use Rattle.base_model.specs.Changes.{live}
+use Rattle.base_model.specs.Changes.{live_row}
 use Rattle.legal_history.specs.Builds.Choices.{visible}
 use Rattle.legal_history.specs.Builds.Fresh.{script_text}
 use Rattle.base_model.specs.Objects.{are_same_paths, agrees, held_at_all}
@@ -36,7 +36,7 @@ if_matches b build n unit (Some id) = only_where (matches b build n unit id) (So
 abbrev pub newest_match : Base → Build → ℕ → Unit → Base → Option ℕ
 newest_match b build n unit [] = None
 newest_match b build n unit (row ∷ older) =
-    elim (is_some (live b (size older)) && matches b build n unit (size older)) [
+    elim (is_some (live_row b (size older)) && matches b build n unit (size older)) [
       | true ↦ Some (size older)
       | false ↦ newest_match b build n unit older
     ]

@@ -108,10 +108,10 @@ standing_in is_file earlier path =
     standing_or_file (is_file path) (option_map (λ finished. standing_of_outcome finished.outcome) (find (λ finished. makes path finished.unit) earlier))
 
 -- The units among earlier ones, the last first, that make these paths, and those that these need in turn.
-abbrev pub needed : {A : Type 0} → (A → Unit) → List (List ℕ) → List A → List A
-needed unit_of paths [] = []
-needed unit_of paths (a ∷ earlier) =
+abbrev pub needed_units : {A : Type 0} → (A → Unit) → List (List ℕ) → List A → List A
+needed_units unit_of paths [] = []
+needed_units unit_of paths (a ∷ earlier) =
     elim (list_any (λ path. makes path (unit_of a)) paths) [
-      | true ↦ a ∷ needed unit_of (paths ++ (unit_of a).prerequisites) earlier
-      | false ↦ needed unit_of paths earlier
+      | true ↦ a ∷ needed_units unit_of (paths ++ (unit_of a).prerequisites) earlier
+      | false ↦ needed_units unit_of paths earlier
     ]

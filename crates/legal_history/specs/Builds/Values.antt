@@ -10,7 +10,7 @@ use Rattle.cc_names.specs.declared.rows.Deed.TheVariants as deeds
 use Rattle.cc_names.specs.declared.rows.ReadOf.{ReadOf}
 use Rattle.script_grammar.specs.Run.{Ran, run}
 use Rattle.base_model.specs.Rows.{Base, size, deed_at, only_where}
-use Rattle.base_model.specs.Changes.{live, targets_of}
+use Rattle.base_model.specs.Changes.{live_row, targets_of}
 use Rattle.base_model.specs.Closures.{is_publish}
 use Rattle.base_model.specs.Texts.{texts, output_at, text}
 use Rattle.base_model.specs.Objects.{row_in, are_same_paths}
@@ -82,7 +82,7 @@ is_true b id = is_true_deed (rerun b id) (deed_at b id)
 
 -- whether an object is not live, or true
 abbrev pub is_dead_or_true : Base → ℕ → Bool
-is_dead_or_true b id = not (is_some (live b id)) || is_true b id
+is_dead_or_true b id = not (is_some (live_row b id)) || is_true b id
 
 -- the oldest of some rows that is a live object and not true
 abbrev pub unsound_among : Base → Base → Option ℕ
@@ -96,7 +96,7 @@ first_unsound b = unsound_among b b
 -- how many of some rows are live objects
 abbrev pub live_among : Base → Base → ℕ
 live_among b [] = 0
-live_among b (row ∷ older) = one_where (is_some (live b (size older))) + live_among b older
+live_among b (row ∷ older) = one_where (is_some (live_row b (size older))) + live_among b older
 
 -- how many objects are live
 abbrev pub live_count : Base → ℕ

@@ -5,7 +5,7 @@ use Rattle.cc_names.specs.declared.refusals.Refusal.TheVariants as refusals
 use Rattle.cc_names.specs.declared.rows.Deed.{Deed}
 use Rattle.cc_names.specs.declared.units.Unit.{Unit}
 use Rattle.base_model.specs.Rows.{Base, size}
-use Rattle.legal_history.specs.Builds.Active.{Active, reserved}
+use Rattle.legal_history.specs.Builds.Active.{Active, rows_reserved}
 use Rattle.base_model.specs.Fits.{row_limit}
 
 -- what a command that is not refused comes to: a row with this deed, a text that answers it, or a build of these units
@@ -41,8 +41,8 @@ unless_refused None decision = Ok decision
 -- refusal carries the rows and the reserved ones, or the limit where these are more.
 abbrev pub needs_room : Scene → ℕ → Option Refusal
 needs_room scene rows =
-    if nat_lt row_limit (size scene.base + reserved scene.active + rows)
-    then Some (refusals.Full (min (size scene.base + reserved scene.active) row_limit))
+    if nat_lt row_limit (size scene.base + rows_reserved scene.active + rows)
+    then Some (refusals.Full (min (size scene.base + rows_reserved scene.active) row_limit))
     else None
 
 -- a command that makes a row needs room for it, and that is tested last

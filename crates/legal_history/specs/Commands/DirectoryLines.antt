@@ -7,7 +7,7 @@ use Rattle.cc_names.specs.declared.refusals.Refusal.{Refusal}
 use Rattle.cc_names.specs.declared.rows.Deed.TheVariants as deeds
 use Rattle.cc_names.specs.declared.rows.Kind.{Kind}
 use Rattle.base_model.specs.Rows.{Base}
-use Rattle.base_model.specs.Catalogs.{named, own_of}
+use Rattle.base_model.specs.Catalogs.{element_named, own_of}
 use Rattle.legal_history.specs.Commands.Decisions.{Scene, Decision, past, makes}
 use Rattle.legal_history.specs.Commands.FileLines.{parent, last_name}
 use Rattle.legal_history.specs.Commands.Found.{for_directory}
@@ -37,7 +37,7 @@ mkelem s v nco kind path = changes_directory s v path (mkelem_in s v nco kind pa
 
 -- the element that the view's checkout of a directory names so is not out
 abbrev pub needs_named_in : Base → List ℕ → ℕ → List ℕ → Option Refusal
-needs_named_in b v d name = needs_not_out (option_and_then (out b v) (named name (own_of b v d)))
+needs_named_in b v d name = needs_not_out (option_and_then (out b v) (element_named name (own_of b v d)))
 
 -- the tests of the removal of a name from a directory
 abbrev pub rmname_tests : Scene → List ℕ → List ℕ → ℕ → List (Option Refusal)
@@ -57,12 +57,12 @@ path_or path (Ok joined) = joined
 path_or path (Err fault) = path
 
 -- the path with another last name
-abbrev pub renamed : List ℕ → List ℕ → List ℕ
-renamed path name = path_or path (join_of (parent path) name)
+abbrev pub renamed_path : List ℕ → List ℕ → List ℕ
+renamed_path path name = path_or path (join_of (parent path) name)
 
 -- the tests of a new name in a directory
 abbrev pub mv_tests : Scene → List ℕ → List ℕ → List ℕ → ℕ → List (Option Refusal)
-mv_tests s v path name d = needs_name s.base v path d (last_name path) ∷ needs_free_path s.base v (renamed path name) d name ∷ []
+mv_tests s v path name d = needs_name s.base v path d (last_name path) ∷ needs_free_path s.base v (renamed_path path name) d name ∷ []
 
 -- a new name in a directory
 abbrev pub mv_in : Scene → List ℕ → List ℕ → List ℕ → ℕ → Result Decision Refusal

@@ -10,7 +10,7 @@ use Rattle.cc_names.specs.declared.selection.Seen.{Seen}
 use Rattle.cc_names.specs.declared.selection.Seen.TheVariants.{Private, Element, Unselected, Nothing}
 use Rattle.base_model.specs.ConfigSpecs.Specs.{rules_of}
 use Rattle.base_model.specs.Rows.{Base}
-use Rattle.base_model.specs.Changes.{held}
+use Rattle.base_model.specs.Changes.{objects_held}
 use Rattle.base_model.specs.Conditions.{is_directory}
 use Rattle.legal_history.specs.Commands.Decisions.{Scene, Decision, makes}
 use Rattle.base_model.specs.Seen.{at}
@@ -62,7 +62,7 @@ abbrev pub saves_at : Base → List ℕ → List ℕ → Seen → Option Refusal
 saves_at b v path (Private row) = None
 saves_at b v path (Element e picked) = saves_element (is_directory b e) path (out b v e)
 saves_at b v path (Unselected e) = saves_element (is_directory b e) path (out b v e)
-saves_at b v path Nothing = refused_where (is_some (held_at (held b) v path)) (refusals.IsDerived path)
+saves_at b v path Nothing = refused_where (is_some (held_at (objects_held b) v path)) (refusals.IsDerived path)
 
 -- the tests of `save V P`
 abbrev pub save_tests : Scene → List ℕ → List ℕ → List (Option Refusal)

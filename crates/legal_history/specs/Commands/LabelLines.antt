@@ -4,7 +4,7 @@ use Rattle.std.specs.Option.{option_or}
 use Rattle.cc_names.specs.Branches.{branch_behind}
 use Rattle.cc_names.specs.Labels.{holder}
 use Rattle.cc_names.specs.References.{held_at}
-use Rattle.cc_names.specs.Versions.{is_number, numbered, version_id}
+use Rattle.cc_names.specs.Versions.{is_number, version_of_number, version_id}
 use Rattle.cc_names.specs.declared.commands.VersionName.{VersionName}
 use Rattle.cc_names.specs.declared.refusals.Refusal.{Refusal}
 use Rattle.cc_names.specs.declared.refusals.Refusal.TheVariants as refusals
@@ -13,7 +13,7 @@ use Rattle.cc_names.specs.declared.rows.Placed.{Placed}
 use Rattle.cc_names.specs.declared.rows.TypeKind.{TypeKind}
 use Rattle.cc_names.specs.declared.selection.Picked.{Picked}
 use Rattle.base_model.specs.Rows.{Base, only_where}
-use Rattle.base_model.specs.Changes.{tree, labels, held}
+use Rattle.base_model.specs.Changes.{tree, labels, objects_held}
 use Rattle.base_model.specs.Closures.{Inputs, closure, placed_by}
 use Rattle.base_model.specs.Conditions.{has_label, arrow_row}
 use Rattle.legal_history.specs.Commands.Decisions.{Scene, Decision, past, makes, answers}
@@ -106,11 +106,11 @@ mklabel_config_of s replace label id = labels_or_nothing s (mklabel_config_tests
 -- `mklabel V [-replace] -config P L`: the label stands on each version that the record of the view's object lists
 abbrev pub mklabel_config : Scene → List ℕ → Bool → List ℕ → List ℕ → Result Decision Refusal
 mklabel_config s v replace path label =
-    past (needs_view s.base v ∷ []) (for_object path (held_at (held s.base) v path) (mklabel_config_of s replace label))
+    past (needs_view s.base v ∷ []) (for_object path (held_at (objects_held s.base) v path) (mklabel_config_of s replace label))
 
 -- the element's version of this name
 abbrev pub version_named : Base → ℕ → VersionName → Option ℕ
-version_named b e name = option_and_then (λ branch. numbered (tree b) branch name.number) (branch_behind (tree b) e name.branches)
+version_named b e name = option_and_then (λ branch. version_of_number (tree b) branch name.number) (branch_behind (tree b) e name.branches)
 
 -- the tests of an arrow to an element of which this was picked, from this version of it
 abbrev pub mkarrow_tests : Scene → List ℕ → ℕ → Picked → ℕ → List (Option Refusal)

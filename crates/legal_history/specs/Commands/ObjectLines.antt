@@ -8,7 +8,7 @@ use Rattle.cc_names.specs.declared.rows.Deed.TheVariants as deeds
 use Rattle.cc_names.specs.declared.units.Unit.{Unit}
 use Rattle.make_grammar.specs.Graphs.{units}
 use Rattle.base_model.specs.Rows.{Base, size}
-use Rattle.base_model.specs.Changes.{held, live}
+use Rattle.base_model.specs.Changes.{objects_held, live_row}
 use Rattle.legal_history.specs.Commands.Decisions.{Scene, Decision, first_refusal, makes, answers, begins}
 use Rattle.base_model.specs.Texts.{texts}
 use Rattle.legal_history.specs.Commands.Tests.{needs_view, needs_idle, needs_object}
@@ -23,7 +23,7 @@ rmdo s v path = makes s (rmdo_tests s v path) (deeds.Drop v path)
 
 -- whether an object that was published at a moment is due at another: it is live, no view holds it, and it has the age
 abbrev pub is_due : Base → ℕ → ℕ → ℕ → ℕ → Bool
-is_due b moment age id published = is_some (live b id) && not (is_held (held b) id) && nat_le (published + age) moment
+is_due b moment age id published = is_some (live_row b id) && not (is_held (objects_held b) id) && nat_le (published + age) moment
 
 -- the objects among some rows that are due, newest first
 abbrev pub due_among : Base → ℕ → ℕ → Base → List ℕ
@@ -31,8 +31,8 @@ due_among b moment age [] = []
 due_among b moment age (row ∷ older) = put_if (is_due b moment age (size older) row.moment) (size older) (due_among b moment age older)
 
 -- the objects that are due, oldest first
-abbrev pub due : Base → ℕ → ℕ → List ℕ
-due b moment age = reverse (due_among b moment age b)
+abbrev pub due_objects : Base → ℕ → ℕ → List ℕ
+due_objects b moment age = reverse (due_among b moment age b)
 
 -- a row where something is due, else an empty answer
 abbrev pub scrub_of : Scene → List ℕ → Result Decision Refusal
@@ -41,7 +41,7 @@ scrub_of s (id ∷ ids) = makes s [] (deeds.Scrub (id ∷ ids))
 
 -- `scrub AGE`: what is due goes
 abbrev pub scrub : Scene → ℕ → Result Decision Refusal
-scrub s age = scrub_of s (due s.base s.moment age)
+scrub s age = scrub_of s (due_objects s.base s.moment age)
 
 -- the tests of `clearmake V ..` before those of its makefile
 abbrev pub clearmake_tests : Scene → List ℕ → List (Option Refusal)

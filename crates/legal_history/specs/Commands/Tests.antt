@@ -10,7 +10,7 @@ use Rattle.cc_names.specs.declared.selection.Seen.{Seen}
 use Rattle.cc_names.specs.declared.selection.Seen.TheVariants.{Private, Element, Unselected, Nothing}
 use Rattle.base_model.specs.Rows.{Base}
 use Rattle.legal_history.specs.Builds.Active.{building}
-use Rattle.base_model.specs.Changes.{tree, held}
+use Rattle.base_model.specs.Changes.{tree, objects_held}
 use Rattle.base_model.specs.Checkouts.{oldest_out}
 use Rattle.base_model.specs.Conditions.{is_directory, has_name, is_label_type, is_branch_type, is_type_taken}
 use Rattle.legal_history.specs.Commands.Decisions.{Scene}
@@ -86,7 +86,7 @@ needs_name b v path d name = refused_unless (has_name b v d name) (refusals.NoPa
 -- neither that catalog has the name, nor the view a private file or an object at the path
 abbrev pub needs_free_path : Base → List ℕ → List ℕ → ℕ → List ℕ → Option Refusal
 needs_free_path b v path d name =
-    refused_where (has_name b v d name || is_some (private b v path) || is_some (held_at (held b) v path)) (refusals.NameTaken path)
+    refused_where (has_name b v d name || is_some (private b v path) || is_some (held_at (objects_held b) v path)) (refusals.NameTaken path)
 
 -- a label type has the name
 abbrev pub needs_label_type : Base → List ℕ → Option Refusal
@@ -106,4 +106,4 @@ needs_no_branch b e name = option_map refusals.BranchExists (branch_named (tree 
 
 -- the view holds an object at the path
 abbrev pub needs_object : Base → List ℕ → List ℕ → Option Refusal
-needs_object b v path = refused_unless (is_some (held_at (held b) v path)) (refusals.NoObject path)
+needs_object b v path = refused_unless (is_some (held_at (objects_held b) v path)) (refusals.NoObject path)

@@ -8,8 +8,8 @@ use Rattle.cc_names.specs.Formed.{Plain}
 use Rattle.cc_names.specs.References.{Held, view_path_cmp, held_at, is_held, is_held_by, count}
 use Rattle.cc_names.specs.declared.rows.Deed.TheVariants as deeds
 use Rattle.base_model.specs.Rows.{Base, size, first_rows, row_at}
-use Rattle.base_model.specs.Catalogs.{catalog_of, named, own_of}
-use Rattle.base_model.specs.Changes.{held, live}
+use Rattle.base_model.specs.Catalogs.{catalog_of, element_named, own_of}
+use Rattle.base_model.specs.Changes.{objects_held, live_row}
 use Rattle.base_model.specs.Closures.{is_among, is_version_of}
 use Rattle.base_model.specs.Fits.{is_base}
 use Rattle.base_model.specs.Counts.{AreOnce, holding_views}
@@ -56,12 +56,12 @@ CatalogsAreInOrderCheckouts = (b : Base) (v : List ℕ) (d : ℕ)
 -- An element is named by one directory alone: where a version or a checkout of a directory names it, it was made there.
 abbrev pub ElementHasOneDirectoryVersions : Type 0
 ElementHasOneDirectoryVersions = (b : Base) (d r : ℕ) (name : List ℕ) (e : ℕ) → is_base b ≡ true
-    → is_version_of b d r ≡ true → named name (catalog_of b r) ≡ Some e → directory_of b e ≡ Some d
+    → is_version_of b d r ≡ true → element_named name (catalog_of b r) ≡ Some e → directory_of b e ≡ Some d
 
 -- The same law, its part *checkouts*.
 abbrev pub ElementHasOneDirectoryCheckouts : Type 0
 ElementHasOneDirectoryCheckouts = (b : Base) (v : List ℕ) (d : ℕ) (name : List ℕ) (e : ℕ)
-    → is_base b ≡ true → named name (own_of b v d) ≡ Some e → directory_of b e ≡ Some d
+    → is_base b ≡ true → element_named name (own_of b v d) ≡ Some e → directory_of b e ≡ Some d
 
 -- A checkout of an element is made from one of the element's versions.
 abbrev pub CheckoutIsMadeFromAVersion : Type 0
@@ -71,42 +71,42 @@ CheckoutIsMadeFromAVersion = (b : Base) (v : List ℕ) (e : ℕ) (checkout : Che
 -- Each object that a view of a base holds at a path is live.
 abbrev pub HeldObjectIsLive : Type 0
 HeldObjectIsLive = (b : Base) (v path : List ℕ) (id : ℕ) → is_base b ≡ true
-    → held_at (held b) v path ≡ Some id → is_some (live b id) ≡ true
+    → held_at (objects_held b) v path ≡ Some id → is_some (live_row b id) ≡ true
 
 -- The references of a base stand in the order of views and paths, each of them once; and an object is counted once for each
 -- view that holds it, at however many paths.
 abbrev pub ReferencesAreCountedByViewsOrder : Type 0
-ReferencesAreCountedByViewsOrder = (b : Base) → is_sorted view_path_cmp (held b) ≡ true
+ReferencesAreCountedByViewsOrder = (b : Base) → is_sorted view_path_cmp (objects_held b) ≡ true
 
 -- The same law, its part *count*.
 abbrev pub ReferencesAreCountedByViewsCount : Type 0
-ReferencesAreCountedByViewsCount = (held : Held) (id : ℕ)
-    → count held id ≡ length (holding_views held id)
+ReferencesAreCountedByViewsCount = (objects_held : Held) (id : ℕ)
+    → count objects_held id ≡ length (holding_views objects_held id)
 
 -- The same law, its part *views*.
 abbrev pub ReferencesAreCountedByViewsViews : Type 0
-ReferencesAreCountedByViewsViews = (held : Held) (v : List ℕ) (id : ℕ)
-    → is_among v (holding_views held id) ≡ is_held_by held v id
+ReferencesAreCountedByViewsViews = (objects_held : Held) (v : List ℕ) (id : ℕ)
+    → is_among v (holding_views objects_held id) ≡ is_held_by objects_held v id
 
 -- The same law, its part *once*.
 abbrev pub ReferencesAreCountedByViewsOnce : Type 0
-ReferencesAreCountedByViewsOnce = (held : Held) (id : ℕ) → AreOnce (holding_views held id)
+ReferencesAreCountedByViewsOnce = (objects_held : Held) (id : ℕ) → AreOnce (holding_views objects_held id)
 
 -- The same law, its part *none*.
 abbrev pub ReferencesAreCountedByViewsNone : Type 0
-ReferencesAreCountedByViewsNone = (held : Held) (id : ℕ) → is_held held id ≡ false
-    → count held id ≡ 0
+ReferencesAreCountedByViewsNone = (objects_held : Held) (id : ℕ) → is_held objects_held id ≡ false
+    → count objects_held id ≡ 0
 
 -- The same law, its part *some*.
 abbrev pub ReferencesAreCountedByViewsSome : Type 0
-ReferencesAreCountedByViewsSome = (held : Held) (id : ℕ) → count held id ≡ 0
-    → is_held held id ≡ false
+ReferencesAreCountedByViewsSome = (objects_held : Held) (id : ℕ) → count objects_held id ≡ 0
+    → is_held objects_held id ≡ false
 
 -- A scrub that fits a base takes no object that a view holds.
 abbrev pub ScrubTakesNoHeldObject : Type 0
 ScrubTakesNoHeldObject = (row : Plain) (b : Base) (objects : List ℕ) (id : ℕ)
     → is_base (row ∷ b) ≡ true → row.deed ≡ deeds.Scrub objects
-    → list_any (λ object. object == id) objects ≡ true → is_held (held b) id ≡ false
+    → list_any (λ object. object == id) objects ≡ true → is_held (objects_held b) id ≡ false
 
 -- A version is found to be reached from another exactly where a walk along successors, branches and arrows leads there.
 abbrev pub ReachingIsByAWalkWalk : Type 0

@@ -8,7 +8,7 @@ use Rattle.cc_names.specs.declared.steps.StoryStep.{StoryStep}
 use Rattle.cc_names.specs.declared.units.Unit.{Unit}
 use Rattle.base_model.specs.Rows.{Base}
 use Rattle.legal_history.specs.Builds.Active.{Build, build_of, came_to, unit_at, is_outcome}
-use Rattle.base_model.specs.Changes.{held}
+use Rattle.base_model.specs.Changes.{objects_held}
 use Rattle.legal_history.specs.Builds.Choices.{here, visible}
 use Rattle.legal_history.specs.Stories.Commanded.{IsOfCommand}
 use Rattle.legal_history.specs.Builds.Freshness.{AgreesSoFar}
@@ -94,7 +94,7 @@ PlaceOfAUnitStays = (story : List StoryStep) (x : StoryStep) (lane : ℕ) (old n
     → Legal story → Lawful (state_of story) x → build_of (state_of story).active lane ≡ Some old
     → build_of (after (state_of story) x).active lane ≡ Some new → unit_at old n ≡ Some unit
     → is_outcome (came_to new n) ≡ false → makes path unit ≡ true
-    → held_at (held (after (state_of story) x).base) old.view path ≡ held_at (held (state_of story).base) old.view path
+    → held_at (objects_held (after (state_of story) x).base) old.view path ≡ held_at (objects_held (state_of story).base) old.view path
 
 -- Along a legal story each object that an active build has given to a unit is live, and the build's view holds it at every
 -- target of the unit, whatever rows other lanes have committed since.

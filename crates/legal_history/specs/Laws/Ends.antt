@@ -7,7 +7,7 @@ use Rattle.cc_names.specs.declared.steps.Step.TheVariants as steps
 use Rattle.cc_names.specs.declared.steps.StoryStep.{StoryStep}
 use Rattle.cc_names.specs.declared.steps.StoryStep.TheVariants as story_steps
 use Rattle.legal_history.specs.Builds.Active.{Build}
-use Rattle.legal_history.specs.Stories.States.{State, Opening, End, Committed, Faulted, build_by, decided, ticks_of, faults_of}
+use Rattle.legal_history.specs.Stories.States.{State, Opening, End, Committed, Faulted, build_by, decision_for, ticks_of, faults_of}
 use Rattle.cc_names.specs.Counts.{rises}
 use Rattle.legal_history.specs.Builds.Turns.{is_complete}
 
@@ -28,7 +28,7 @@ AreRising opened (Faulted left faults tick ∷ ends) =
 pub record IsRefused (s : State) (x : StoryStep) (tag : Tag) : Type 0 where
   pub refusal : Refusal
   pub is : x ≡ story_steps.Other (steps.Refused tag refusal)
-  pub decided_so : decided s tag ≡ Some (Err refusal)
+  pub decided_so : decision_for s tag ≡ Some (Err refusal)
 
 -- A build is left by its own end, which comes once each of its units has its outcome or the disk failed under it.
 pub record IsLeft (s : State) (x : StoryStep) (lane : ℕ) (build : Build) : Type 0 where

@@ -4,7 +4,7 @@ use Rattle.cc_names.specs.References.{held_at}
 use Rattle.cc_names.specs.declared.units.Unit.{Unit}
 use Rattle.base_model.specs.Rows.{Base, first_rows}
 use Rattle.legal_history.specs.Builds.Active.{Build, came_to, object_of, unit_at}
-use Rattle.base_model.specs.Changes.{held, live}
+use Rattle.base_model.specs.Changes.{objects_held, live_row}
 use Rattle.base_model.specs.Closures.{is_among}
 use Rattle.base_model.specs.Seen.{file_at}
 use Rattle.legal_history.specs.Builds.Serials.{makes}
@@ -14,10 +14,10 @@ use Rattle.legal_history.specs.Builds.Serials.{makes}
 pub record IsHeld (b : Base) (build : Build) (n id : ℕ) : Type 0 where
   pub unit : Unit
   pub is_unit : unit_at build n ≡ Some unit
-  pub lives : is_some (live b id) ≡ true
+  pub lives : is_some (live_row b id) ≡ true
   pub target : List ℕ
   pub is_target : makes target unit ≡ true
-  pub holds : (path : List ℕ) → makes path unit ≡ true → held_at (held b) build.view path ≡ Some id
+  pub holds : (path : List ℕ) → makes path unit ≡ true → held_at (objects_held b) build.view path ≡ Some id
 
 -- Each object that a build has given is live and held by the build's view.
 pub record HoldsGiven (b : Base) (build : Build) : Type 0 where

@@ -11,17 +11,17 @@ use Rattle.legal_history.specs.Stories.Steps.{state_of}
 use Rattle.legal_history.specs.Stories.Lawful.{Legal}
 
 -- A lane's build in a front of a legal story is active still in the whole story: a build of the same command is.
-pub record IsStillActive (front rest : List StoryStep) (lane : ℕ) (old new : Build) : Type 0 where
-  pub legal : Legal (front ++ rest)
-  pub before : build_of (state_of front).active lane ≡ Some old
-  pub now : build_of (state_of (front ++ rest)).active lane ≡ Some new
+pub record IsStillActive (prefix rest : List StoryStep) (lane : ℕ) (old new : Build) : Type 0 where
+  pub legal : Legal (prefix ++ rest)
+  pub before : build_of (state_of prefix).active lane ≡ Some old
+  pub now : build_of (state_of (prefix ++ rest)).active lane ≡ Some new
   pub same : new.tag ≡ old.tag
 
 -- A legal story comes back to no earlier phase. While its phase is the same, so are the phase's commands and its moment, no
 -- lane has finished fewer commands, and an active build goes on until its lane finishes a command.
 abbrev pub StoryGoesLater : Type 0
-StoryGoesLater = (front rest : List StoryStep) → Legal (front ++ rest)
-    → GoesLater (state_of front) (state_of (front ++ rest))
+StoryGoesLater = (prefix rest : List StoryStep) → Legal (prefix ++ rest)
+    → GoesLater (state_of prefix) (state_of (prefix ++ rest))
 
 -- Along a legal story no lane finishes more commands than it has.
 abbrev pub LaneIsWithinItsCommands : Type 0
@@ -30,37 +30,37 @@ LaneIsWithinItsCommands = (story : List StoryStep) (lane : ℕ) → Legal story
 
 -- A lane that has finished all of its commands stays so while the phase is the same.
 abbrev pub FinishedLaneStaysFinished : Type 0
-FinishedLaneStaysFinished = (front rest : List StoryStep) (lane : ℕ) → Legal (front ++ rest)
-    → (state_of (front ++ rest)).number ≡ (state_of front).number
-    → IsFinished (state_of front) lane → IsFinished (state_of (front ++ rest)) lane
+FinishedLaneStaysFinished = (prefix rest : List StoryStep) (lane : ℕ) → Legal (prefix ++ rest)
+    → (state_of (prefix ++ rest)).number ≡ (state_of prefix).number
+    → IsFinished (state_of prefix) lane → IsFinished (state_of (prefix ++ rest)) lane
 
 -- A build that is active still is the same build, gone on.
 abbrev pub ActiveBuildIsTheSame : Type 0
-ActiveBuildIsTheSame = (front rest : List StoryStep) (lane : ℕ) (old new : Build)
-    → IsStillActive front rest lane old new → Continues old new
+ActiveBuildIsTheSame = (prefix rest : List StoryStep) (lane : ℕ) (old new : Build)
+    → IsStillActive prefix rest lane old new → Continues old new
 
 -- While a build is active, what a unit has come to in the end never changes.
 abbrev pub WhatAUnitCameToStaysOutcome : Type 0
-WhatAUnitCameToStaysOutcome = (front rest : List StoryStep) (lane : ℕ) (old new : Build) (n : ℕ)
-    → IsStillActive front rest lane old new
+WhatAUnitCameToStaysOutcome = (prefix rest : List StoryStep) (lane : ℕ) (old new : Build) (n : ℕ)
+    → IsStillActive prefix rest lane old new
     → is_outcome (came_to old n) ≡ true → came_to new n ≡ came_to old n
 
 -- The same law, its part *start*: a unit that was started is started still, or has its outcome.
 abbrev pub WhatAUnitCameToStaysStart : Type 0
-WhatAUnitCameToStaysStart = (front rest : List StoryStep) (lane : ℕ) (old new : Build) (n : ℕ)
-    → IsStillActive front rest lane old new
+WhatAUnitCameToStaysStart = (prefix rest : List StoryStep) (lane : ℕ) (old new : Build) (n : ℕ)
+    → IsStillActive prefix rest lane old new
     → is_some (came_to old n) ≡ true → is_some (came_to new n) ≡ true
 
 -- While a build is active, a unit of it that was started sees the same row at each path.
 abbrev pub StartedUnitSeesTheSameLaterSeen : Type 0
-StartedUnitSeesTheSameLaterSeen = (front rest : List StoryStep) (lane : ℕ) (old new : Build) (n : ℕ) (unit : Unit) (path : List ℕ)
-    → IsStillActive front rest lane old new
+StartedUnitSeesTheSameLaterSeen = (prefix rest : List StoryStep) (lane : ℕ) (old new : Build) (n : ℕ) (unit : Unit) (path : List ℕ)
+    → IsStillActive prefix rest lane old new
     → unit_at old n ≡ Some unit → is_some (came_to old n) ≡ true
-    → visible (state_of (front ++ rest)).base new n unit path ≡ visible (state_of front).base old n unit path
+    → visible (state_of (prefix ++ rest)).base new n unit path ≡ visible (state_of prefix).base old n unit path
 
 -- The same law, its part *run*: the run of its script on the texts there gives the same.
 abbrev pub StartedUnitSeesTheSameLaterRun : Type 0
-StartedUnitSeesTheSameLaterRun = (front rest : List StoryStep) (lane : ℕ) (old new : Build) (n : ℕ) (unit : Unit)
-    → IsStillActive front rest lane old new
+StartedUnitSeesTheSameLaterRun = (prefix rest : List StoryStep) (lane : ℕ) (old new : Build) (n : ℕ) (unit : Unit)
+    → IsStillActive prefix rest lane old new
     → unit_at old n ≡ Some unit → is_some (came_to old n) ≡ true
-    → here (state_of (front ++ rest)).base new n unit ≡ here (state_of front).base old n unit
+    → here (state_of (prefix ++ rest)).base new n unit ≡ here (state_of prefix).base old n unit

@@ -5,7 +5,7 @@ use Rattle.cc_names.specs.declared.rows.Deed.TheVariants as deeds
 use Rattle.cc_names.specs.declared.units.Unit.{Unit}
 use Rattle.base_model.specs.Rows.{Base, deed_at}
 use Rattle.legal_history.specs.Builds.Active.{Build, came_to, object_of}
-use Rattle.base_model.specs.Changes.{live, targets_of}
+use Rattle.base_model.specs.Changes.{live_row, targets_of}
 use Rattle.legal_history.specs.Builds.Choices.{here}
 
 -- the outputs that a publish stores
@@ -19,7 +19,7 @@ outputs_of b id = outputs_of_deed (deed_at b id)
 
 -- each object that the units of a build were given or have kept is live
 pub record GivesLive (b : Base) (build : Build) : Type 0 where
-  pub lives : (n id : ℕ) → object_of (came_to build n) ≡ Some id → is_some (live b id) ≡ true
+  pub lives : (n id : ℕ) → object_of (came_to build n) ≡ Some id → is_some (live_row b id) ≡ true
 
 -- An object has the unit's targets, and what it has stored is what a run of the unit's script gives, now, on what the unit
 -- sees.

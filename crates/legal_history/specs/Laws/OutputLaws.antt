@@ -2,7 +2,7 @@
 use Rattle.std.specs.Prelude.{◌≡◌, ℕ, List, true, false, is_some}
 use Rattle.cc_names.specs.declared.rows.Deed.{Deed}
 use Rattle.base_model.specs.Blanked.{blank_deed, blanked, emptied, AreSameButForOutputs, AreSameButForScrubbedOutputs}
-use Rattle.base_model.specs.Changes.{live, targets_of}
+use Rattle.base_model.specs.Changes.{live_row, targets_of}
 use Rattle.base_model.specs.Closures.{is_publish}
 use Rattle.base_model.specs.Fits.{fits, is_base}
 use Rattle.base_model.specs.Rows.{Base}
@@ -21,7 +21,7 @@ BlankedSaysTheSameBase = (b : Base) → is_base (blanked b) ≡ is_base b
 
 -- The same law, its part *live*.
 abbrev pub BlankedSaysTheSameLive : Type 0
-BlankedSaysTheSameLive = (b : Base) (id : ℕ) → live (blanked b) id ≡ live b id
+BlankedSaysTheSameLive = (b : Base) (id : ℕ) → live_row (blanked b) id ≡ live_row b id
 
 -- The same law, its part *targets*.
 abbrev pub BlankedSaysTheSameTargets : Type 0
@@ -47,7 +47,7 @@ OutputsChangeNothingBase = (one two : Base) → AreSameButForOutputs one two →
 
 -- The same law, its part *live*.
 abbrev pub OutputsChangeNothingLive : Type 0
-OutputsChangeNothingLive = (one two : Base) (id : ℕ) → AreSameButForOutputs one two → live two id ≡ live one id
+OutputsChangeNothingLive = (one two : Base) (id : ℕ) → AreSameButForOutputs one two → live_row two id ≡ live_row one id
 
 -- The same law, its part *targets*.
 abbrev pub OutputsChangeNothingTargets : Type 0
@@ -72,7 +72,7 @@ ScrubbedOutputsAreFreeSound = (one two : Base) → AreSameButForScrubbedOutputs 
 -- The same law, its part *text*.
 abbrev pub ScrubbedOutputsAreFreeText : Type 0
 ScrubbedOutputsAreFreeText = (one two : Base) (id : ℕ) (path : List ℕ) → AreSameButForScrubbedOutputs one two
-    → is_some (live one id) ≡ true → text two id path ≡ text one id path
+    → is_some (live_row one id) ≡ true → text two id path ≡ text one id path
 
 -- A base with the outputs of scrubbed objects emptied is the same but for these, so it is a base where the full one is,
 -- and a sound one where the full one is sound.

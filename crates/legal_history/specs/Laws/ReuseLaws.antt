@@ -8,7 +8,7 @@ use Rattle.cc_names.specs.declared.steps.UnitEnd.TheVariants as ends
 use Rattle.cc_names.specs.declared.units.Unit.{Unit}
 use Rattle.base_model.specs.Rows.{Base, size, deed_at}
 use Rattle.legal_history.specs.Builds.Active.{Build, build_of, unit_at, Concluded, Given, unit_with_first}
-use Rattle.base_model.specs.Changes.{live, targets_of}
+use Rattle.base_model.specs.Changes.{live_row, targets_of}
 use Rattle.legal_history.specs.Builds.Choices.{here, visible, entries, publish_of}
 use Rattle.base_model.specs.Closures.{is_publish_deed}
 use Rattle.base_model.specs.Fits.{is_base}
@@ -79,7 +79,7 @@ ReusableObjectIsTheRun = (b : Base) (build : Build) (n : ℕ) (unit : Unit) (id 
 abbrev pub NoMatchIsPassedOverLive : Type 0
 NoMatchIsPassedOverLive = (b : Base) (build : Build) (n : ℕ) (unit : Unit) (id : ℕ)
     → build.own_only ≡ false → build.rebuild ≡ false → reusable b build n unit ≡ None
-    → is_some (live b id) ≡ true → matches b build n unit id ≡ false
+    → is_some (live_row b id) ≡ true → matches b build n unit id ≡ false
 
 -- The same law, its part *record_is_new*.
 abbrev pub NoMatchIsPassedOverRecordIsNew : Type 0
@@ -87,7 +87,7 @@ NoMatchIsPassedOverRecordIsNew = (b : Base) (build : Build) (n : ℕ) (unit : Un
     → is_base b ≡ true → GivesLive b build → build.own_only ≡ false → build.rebuild ≡ false
     → reusable b build n unit ≡ None
     → deed_at b id ≡ Some (deeds.Publish v unit.targets (script_text unit.script) (entries (visible b build n unit) (here b build n unit).reads) outputs)
-    → is_some (live b id) ≡ false
+    → is_some (live_row b id) ≡ false
 
 -- An object that a unit keeps, since its view holds it at every target, and one that it winks in, are live and held by the
 -- build's view at every target of the unit.
@@ -111,7 +111,7 @@ abbrev pub ReuseIsARebuildMatched : Type 0
 ReuseIsARebuildMatched = (story : List StoryStep) (opening : Opening) (lane : ℕ) (build : Build) (n : ℕ) (unit : Unit) (id : ℕ)
     → Legal story → (state_of story).opened ≡ Some opening → IsSound opening.base
     → build_of (state_of story).active lane ≡ Some build
-    → is_some (live (state_of story).base id) ≡ true
+    → is_some (live_row (state_of story).base id) ≡ true
     → matches (state_of story).base build n unit id ≡ true
     → IsTheRun (state_of story).base build n unit id
 

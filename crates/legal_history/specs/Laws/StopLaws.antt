@@ -28,8 +28,8 @@ StopLeavesABaseSound = (story : List StoryStep) (opening : Opening) (b : Base) �
 -- At each fault of a legal story that leaves a row, be it the one that was to be committed or what the fault directly before
 -- left, the rows committed so far are sound with that row on top, where the base was sound as it was opened.
 abbrev pub FaultLeavesABaseSound : Type 0
-FaultLeavesABaseSound = (front rest : List StoryStep) (tag : Tag) (row : Plain)
+FaultLeavesABaseSound = (prefix rest : List StoryStep) (tag : Tag) (row : Plain)
     (before faults tick : ℕ) (opening : Opening)
-    → Legal (front ++ story_steps.Other (steps.Fault tag (Some row) before faults tick) ∷ rest)
-    → (state_of front).opened ≡ Some opening → IsSound opening.base
-    → IsSound (row ∷ (state_of front).base)
+    → Legal (prefix ++ story_steps.Other (steps.Fault tag (Some row) before faults tick) ∷ rest)
+    → (state_of prefix).opened ≡ Some opening → IsSound opening.base
+    → IsSound (row ∷ (state_of prefix).base)

@@ -7,7 +7,7 @@ use Rattle.cc_names.specs.declared.steps.StoryStep.{StoryStep}
 use Rattle.cc_names.specs.declared.steps.StoryStep.TheVariants as story_steps
 use Rattle.base_model.specs.Rows.{size, Extends}
 use Rattle.legal_history.specs.Builds.Active.{Build, build_of}
-use Rattle.base_model.specs.Changes.{held, live}
+use Rattle.base_model.specs.Changes.{objects_held, live_row}
 use Rattle.base_model.specs.Fits.{is_base, row_limit}
 use Rattle.legal_history.specs.Stories.Steps.{state_of}
 use Rattle.legal_history.specs.Stories.Lawful.{Lawful, Legal}
@@ -30,13 +30,13 @@ abbrev pub BaseFits : Type 0
 BaseFits = (story : List StoryStep) → Legal story → is_base (state_of story).base ≡ true
 
 -- A front of a legal story is legal, and its base is that of the whole story without the rows made since.
-abbrev pub BaseOnlyGrowsFront : Type 0
-BaseOnlyGrowsFront = (front rest : List StoryStep) → Legal (front ++ rest) → Legal front
+abbrev pub BaseOnlyGrowsPrefix : Type 0
+BaseOnlyGrowsPrefix = (prefix rest : List StoryStep) → Legal (prefix ++ rest) → Legal prefix
 
 -- The same law, its part *base*.
 abbrev pub BaseOnlyGrowsBase : Type 0
-BaseOnlyGrowsBase = (front rest : List StoryStep) → Legal (front ++ rest)
-    → Extends (state_of front).base (state_of (front ++ rest)).base
+BaseOnlyGrowsBase = (prefix rest : List StoryStep) → Legal (prefix ++ rest)
+    → Extends (state_of prefix).base (state_of (prefix ++ rest)).base
 
 -- Along a legal story the rows of the base, and one more for each unit of an active build that has no outcome, stay within
 -- the limit of rows.
@@ -58,12 +58,12 @@ ViewHasOneBuild = (story : List StoryStep) (lane other : ℕ) (one two : Build) 
 
 -- Each scrub that is committed in a legal story lists exactly the objects that are due there.
 abbrev pub ScrubOfAStoryListsWhatIsDue : Type 0
-ScrubOfAStoryListsWhatIsDue = (front rest : List StoryStep) (row : Plain) (tick : ℕ) (objects : List ℕ)
-    → Legal (front ++ story_steps.Commit row tick ∷ rest) → row.deed ≡ deeds.Scrub objects
-    → AreDue (state_of front) row.tag objects
+ScrubOfAStoryListsWhatIsDue = (prefix rest : List StoryStep) (row : Plain) (tick : ℕ) (objects : List ℕ)
+    → Legal (prefix ++ story_steps.Commit row tick ∷ rest) → row.deed ≡ deeds.Scrub objects
+    → AreDue (state_of prefix) row.tag objects
 
 -- At each step of a legal story every object that a view holds at a path is live.
 abbrev pub HeldObjectIsLiveAtEachStep : Type 0
-HeldObjectIsLiveAtEachStep = (front rest : List StoryStep) (v path : List ℕ) (id : ℕ)
-    → Legal (front ++ rest) → held_at (held (state_of front).base) v path ≡ Some id
-    → is_some (live (state_of front).base id) ≡ true
+HeldObjectIsLiveAtEachStep = (prefix rest : List StoryStep) (v path : List ℕ) (id : ℕ)
+    → Legal (prefix ++ rest) → held_at (objects_held (state_of prefix).base) v path ≡ Some id
+    → is_some (live_row (state_of prefix).base id) ≡ true

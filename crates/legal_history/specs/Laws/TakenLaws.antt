@@ -13,7 +13,7 @@ use Rattle.cc_names.specs.declared.steps.UnitEnd.TheVariants as ends
 use Rattle.cc_names.specs.declared.units.Unit.{Unit}
 use Rattle.base_model.specs.Rows.{deed_at}
 use Rattle.legal_history.specs.Builds.Active.{Build, Started, came_to, unit_at, unit_with_first}
-use Rattle.base_model.specs.Changes.{live, targets_of}
+use Rattle.base_model.specs.Changes.{live_row, targets_of}
 use Rattle.legal_history.specs.Builds.Choices.{entries, here, visible}
 use Rattle.legal_history.specs.Builds.Fresh.{script_text}
 use Rattle.legal_history.specs.Laws.Given.{SeenBy}
@@ -34,7 +34,7 @@ pub record TakesWhatItSees (s : State) (tag : Tag) (n id : ℕ) : Type 0 where
   pub unit : Unit
   pub active : build_by s tag ≡ Some build
   pub is_unit : unit_at build n ≡ Some unit
-  pub lives : is_some (live s.base id) ≡ true
+  pub lives : is_some (live_row s.base id) ≡ true
   pub targets : targets_of s.base id ≡ unit.targets
   pub script : recorded_script s.base id ≡ script_text unit.script
   pub seen : (path : List ℕ) (r : ℕ) → row_in (record_of s.base id) path ≡ Some (suc r) → SeenBy s.base build n unit path (suc r)
@@ -69,51 +69,51 @@ pub record PublishesWhatItRead (s : State) (row : Plain) (targets : List (List �
 
 -- Each object that a unit keeps in a legal story is live, of the unit's targets and script, and of just what the unit sees.
 abbrev pub TakenRecordIsSeenKept : Type 0
-TakenRecordIsSeenKept = (front rest : List StoryStep) (tag : Tag) (n id : ℕ)
-    → Legal (front ++ story_steps.Other (steps.Concluded tag n (ends.Kept id)) ∷ rest)
-    → TakesWhatItSees (state_of front) tag n id
+TakenRecordIsSeenKept = (prefix rest : List StoryStep) (tag : Tag) (n id : ℕ)
+    → Legal (prefix ++ story_steps.Other (steps.Concluded tag n (ends.Kept id)) ∷ rest)
+    → TakesWhatItSees (state_of prefix) tag n id
 
 -- The same law, its part *winked*: so is each object that a view winks in, for a unit of a build of this view.
 abbrev pub TakenRecordIsSeenWinked : Type 0
-TakenRecordIsSeenWinked = (front rest : List StoryStep) (row : Plain) (tick : ℕ) (view : List ℕ) (id : ℕ)
-    → Legal (front ++ story_steps.Commit row tick ∷ rest) → row.deed ≡ deeds.Wink view id
-    → ViewTakesWhatItSees (state_of front) row.tag view id
+TakenRecordIsSeenWinked = (prefix rest : List StoryStep) (row : Plain) (tick : ℕ) (view : List ℕ) (id : ℕ)
+    → Legal (prefix ++ story_steps.Commit row tick ∷ rest) → row.deed ≡ deeds.Wink view id
+    → ViewTakesWhatItSees (state_of prefix) row.tag view id
 
 -- A build without `-V` and `-u` starts no script in a legal story where the record of a live object matches its unit.
 abbrev pub NothingIsPassedOverStart : Type 0
-NothingIsPassedOverStart = (front rest : List StoryStep) (tag : Tag) (n : ℕ) (build : Build) (unit : Unit) (id : ℕ)
-    → Legal (front ++ story_steps.Other (steps.Start tag n) ∷ rest) → ReusesAny (state_of front) tag build
-    → unit_at build n ≡ Some unit → is_some (live (state_of front).base id) ≡ true
-    → matches (state_of front).base build n unit id ≡ false
+NothingIsPassedOverStart = (prefix rest : List StoryStep) (tag : Tag) (n : ℕ) (build : Build) (unit : Unit) (id : ℕ)
+    → Legal (prefix ++ story_steps.Other (steps.Start tag n) ∷ rest) → ReusesAny (state_of prefix) tag build
+    → unit_at build n ≡ Some unit → is_some (live_row (state_of prefix).base id) ≡ true
+    → matches (state_of prefix).base build n unit id ≡ false
 
 -- The same law, its part *publish*: it publishes no record that a live object has, whoever published that.
 abbrev pub NothingIsPassedOverPublish : Type 0
-NothingIsPassedOverPublish = (front rest : List StoryStep) (row : Plain) (tick : ℕ) (build : Build) (id : ℕ)
+NothingIsPassedOverPublish = (prefix rest : List StoryStep) (row : Plain) (tick : ℕ) (build : Build) (id : ℕ)
     (view other : List ℕ) (targets : List (List ℕ)) (script : List ℕ) (entries : List ReadOf) (outputs stored : List (List ℕ))
-    → Legal (front ++ story_steps.Commit row tick ∷ rest)
+    → Legal (prefix ++ story_steps.Commit row tick ∷ rest)
     → row.deed ≡ deeds.Publish view targets script entries outputs
-    → ReusesAny (state_of front) row.tag build
-    → deed_at (state_of front).base id ≡ Some (deeds.Publish other targets script entries stored)
-    → is_some (live (state_of front).base id) ≡ false
+    → ReusesAny (state_of prefix) row.tag build
+    → deed_at (state_of prefix).base id ≡ Some (deeds.Publish other targets script entries stored)
+    → is_some (live_row (state_of prefix).base id) ≡ false
 
 -- The same law, its part *match*: it publishes no object for a unit that the record of a live object matches.
 abbrev pub NothingIsPassedOverMatch : Type 0
-NothingIsPassedOverMatch = (front rest : List StoryStep) (row : Plain) (tick : ℕ) (build : Build) (n : ℕ) (unit : Unit) (id : ℕ)
+NothingIsPassedOverMatch = (prefix rest : List StoryStep) (row : Plain) (tick : ℕ) (build : Build) (n : ℕ) (unit : Unit) (id : ℕ)
     (view : List ℕ) (targets : List (List ℕ)) (script : List ℕ) (listed : List ReadOf) (outputs : List (List ℕ))
-    → Legal (front ++ story_steps.Commit row tick ∷ rest)
+    → Legal (prefix ++ story_steps.Commit row tick ∷ rest)
     → row.deed ≡ deeds.Publish view targets script listed outputs
-    → ReusesAny (state_of front) row.tag build
+    → ReusesAny (state_of prefix) row.tag build
     → unit_with_first build targets ≡ Some n → unit_at build n ≡ Some unit
-    → is_some (live (state_of front).base id) ≡ true
-    → matches (state_of front).base build n unit id ≡ false
+    → is_some (live_row (state_of prefix).base id) ≡ true
+    → matches (state_of prefix).base build n unit id ≡ false
 
 -- Each object that is published in a legal story has a record of just what the run of its unit's script read.
 abbrev pub PublishedRecordIsWhatWasRead : Type 0
-PublishedRecordIsWhatWasRead = (front rest : List StoryStep) (row : Plain) (tick : ℕ)
+PublishedRecordIsWhatWasRead = (prefix rest : List StoryStep) (row : Plain) (tick : ℕ)
     (view : List ℕ) (targets : List (List ℕ)) (script : List ℕ) (listed : List ReadOf) (outputs : List (List ℕ))
-    → Legal (front ++ story_steps.Commit row tick ∷ rest)
+    → Legal (prefix ++ story_steps.Commit row tick ∷ rest)
     → row.deed ≡ deeds.Publish view targets script listed outputs
-    → PublishesWhatItRead (state_of front) row targets script listed outputs
+    → PublishesWhatItRead (state_of prefix) row targets script listed outputs
 
 -- An object that a unit may reuse after its run was started is not the one that its build's view holds at every target: that
 -- one was looked at before the start, did not match, and no other lane has changed it since.

@@ -10,10 +10,10 @@ unfinished_from build n [] = 0
 unfinished_from build n (unit ∷ units) = one_where (not (is_outcome (came_to build n))) + unfinished_from build (n + 1) units
 
 -- of a build
-abbrev pub unfinished : Build → ℕ
-unfinished build = unfinished_from build 0 build.units
+abbrev pub unfinished_units : Build → ℕ
+unfinished_units build = unfinished_from build 0 build.units
 
 -- of all active builds
 abbrev pub all_unfinished : Active → ℕ
 all_unfinished [] = 0
-all_unfinished (entry ∷ active) = unfinished entry.1 + all_unfinished active
+all_unfinished (entry ∷ active) = unfinished_units entry.1 + all_unfinished active

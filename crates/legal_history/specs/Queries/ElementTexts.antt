@@ -15,7 +15,7 @@ use Rattle.cc_names.specs.declared.selection.Picked.{Picked}
 use Rattle.base_model.specs.Rows.{Base, size, only_where}
 use Rattle.base_model.specs.Changes.{tree, labels}
 use Rattle.base_model.specs.Conditions.{is_directory}
-use Rattle.legal_history.specs.Queries.ListingTexts.{origin_name}
+use Rattle.legal_history.specs.Queries.DirectoryTexts.{origin_name}
 use Rattle.legal_history.specs.Queries.VersionNames.{line, branch_name, version_name, at_version}
 use Rattle.base_model.specs.Views.{out}
 

@@ -9,8 +9,8 @@ use Rattle.legal_history.specs.Queries.VersionNames.{line, branch_name, version_
 use Rattle.base_model.specs.Views.{out}
 
 -- a date, a blank, and what was done
-abbrev pub dated : ℕ → List ℕ → List ℕ
-dated moment text = line (text_of moment ++ 32 ∷ text)
+abbrev pub dated_line : ℕ → List ℕ → List ℕ
+dated_line moment text = line (text_of moment ++ 32 ∷ text)
 
 -- a line where a test holds
 abbrev pub line_where : Bool → List ℕ → List ℕ
@@ -21,16 +21,16 @@ line_where false text = []
 abbrev pub placed_lines : Base → ℕ → ℕ → List ℕ → List Placed → List ℕ
 placed_lines b e moment label [] = []
 placed_lines b e moment label (placed ∷ more) =
-    line_where (placed.element == e) (dated moment (codes "label " ++ label ++ 32 ∷ version_name b placed.version)) ++ placed_lines b e moment label more
+    line_where (placed.element == e) (dated_line moment (codes "label " ++ label ++ 32 ∷ version_name b placed.version)) ++ placed_lines b e moment label more
 
 -- what row n did to the element
 abbrev pub history_line : Base → ℕ → ℕ → ℕ → Deed → List ℕ
-history_line b e n moment (deeds.Mkelem v directory name kind out) = line_where (n == e) (dated moment (codes "create element"))
-history_line b e n moment (deeds.Branch v f origin name out) = line_where (f == e) (dated moment (codes "create branch " ++ branch_name b n))
-history_line b e n moment (deeds.Checkin v f) = line_where (f == e) (dated moment (codes "create version " ++ version_name b n))
+history_line b e n moment (deeds.Mkelem v directory name kind out) = line_where (n == e) (dated_line moment (codes "create element"))
+history_line b e n moment (deeds.Branch v f origin name out) = line_where (f == e) (dated_line moment (codes "create branch " ++ branch_name b n))
+history_line b e n moment (deeds.Checkin v f) = line_where (f == e) (dated_line moment (codes "create version " ++ version_name b n))
 history_line b e n moment (deeds.Label label f version) =
-    line_where (f == e) (dated moment (codes "label " ++ label ++ 32 ∷ version_name b version))
-history_line b e n moment (deeds.Unlabel label f) = line_where (f == e) (dated moment (codes "unlabel " ++ label))
+    line_where (f == e) (dated_line moment (codes "label " ++ label ++ 32 ∷ version_name b version))
+history_line b e n moment (deeds.Unlabel label f) = line_where (f == e) (dated_line moment (codes "unlabel " ++ label))
 history_line b e n moment (deeds.Labels label placed) = placed_lines b e moment label placed
 history_line b e n moment deed = []
 

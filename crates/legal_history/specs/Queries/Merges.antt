@@ -6,7 +6,7 @@ use Rattle.std.specs.Ordering.{nat_cmp}
 use Rattle.std.specs.Cmp.Lexicographic.{slice_cmp}
 use Rattle.std.specs.FinMap.Entries.{put}
 use Rattle.cc_names.specs.Branches.{branch_named, origin_by}
-use Rattle.cc_names.specs.Versions.{is_number, latest, numbered, put_if, row_of_change, version_at}
+use Rattle.cc_names.specs.Versions.{is_number, latest, version_of_number, put_if, row_of_change, version_at}
 use Rattle.cc_names.specs.declared.changes.TreeChange.{TreeChange}
 use Rattle.cc_names.specs.declared.rows.Deed.{Deed}
 use Rattle.cc_names.specs.declared.rows.Deed.TheVariants as deeds
@@ -16,7 +16,7 @@ use Rattle.cc_names.specs.declared.selection.Seen.TheVariants.{Element}
 use Rattle.base_model.specs.Rows.{Base, size, only_where}
 use Rattle.base_model.specs.Catalogs.{Catalog}
 use Rattle.base_model.specs.Changes.{tree}
-use Rattle.legal_history.specs.Queries.ListingTexts.{path_in, catalog_or_none}
+use Rattle.legal_history.specs.Queries.DirectoryTexts.{path_in, catalog_or_none}
 use Rattle.base_model.specs.Seen.{at, entries_of}
 use Rattle.legal_history.specs.Queries.VersionNames.{line, version_name, at_version}
 use Rattle.base_model.specs.Views.{Checkout, out}
@@ -24,7 +24,7 @@ use Rattle.base_model.specs.Views.{Checkout, out}
 -- whether one version is the successor of another on its branch
 abbrev pub is_successor : Base → ℕ → ℕ → Bool
 is_successor b one two =
-    is_number two (option_and_then (λ version. numbered (tree b) version.branch (suc version.number)) (version_at (tree b) one))
+    is_number two (option_and_then (λ version. version_of_number (tree b) version.branch (suc version.number)) (version_at (tree b) one))
 
 -- whether a version begins a branch that leaves another one
 abbrev pub is_branch_from : List TreeChange → ℕ → ℕ → Bool

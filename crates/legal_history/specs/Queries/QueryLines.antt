@@ -9,17 +9,17 @@ use Rattle.cc_names.specs.declared.selection.Picked.{Picked}
 use Rattle.cc_names.specs.declared.selection.Seen.{Seen}
 use Rattle.cc_names.specs.declared.selection.Seen.TheVariants.{Element, Unselected, Nothing}
 use Rattle.base_model.specs.Rows.{Base}
-use Rattle.base_model.specs.Changes.{held}
+use Rattle.base_model.specs.Changes.{objects_held}
 use Rattle.base_model.specs.Conditions.{is_branch_type}
 use Rattle.legal_history.specs.Commands.Decisions.{Decision, past, answers}
 use Rattle.legal_history.specs.Queries.ElementTexts.{describe_text, lsvtree_text}
 use Rattle.legal_history.specs.Commands.Found.{for_selected, for_object}
 use Rattle.legal_history.specs.Queries.HistoryTexts.{lshistory_text}
 use Rattle.legal_history.specs.Commands.LabelLines.{version_named}
-use Rattle.legal_history.specs.Queries.ListingTexts.{ls_text, lsdo_text}
+use Rattle.legal_history.specs.Queries.DirectoryTexts.{ls_text, lsdo_text}
 use Rattle.legal_history.specs.Queries.Merges.{findmerge_text}
 use Rattle.legal_history.specs.Queries.RecordTexts.{catcr_text, diffcr_text, covers_text}
-use Rattle.base_model.specs.Objects.{uncovered}
+use Rattle.base_model.specs.Objects.{uncovered_path}
 use Rattle.base_model.specs.Seen.{at, file_at}
 use Rattle.legal_history.specs.Commands.Tests.{refused_where, refused_unless, needs_view, needs_selected, needs_directory, needs_no_directory, needs_element}
 use Rattle.base_model.specs.Texts.{text}
@@ -44,12 +44,12 @@ ls b v path = answers (ls_tests b v (unwrap_or path root)) (ls_text b v (unwrap_
 
 -- something is selected at the path; or nothing stands there, and the view holds an object
 abbrev pub needs_text : Base → List ℕ → List ℕ → Seen → Option Refusal
-needs_text b v path Nothing = refused_where (is_none (held_at (held b) v path)) (refusals.NoPath path)
+needs_text b v path Nothing = refused_where (is_none (held_at (objects_held b) v path)) (refusals.NoPath path)
 needs_text b v path seen = needs_selected path seen
 
 -- the row that makes the text at a path, of a file or of the view's object
 abbrev pub text_row : Base → List ℕ → List ℕ → Seen → Option ℕ
-text_row b v path Nothing = held_at (held b) v path
+text_row b v path Nothing = held_at (objects_held b) v path
 text_row b v path seen = file_at b v path
 
 -- The text that a row made at a path. It is asked for behind the tests of `cat` alone, which leave a row, and each makes
@@ -97,7 +97,7 @@ lshistory b v path = answers_of b v path (λ e picked. lshistory_text b e)
 
 -- what is answered of the object that the view holds at a path
 abbrev pub answers_of_object : Base → List ℕ → List ℕ → (ℕ → List ℕ) → Result Decision Refusal
-answers_of_object b v path text = for_object path (held_at (held b) v path) (λ id. answers [] (text id))
+answers_of_object b v path text = for_object path (held_at (objects_held b) v path) (λ id. answers [] (text id))
 
 -- `catcr V P`: the record of the view's object
 abbrev pub catcr : Base → List ℕ → List ℕ → Result Decision Refusal
@@ -107,13 +107,13 @@ catcr b v path = past (needs_view b v ∷ []) (answers_of_object b v path (catcr
 abbrev pub diffcr : Base → List ℕ → List ℕ → List ℕ → List ℕ → Result Decision Refusal
 diffcr b v path w second =
     past (needs_view b v ∷ needs_view b w ∷ [])
-    (for_object path (held_at (held b) v path) (λ one. answers_of_object b w second (diffcr_text b one)))
+    (for_object path (held_at (objects_held b) v path) (λ one. answers_of_object b w second (diffcr_text b one)))
 
 -- `covers W V P`: whether view W sees each input of the object that V holds at P
 abbrev pub covers : Base → List ℕ → List ℕ → List ℕ → Result Decision Refusal
 covers b seer v path =
     past (needs_view b seer ∷ needs_view b v ∷ [])
-    (answers_of_object b v path (λ id. covers_text (uncovered b seer id)))
+    (answers_of_object b v path (λ id. covers_text (uncovered_path b seer id)))
 
 -- `main`, or a branch type
 abbrev pub needs_branch : Base → List ℕ → Option Refusal

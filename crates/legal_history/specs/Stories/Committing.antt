@@ -7,14 +7,14 @@ use Rattle.cc_names.specs.declared.rows.Deed.{Deed}
 use Rattle.cc_names.specs.declared.rows.Deed.TheVariants as deeds
 use Rattle.cc_names.specs.declared.rows.Tag.{Tag}
 use Rattle.legal_history.specs.Commands.Decisions.{Makes}
-use Rattle.legal_history.specs.Stories.States.{State, decided, ticks_of, faults_of, hanging}
+use Rattle.legal_history.specs.Stories.States.{State, decision_for, ticks_of, faults_of, hanging}
 use Rattle.legal_history.specs.Builds.UnitTurns.{Publishes, Winks}
 
 -- what lets a row be committed, by its deed: a step of a build, or the decision on a command
 abbrev pub MakesRow : State → Plain → Deed → Type 0
 MakesRow s row (deeds.Publish view targets script entries outputs) = Publishes s row targets
 MakesRow s row (deeds.Wink view id) = Winks s row view id
-MakesRow s row deed = decided s row.tag ≡ Some (Ok (Makes row.deed))
+MakesRow s row deed = decision_for s row.tag ≡ Some (Ok (Makes row.deed))
 
 -- a row may be committed: it has the moment of the last phase, and its command or its build makes it
 pub record MayCommit (s : State) (row : Plain) : Type 0 where

@@ -15,7 +15,7 @@ use Rattle.cc_names.specs.Counts.{rises}
 use Rattle.legal_history.specs.Stories.Committing.{FaultsAt, MayCommit}
 use Rattle.legal_history.specs.Commands.Decisions.{Answers, Begins}
 use Rattle.base_model.specs.Fits.{is_base}
-use Rattle.legal_history.specs.Stories.States.{State, decided, build_by, all_done, ticks_of, start}
+use Rattle.legal_history.specs.Stories.States.{State, decision_for, build_by, all_done, ticks_of, start}
 use Rattle.legal_history.specs.Stories.Steps.{after}
 use Rattle.legal_history.specs.Builds.Turns.{is_complete}
 use Rattle.legal_history.specs.Builds.UnitTurns.{ComesTo, Starts}
@@ -27,7 +27,7 @@ last_moment = 253402300799
 -- a build begins where the decision on its command says so, at the rows and with the units that it has
 pub record BeginsBuild (s : State) (tag : Tag) (rows count : ℕ) : Type 0 where
   pub units : List Unit
-  pub chosen : decided s tag ≡ Some (Ok (Begins units))
+  pub chosen : decision_for s tag ≡ Some (Ok (Begins units))
   pub at_rows : rows ≡ size s.base
   pub of_units : count ≡ length units
 
@@ -39,8 +39,8 @@ pub record EndsBuild (s : State) (tag : Tag) : Type 0 where
 
 -- when a step that is told as it stands is lawful
 abbrev pub LawfulStep : State → Step → Type 0
-LawfulStep s (steps.Refused tag refusal) = decided s tag ≡ Some (Err refusal)
-LawfulStep s (steps.Answer tag text) = decided s tag ≡ Some (Ok (Answers text))
+LawfulStep s (steps.Refused tag refusal) = decision_for s tag ≡ Some (Err refusal)
+LawfulStep s (steps.Answer tag text) = decision_for s tag ≡ Some (Ok (Answers text))
 LawfulStep s (steps.Begin tag rows units) = BeginsBuild s tag rows units
 LawfulStep s (steps.Start tag n) = Starts s tag n
 LawfulStep s (steps.Concluded tag n outcome) = ComesTo s tag n outcome

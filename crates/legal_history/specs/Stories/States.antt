@@ -85,8 +85,8 @@ abbrev pub next_command : State → Tag → Option Command
 next_command s tag = only_where (is_next s tag) (option_and_then (command_behind (done_of s.done tag.lane)) (lane_at s.phase tag.lane))
 
 -- what is decided of the command of this tag, where it is its lane's next
-abbrev pub decided : State → Tag → Option (Result Decision Refusal)
-decided s tag = option_map (decision (scene s)) (next_command s tag)
+abbrev pub decision_for : State → Tag → Option (Result Decision Refusal)
+decision_for s tag = option_map (decision (scene s)) (next_command s tag)
 
 -- a build where it is the command's
 abbrev pub build_if : Tag → Build → Option Build

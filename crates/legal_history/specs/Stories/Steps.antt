@@ -18,7 +18,7 @@ use Rattle.base_model.specs.Rows.{Base, size}
 use Rattle.legal_history.specs.Builds.Active.{Active, Build, Came, Concluded, Given, build_of, unit_at, unit_with_first}
 use Rattle.base_model.specs.Changes.{targets_of}
 use Rattle.legal_history.specs.Commands.Decisions.{Decision, Begins}
-use Rattle.legal_history.specs.Stories.States.{State, Committed, Faulted, start, with_done, decided, next_command, build_by}
+use Rattle.legal_history.specs.Stories.States.{State, Committed, Faulted, start, with_done, decision_for, next_command, build_by}
 use Rattle.legal_history.specs.Builds.Turns.{came_by_start, unreadable}
 
 -- a build with what one of its units has come to
@@ -32,8 +32,8 @@ noted_in active lane None unit came = active
 noted_in active lane (Some build) unit came = put nat_cmp lane (with_came build (unit build) came) active
 
 -- the active builds where a unit of a lane's build has come to something
-abbrev pub noted : Active → ℕ → (Build → Option ℕ) → Came → Active
-noted active lane unit came = noted_in active lane (build_of active lane) unit came
+abbrev pub with_outcome : Active → ℕ → (Build → Option ℕ) → Came → Active
+with_outcome active lane unit came = noted_in active lane (build_of active lane) unit came
 
 -- what a unit comes to by its start, where there is such a unit
 abbrev pub came_of_unit : Option Unit → Came
@@ -53,8 +53,8 @@ done_after done lane deed = with_done done lane
 
 -- the active builds after a commit: a publish or a wink gives its object to the unit with its targets
 abbrev pub active_after : Base → Active → ℕ → Deed → Active
-active_after b active lane (deeds.Publish v targets script entries outputs) = noted active lane (λ build. unit_with_first build targets) (Given (size b))
-active_after b active lane (deeds.Wink v id) = noted active lane (λ build. unit_with_first build (targets_of b id)) (Given id)
+active_after b active lane (deeds.Publish v targets script entries outputs) = with_outcome active lane (λ build. unit_with_first build targets) (Given (size b))
+active_after b active lane (deeds.Wink v id) = with_outcome active lane (λ build. unit_with_first build (targets_of b id)) (Given id)
 active_after b active lane deed = active
 
 -- the build of some units that a clearmake command asks for
@@ -81,8 +81,8 @@ units_begun (Some (Ok (Begins units))) = units
 units_begun _ = []
 
 -- the build that a command begins in a state
-abbrev pub begun : State → Tag → Option Build
-begun s tag = option_and_then (new_build tag (size s.base) (units_begun (decided s tag))) (next_command s tag)
+abbrev pub build_begun_by : State → Tag → Option Build
+build_begun_by s tag = option_and_then (new_build tag (size s.base) (units_begun (decision_for s tag))) (next_command s tag)
 
 -- the active builds with one more
 abbrev pub with_build : Active → ℕ → Option Build → Active
@@ -107,9 +107,9 @@ done_by_fault done lane (Some build) = done
 abbrev pub after_step : State → Step → State
 after_step s (steps.Refused tag refusal) = record s { done = with_done s.done tag.lane }
 after_step s (steps.Answer tag text) = record s { done = with_done s.done tag.lane }
-after_step s (steps.Begin tag rows units) = record s { active = with_build s.active tag.lane (begun s tag) }
-after_step s (steps.Start tag n) = record s { active = noted s.active tag.lane (λ build. Some n) (came_by_starting (build_of s.active tag.lane) n) }
-after_step s (steps.Concluded tag n outcome) = record s { active = noted s.active tag.lane (λ build. Some n) (Concluded outcome) }
+after_step s (steps.Begin tag rows units) = record s { active = with_build s.active tag.lane (build_begun_by s tag) }
+after_step s (steps.Start tag n) = record s { active = with_outcome s.active tag.lane (λ build. Some n) (came_by_starting (build_of s.active tag.lane) n) }
+after_step s (steps.Concluded tag n outcome) = record s { active = with_outcome s.active tag.lane (λ build. Some n) (Concluded outcome) }
 after_step s (steps.End tag) = record s { done = with_done s.done tag.lane; active = without_build s.active tag.lane }
 after_step s (steps.Fault tag left before faults tick) = record s {
   done = done_by_fault s.done tag.lane (build_by s tag);

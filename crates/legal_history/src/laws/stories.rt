@@ -1,6 +1,6 @@
 //! The laws of legal stories. Each is the contract of a function with an empty body.
 
-ghost use Rattle.legal_history.specs.Laws.StoryLaws.{StoryGoesOnByALawfulStepOn, StoryGoesOnByALawfulStepLast, BaseFits, BaseOnlyGrowsFront, BaseOnlyGrowsBase, RowsStayWithinTheLimit, TicksRise, ViewHasOneBuild, ScrubOfAStoryListsWhatIsDue, HeldObjectIsLiveAtEachStep};
+ghost use Rattle.legal_history.specs.Laws.StoryLaws.{StoryGoesOnByALawfulStepOn, StoryGoesOnByALawfulStepLast, BaseFits, BaseOnlyGrowsPrefix, BaseOnlyGrowsBase, RowsStayWithinTheLimit, TicksRise, ViewHasOneBuild, ScrubOfAStoryListsWhatIsDue, HeldObjectIsLiveAtEachStep};
 
 /// Promises `StoryGoesOnByALawfulStepOn` and `StoryGoesOnByALawfulStepLast`.
 pub fn a_story_goes_on_by_a_lawful_step()
@@ -13,9 +13,9 @@ pub fn a_base_fits()
     ensures { BaseFits }
 {}
 
-/// Promises `BaseOnlyGrowsFront` and `BaseOnlyGrowsBase`.
+/// Promises `BaseOnlyGrowsPrefix` and `BaseOnlyGrowsBase`.
 pub fn a_base_only_grows()
-    ensures front { BaseOnlyGrowsFront }
+    ensures prefix { BaseOnlyGrowsPrefix }
     ensures base { BaseOnlyGrowsBase }
 {}
 

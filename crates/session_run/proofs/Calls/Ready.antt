@@ -4,7 +4,7 @@ use Rattle.std.specs.Prelude.{IfSome}
 use Rattle.std.specs.List.{AllByRecursion}
 use Rattle.std.specs.Io.KnownBytes.{Consumes, IsAtEnd}
 use Rattle.std.proofs.lemmas.List.{append-nil}
-use Rattle.cc_names.specs.Counts.{raised}
+use Rattle.cc_names.specs.Counts.{raised_count}
 use Rattle.cc_names.specs.declared.commands.Change.{Change}
 use Rattle.cc_names.specs.declared.commands.Change.TheVariants as changes
 use Rattle.cc_names.specs.declared.commands.Clearmake.{Clearmake}
@@ -58,18 +58,18 @@ are_runnable text session le formed =
     record { few = omega (arith, le, formed.0); ready = both_ready (length text) session.phases le formed.1 }
 
 -- what a source that tells its bytes had left is what was read to the end
-told_text : (old new : Option (List ℕ)) (text : List ℕ) → Consumes old new text → IsAtEnd new → IfSome old (λ bytes. bytes ≡ text)
-told_text None new text h end = tt
-told_text (Some xs) None text h end = absurd h
-told_text (Some xs) (Some ys) text h end = h ∙ ap (λ rest. text ++ rest) end ∙ append-nil text
+modeled_text : (old new : Option (List ℕ)) (text : List ℕ) → Consumes old new text → IsAtEnd new → IfSome old (λ bytes. bytes ≡ text)
+modeled_text None new text h end = tt
+modeled_text (Some xs) None text h end = absurd h
+modeled_text (Some xs) (Some ys) text h end = h ∙ ap (λ rest. text ++ rest) end ∙ append-nil text
 
 of_text : (old : Option (List ℕ)) (text : List ℕ) (P : List ℕ → Type 0) → P text → IfSome old (λ bytes. bytes ≡ text) → IfSome old P
 of_text None text P p is = tt
 of_text (Some bytes) text P p is = subst P (sym is) p
 
-pub gives_phases : (words : List (List ℕ)) (old new : Option (List ℕ)) (before after faults risen : ℕ) (text : List ℕ) (session : Session) → is_run words ≡ true → Consumes old new text → IsAtEnd new → length text ≤ text_limit → after ≡ raised before (length text) → session_of text ≡ Ok session → IsFormedSession (length text) session → GivesPhases (record { words = words; text = record { before = old; after = new }; given = record { before = before; after = after }; faults = record { before = faults; after = risen } }) session.phases
+pub gives_phases : (words : List (List ℕ)) (old new : Option (List ℕ)) (before after faults risen : ℕ) (text : List ℕ) (session : Session) → is_run words ≡ true → Consumes old new text → IsAtEnd new → length text ≤ text_limit → after ≡ raised_count before (length text) → session_of text ≡ Ok session → IsFormedSession (length text) session → GivesPhases (record { words = words; text = record { before = old; after = new }; given = record { before = before; after = after }; faults = record { before = faults; after = risen } }) session.phases
 gives_phases words old new before after faults risen text session run taken end le given e formed =
-    let is = told_text old new text taken end in
+    let is = modeled_text old new text taken end in
     record {
       read = record { words = run; at_end = end; count = length text; within = le; given = given; bytes = of_text old text (λ bytes. length bytes ≡ length text) refl is };
       spelled = of_text old text (λ bytes. phases_spelled bytes ≡ session.phases) (ap phases_read e) is;

@@ -11,7 +11,7 @@ use Rattle.cc_names.specs.declared.steps.StoryStep.{StoryStep}
 use Rattle.cc_names.specs.declared.steps.StoryStep.TheVariants as story_steps
 use Rattle.disk_model.specs.Counting.{next_count}
 use Rattle.disk_model.specs.Devices.{Device, Event, Measured, Fetched, Wrote, Tore, Synced, Failed, failures}
-use Rattle.disk_model.specs.Told.{Sight, IfTold, Both, IsCounted, CountsFailures}
+use Rattle.disk_model.specs.DiskStates.{DiskState, IfModeled, Both, IsCounted, CountsFailures}
 use Rattle.disk_model.proofs.Recording.{failures_most}
 use Rattle.legal_history.specs.Stories.States.{State, End, start}
 use Rattle.legal_history.specs.Stories.Steps.{after, state_from, state_of}
@@ -44,19 +44,19 @@ failed_before d calls rest is =
     ap (failed_by (length d.calls)) is ∙ ap failures (take_at (reverse d.calls) rest (length d.calls) (length-reverse d.calls)) ∙ failures_back d.calls
 
 -- The counts of a device that went on
-module _ (kind : Event → Bool) (one two : Sight) (d e : Device) (first : IsCounted one) (second : IsCounted two)
-    (is : one.told ≡ Some d) (be : two.told ≡ Some e) (added : Adds kind d e) where
+module _ (kind : Event → Bool) (one two : DiskState) (d e : Device) (first : IsCounted one) (second : IsCounted two)
+    (is : one.modeled ≡ Some d) (be : two.modeled ≡ Some e) (added : Adds kind d e) where
   ticks_one : one.ticks ≡ length d.calls
-  ticks_one = subst (λ told. IfTold told (λ d. one.ticks ≡ length d.calls)) is first.told
+  ticks_one = subst (λ modeled. IfModeled modeled (λ d. one.ticks ≡ length d.calls)) is first.modeled
 
   ticks_two : two.ticks ≡ length e.calls
-  ticks_two = subst (λ told. IfTold told (λ d. two.ticks ≡ length d.calls)) be second.told
+  ticks_two = subst (λ modeled. IfModeled modeled (λ d. two.ticks ≡ length d.calls)) be second.modeled
 
   counts_one : CountsFailures one.ticks one.faults d
-  counts_one = subst (λ told. IfTold told (CountsFailures one.ticks one.faults)) is first.failed
+  counts_one = subst (λ modeled. IfModeled modeled (CountsFailures one.ticks one.faults)) is first.failed
 
   counts_two : CountsFailures two.ticks two.faults e
-  counts_two = subst (λ told. IfTold told (CountsFailures two.ticks two.faults)) be second.failed
+  counts_two = subst (λ modeled. IfModeled modeled (CountsFailures two.ticks two.faults)) be second.failed
 
   longer : length e.calls ≡ length added.more + length d.calls
   longer = ap length added.calls ∙ length-append added.more d.calls
@@ -94,19 +94,19 @@ module _ (kind : Event → Bool) (one two : Sight) (d e : Device) (first : IsCou
   no_call same = sym ticks_two ∙ same ∙ ticks_one
 
 -- what was told before, where more is told now
-told_before : (R : Device → Device → Type 0) (old new : Option Device) (e : Device) → new ≡ Some e → Both R old new → (d : Device) × (old ≡ Some d) × R d e
-told_before R old new e is both = by old (subst (λ told. Both R old told) is both)
+modeled_before : (R : Device → Device → Type 0) (old new : Option Device) (e : Device) → new ≡ Some e → Both R old new → (d : Device) × (old ≡ Some d) × R d e
+modeled_before R old new e is both = by old (subst (λ modeled. Both R old modeled) is both)
   where
     by : (old : Option Device) → Both R old (Some e) → (d : Device) × (old ≡ Some d) × R d e
     by None h = absurd h
     by (Some d) h = (d, refl, h)
 
-adds_idle : (told : Option Device) → Both (Adds may_write) told told
+adds_idle : (modeled : Option Device) → Both (Adds may_write) modeled modeled
 adds_idle None = tt
 adds_idle (Some d) = adds_none may_write d
 
-same_adds : (old new : Sight) → new ≡ old → Both (Adds may_write) old.told new.told
-same_adds old new e = subst (λ s. Both (Adds may_write) old.told s.told) (sym e) (adds_idle old.told)
+same_adds : (old new : DiskState) → new ≡ old → Both (Adds may_write) old.modeled new.modeled
+same_adds old new e = subst (λ s. Both (Adds may_write) old.modeled s.modeled) (sym e) (adds_idle old.modeled)
 
 adds_on : (one two three : Option Device) → Both (Adds may_write) one two → Both (Adds may_write) two three → Both (Adds may_write) one three
 adds_on one two three h k = both_then (Adds may_write) (Adds may_write) (Adds may_write) one two three (adds_then may_write) h k
@@ -114,20 +114,20 @@ adds_on one two three h k = both_then (Adds may_write) (Adds may_write) (Adds ma
 of_writes : (one two : Option Device) → Both WritesOn one two → Both (Adds may_write) one two
 of_writes one two h = both_map WritesOn (Adds may_write) one two (λ d e w. w.adds) h
 
-step_adds : (step : StoryStep) (old new : Sight) → CountsStep step old new → Both (Adds may_write) old.told new.told
-step_adds (story_steps.Commit row tick) old new h = of_writes old.told new.told h.4
-step_adds (story_steps.Other (steps.Fault tag left before faults tick)) old new h = of_writes old.told new.told h.6
+step_adds : (step : StoryStep) (old new : DiskState) → CountsStep step old new → Both (Adds may_write) old.modeled new.modeled
+step_adds (story_steps.Commit row tick) old new h = of_writes old.modeled new.modeled h.4
+step_adds (story_steps.Other (steps.Fault tag left before faults tick)) old new h = of_writes old.modeled new.modeled h.6
 step_adds (story_steps.Other (steps.Opened n)) old new h = same_adds old new h
 step_adds (story_steps.Other step) old new h = same_adds old new h
 step_adds (story_steps.Opened rows counts tells) old new h = same_adds old new h
 step_adds (story_steps.PhaseBegun phase moment) old new h = same_adds old new h
 
-steps_add : (more : List StoryStep) (old new : Sight) → CountsSteps more old new → Both (Adds may_write) old.told new.told
+steps_add : (more : List StoryStep) (old new : DiskState) → CountsSteps more old new → Both (Adds may_write) old.modeled new.modeled
 steps_add [] old new h = same_adds old new h
-steps_add (step ∷ more) old new h = adds_on old.told h.0.told new.told (step_adds step old h.0 h.1) (steps_add more h.0 new h.2)
+steps_add (step ∷ more) old new h = adds_on old.modeled h.0.modeled new.modeled (step_adds step old h.0 h.1) (steps_add more h.0 new h.2)
 
 both_at : (R : Device → Device → Type 0) (old new : Option Device) (d e : Device) → old ≡ Some d → new ≡ Some e → Both R old new → R d e
-both_at R old new d e is be h = subst (λ told. Both R (Some d) told) be (subst (λ told. Both R told new) is h)
+both_at R old new d e is be h = subst (λ modeled. Both R (Some d) modeled) be (subst (λ modeled. Both R modeled new) is h)
 
 -- the newest end was made on this device, on which so many of the calls had been made and had failed
 abbrev IsNewest : ℕ → List Event → List End → Device → Type 0
@@ -135,9 +135,9 @@ IsNewest handed calls [] d = failures d.calls ≡ failed_by handed calls
 IsNewest handed calls (end ∷ ends) d = (tick_of end ≡ length d.calls) × (failed_by (tick_of end) calls ≡ failures d.calls)
 
 -- the journal was settled at the end
-module _ (old now : Sight) (d e : Device) (first : IsCounted old) (second : IsCounted now) (is : old.told ≡ Some d) (be : now.told ≡ Some e) where
+module _ (old now : DiskState) (d e : Device) (first : IsCounted old) (second : IsCounted now) (is : old.modeled ≡ Some d) (be : now.modeled ≡ Some e) where
   settling_adds : (ajar : Bool) → Settles ajar old now → Adds may_write d e
-  settling_adds ajar settles = (both_at WritesOn old.told now.told d e is be settles.writes).adds
+  settling_adds ajar settles = (both_at WritesOn old.modeled now.modeled d e is be settles.writes).adds
 
   settles_behind : (ajar : Bool) (tick : ℕ) → tick ≡ length d.calls → failed_by tick (reverse e.calls) ≡ failures d.calls → Settles ajar old now → SettlesBehind ajar tick (reverse e.calls)
   settles_behind true tick at failed settles = (
@@ -153,28 +153,28 @@ module _ (old now : Sight) (d e : Device) (first : IsCounted old) (second : IsCo
   ends_well handed (end ∷ ends) newest settles = settles_behind (may_be_open (end ∷ ends)) (tick_of end) newest.0 newest.1 settles
 
 -- the steps of a history, and the calls of the device as it came back
-blames : (e : Device) (handed : ℕ) (s : State) (more : List StoryStep) (old ended now : Sight) (d : Device) → IsNewest handed (reverse e.calls) s.ends d → old.told ≡ Some d → now.told ≡ Some e → IsCounted old → IsCounted now
+blames : (e : Device) (handed : ℕ) (s : State) (more : List StoryStep) (old ended now : DiskState) (d : Device) → IsNewest handed (reverse e.calls) s.ends d → old.modeled ≡ Some d → now.modeled ≡ Some e → IsCounted old → IsCounted now
     → CountsSteps more old ended → Settles (may_be_open (state_from s more).ends) ended now
     → FailsAtFaults (failures d.calls) (reverse e.calls) more × RestsBehind handed (state_from s more).ends (reverse e.calls)
 blames e handed s [] old ended now d newest is be first second h settles =
     (tt, ends_well old now d e first second is be handed s.ends newest (subst (λ t. Settles (may_be_open s.ends) t now) h settles))
 blames e handed s (story_steps.Commit row tick ∷ more) old ended now d newest is be first second h settles =
     let mid = h.0 in
-    let rest = adds_on mid.told ended.told now.told (steps_add more mid ended h.2) (of_writes ended.told now.told settles.writes) in
-    let at = told_before (Adds may_write) mid.told now.told e be rest in
-    let added = (both_at WritesOn old.told mid.told d at.0 is at.1 h.1.4).adds in
+    let rest = adds_on mid.modeled ended.modeled now.modeled (steps_add more mid ended h.2) (of_writes ended.modeled now.modeled settles.writes) in
+    let at = modeled_before (Adds may_write) mid.modeled now.modeled e be rest in
+    let added = (both_at WritesOn old.modeled mid.modeled d at.0 is at.1 h.1.4).adds in
     let same = same_failed may_write old mid d at.0 first h.1.3 is at.1 added h.1.2 in
-    let ticks : tick ≡ length at.0.calls = h.1.0 ∙ subst (λ told. IfTold told (λ d. mid.ticks ≡ length d.calls)) at.1 h.1.3.told in
+    let ticks : tick ≡ length at.0.calls = h.1.0 ∙ subst (λ modeled. IfModeled modeled (λ d. mid.ticks ≡ length d.calls)) at.1 h.1.3.modeled in
     let failed = ap (λ n. failed_by n (reverse e.calls)) ticks ∙ failed_before at.0 (reverse e.calls) (reverse at.2.more) (first_calls may_write at.0 e at.2) in
     let on = blames e handed (after s (story_steps.Commit row tick)) more mid ended now at.0 (ticks, failed) at.1 be h.1.3 second h.2 settles in
     ((failed ∙ same, subst (λ n. FailsAtFaults n (reverse e.calls) more) same on.0), on.1)
 blames e handed s (story_steps.Other (steps.Fault tag left before faults tick) ∷ more) old ended now d newest is be first second h settles =
     let mid = h.0 in
-    let rest = adds_on mid.told ended.told now.told (steps_add more mid ended h.2) (of_writes ended.told now.told settles.writes) in
-    let at = told_before (Adds may_write) mid.told now.told e be rest in
-    let added = (both_at WritesOn old.told mid.told d at.0 is at.1 h.1.6).adds in
+    let rest = adds_on mid.modeled ended.modeled now.modeled (steps_add more mid ended h.2) (of_writes ended.modeled now.modeled settles.writes) in
+    let at = modeled_before (Adds may_write) mid.modeled now.modeled e be rest in
+    let added = (both_at WritesOn old.modeled mid.modeled d at.0 is at.1 h.1.6).adds in
     let rose : mid.faults ≡ next_count old.faults = sym h.1.1 ∙ h.1.2 ∙ ap next_count h.1.0 in
-    let ticks : tick ≡ length at.0.calls = h.1.3 ∙ subst (λ told. IfTold told (λ d. mid.ticks ≡ length d.calls)) at.1 h.1.5.told in
+    let ticks : tick ≡ length at.0.calls = h.1.3 ∙ subst (λ modeled. IfModeled modeled (λ d. mid.ticks ≡ length d.calls)) at.1 h.1.5.modeled in
     let failed = ap (λ n. failed_by n (reverse e.calls)) ticks ∙ failed_before at.0 (reverse e.calls) (reverse at.2.more) (first_calls may_write at.0 e at.2) in
     let on = blames e handed (after s (story_steps.Other (steps.Fault tag left before faults tick))) more mid ended now at.0 (ticks, failed) at.1 be h.1.5 second h.2 settles in
     let meets : MeetsFault (failures d.calls) before faults tick (reverse e.calls) = λ within.
@@ -230,10 +230,10 @@ first_opens : (first : StoryStep) (rows : List Plain) (counts : Counts) (tells :
 first_opens first rows counts tells is = ap (λ o. elim o [ None ↦ first | Some x ↦ x ]) is
 
 -- *Whose fault*, of a session whose base was opened
-pub blamed : (before opened now : Sight) (story : List StoryStep) (rows : List Plain) (counts : Counts) (tells : Bool) → IsCounted before → IsCounted opened → IsCounted now
-    → opened.faults ≡ before.faults → Both (Adds may_read) before.told opened.told → first_step story ≡ Some (story_steps.Opened rows counts tells) → CountsFrom opened now story
-    → IfTold now.told (IsBlamed before.ticks story)
-blamed before opened now story rows counts tells was first second sound reads begins from = by now.told refl
+pub blamed : (before opened now : DiskState) (story : List StoryStep) (rows : List Plain) (counts : Counts) (tells : Bool) → IsCounted before → IsCounted opened → IsCounted now
+    → opened.faults ≡ before.faults → Both (Adds may_read) before.modeled opened.modeled → first_step story ≡ Some (story_steps.Opened rows counts tells) → CountsFrom opened now story
+    → IfModeled now.modeled (IsBlamed before.ticks story)
+blamed before opened now story rows counts tells was first second sound reads begins from = by now.modeled refl
   where
     is_first : from.first ≡ story_steps.Opened rows counts tells
     is_first = first_opens from.first rows counts tells (ap first_step (sym from.story_is) ∙ begins)
@@ -244,20 +244,20 @@ blamed before opened now story rows counts tells was first second sound reads be
     settles : Settles (may_be_open (state_from (after start (story_steps.Opened rows counts tells)) from.steps).ends) from.ended now
     settles = subst (λ s. Settles (may_be_open (state_of s).ends) from.ended now) story_is from.settled
 
-    all : Both (Adds may_write) opened.told now.told
-    all = adds_on opened.told from.ended.told now.told (steps_add from.steps opened from.ended from.counts) (of_writes from.ended.told now.told from.settled.writes)
+    all : Both (Adds may_write) opened.modeled now.modeled
+    all = adds_on opened.modeled from.ended.modeled now.modeled (steps_add from.steps opened from.ended from.counts) (of_writes from.ended.modeled now.modeled from.settled.writes)
 
-    on : (e : Device) → now.told ≡ Some e → IsBlamed before.ticks story e
+    on : (e : Device) → now.modeled ≡ Some e → IsBlamed before.ticks story e
     on e be =
-        let at = told_before (Adds may_write) opened.told now.told e be all in
+        let at = modeled_before (Adds may_write) opened.modeled now.modeled e be all in
         let d = at.0 in
         let written = at.2 in
-        let old = told_before (Adds may_read) before.told opened.told d at.1 reads in
+        let old = modeled_before (Adds may_read) before.modeled opened.modeled d at.1 reads in
         let b = old.0 in
         let read = old.2 in
         let same = same_failed may_read before opened b d was first old.1 at.1 read sound in
         let none : failures read.more ≡ 0 = omega (arith, same, ap failures read.calls, failures_more read.more b.calls) in
-        let ticks : before.ticks ≡ length b.calls = subst (λ told. IfTold told (λ d. before.ticks ≡ length d.calls)) old.1 was.told in
+        let ticks : before.ticks ≡ length b.calls = subst (λ modeled. IfModeled modeled (λ d. before.ticks ≡ length d.calls)) old.1 was.modeled in
         let split : reverse e.calls ≡ reverse b.calls ++ (reverse read.more ++ reverse written.more) =
         first_calls may_write d e written ∙ ap (λ calls. calls ++ reverse written.more) (first_calls may_read b d read)
         ∙ append_assoc (reverse b.calls) (reverse read.more) (reverse written.more) in
@@ -274,6 +274,6 @@ blamed before opened now story rows counts tells was first second sound reads be
           behind = subst (λ s. RestsBehind before.ticks (state_of s).ends (reverse e.calls)) (sym story_is) ends.1;
         }
 
-    by : (told : Option Device) → now.told ≡ told → IfTold told (IsBlamed before.ticks story)
+    by : (modeled : Option Device) → now.modeled ≡ modeled → IfModeled modeled (IsBlamed before.ticks story)
     by None be = tt
     by (Some e) be = on e be

@@ -4,7 +4,7 @@ use Rattle.cc_names.specs.declared.steps.Step.TheVariants as steps
 use Rattle.cc_names.specs.declared.steps.StoryStep.{StoryStep}
 use Rattle.cc_names.specs.declared.steps.StoryStep.TheVariants as story_steps
 use Rattle.disk_model.specs.Devices.{Device}
-use Rattle.disk_model.specs.Told.{Sight, Both}
+use Rattle.disk_model.specs.DiskStates.{DiskState, Both}
 use Rattle.legal_history.specs.Stories.States.{State, start}
 use Rattle.legal_history.specs.Stories.Steps.{after, state_from, state_of}
 use Rattle.vob_journal.specs.Added.{WritesOn}
@@ -32,24 +32,24 @@ objects_idle : (one : Option Device) → Both SameObjects one one
 objects_idle None = tt
 objects_idle (Some d) = refl
 
-same_sight : (old new : Sight) → new ≡ old → Both SameObjects old.told new.told
-same_sight old new e = subst (λ s. Both SameObjects old.told s.told) (sym e) (objects_idle old.told)
+same_ghost_state : (old new : DiskState) → new ≡ old → Both SameObjects old.modeled new.modeled
+same_ghost_state old new e = subst (λ s. Both SameObjects old.modeled s.modeled) (sym e) (objects_idle old.modeled)
 
 -- each step leaves the file of objects
-step_leaves : (step : StoryStep) (old new : Sight) → CountsStep step old new → Both SameObjects old.told new.told
-step_leaves (story_steps.Commit row tick) old new h = of_writes old.told new.told h.4
-step_leaves (story_steps.Other (steps.Fault tag left before faults tick)) old new h = of_writes old.told new.told h.6
-step_leaves (story_steps.Other (steps.Opened n)) old new h = same_sight old new h
-step_leaves (story_steps.Other step) old new h = same_sight old new h
-step_leaves (story_steps.Opened rows counts tells) old new h = same_sight old new h
-step_leaves (story_steps.PhaseBegun phase moment) old new h = same_sight old new h
+step_leaves : (step : StoryStep) (old new : DiskState) → CountsStep step old new → Both SameObjects old.modeled new.modeled
+step_leaves (story_steps.Commit row tick) old new h = of_writes old.modeled new.modeled h.4
+step_leaves (story_steps.Other (steps.Fault tag left before faults tick)) old new h = of_writes old.modeled new.modeled h.6
+step_leaves (story_steps.Other (steps.Opened n)) old new h = same_ghost_state old new h
+step_leaves (story_steps.Other step) old new h = same_ghost_state old new h
+step_leaves (story_steps.Opened rows counts tells) old new h = same_ghost_state old new h
+step_leaves (story_steps.PhaseBegun phase moment) old new h = same_ghost_state old new h
 
-steps_leave : (more : List StoryStep) (old new : Sight) → CountsSteps more old new → Both SameObjects old.told new.told
-steps_leave [] old new h = same_sight old new h
-steps_leave (step ∷ more) old new h = objects_then old.told h.0.told new.told (step_leaves step old h.0 h.1) (steps_leave more h.0 new h.2)
+steps_leave : (more : List StoryStep) (old new : DiskState) → CountsSteps more old new → Both SameObjects old.modeled new.modeled
+steps_leave [] old new h = same_ghost_state old new h
+steps_leave (step ∷ more) old new h = objects_then old.modeled h.0.modeled new.modeled (step_leaves step old h.0 h.1) (steps_leave more h.0 new h.2)
 
 -- steps without a commit and a fault make no call on the disk
-calm_rests : (more : List StoryStep) (old new : Sight) → is_calm more ≡ true → CountsSteps more old new → new ≡ old
+calm_rests : (more : List StoryStep) (old new : DiskState) → is_calm more ≡ true → CountsSteps more old new → new ≡ old
 calm_rests [] old new calm h = h
 calm_rests (story_steps.Commit row tick ∷ more) old new calm h = absurd (cc)
 calm_rests (story_steps.Other (steps.Fault tag left before faults tick) ∷ more) old new calm h = absurd (cc)
@@ -81,17 +81,17 @@ calm_story story first more is calm = subst (λ s. is_calm s ≡ true → (is_ca
     by (story_steps.PhaseBegun phase moment) calm = (calm, none (story_steps.PhaseBegun phase moment) calm refl)
 
 -- The files of a session whose base was opened
-pub keeps_files : (disk : Change Sight) (opened : Sight) (story : List StoryStep) → Both SameFiles disk.before.told opened.told → CountsFrom opened disk.after story → KeepsFiles disk story
+pub keeps_files : (disk : Change DiskState) (opened : DiskState) (story : List StoryStep) → Both SameFiles disk.before.modeled opened.modeled → CountsFrom opened disk.after story → KeepsFiles disk story
 keeps_files disk opened story same counted = record {
   objects =
-      objects_then disk.before.told opened.told disk.after.told (of_files disk.before.told opened.told same)
-      (objects_then opened.told counted.ended.told disk.after.told (steps_leave counted.steps opened counted.ended counted.counts) (of_writes counted.ended.told disk.after.told counted.settled.writes));
+      objects_then disk.before.modeled opened.modeled disk.after.modeled (of_files disk.before.modeled opened.modeled same)
+      (objects_then opened.modeled counted.ended.modeled disk.after.modeled (steps_leave counted.steps opened counted.ended counted.counts) (of_writes counted.ended.modeled disk.after.modeled counted.settled.writes));
   files = λ calm.
       let parts = calm_story story counted.first counted.steps counted.story_is calm in
       let rests = counted.settled.rests parts.1 ∙ calm_rests counted.steps opened counted.ended parts.0 counted.counts in
-      subst (λ s. Both SameFiles disk.before.told s.told) (sym rests) same;
+      subst (λ s. Both SameFiles disk.before.modeled s.modeled) (sym rests) same;
 }
 
 -- and of one whose base was not
-pub closed_files : (disk : Change Sight) → Both SameFiles disk.before.told disk.after.told → KeepsFiles disk []
-closed_files disk same = record { objects = of_files disk.before.told disk.after.told same; files = λ calm. same }
+pub closed_files : (disk : Change DiskState) → Both SameFiles disk.before.modeled disk.after.modeled → KeepsFiles disk []
+closed_files disk same = record { objects = of_files disk.before.modeled disk.after.modeled same; files = λ calm. same }

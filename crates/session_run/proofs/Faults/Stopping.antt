@@ -9,7 +9,7 @@ use Rattle.cc_names.specs.declared.steps.StoryStep.{StoryStep}
 use Rattle.cc_names.specs.declared.steps.StoryStep.TheVariants as story_steps
 use Rattle.disk_model.specs.Devices.{Device, MayLeave, bytes_of, file_of}
 use Rattle.disk_model.specs.Files.{IsImage, stable}
-use Rattle.disk_model.specs.Told.{Sight, Both, IfTold, IsCounted}
+use Rattle.disk_model.specs.DiskStates.{DiskState, Both, IfModeled, IsCounted}
 use Rattle.legal_history.specs.Stories.States.{State, Opening, start, faults_of, hanging}
 use Rattle.legal_history.specs.Stories.Steps.{after, state_from, state_of}
 use Rattle.cc_names.specs.Counts.{rises}
@@ -17,7 +17,7 @@ use Rattle.legal_history.specs.Stories.Lawful.{Legal, LegalFrom}
 use Rattle.vob_journal.specs.Frames.{frames}
 use Rattle.vob_journal.specs.Reads.{SameFiles}
 use Rattle.vob_journal.proofs.Journals.{stable_image}
-use Rattle.vob_journal.proofs.Staying.{told_stay}
+use Rattle.vob_journal.proofs.Staying.{modeled_stay}
 use Rattle.story_log.specs.Stopping.Backed.{IsAccounted, IsSettled}
 use Rattle.story_log.specs.Stopping.Founds.{OpensAgain}
 use Rattle.story_log.specs.Stopping.Standing.{MayBeFound}
@@ -94,12 +94,12 @@ same_counts one rows counts tells found is begun =
     (ap (λ o. o.counts) same, ap (λ o. o.tells) same)
 
 -- what is told of a disk
-told_map : (told : Option Device) (P Q : Device → Type 0) → IfTold told P → ((d : Device) → P d → Q d) → IfTold told Q
-told_map None P Q h f = tt
-told_map (Some d) P Q h f = f d h
+modeled_map : (modeled : Option Device) (P Q : Device → Type 0) → IfModeled modeled P → ((d : Device) → P d → Q d) → IfModeled modeled Q
+modeled_map None P Q h f = tt
+modeled_map (Some d) P Q h f = f d h
 
 -- A stop finds a prefix of what was committed, where the base of the disk was opened
-pub keeps_prefix : (before now : Sight) (story : List StoryStep) → BeginsOn before story → Legal story → IsAccounted (state_of story) now → IsMended (state_of story) now → AllOpenAgain story → IsStopped before now story
+pub keeps_prefix : (before now : DiskState) (story : List StoryStep) → BeginsOn before story → Legal story → IsAccounted (state_of story) now → IsMended (state_of story) now → AllOpenAgain story → IsStopped before now story
 keeps_prefix before now story begins legal accounted mended again = record {
   tells = sym accounted.tells ∙ counts.1 ∙ begins.on.tells;
   on_base = λ opened. record {
@@ -107,10 +107,10 @@ keeps_prefix before now story begins legal accounted mended again = record {
     opened = accounted.opened;
     ticks = accounted.ticks;
     stops =
-        told_map now.told _ (λ d. (k : ℕ) (image : List ℕ) → before.ticks < k → MayLeave 0 d k image → MayBeFound accounted.opening (state_of story).ends k (frames image)) accounted.stops
+        modeled_map now.modeled _ (λ d. (k : ℕ) (image : List ℕ) → before.ticks < k → MayLeave 0 d k image → MayBeFound accounted.opening (state_of story).ends k (frames image)) accounted.stops
         (λ d h k image later. h k image (omega (arith, later, ap (λ c. c.ticks) counts.0, begins.on.ticks)));
     again =
-        told_map now.told _ (λ d. (k : ℕ) (image : List ℕ) → before.ticks < k → MayLeave 0 d k image → OpensAgain accounted.opening.base (frames image)) accounted.stops
+        modeled_map now.modeled _ (λ d. (k : ℕ) (image : List ℕ) → before.ticks < k → MayLeave 0 d k image → OpensAgain accounted.opening.base (frames image)) accounted.stops
         (λ d h k image later may. again accounted.opening k (frames image) accounted.opened (h k image (omega (arith, later, ap (λ c. c.ticks) counts.0, begins.on.ticks)) may));
     sound = λ sound. accounted.settled (none_without story sound);
     mended = mended;
@@ -133,7 +133,7 @@ keeps_prefix before now story begins legal accounted mended again = record {
     not_closed (x ∷ xs) first closed = cc
 
 -- a disk on which no call was made
-frames_stay : (told : Option Device) (ticks : ℕ) → IfTold told (λ d. ticks ≡ length d.calls) → IfTold told (λ d. file_of 0 d ≡ stable (bytes_of 0 d)) → IfTold told (λ d. IfTold told (λ e. (k : ℕ) (image : List ℕ) → ticks < k → MayLeave 0 e k image → frames image ≡ frames (bytes_of 0 d)))
+frames_stay : (modeled : Option Device) (ticks : ℕ) → IfModeled modeled (λ d. ticks ≡ length d.calls) → IfModeled modeled (λ d. file_of 0 d ≡ stable (bytes_of 0 d)) → IfModeled modeled (λ d. IfModeled modeled (λ e. (k : ℕ) (image : List ℕ) → ticks < k → MayLeave 0 e k image → frames image ≡ frames (bytes_of 0 d)))
 frames_stay None ticks counted handed = tt
 frames_stay (Some d) ticks counted handed = λ k image later may. by k image later may
   where
@@ -141,22 +141,22 @@ frames_stay (Some d) ticks counted handed = λ k image later may. by k image lat
     by k image later (inl earlier) = let within = left_within_calls d k image earlier in absurd (omega (arith, within, later, counted))
     by k image later (inr now) = ap frames (stable_image (bytes_of 0 d) image (subst (λ s. IsImage s image) handed now.1))
 
-first_stable : (told : Option Device) → IfTold told (λ d. (file_of 0 d ≡ stable (bytes_of 0 d)) × (file_of 1 d ≡ stable (bytes_of 1 d))) → IfTold told (λ d. file_of 0 d ≡ stable (bytes_of 0 d))
+first_stable : (modeled : Option Device) → IfModeled modeled (λ d. (file_of 0 d ≡ stable (bytes_of 0 d)) × (file_of 1 d ≡ stable (bytes_of 1 d))) → IfModeled modeled (λ d. file_of 0 d ≡ stable (bytes_of 0 d))
 first_stable None h = tt
 first_stable (Some d) h = h.0
 
-pub journal_stable : (disk : Sight) → IsHandedIn disk → IfTold disk.told (λ d. file_of 0 d ≡ stable (bytes_of 0 d))
-journal_stable disk h = first_stable disk.told h
+pub journal_stable : (disk : DiskState) → IsHandedIn disk → IfModeled disk.modeled (λ d. file_of 0 d ≡ stable (bytes_of 0 d))
+journal_stable disk h = first_stable disk.modeled h
 
-pub stays_untouched : (disk : Sight) → IsCounted disk → IsHandedIn disk → IsStopped disk disk []
+pub stays_untouched : (disk : DiskState) → IsCounted disk → IsHandedIn disk → IsStopped disk disk []
 stays_untouched disk counted handed = record {
   tells = refl;
   on_base = λ opened. absurd (cc);
-  on_none = λ closed. frames_stay disk.told disk.ticks counted.told (journal_stable disk handed);
-  files = λ closed. told_stay disk.told;
+  on_none = λ closed. frames_stay disk.modeled disk.ticks counted.modeled (journal_stable disk handed);
+  files = λ closed. modeled_stay disk.modeled;
 }
 
-pub stays_closed : (before now : Sight) (story : List StoryStep) → story ≡ [] → is_some now.told ≡ is_some before.told → KeepsFrames before now → Both SameFiles before.told now.told → IsStopped before now story
+pub stays_closed : (before now : DiskState) (story : List StoryStep) → story ≡ [] → is_some now.modeled ≡ is_some before.modeled → KeepsFrames before now → Both SameFiles before.modeled now.modeled → IsStopped before now story
 stays_closed before now story empty tells frames files = record {
   tells = tells;
   on_base = λ opened. absurd (not_opened story empty opened);
@@ -172,6 +172,6 @@ stays_closed before now story empty tells frames files = record {
 no_rise : (low high : ℕ) → low ≡ high → high < 2 ^ 64 - 1 → rises low high ≡ true → ⊥
 no_rise low high same below rose = grind (arith, nat_tests)
 
-pub mended_by : {A E : Type 0} (result : Result A E) (s : State) (sight : Sight) → OnOk result (IsSettled s sight) → OnErr result (rises (faults_of s.opened s.ends) sight.faults ≡ true) → IsMended s sight
-mended_by (Ok a) s sight settled rose = λ same below. settled
-mended_by (Err fault) s sight settled rose = λ same below. absurd (no_rise (faults_of s.opened s.ends) sight.faults same below rose)
+pub mended_by : {A E : Type 0} (result : Result A E) (s : State) (ghost_state : DiskState) → OnOk result (IsSettled s ghost_state) → OnErr result (rises (faults_of s.opened s.ends) ghost_state.faults ≡ true) → IsMended s ghost_state
+mended_by (Ok a) s ghost_state settled rose = λ same below. settled
+mended_by (Err fault) s ghost_state settled rose = λ same below. absurd (no_rise (faults_of s.opened s.ends) ghost_state.faults same below rose)

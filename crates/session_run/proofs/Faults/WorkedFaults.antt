@@ -77,9 +77,9 @@ unblamed h = absurd (omega (arith, h.behind))
 
 -- Or the fault before takes it in: the sync of tick 7 fails under command 2, the write of tick 8 under command 3, which is answered by
 -- something else, and the fault is told with both.
-taken_in : (before faults : ℕ) → IsBlamed 0 (opened ∷ story_steps.Commit (row 1) 5 ∷ fault 2 before faults 8 ∷ []) (device (Measured 0 ∷ put ++ put ++ Wrote 0 0 1 (0 ∷ []) ∷ Failed ∷ Failed ∷ [])) → ⊥
+blamed_as_settling : (before faults : ℕ) → IsBlamed 0 (opened ∷ story_steps.Commit (row 1) 5 ∷ fault 2 before faults 8 ∷ []) (device (Measured 0 ∷ put ++ put ++ Wrote 0 0 1 (0 ∷ []) ∷ Failed ∷ Failed ∷ [])) → ⊥
 unfolding device put opened fault
-taken_in before faults h =
+blamed_as_settling before faults h =
     let meets = h.ends.1.0 (omega arith) in
     absurd (omega (arith, meets.0, meets.1, meets.2))
 

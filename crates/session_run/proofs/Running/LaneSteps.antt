@@ -5,9 +5,9 @@ use Rattle.cc_names.specs.declared.commands.Change.{Change}
 use Rattle.cc_names.specs.declared.commands.Command.{Command}
 use Rattle.cc_names.specs.declared.commands.Command.TheVariants as commands
 use Rattle.cc_names.specs.declared.commands.Query.{Query}
-use Rattle.cc_names.specs.declared.desks.Done.{Done}
-use Rattle.cc_names.specs.declared.desks.Done.TheVariants.{Committed, Refused, Answered, Faulted}
-use Rattle.cc_names.specs.declared.desks.Next.TheVariants as nexts
+use Rattle.cc_names.specs.declared.occasions.Done.{Done}
+use Rattle.cc_names.specs.declared.occasions.Done.TheVariants.{Committed, Refused, Answered, Faulted}
+use Rattle.cc_names.specs.declared.occasions.Next.TheVariants as nexts
 use Rattle.cc_names.specs.declared.refusals.Refusal.{Refusal}
 use Rattle.cc_names.specs.declared.rows.Tag.{Tag}
 use Rattle.cc_names.specs.declared.rows.Deed.{Deed}
@@ -25,7 +25,7 @@ use Rattle.legal_history.specs.Commands.Decisions.{Scene, Decision, Makes, Answe
 use Rattle.legal_history.specs.Commands.Lines.{change_decision, decision, query_decision}
 use Rattle.legal_history.proofs.Decisions.Handed.{IfDecided}
 use Rattle.legal_history.proofs.Decisions.Queried.{query_is}
-use Rattle.legal_history.specs.Stories.States.{State, start, scene, done_of, with_done, is_next, next_tag, decided, build_if, build_by}
+use Rattle.legal_history.specs.Stories.States.{State, start, scene, done_of, with_done, is_next, next_tag, decision_for, build_if, build_by}
 use Rattle.legal_history.specs.Stories.Steps.{after, done_after, done_by_fault, state_of}
 use Rattle.session_run.specs.Running.Phases.{Goes}
 use Rattle.session_run.proofs.Running.Within.{done_same, done_other}
@@ -34,7 +34,7 @@ use Rattle.session_run.proofs.Story.MoreSteps.{state_more}
 -- what is decided finishes the command: its row, where it makes one, is none of a build
 EndsCommand : Option (Result Decision Refusal) → Type 0
 EndsCommand (Some (Ok (Makes deed))) = (done : List (ℕ × ℕ)) (lane : ℕ) → done_after done lane deed ≡ with_done done lane
-EndsCommand decided = Unit {0}
+EndsCommand decision_for = Unit {0}
 
 ends_if : (chosen : Result Decision Refusal) → IfDecided (λ decision. EndsCommand (Some (Ok decision))) chosen → EndsCommand (Some chosen)
 unfolding EndsCommand
@@ -67,7 +67,7 @@ found_ends sc false found tag acts = tt
 found_ends sc true None tag acts = tt
 found_ends sc true (Some command) tag acts = command_ends sc command tag acts
 
-decided_ends : (s : State) (lane : ℕ) → next_of s lane ≡ nexts.Act → EndsCommand (decided s (next_tag s lane))
+decided_ends : (s : State) (lane : ℕ) → next_of s lane ≡ nexts.Act → EndsCommand (decision_for s (next_tag s lane))
 decided_ends s lane acts = found_ends (scene s) (is_next s (next_tag s lane)) (command_of s lane) (next_tag s lane) acts
 
 -- a step that finishes a command of a lane
@@ -84,13 +84,13 @@ makes_ends_by : (chosen : Option (Result Decision Refusal)) (deed : Deed) → En
 makes_ends_by chosen deed ends is = row_ends deed (subst EndsCommand is ends)
 
 -- a command of which anything is decided builds nothing
-free_by : (s : State) (lane : ℕ) (chosen : Result Decision Refusal) → decided s (next_tag s lane) ≡ Some chosen → build_by s (next_tag s lane) ≡ None
+free_by : (s : State) (lane : ℕ) (chosen : Result Decision Refusal) → decision_for s (next_tag s lane) ≡ Some chosen → build_by s (next_tag s lane) ≡ None
 free_by s lane chosen is = ap (option_and_then (build_if (next_tag s lane))) (decided_is_free s (next_tag s lane) chosen is)
 
-lane_step : (s : State) (lane : ℕ) (done : Done) (x : StoryStep) → EndsCommand (decided s (next_tag s lane)) → IsStepOf s (next_tag s lane) done x → IsLaneStep s x lane
+lane_step : (s : State) (lane : ℕ) (done : Done) (x : StoryStep) → EndsCommand (decision_for s (next_tag s lane)) → IsStepOf s (next_tag s lane) done x → IsLaneStep s x lane
 lane_step s lane Committed (story_steps.Commit row tick) ends is =
     let at : row.tag.lane ≡ lane = ap (λ t. t.lane) is.0 in
-    record { phase = record { phase = refl; number = refl; moment = refl }; done = ap (λ l. done_after s.done l row.deed) at ∙ makes_ends_by (decided s (next_tag s lane)) row.deed ends is.2 s.done lane }
+    record { phase = record { phase = refl; number = refl; moment = refl }; done = ap (λ l. done_after s.done l row.deed) at ∙ makes_ends_by (decision_for s (next_tag s lane)) row.deed ends is.2 s.done lane }
 lane_step s lane Refused (story_steps.Other (steps.Refused finished refusal)) ends is = record { phase = record { phase = refl; number = refl; moment = refl }; done = ap (λ t. with_done s.done t.lane) is.0 }
 lane_step s lane Answered (story_steps.Other (steps.Answer finished text)) ends is = record { phase = record { phase = refl; number = refl; moment = refl }; done = ap (λ t. with_done s.done t.lane) is.0 }
 lane_step s lane Faulted (story_steps.Other (steps.Fault finished left before faults tick)) ends is =

@@ -3,7 +3,7 @@ use Rattle.std.proofs.Common.{◌≡◌, refl, ℕ, true, Option, Some, None, Re
 use Rattle.std.specs.Prelude.{OnOk}
 use Rattle.cc_names.specs.declared.commands.Command.{Command}
 use Rattle.cc_names.specs.declared.commands.Command.TheVariants as commands
-use Rattle.cc_names.specs.declared.desks.Next.TheVariants as nexts
+use Rattle.cc_names.specs.declared.occasions.Next.TheVariants as nexts
 use Rattle.cc_names.specs.declared.rows.Tag.{Tag}
 use Rattle.cc_names.specs.declared.steps.StoryStep.{StoryStep}
 use Rattle.legal_history.specs.Stories.Commanded.{command_of}

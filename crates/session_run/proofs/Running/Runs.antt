@@ -12,8 +12,8 @@ use Rattle.cc_names.specs.declared.memory.Or.{Or}
 use Rattle.cc_names.specs.declared.memory.Or.TheVariants.{NoMemory, Is}
 use Rattle.cc_names.specs.declared.steps.StoryStep.{StoryStep}
 use Rattle.cc_names.specs.declared.steps.StoryStep.TheVariants as story_steps
-use Rattle.cc_names.specs.Counts.{raised}
-use Rattle.cc_outside.specs.Feeds.{AppendsFront}
+use Rattle.cc_names.specs.Counts.{raised_count}
+use Rattle.cc_outside.specs.Feeds.{AppendsPrefix}
 use Rattle.cc_outside.specs.Moments.{moment_at}
 use Rattle.cc_outside.specs.declared.sinks.WriteFault.{WriteFault}
 use Rattle.legal_history.specs.Stories.States.{State, all_done, start}
@@ -27,13 +27,13 @@ use Rattle.session_run.specs.Story.Begun.{phases_begun, moments_begun, is_opened
 use Rattle.session_run.specs.Story.Rendered.{EndedPhase, Replies, earlier_phases, ended_phases, replies_over, last_phase, phase_where, is_ended, transcript, transcript_of, transcripts, lanes_fail, phase_fails}
 
 -- what a clock may tell
-if_told : (clock : Option (List ℕ)) (P : List ℕ → Type 0) → ((told : List ℕ) → P told) → IfSome clock P
-if_told None P h = tt
-if_told (Some told) P h = h told
+if_modeled : (clock : Option (List ℕ)) (P : List ℕ → Type 0) → ((modeled : List ℕ) → P modeled) → IfSome clock P
+if_modeled None P h = tt
+if_modeled (Some modeled) P h = h modeled
 
-both_told : (clock : Option (List ℕ)) (P Q R : List ℕ → Type 0) → IfSome clock P → IfSome clock Q → ((told : List ℕ) → P told → Q told → R told) → IfSome clock R
-both_told None P Q R p q h = tt
-both_told (Some told) P Q R p q h = h told p q
+both_modeled : (clock : Option (List ℕ)) (P Q R : List ℕ → Type 0) → IfSome clock P → IfSome clock Q → ((modeled : List ℕ) → P modeled → Q modeled → R modeled) → IfSome clock R
+both_modeled None P Q R p q h = tt
+both_modeled (Some modeled) P Q R p q h = h modeled p q
 
 -- bytes that are told
 pub nothing_more : (held : Option (List ℕ)) → Appends held held []
@@ -56,33 +56,33 @@ take_past (x ∷ xs) ys n =
     let e : suc (length xs) + n ≡ suc (length xs + n) = omega arith in
     ap (λ m. take m (x ∷ (xs ++ ys))) e ∙ ap (λ t. x ∷ t) (take_past xs ys n)
 
-pub is_front : (one two : Option (List ℕ)) (xs ys : List ℕ) → Appends one two xs → AppendsFront one two (xs ++ ys)
-is_front one two xs ys h =
+pub is_prefix : (one two : Option (List ℕ)) (xs ys : List ℕ) → Appends one two xs → AppendsPrefix one two (xs ++ ys)
+is_prefix one two xs ys h =
     (length xs, omega (arith, length-append xs ys), subst (Appends one two) (sym (take_all xs ys)) h)
 
-pub front_more : (one two three : Option (List ℕ)) (xs ys : List ℕ) → Appends one two xs → AppendsFront two three ys → AppendsFront one three (xs ++ ys)
-front_more one two three xs ys h k =
+pub prefix_more : (one two three : Option (List ℕ)) (xs ys : List ℕ) → Appends one two xs → AppendsPrefix two three ys → AppendsPrefix one three (xs ++ ys)
+prefix_more one two three xs ys h k =
     (length xs + k.0, omega (arith, length-append xs ys, k.1), subst (Appends one three) (sym (take_past xs ys k.0)) (appends_more one two three xs (take k.0 ys) h k.2))
 
 -- one more moment of a clock
-pub raised_none : (first : ℕ) → raised first 0 ≡ first
+pub raised_none : (first : ℕ) → raised_count first 0 ≡ first
 raised_none first = omega arith
 
-raised_more : (first n : ℕ) → raised (raised first 1) n ≡ raised first (suc n)
+raised_more : (first n : ℕ) → raised_count (raised_count first 1) n ≡ raised_count first (suc n)
 raised_more first n = omega arith
 
-raised_last : (first n : ℕ) → raised (raised first n) 1 ≡ raised first (suc n)
+raised_last : (first n : ℕ) → raised_count (raised_count first n) 1 ≡ raised_count first (suc n)
 raised_last first n = omega arith
 
-clock_more : (told : List ℕ) (first n : ℕ) → clock_moments told first (suc n) ≡ clock_moments told first n ++ min (moment_at told (raised first n)) last_moment ∷ []
-clock_more told first zero = ap (λ r. min (moment_at told r) last_moment ∷ []) (sym (raised_none first))
-clock_more told first (suc n) =
-    ap (λ ms. min (moment_at told first) last_moment ∷ ms)
-    (clock_more told (raised first 1) n ∙ ap (λ r. clock_moments told (raised first 1) n ++ min (moment_at told r) last_moment ∷ []) (raised_more first n))
+clock_more : (modeled : List ℕ) (first n : ℕ) → clock_moments modeled first (suc n) ≡ clock_moments modeled first n ++ min (moment_at modeled (raised_count first n)) last_moment ∷ []
+clock_more modeled first zero = ap (λ r. min (moment_at modeled r) last_moment ∷ []) (sym (raised_none first))
+clock_more modeled first (suc n) =
+    ap (λ ms. min (moment_at modeled first) last_moment ∷ ms)
+    (clock_more modeled (raised_count first 1) n ∙ ap (λ r. clock_moments modeled (raised_count first 1) n ++ min (moment_at modeled r) last_moment ∷ []) (raised_more first n))
 
-pub clock_length : (told : List ℕ) (first n : ℕ) → length (clock_moments told first n) ≡ n
-clock_length told first zero = refl
-clock_length told first (suc n) = let h = clock_length told (raised first 1) n in omega (arith, h)
+pub clock_length : (modeled : List ℕ) (first n : ℕ) → length (clock_moments modeled first n) ≡ n
+clock_length modeled first zero = refl
+clock_length modeled first (suc n) = let h = clock_length modeled (raised_count first 1) n in omega (arith, h)
 
 -- a phase that ended is rendered behind the earlier ones
 ended : (s : State) (n : ℕ) → s.number ≡ n + 1 → all_done s ≡ true → is_ended s ≡ true
@@ -107,7 +107,7 @@ last_is s number is one two e at same =
 given_more : (old new : List StoryStep) (phase : Phase) (moment number : ℕ) → GoesInPhase phase moment old new → all_done (state_of new) ≡ true → number ≡ (state_of old).number + 1 → ended_phases new ≡ ended_phases old ++ ended_as new number ∷ []
 unfolding ended_as
 given_more old new phase moment number goes done e =
-    ap₂ (λ front last. front ++ last) goes.earlier
+    ap₂ (λ prefix last. prefix ++ last) goes.earlier
     (last_is (state_of new) number (is_ended (state_of new)) (replies_over replies_after start no_replies new) (replies_of new)
     (ended (state_of new) (state_of old).number goes.number done) (goes.number ∙ sym e) (replies_same start no_replies new))
 
@@ -142,7 +142,7 @@ run_starts story held clock first just = record {
   phases_are = ap phases_begun is;
   number = ap (λ s. (state_of s).number) is;
   finished = ap (λ s. all_done (state_of s)) is;
-  moments_are = if_told clock (λ told. moments_begun story ≡ clock_moments told first 0) (λ told. ap moments_begun is);
+  moments_are = if_modeled clock (λ modeled. moments_begun story ≡ clock_moments modeled first 0) (λ modeled. ap moments_begun is);
   reading_is = sym (raised_none first);
   failures = ap (λ s. list_any phase_fails (ended_phases s)) is;
   written = subst (Appends held held) (sym (ap (λ s. transcripts (ended_phases s)) is)) (nothing_more held);
@@ -155,72 +155,72 @@ one_more : (phases : List Phase) (phase : Phase) → length (phases ++ phase ∷
 one_more phases phase = omega (arith, length-append phases (phase ∷ []))
 
 -- the moments of a phase more
-moments_on : (told : List ℕ) (old new : List StoryStep) (first reading count moment : ℕ) → moments_begun new ≡ moments_begun old ++ moment ∷ [] → moments_begun old ≡ clock_moments told first count → reading ≡ raised first count → moment ≡ min (moment_at told reading) last_moment → moments_begun new ≡ clock_moments told first (suc count)
-moments_on told old new first reading count moment is before at now =
-    is ∙ ap₂ (λ ms m. ms ++ m ∷ []) before (now ∙ ap (λ r. min (moment_at told r) last_moment) at) ∙ sym (clock_more told first count)
+moments_on : (modeled : List ℕ) (old new : List StoryStep) (first reading count moment : ℕ) → moments_begun new ≡ moments_begun old ++ moment ∷ [] → moments_begun old ≡ clock_moments modeled first count → reading ≡ raised_count first count → moment ≡ min (moment_at modeled reading) last_moment → moments_begun new ≡ clock_moments modeled first (suc count)
+moments_on modeled old new first reading count moment is before at now =
+    is ∙ ap₂ (λ ms m. ms ++ m ∷ []) before (now ∙ ap (λ r. min (moment_at modeled r) last_moment) at) ∙ sym (clock_more modeled first count)
 
 -- one phase more has been run
-pub run_goes_on : (phases : List Phase) (phase : Phase) (old new : List StoryStep) (outside : Outside) (holds : Option (List ℕ)) (reading moment number : ℕ) (failed more : Bool) → HasRunPhases phases old outside failed → RunsPhase phase moment old new → more ≡ lanes_fail 1 (state_of new).phase.lanes (replies_of new) → IfSome outside.moments (λ told. moment ≡ min (moment_at told outside.reading) last_moment) → reading ≡ raised outside.reading 1 → number ≡ length phases + 1 → Appends outside.holds holds (transcript number (state_of new).phase (replies_of new)) → HasRunPhases (phases ++ phase ∷ []) new (record { held = outside.held; holds = holds; moments = outside.moments; first = outside.first; reading = reading }) (failed || more)
-run_goes_on phases phase old new outside holds reading moment number failed more so_far runs fails told reads count wrote = record {
+pub run_goes_on : (phases : List Phase) (phase : Phase) (old new : List StoryStep) (outside : Outside) (holds : Option (List ℕ)) (reading moment number : ℕ) (failed more : Bool) → HasRunPhases phases old outside failed → RunsPhase phase moment old new → more ≡ lanes_fail 1 (state_of new).phase.lanes (replies_of new) → IfSome outside.moments (λ modeled. moment ≡ min (moment_at modeled outside.reading) last_moment) → reading ≡ raised_count outside.reading 1 → number ≡ length phases + 1 → Appends outside.holds holds (transcript number (state_of new).phase (replies_of new)) → HasRunPhases (phases ++ phase ∷ []) new (record { held = outside.held; holds = holds; moments = outside.moments; first = outside.first; reading = reading }) (failed || more)
+run_goes_on phases phase old new outside holds reading moment number failed more so_far runs fails modeled reads count wrote = record {
   opened = runs.goes.opened;
   phases_are = runs.goes.phases ∙ ap (λ ps. ps ++ phase ∷ []) so_far.phases_are;
   number = omega (arith, runs.goes.number, so_far.number, one_more phases phase);
   finished = runs.finished;
   moments_are =
-      both_told outside.moments _ _ (λ told. moments_begun new ≡ clock_moments told outside.first (length (phases ++ phase ∷ []))) so_far.moments_are told
-      (λ told before now. moments_on told old new outside.first outside.reading (length phases) moment runs.goes.moments before so_far.reading_is now ∙ ap (clock_moments told outside.first) (sym (one_more phases phase)));
-  reading_is = reads ∙ ap (λ r. raised r 1) so_far.reading_is ∙ raised_last outside.first (length phases) ∙ ap (raised outside.first) (sym (one_more phases phase));
+      both_modeled outside.moments _ _ (λ modeled. moments_begun new ≡ clock_moments modeled outside.first (length (phases ++ phase ∷ []))) so_far.moments_are modeled
+      (λ modeled before now. moments_on modeled old new outside.first outside.reading (length phases) moment runs.goes.moments before so_far.reading_is now ∙ ap (clock_moments modeled outside.first) (sym (one_more phases phase)));
+  reading_is = reads ∙ ap (λ r. raised_count r 1) so_far.reading_is ∙ raised_last outside.first (length phases) ∙ ap (raised_count outside.first) (sym (one_more phases phase));
   failures = failures_more old new phase moment number failed more runs.goes runs.finished (omega (arith, count, so_far.number)) so_far.failures fails;
   written =
       subst (Appends outside.held holds) (sym (rendered_more old new phase moment number runs.goes runs.finished (omega (arith, count, so_far.number))))
       (appends_more outside.held outside.holds holds (transcripts (ended_phases old)) (transcript number (state_of new).phase (replies_of new)) so_far.written wrote);
 }
 
-moments_kept : (told : List ℕ) (story : List StoryStep) (first count : ℕ) → moments_begun story ≡ clock_moments told first count → moments_begun story ≡ clock_moments told first (length (moments_begun story))
-moments_kept told story first count is = is ∙ ap (clock_moments told first) (sym (clock_length told first count) ∙ sym (ap length is))
+moments_kept : (modeled : List ℕ) (story : List StoryStep) (first count : ℕ) → moments_begun story ≡ clock_moments modeled first count → moments_begun story ≡ clock_moments modeled first (length (moments_begun story))
+moments_kept modeled story first count is = is ∙ ap (clock_moments modeled first) (sym (clock_length modeled first count) ∙ sym (ap length is))
 
 -- the last phase, as it is printed where its commands are all finished
 abbrev last_given : List StoryStep → List EndedPhase
 last_given story = last_phase (state_of story) (replies_over replies_after start no_replies story)
 
 -- the clock was read for the phase that began last, and for one that did not begin
-read_for_it : (first before reading count begun : ℕ) → before ≡ raised first count → reading ≡ raised before 1 → begun ≡ suc count → reading ≡ raised first begun
-read_for_it first before reading count begun was reads is = reads ∙ ap (λ r. raised r 1) was ∙ raised_last first count ∙ ap (raised first) (sym is)
+read_for_it : (first before reading count begun : ℕ) → before ≡ raised_count first count → reading ≡ raised_count before 1 → begun ≡ suc count → reading ≡ raised_count first begun
+read_for_it first before reading count begun was reads is = reads ∙ ap (λ r. raised_count r 1) was ∙ raised_last first count ∙ ap (raised_count first) (sym is)
 
-read_once_more : (first before reading count begun : ℕ) → before ≡ raised first count → reading ≡ raised before 1 → begun ≡ count → reading ≡ raised first (begun + 1)
+read_once_more : (first before reading count begun : ℕ) → before ≡ raised_count first count → reading ≡ raised_count before 1 → begun ≡ count → reading ≡ raised_count first (begun + 1)
 read_once_more first before reading count begun was reads is = read_for_it first before reading count (begun + 1) was reads (omega (arith, is))
 
-read_by : (cut : Or WriteFault) (count : ℕ) (outside : Outside) → outside.reading ≡ raised outside.first count → ReadsBy cut count outside
+read_by : (cut : Or WriteFault) (count : ℕ) (outside : Outside) → outside.reading ≡ raised_count outside.first count → ReadsBy cut count outside
 read_by NoMemory count outside is = inl is
 read_by (Is fault) count outside is = is
 
 -- the run was given up for want of memory
-pub run_leaves : (phases rest all : List Phase) (phase : Phase) (old new : List StoryStep) (outside : Outside) (moment reading : ℕ) (failed : Bool) → HasRunPhases phases old outside failed → LeavesPhase phase moment old new → IfSome outside.moments (λ told. moment ≡ min (moment_at told outside.reading) last_moment) → phases ++ phase ∷ rest ≡ all → reading ≡ raised outside.reading 1 → IsRunGivenUp NoMemory all new (record outside { reading = reading })
-run_leaves phases rest all phase old new outside moment reading failed so_far (inl is) told whole reads = record {
+pub run_leaves : (phases rest all : List Phase) (phase : Phase) (old new : List StoryStep) (outside : Outside) (moment reading : ℕ) (failed : Bool) → HasRunPhases phases old outside failed → LeavesPhase phase moment old new → IfSome outside.moments (λ modeled. moment ≡ min (moment_at modeled outside.reading) last_moment) → phases ++ phase ∷ rest ≡ all → reading ≡ raised_count outside.reading 1 → IsRunGivenUp NoMemory all new (record outside { reading = reading })
+run_leaves phases rest all phase old new outside moment reading failed so_far (inl is) modeled whole reads = record {
   opened = ap is_opened is ∙ so_far.opened;
   begun = (phase ∷ rest, sym whole ∙ ap (λ ps. ps ++ phase ∷ rest) (sym (ap phases_begun is ∙ so_far.phases_are)));
   moments_are =
-      both_told outside.moments _ _ (λ told. moments_begun new ≡ clock_moments told outside.first (length (moments_begun new))) so_far.moments_are told
-      (λ told before now. moments_kept told new outside.first (length phases) (ap moments_begun is ∙ before));
+      both_modeled outside.moments _ _ (λ modeled. moments_begun new ≡ clock_moments modeled outside.first (length (moments_begun new))) so_far.moments_are modeled
+      (λ modeled before now. moments_kept modeled new outside.first (length phases) (ap moments_begun is ∙ before));
   reading_is = inr (read_once_more outside.first outside.reading reading (length phases) (length (phases_begun new)) so_far.reading_is reads (ap length (ap phases_begun is ∙ so_far.phases_are)));
   written =
-      subst (AppendsFront outside.held outside.holds) (append-nil (transcripts (ended_phases old)) ∙ sym (ap (λ s. transcripts (ended_phases s)) is))
-      (is_front outside.held outside.holds (transcripts (ended_phases old)) [] so_far.written);
+      subst (AppendsPrefix outside.held outside.holds) (append-nil (transcripts (ended_phases old)) ∙ sym (ap (λ s. transcripts (ended_phases s)) is))
+      (is_prefix outside.held outside.holds (transcripts (ended_phases old)) [] so_far.written);
   cut_at = tt;
 }
-run_leaves phases rest all phase old new outside moment reading failed so_far (inr goes) told whole reads = record {
+run_leaves phases rest all phase old new outside moment reading failed so_far (inr goes) modeled whole reads = record {
   opened = goes.opened;
   begun = (rest, sym whole ∙ sym (append_assoc phases (phase ∷ []) rest) ∙ ap (λ ps. ps ++ rest) (sym (goes.phases ∙ ap (λ ps. ps ++ phase ∷ []) so_far.phases_are)));
   moments_are =
-      both_told outside.moments _ _ (λ told. moments_begun new ≡ clock_moments told outside.first (length (moments_begun new))) so_far.moments_are told
-      (λ told before now. moments_kept told new outside.first (suc (length phases)) (moments_on told old new outside.first outside.reading (length phases) moment goes.moments before so_far.reading_is now));
+      both_modeled outside.moments _ _ (λ modeled. moments_begun new ≡ clock_moments modeled outside.first (length (moments_begun new))) so_far.moments_are modeled
+      (λ modeled before now. moments_kept modeled new outside.first (suc (length phases)) (moments_on modeled old new outside.first outside.reading (length phases) moment goes.moments before so_far.reading_is now));
   reading_is =
       inl (read_for_it outside.first outside.reading reading (length phases) (length (phases_begun new)) so_far.reading_is reads
       (ap length (goes.phases ∙ ap (λ ps. ps ++ phase ∷ []) so_far.phases_are) ∙ one_more phases phase));
   written =
-      subst (AppendsFront outside.held outside.holds)
-      (ap (λ front. front ++ transcripts (last_given new)) (ap transcripts (sym goes.earlier)) ∙ sym (flat_map-append transcript_of (earlier_phases new) (last_given new)))
-      (is_front outside.held outside.holds (transcripts (ended_phases old)) (transcripts (last_given new)) so_far.written);
+      subst (AppendsPrefix outside.held outside.holds)
+      (ap (λ prefix. prefix ++ transcripts (last_given new)) (ap transcripts (sym goes.earlier)) ∙ sym (flat_map-append transcript_of (earlier_phases new) (last_given new)))
+      (is_prefix outside.held outside.holds (transcripts (ended_phases old)) (transcripts (last_given new)) so_far.written);
   cut_at = tt;
 }
 
@@ -229,27 +229,27 @@ cut_in NoMemory story old new h = tt
 cut_in (Is fault) story old new h = h
 
 -- the run was given up in a transcript
-pub run_is_cut : (cut : Or WriteFault) (phases rest all : List Phase) (phase : Phase) (old new : List StoryStep) (outside : Outside) (holds : Option (List ℕ)) (moment reading number : ℕ) (failed : Bool) → HasRunPhases phases old outside failed → RunsPhase phase moment old new → IfSome outside.moments (λ told. moment ≡ min (moment_at told outside.reading) last_moment) → number ≡ length phases + 1 → phases ++ phase ∷ rest ≡ all → AppendsFront outside.holds holds (transcript number (state_of new).phase (replies_of new)) → reading ≡ raised outside.reading 1 → IsRunGivenUp cut all new (record outside { holds = holds; reading = reading })
-run_is_cut cut phases rest all phase old new outside holds moment reading number failed so_far runs told count whole wrote reads =
+pub run_is_cut : (cut : Or WriteFault) (phases rest all : List Phase) (phase : Phase) (old new : List StoryStep) (outside : Outside) (holds : Option (List ℕ)) (moment reading number : ℕ) (failed : Bool) → HasRunPhases phases old outside failed → RunsPhase phase moment old new → IfSome outside.moments (λ modeled. moment ≡ min (moment_at modeled outside.reading) last_moment) → number ≡ length phases + 1 → phases ++ phase ∷ rest ≡ all → AppendsPrefix outside.holds holds (transcript number (state_of new).phase (replies_of new)) → reading ≡ raised_count outside.reading 1 → IsRunGivenUp cut all new (record outside { holds = holds; reading = reading })
+run_is_cut cut phases rest all phase old new outside holds moment reading number failed so_far runs modeled count whole wrote reads =
     let begun : phases_begun new ≡ phases ++ phase ∷ [] = runs.goes.phases ∙ ap (λ ps. ps ++ phase ∷ []) so_far.phases_are in
     record {
       opened = runs.goes.opened;
       begun = (rest, sym whole ∙ sym (append_assoc phases (phase ∷ []) rest) ∙ ap (λ ps. ps ++ rest) (sym begun));
       moments_are =
-          both_told outside.moments _ _ (λ told. moments_begun new ≡ clock_moments told outside.first (length (moments_begun new))) so_far.moments_are told
-          (λ told before now. moments_kept told new outside.first (suc (length phases)) (moments_on told old new outside.first outside.reading (length phases) moment runs.goes.moments before so_far.reading_is now));
+          both_modeled outside.moments _ _ (λ modeled. moments_begun new ≡ clock_moments modeled outside.first (length (moments_begun new))) so_far.moments_are modeled
+          (λ modeled before now. moments_kept modeled new outside.first (suc (length phases)) (moments_on modeled old new outside.first outside.reading (length phases) moment runs.goes.moments before so_far.reading_is now));
       reading_is =
           read_by cut (length (phases_begun new)) (record outside { holds = holds; reading = reading })
           (read_for_it outside.first outside.reading reading (length phases) (length (phases_begun new)) so_far.reading_is reads (ap length begun ∙ one_more phases phase));
       written =
-          subst (AppendsFront outside.held holds) (sym (rendered_more old new phase moment number runs.goes runs.finished (omega (arith, count, so_far.number))))
-          (front_more outside.held outside.holds holds (transcripts (ended_phases old)) (transcript number (state_of new).phase (replies_of new)) so_far.written wrote);
+          subst (AppendsPrefix outside.held holds) (sym (rendered_more old new phase moment number runs.goes runs.finished (omega (arith, count, so_far.number))))
+          (prefix_more outside.held outside.holds holds (transcripts (ended_phases old)) (transcript number (state_of new).phase (replies_of new)) so_far.written wrote);
       cut_at = cut_in cut new outside.held holds (record {
         begun = omega (arith, ap length begun, one_more phases phase);
         finished = runs.finished;
         written = (
           take wrote.0 (transcript number (state_of new).phase (replies_of new)),
-          subst (λ front. Appends outside.held holds (front ++ take wrote.0 (transcript number (state_of new).phase (replies_of new)))) (sym (ap transcripts runs.goes.earlier))
+          subst (λ prefix. Appends outside.held holds (prefix ++ take wrote.0 (transcript number (state_of new).phase (replies_of new)))) (sym (ap transcripts runs.goes.earlier))
               (appends_more outside.held outside.holds holds (transcripts (ended_phases old)) (take wrote.0 (transcript number (state_of new).phase (replies_of new))) so_far.written wrote.2),
         );
       });

@@ -1,10 +1,10 @@
 -- What the calls of a core in a phase keep of how it stood as the phase had begun.
 use Rattle.std.proofs.Common.{◌≡◌, ℕ, true, refl, ap, sym, subst, ◌∙◌}
 use Rattle.std.specs.Prelude.{Result, Ok, Err, IfOk, OnOk, OnErr}
-use Rattle.cc_names.specs.declared.desks.Begun.{Begun}
-use Rattle.cc_names.specs.declared.desks.Begun.TheVariants as begins
-use Rattle.cc_names.specs.declared.desks.Done.{Done}
-use Rattle.cc_names.specs.declared.desks.Next.TheVariants as nexts
+use Rattle.cc_names.specs.declared.occasions.Begun.{Begun}
+use Rattle.cc_names.specs.declared.occasions.Begun.TheVariants as begins
+use Rattle.cc_names.specs.declared.occasions.Done.{Done}
+use Rattle.cc_names.specs.declared.occasions.Next.TheVariants as nexts
 use Rattle.cc_names.specs.declared.memory.NoMemory.{NoMemory}
 use Rattle.legal_history.specs.Stories.Steps.{state_of}
 use Rattle.clearmake.specs.Calls.{Begins, IsCarried, Tries}

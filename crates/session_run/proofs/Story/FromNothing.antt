@@ -8,7 +8,7 @@ use Rattle.cc_names.specs.declared.steps.Step.TheVariants as steps
 use Rattle.cc_names.specs.declared.steps.StoryStep.{StoryStep}
 use Rattle.cc_names.specs.declared.steps.StoryStep.TheVariants as story_steps
 use Rattle.story_log.proofs.Story.Growing.{state_from-more}
-use Rattle.legal_history.proofs.Stories.Fronts.{rest_is_legal}
+use Rattle.legal_history.proofs.Stories.Prefixes.{rest_is_legal}
 use Rattle.base_core.specs.Story.Replying.{in_lane, reply_to_end, no_replies, replies_after}
 use Rattle.legal_history.specs.Builds.Replied.{reply_of, reply_from_nothing}
 use Rattle.base_model.specs.Rows.{only_where}
@@ -18,12 +18,12 @@ use Rattle.legal_history.specs.Stories.Steps.{after, state_of}
 use Rattle.legal_history.specs.Stories.Lawful.{Lawful, LegalFrom, Legal, EndsBuild}
 use Rattle.legal_history.specs.Builds.Turns.{is_complete}
 use Rattle.session_run.specs.Promises.Headline.{AreFromNothing}
-use Rattle.session_run.specs.Story.FromNothing.{end_from_nothing, told_after, text_from_nothing}
-use Rattle.session_run.specs.Story.Rendered.{Replies, closed_by, closed_over, replies_over, last_phase, rendered, transcripts}
+use Rattle.session_run.specs.Story.FromNothing.{end_from_nothing, lane_replies_after, text_from_nothing}
+use Rattle.session_run.specs.Story.Rendered.{Replies, closed_by, closed_over, replies_over, last_phase, text_of_story, transcripts}
 
 -- the law of builds, at each front of a history
 pub record Law (story : List StoryStep) : Type 0 where
-  pub complete : (front rest : List StoryStep) (lane : ℕ) (build : Build) → story ≡ front ++ rest → build_of (state_of front).active lane ≡ Some build → is_complete build ≡ true → reply_of (state_of front).base build ≡ reply_from_nothing (state_of front).base build
+  pub complete : (prefix rest : List StoryStep) (lane : ℕ) (build : Build) → story ≡ prefix ++ rest → build_of (state_of prefix).active lane ≡ Some build → is_complete build ≡ true → reply_of (state_of prefix).base build ≡ reply_from_nothing (state_of prefix).base build
 
 -- the build of a command is the active one of its lane
 where_same : (is : Bool) (kept build : Build) → only_where is (Some kept) ≡ Some build → Some kept ≡ Some build
@@ -51,19 +51,19 @@ SameEnd : State → StoryStep → Type 0
 SameEnd s (story_steps.Other (steps.End tag)) = reply_to_end s.base (build_by s tag) ≡ end_from_nothing s.base (build_by s tag)
 SameEnd s x = Unit {0}
 
-same_end : (story front rest : List StoryStep) (x : StoryStep) → Law story → story ≡ front ++ rest → Lawful (state_of front) x → SameEnd (state_of front) x
+same_end : (story prefix rest : List StoryStep) (x : StoryStep) → Law story → story ≡ prefix ++ rest → Lawful (state_of prefix) x → SameEnd (state_of prefix) x
 unfolding SameEnd
-same_end story front rest (story_steps.Other (steps.End tag)) law grows ends =
-    let s = state_of front in
+same_end story prefix rest (story_steps.Other (steps.End tag)) law grows ends =
+    let s = state_of prefix in
     let build = ends.build in
     let complete : build.faulted ≡ false → reply_of s.base build ≡ reply_from_nothing s.base build =
-    λ sound. law.complete front rest tag.lane build grows (is_active s tag build ends.active) (over_complete (is_complete build) build.faulted ends.over sound) in
+    λ sound. law.complete prefix rest tag.lane build grows (is_active s tag build ends.active) (over_complete (is_complete build) build.faulted ends.over sound) in
     ap (reply_to_end s.base) ends.active
     ∙ ap Some (chosen_same build.faulted replies.DiskFault (reply_of s.base build) (reply_from_nothing s.base build) complete)
     ∙ ap (end_from_nothing s.base) (sym ends.active)
-same_end story front rest x law grows lawful = tt
+same_end story prefix rest x law grows lawful = tt
 
-step_same : (s : State) (replies : Replies) (x : StoryStep) → SameEnd s x → replies_after s x replies ≡ told_after s x replies
+step_same : (s : State) (replies : Replies) (x : StoryStep) → SameEnd s x → replies_after s x replies ≡ lane_replies_after s x replies
 unfolding SameEnd
 step_same s replies (story_steps.Other (steps.End tag)) h = ap (λ reply lane. replies lane ++ in_lane lane tag reply) h
 step_same s replies x h = refl
@@ -72,34 +72,34 @@ AllSame : State → List StoryStep → Type 0
 AllSame s [] = Unit {0}
 AllSame s (x ∷ story) = SameEnd s x × AllSame (after s x) story
 
-all_same : (story front rest : List StoryStep) → Law story → story ≡ front ++ rest → LegalFrom (state_of front) rest → AllSame (state_of front) rest
+all_same : (story prefix rest : List StoryStep) → Law story → story ≡ prefix ++ rest → LegalFrom (state_of prefix) rest → AllSame (state_of prefix) rest
 unfolding AllSame
-all_same story front [] law grows lawful = tt
-all_same story front (x ∷ rest) law grows lawful =
-    let more : state_of (front ++ x ∷ []) ≡ after (state_of front) x = state_from-more start front x in (
-      same_end story front (x ∷ rest) x law grows lawful.0,
+all_same story prefix [] law grows lawful = tt
+all_same story prefix (x ∷ rest) law grows lawful =
+    let more : state_of (prefix ++ x ∷ []) ≡ after (state_of prefix) x = state_from-more start prefix x in (
+      same_end story prefix (x ∷ rest) x law grows lawful.0,
       subst (λ s. AllSame s rest) more
-          (all_same story (front ++ x ∷ []) rest law (grows ∙ sym (append_assoc front (x ∷ []) rest)) (subst (λ s. LegalFrom s rest) (sym more) lawful.1)),
+          (all_same story (prefix ++ x ∷ []) rest law (grows ∙ sym (append_assoc prefix (x ∷ []) rest)) (subst (λ s. LegalFrom s rest) (sym more) lawful.1)),
     )
 
-closed_same : (s : State) (replies : Replies) (story : List StoryStep) → AllSame s story → closed_over replies_after s replies story ≡ closed_over told_after s replies story
+closed_same : (s : State) (replies : Replies) (story : List StoryStep) → AllSame s story → closed_over replies_after s replies story ≡ closed_over lane_replies_after s replies story
 unfolding AllSame
 closed_same s replies [] h = refl
 closed_same s replies (x ∷ story) h =
     ap (λ phases. closed_by s replies x ++ phases)
-    (ap (λ r. closed_over replies_after (after s x) r story) (step_same s replies x h.0) ∙ closed_same (after s x) (told_after s x replies) story h.1)
+    (ap (λ r. closed_over replies_after (after s x) r story) (step_same s replies x h.0) ∙ closed_same (after s x) (lane_replies_after s x replies) story h.1)
 
-over_same : (s : State) (replies : Replies) (story : List StoryStep) → AllSame s story → replies_over replies_after s replies story ≡ replies_over told_after s replies story
+over_same : (s : State) (replies : Replies) (story : List StoryStep) → AllSame s story → replies_over replies_after s replies story ≡ replies_over lane_replies_after s replies story
 unfolding AllSame
 over_same s replies [] h = refl
 over_same s replies (x ∷ story) h =
-    ap (λ r. replies_over replies_after (after s x) r story) (step_same s replies x h.0) ∙ over_same (after s x) (told_after s x replies) story h.1
+    ap (λ r. replies_over replies_after (after s x) r story) (step_same s replies x h.0) ∙ over_same (after s x) (lane_replies_after s x replies) story h.1
 
 -- Along a legal story the text by the units' own outcomes is the one that building from nothing tells.
-same_text : (story : List StoryStep) → Law story → Legal story → rendered story ≡ text_from_nothing story
+same_text : (story : List StoryStep) → Law story → Legal story → text_of_story story ≡ text_from_nothing story
 same_text story law legal =
     let same = all_same story [] story law refl legal in
-    ap transcripts (ap₂ (λ front replies. front ++ last_phase (state_of story) replies) (closed_same start no_replies story same) (over_same start no_replies story same))
+    ap transcripts (ap₂ (λ prefix replies. prefix ++ last_phase (state_of story) replies) (closed_same start no_replies story same) (over_same start no_replies story same))
 
 some_same : (one two : Build) → Some one ≡ Some two → one ≡ two
 some_same one two e = ap (λ o. elim o [ None ↦ one | Some build ↦ build ]) e
@@ -111,8 +111,8 @@ ends_over s tag build ends is = subst (λ b. (is_complete b || b.faulted) ≡ tr
 pub are_from_nothing : (story : List StoryStep) → Law story → Legal story → AreFromNothing story
 are_from_nothing story law legal = record {
   text = same_text story law legal;
-  each = λ front rest tag build grows is sound.
-      let ends : EndsBuild (state_of front) tag = (rest_is_legal start front (story_steps.Other (steps.End tag) ∷ rest) (subst Legal grows legal)).0 in
-      law.complete front (story_steps.Other (steps.End tag) ∷ rest) tag.lane build grows (is_active (state_of front) tag build is)
-      (over_complete (is_complete build) build.faulted (ends_over (state_of front) tag build ends is) sound);
+  each = λ prefix rest tag build grows is sound.
+      let ends : EndsBuild (state_of prefix) tag = (rest_is_legal start prefix (story_steps.Other (steps.End tag) ∷ rest) (subst Legal grows legal)).0 in
+      law.complete prefix (story_steps.Other (steps.End tag) ∷ rest) tag.lane build grows (is_active (state_of prefix) tag build is)
+      (over_complete (is_complete build) build.faulted (ends_over (state_of prefix) tag build ends is) sound);
 }

@@ -10,14 +10,14 @@ use Rattle.reply_text.specs.Replies.{render_words}
 use Rattle.session_run.specs.Story.Rendered.{Replies, lanes_text}
 
 -- the lines of lanes that are numbered from n on
-abbrev pub lanes_told : PhaseWords → ℕ → List LaneWords → Replies → List ℕ
-lanes_told phase n [] replies = []
-lanes_told phase n (lane ∷ lanes) replies = render_words phase n (replies n) ++ lanes_told phase (n + 1) lanes replies
+abbrev pub lanes_modeled : PhaseWords → ℕ → List LaneWords → Replies → List ℕ
+lanes_modeled phase n [] replies = []
+lanes_modeled phase n (lane ∷ lanes) replies = render_words phase n (replies n) ++ lanes_modeled phase (n + 1) lanes replies
 
 -- they are those of the lanes themselves
-pub told_by_words : (phase : Phase) (n : ℕ) (lanes : List Lane) (replies : Replies) → lanes_text phase n lanes replies ≡ lanes_told (words_of phase) n (map lane_words lanes) replies
-told_by_words phase n [] replies = refl
-told_by_words phase n (lane ∷ lanes) replies = ap (λ lines. render_words (words_of phase) n (replies n) ++ lines) (told_by_words phase (n + 1) lanes replies)
+pub modeled_by_words : (phase : Phase) (n : ℕ) (lanes : List Lane) (replies : Replies) → lanes_text phase n lanes replies ≡ lanes_modeled (words_of phase) n (map lane_words lanes) replies
+modeled_by_words phase n [] replies = refl
+modeled_by_words phase n (lane ∷ lanes) replies = ap (λ lines. render_words (words_of phase) n (replies n) ++ lines) (modeled_by_words phase (n + 1) lanes replies)
 
 -- and as many lanes
 pub as_many : (lanes : List Lane) → length (map lane_words lanes) ≡ length lanes

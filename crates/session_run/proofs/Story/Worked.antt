@@ -15,7 +15,7 @@ use Rattle.cc_names.specs.declared.steps.Counts.{Counts}
 use Rattle.session_run.specs.Calls.Asked.{is_run}
 use Rattle.session_run.specs.Promises.Headline.{clock_moments}
 use Rattle.session_run.specs.Story.Begun.{phases_begun}
-use Rattle.session_run.specs.Story.Rendered.{earlier_text, has_failure, rendered}
+use Rattle.session_run.specs.Story.Rendered.{earlier_text, has_failure, text_of_story}
 
 -- a view and a private file, and then the view once more
 saves : Phase
@@ -42,15 +42,15 @@ two_phases : List StoryStep
 two_phases = first_phase ++ story_steps.PhaseBegun again 6 ∷ story_steps.Other (steps.Refused (tag 2 1) ViewExists) ∷ []
 
 -- a phase is rendered once its commands are all finished
-unfinished : rendered first_command ≡ []
+unfinished : text_of_story first_command ≡ []
 unfolding first_command saves tag
 unfinished = refl
 
-finished : rendered first_phase ≡ codes "phase 1\nlane a\n1 mkview ok\n2 save ok\n"
+finished : text_of_story first_phase ≡ codes "phase 1\nlane a\n1 mkview ok\n2 save ok\n"
 unfolding first_phase first_command saves tag digits
 finished = refl
 
-both : rendered two_phases ≡ codes "phase 1\nlane a\n1 mkview ok\n2 save ok\nphase 2\nlane a\n1 mkview refused C2 ViewExists\n"
+both : text_of_story two_phases ≡ codes "phase 1\nlane a\n1 mkview ok\n2 save ok\nphase 2\nlane a\n1 mkview refused C2 ViewExists\n"
 unfolding two_phases first_phase first_command saves again tag digits
 both = refl
 

@@ -3,10 +3,10 @@ use Rattle.std.specs.Prelude.{◌≡◌, ℕ, ◌+◌, ◌<◌, ◌≤◌, ◌�
 use Rattle.std.specs.Io.KnownBytes.{IsAtEnd}
 use Rattle.cc_names.specs.declared.refusals.SessionError.{SessionError}
 use Rattle.cc_names.specs.declared.steps.StoryStep.{StoryStep}
-use Rattle.cc_names.specs.Counts.{raised, Rose, RoseAbove, RoseAtMost, rises}
-use Rattle.cc_outside.specs.Sights.{SinkSight, SourceSight}
+use Rattle.cc_names.specs.Counts.{raised_count, Rose, RoseAbove, RoseAtMost, rises}
+use Rattle.cc_outside.specs.GhostStates.{SinkState, SourceState}
 use Rattle.disk_model.specs.Devices.{bytes_of}
-use Rattle.disk_model.specs.Told.{Sight, IfTold}
+use Rattle.disk_model.specs.DiskStates.{DiskState, IfModeled}
 use Rattle.vob_journal.specs.Frames.{frames}
 use Rattle.story_log.specs.Bases.Opening.{IsDamaged, IsUndamaged}
 use Rattle.legal_history.specs.Stories.States.{all_done}
@@ -32,7 +32,7 @@ pub record Intake : Type 0 where
   pub faults : Change ℕ
 
 -- what came in with these words from a source that was seen so before and after
-abbrev pub intake_of : List (List ℕ) → SourceSight → SourceSight → Intake
+abbrev pub intake_of : List (List ℕ) → SourceState → SourceState → Intake
 intake_of words before after = record {
   words = words;
   text = record { before = before.left; after = after.left };
@@ -41,12 +41,12 @@ intake_of words before after = record {
 }
 
 -- the counts of faults of a sink before and after
-abbrev pub sink_faults : SinkSight → SinkSight → Change ℕ
+abbrev pub sink_faults : SinkState → SinkState → Change ℕ
 sink_faults before after = record { before = before.faults; after = after.faults }
 
 -- how a disk was seen before and after
-abbrev pub disk_sights : Sight → Sight → Change Sight
-disk_sights before after = record { before = before; after = after }
+abbrev pub disk_ghost_states : DiskState → DiskState → Change DiskState
+disk_ghost_states before after = record { before = before; after = after }
 
 -- the words have the form, and the source was read to its end, which came within the limit
 pub record IsRead (intake : Intake) : Type 0 where
@@ -54,7 +54,7 @@ pub record IsRead (intake : Intake) : Type 0 where
   pub at_end : IsAtEnd intake.text.after
   pub count : ℕ
   pub within : count ≤ text_limit
-  pub given : intake.given.after ≡ raised intake.given.before count
+  pub given : intake.given.after ≡ raised_count intake.given.before count
   pub bytes : IfSome intake.text.before (λ bytes. length bytes ≡ count)
 
 -- a whole run: the source's bytes spell a session, a base was opened, and each command is finished
@@ -91,27 +91,27 @@ pub record GaveTooMuch (intake : Intake) : Type 0 where
   pub bytes : IfSome intake.text.before (λ bytes. text_limit < length bytes)
 
 -- whether the count of the disk's faults rose in the call
-abbrev pub disk_rose : Change Sight → Bool
+abbrev pub disk_rose : Change DiskState → Bool
 disk_rose disk = rises disk.before.faults disk.after.faults
 
 -- no base was opened, and no call was made on the disk
-pub record IsUntouched (disk : Change Sight) (story : List StoryStep) : Type 0 where
+pub record IsUntouched (disk : Change DiskState) (story : List StoryStep) : Type 0 where
   pub disk_is : disk.after ≡ disk.before
   pub story_is : story ≡ []
 
 -- the frame of this number is the first of the disk's journal that spells no formed row, or whose row does not fit those
 -- before it
-abbrev pub DiskDamaged : Change Sight → ℕ → Type 0
-DiskDamaged disk row = IfTold disk.before.told (λ d. IsDamaged (frames (bytes_of 0 d)) row)
+abbrev pub DiskDamaged : Change DiskState → ℕ → Type 0
+DiskDamaged disk row = IfModeled disk.before.modeled (λ d. IsDamaged (frames (bytes_of 0 d)) row)
 
 -- no frame of the disk's journal is so
-abbrev pub DiskUndamaged : Change Sight → Type 0
-DiskUndamaged disk = IfTold disk.before.told (λ d. IsUndamaged (frames (bytes_of 0 d)))
+abbrev pub DiskUndamaged : Change DiskState → Type 0
+DiskUndamaged disk = IfModeled disk.before.modeled (λ d. IsUndamaged (frames (bytes_of 0 d)))
 
 -- *The cause of each status*. Memory may run out anywhere, but where no base was opened it hides no fault of the disk. The other
 -- causes exclude one another, a failed source and a failed sink aside, so each status but those comes exactly where its cause
 -- does, unless the sink fails or memory runs out. Where the disk failed and a base was opened, each command is finished.
-abbrev pub HasCause : Status → Intake → Change ℕ → Change Sight → List StoryStep → Type 0
+abbrev pub HasCause : Status → Intake → Change ℕ → Change DiskState → List StoryStep → Type 0
 HasCause statuses.Good intake sink_faults disk story = IsWhole intake story × (has_failure story ≡ false) × (disk_rose disk ≡ false) × DiskUndamaged disk
 HasCause statuses.SomeFailed intake sink_faults disk story = IsWhole intake story × (has_failure story ≡ true) × (disk_rose disk ≡ false) × DiskUndamaged disk
 HasCause statuses.BadWords intake sink_faults disk story = (is_run intake.words ≡ false) × IsUnread intake × IsUntouched disk story
@@ -124,18 +124,18 @@ HasCause statuses.NoMemory intake sink_faults disk story = is_opened story ≡ f
 HasCause statuses.TooLong intake sink_faults disk story = GaveTooMuch intake × IsUntouched disk story
 
 -- the base was to be opened, as the source tells, whose count of faults did not rise
-pub record IsToldToOpen (intake : Intake) : Type 0 where
+pub record IsToOpen (intake : Intake) : Type 0 where
   pub asked : IsAsked intake
   pub text : is_some intake.text.before ≡ true
   pub sound : Rose intake.faults.before intake.faults.after → ⊥
 
 -- *A damaged journal*, the other way. Where the base was to be opened on a disk that tells a damaged journal, and the count of
 -- the disk's faults did not rise, the status says so with the frame's number, unless the sink fails or memory runs out.
-pub record FindsDamage (status : Status) (intake : Intake) (disk : Change Sight) : Type 0 where
-  pub damaged : (row : ℕ) → IsToldToOpen intake → is_some disk.before.told ≡ true → DiskDamaged disk row → disk_rose disk ≡ false → is_cut status ≡ false → status ≡ statuses.Damaged row
+pub record FindsDamage (status : Status) (intake : Intake) (disk : Change DiskState) : Type 0 where
+  pub damaged : (row : ℕ) → IsToOpen intake → is_some disk.before.modeled ≡ true → DiskDamaged disk row → disk_rose disk ≡ false → is_cut status ≡ false → status ≡ statuses.Damaged row
 
 -- *The disk of a call that read no session*, whatever the status: no base was opened, and no call was made on the disk.
-pub record LeavesAlone (intake : Intake) (disk : Change Sight) (story : List StoryStep) : Type 0 where
+pub record LeavesAlone (intake : Intake) (disk : Change DiskState) (story : List StoryStep) : Type 0 where
   pub unless_asked : IsAsked intake ⊎ IsUntouched disk story
 
 -- *How far a source is read*, whatever the status: it gave at most one byte more than a text may have, and where the words are

@@ -5,7 +5,7 @@ use Rattle.cc_names.specs.declared.steps.Step.TheVariants as steps
 use Rattle.cc_names.specs.declared.steps.StoryStep.{StoryStep}
 use Rattle.cc_names.specs.declared.steps.StoryStep.TheVariants as story_steps
 use Rattle.disk_model.specs.Counting.{next_count}
-use Rattle.disk_model.specs.Told.{Sight, IfTold, Both}
+use Rattle.disk_model.specs.DiskStates.{DiskState, IfModeled, Both}
 use Rattle.legal_history.specs.Stories.Steps.{state_of}
 use Rattle.vob_journal.specs.Added.{WritesOn}
 use Rattle.vob_journal.specs.Reads.{SameFiles, SameObjects}
@@ -16,19 +16,19 @@ use Rattle.session_run.specs.Faults.Blamed.{IsBlamed}
 
 -- A journal was settled: at most two calls were made, at most one fault more was counted, no call read, the file of objects is
 -- as it was, and where no fault may have left its tail open no call was made.
-pub record Settles (ajar : Bool) (old new : Sight) : Type 0 where
+pub record Settles (ajar : Bool) (old new : DiskState) : Type 0 where
   pub few : new.ticks ≤ old.ticks + 2
   pub faults : (new.faults ≡ old.faults) ⊎ (new.faults ≡ next_count old.faults)
-  pub writes : Both WritesOn old.told new.told
+  pub writes : Both WritesOn old.modeled new.modeled
   pub rests : ajar ≡ false → new ≡ old
 
 -- The steps of a history behind its first, from the disk as the base was opened to the disk as it came back. The disk was
 -- called within commits and faults alone, and each of these has its counts as its own call began and as it ended. Behind the
 -- last step the journal was settled.
-pub record CountsFrom (opened after : Sight) (story : List StoryStep) : Type 0 where
+pub record CountsFrom (opened after : DiskState) (story : List StoryStep) : Type 0 where
   pub first : StoryStep
   pub steps : List StoryStep
-  pub ended : Sight
+  pub ended : DiskState
   pub story_is : story ≡ first ∷ steps
   pub counts : CountsSteps steps opened ended
   pub settled : Settles (may_be_open (state_of story).ends) ended after
@@ -36,11 +36,11 @@ pub record CountsFrom (opened after : Sight) (story : List StoryStep) : Type 0 w
 -- *Whose fault*: opening counted no fault, and from then on the count rose at the faults of the history, and once more at most as
 -- the journal was settled, by the counts of some disk between one step and the next. Where the disk tells its device, the calls
 -- that it tells say at which tick each of them failed.
-pub record IsAccountedFor (disk : Change Sight) (story : List StoryStep) : Type 0 where
-  pub opened : Sight
+pub record IsAccountedFor (disk : Change DiskState) (story : List StoryStep) : Type 0 where
+  pub opened : DiskState
   pub sound : opened.faults ≡ disk.before.faults
   pub counted : CountsFrom opened disk.after story
-  pub calls : IfTold disk.after.told (IsBlamed disk.before.ticks story)
+  pub calls : IfModeled disk.after.modeled (IsBlamed disk.before.ticks story)
 
 -- whether no row was committed and the disk failed under none
 abbrev pub is_calm : List StoryStep → Bool
@@ -51,6 +51,6 @@ is_calm (x ∷ story) = is_calm story
 
 -- *The files*: the file of objects is as it was, and where no row was committed, and the disk failed under none, so is the
 -- journal.
-pub record KeepsFiles (disk : Change Sight) (story : List StoryStep) : Type 0 where
-  pub objects : Both SameObjects disk.before.told disk.after.told
-  pub files : is_calm story ≡ true → Both SameFiles disk.before.told disk.after.told
+pub record KeepsFiles (disk : Change DiskState) (story : List StoryStep) : Type 0 where
+  pub objects : Both SameObjects disk.before.modeled disk.after.modeled
+  pub files : is_calm story ≡ true → Both SameFiles disk.before.modeled disk.after.modeled

@@ -5,7 +5,7 @@ use Rattle.cc_names.specs.declared.steps.StoryStep.{StoryStep}
 use Rattle.cc_names.specs.declared.steps.StoryStep.TheVariants as story_steps
 use Rattle.disk_model.specs.Devices.{MayLeave, bytes_of, file_of}
 use Rattle.disk_model.specs.Files.{stable}
-use Rattle.disk_model.specs.Told.{Sight, Both, IfTold}
+use Rattle.disk_model.specs.DiskStates.{DiskState, Both, IfModeled}
 use Rattle.legal_history.specs.Stories.States.{State, Opening, faults_of, ticks_of}
 use Rattle.legal_history.specs.Stories.Steps.{state_of}
 use Rattle.cc_names.specs.Counts.{rises}
@@ -17,8 +17,8 @@ use Rattle.story_log.specs.Stopping.Standing.{MayBeFound}
 use Rattle.session_run.specs.Story.Begun.{is_opened}
 
 -- what a call asks of its disk: where it tells its files, both are on the disk as they read
-abbrev pub IsHandedIn : Sight → Type 0
-IsHandedIn disk = IfTold disk.told (λ d. (file_of 0 d ≡ stable (bytes_of 0 d)) × (file_of 1 d ≡ stable (bytes_of 1 d)))
+abbrev pub IsHandedIn : DiskState → Type 0
+IsHandedIn disk = IfModeled disk.modeled (λ d. (file_of 0 d ≡ stable (bytes_of 0 d)) × (file_of 1 d ≡ stable (bytes_of 1 d)))
 
 -- the counts of the disk's faults before and after each fault of a story, in order
 abbrev pub rises_of : List StoryStep → List (ℕ × ℕ)
@@ -33,7 +33,7 @@ AreApart low (rise ∷ more) high = (low ≤ rise.0) × (rises rise.0 rise.1 ≡
 
 -- where the count of the disk's faults stands as the newest fault of a story left it, or as it was at the opening, and below
 -- its last number, a stop now finds the rows of all commits and no more
-abbrev pub IsMended : State → Sight → Type 0
+abbrev pub IsMended : State → DiskState → Type 0
 IsMended s disk = faults_of s.opened s.ends ≡ disk.faults → disk.faults < 2 ^ 64 - 1 → IsSettled s disk
 
 -- Where a base was opened. A stop at a device call of the session, or after the last, finds the base as it was opened with the
@@ -43,20 +43,20 @@ IsMended s disk = faults_of s.opened s.ends ≡ disk.faults → disk.faults < 2 
 -- of all commits and no more where the history has no fault, and where the count of the disk's faults stands as the last fault
 -- left it, below its last number. Each fault of the history has a rise of that count of its own, within those of the call, and
 -- each commit and fault ended at a call that the disk has counted.
-pub record KeepsPrefix (before after : Sight) (story : List StoryStep) : Type 0 where
+pub record KeepsPrefix (before after : DiskState) (story : List StoryStep) : Type 0 where
   pub opening : Opening
   pub opened : (state_of story).opened ≡ Some opening
   pub ticks : ticks_of (state_of story).opened (state_of story).ends ≤ after.ticks
-  pub stops : IfTold after.told (λ d. (k : ℕ) (image : List ℕ) → before.ticks < k → MayLeave 0 d k image → MayBeFound opening (state_of story).ends k (frames image))
-  pub again : IfTold after.told (λ d. (k : ℕ) (image : List ℕ) → before.ticks < k
+  pub stops : IfModeled after.modeled (λ d. (k : ℕ) (image : List ℕ) → before.ticks < k → MayLeave 0 d k image → MayBeFound opening (state_of story).ends k (frames image))
+  pub again : IfModeled after.modeled (λ d. (k : ℕ) (image : List ℕ) → before.ticks < k
       → MayLeave 0 d k image → OpensAgain opening.base (frames image))
   pub sound : rises_of story ≡ [] → IsSettled (state_of story) after
   pub mended : IsMended (state_of story) after
   pub apart : AreApart before.faults (rises_of story) after.faults
 
 -- Where none was opened. A stop finds the frames that the disk had.
-abbrev pub KeepsFrames : Sight → Sight → Type 0
-KeepsFrames before after = IfTold before.told (λ d. IfTold after.told (λ e. (k : ℕ) (image : List ℕ) → before.ticks < k → MayLeave 0 e k image → frames image ≡ frames (bytes_of 0 d)))
+abbrev pub KeepsFrames : DiskState → DiskState → Type 0
+KeepsFrames before after = IfModeled before.modeled (λ d. IfModeled after.modeled (λ e. (k : ℕ) (image : List ℕ) → before.ticks < k → MayLeave 0 e k image → frames image ≡ frames (bytes_of 0 d)))
 
 -- whatever a stop may find of a story opens again, to a base that is sound where the opened one was
 abbrev pub AllOpenAgain : List StoryStep → Type 0
@@ -66,8 +66,8 @@ AllOpenAgain story = (opening : Opening) (k : ℕ) (found : List (List ℕ))
 
 -- *Stopped*: what a stop at each device call finds, from what the disk told as it was handed in and as it came back. Where no
 -- base was opened both files are as they were.
-pub record IsStopped (before after : Sight) (story : List StoryStep) : Type 0 where
-  pub tells : is_some after.told ≡ is_some before.told
+pub record IsStopped (before after : DiskState) (story : List StoryStep) : Type 0 where
+  pub tells : is_some after.modeled ≡ is_some before.modeled
   pub on_base : is_opened story ≡ true → KeepsPrefix before after story
   pub on_none : is_opened story ≡ false → KeepsFrames before after
-  pub files : is_opened story ≡ false → Both SameFiles before.told after.told
+  pub files : is_opened story ≡ false → Both SameFiles before.modeled after.modeled

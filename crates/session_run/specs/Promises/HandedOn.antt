@@ -2,7 +2,7 @@
 use Rattle.std.specs.Prelude.{◌≡◌, ℕ, ◌<◌, true, Option, Some, List}
 use Rattle.cc_names.specs.declared.steps.StoryStep.{StoryStep}
 use Rattle.disk_model.specs.Devices.{Device, MayLeave, bytes_of}
-use Rattle.disk_model.specs.Told.{Sight}
+use Rattle.disk_model.specs.DiskStates.{DiskState}
 use Rattle.session_run.specs.Faults.Stopped.{IsStopped}
 use Rattle.session_run.specs.Promises.Headline.{IsOneHistory}
 use Rattle.session_run.specs.Promises.Reused.{WasSound}
@@ -13,9 +13,9 @@ use Rattle.session_run.specs.declared.statuses.Status.{Status}
 -- first one left, at any device call of its session or after the last. So the premise under which the builds of a call are as
 -- from nothing is that of the call before.
 abbrev pub SoundnessIsHandedOn : Type 0
-SoundnessIsHandedOn = (before after next : Sight) (left read : Device) (k : ℕ)
+SoundnessIsHandedOn = (before after next : DiskState) (left read : Device) (k : ℕ)
     (story later : List StoryStep) (status : Status) (held holds : Option (List ℕ))
     → IsStopped before after story → is_opened story ≡ true
-    → after.told ≡ Some left → before.ticks < k → MayLeave 0 left k (bytes_of 0 read)
-    → next.told ≡ Some read → IsOneHistory status later next held holds
+    → after.modeled ≡ Some left → before.ticks < k → MayLeave 0 left k (bytes_of 0 read)
+    → next.modeled ≡ Some read → IsOneHistory status later next held holds
     → WasSound story → WasSound later

@@ -18,11 +18,11 @@ use Rattle.cc_names.specs.declared.rows.Tag.{Tag}
 use Rattle.cc_names.specs.declared.steps.Step.TheVariants as steps
 use Rattle.cc_names.specs.declared.steps.StoryStep.{StoryStep}
 use Rattle.cc_names.specs.declared.steps.StoryStep.TheVariants as story_steps
-use Rattle.cc_names.specs.Counts.{raised}
-use Rattle.cc_outside.specs.Feeds.{AppendsFront}
+use Rattle.cc_names.specs.Counts.{raised_count}
+use Rattle.cc_outside.specs.Feeds.{AppendsPrefix}
 use Rattle.cc_outside.specs.Moments.{moment_at}
-use Rattle.cc_outside.specs.Sights.{ClockSight}
-use Rattle.disk_model.specs.Told.{Sight}
+use Rattle.cc_outside.specs.GhostStates.{ClockState}
+use Rattle.disk_model.specs.DiskStates.{DiskState}
 use Rattle.story_log.specs.Bases.Opening.{IsBaseOn}
 use Rattle.story_log.specs.Story.Handed.{Handed}
 use Rattle.base_rows.specs.Order.{oldest_first}
@@ -36,24 +36,24 @@ use Rattle.legal_history.specs.Stories.Lawful.{Legal, last_moment}
 use Rattle.session_run.specs.Calls.Asked.{phases_spelled, is_run, is_session}
 use Rattle.session_run.specs.Calls.Causes.{Change, Intake, HasCause}
 use Rattle.session_run.specs.Calls.Statuses.{is_cut, status_line}
-use Rattle.session_run.specs.Story.Begun.{first_step, is_opened, is_through, phases_begun, moments_begun, IsFront}
+use Rattle.session_run.specs.Story.Begun.{first_step, is_opened, is_through, phases_begun, moments_begun, IsPrefixOf}
 use Rattle.session_run.specs.Story.FromNothing.{text_from_nothing}
-use Rattle.session_run.specs.Story.Rendered.{rendered, earlier_text}
+use Rattle.session_run.specs.Story.Rendered.{text_of_story, earlier_text}
 use Rattle.session_run.specs.declared.statuses.Status.{Status}
 use Rattle.session_run.specs.declared.statuses.Status.TheVariants as statuses
 
 -- the moments that a clock tells from a reading on, none above the last one of all
 abbrev pub clock_moments : List ℕ → ℕ → ℕ → List ℕ
-clock_moments told reading zero = []
-clock_moments told reading (suc n) = min (moment_at told reading) last_moment ∷ clock_moments told (raised reading 1) n
+clock_moments modeled reading zero = []
+clock_moments modeled reading (suc n) = min (moment_at modeled reading) last_moment ∷ clock_moments modeled (raised_count reading 1) n
 
 -- the counts of readings of a clock before and after
-abbrev pub clock_readings : ClockSight → ClockSight → Change ℕ
+abbrev pub clock_readings : ClockState → ClockState → Change ℕ
 clock_readings before after = record { before = before.readings; after = after.readings }
 
 -- the clock was read so often
 abbrev pub ReadsTimes : ℕ → Change ℕ → Type 0
-ReadsTimes count readings = readings.after ≡ raised readings.before count
+ReadsTimes count readings = readings.after ≡ raised_count readings.before count
 
 -- The clock was read once for each phase that began. Where memory ran out it may have been read once more, for a phase that did
 -- not begin.
@@ -65,10 +65,10 @@ pub record ReadsClock (status : Status) (story : List StoryStep) (readings : Cha
 -- bytes spell, and all of them where it was run through; where the bytes spell none the history is empty. Their moments are
 -- the clock's, in order, which is read once a phase.
 pub record IsSession (status : Status) (story : List StoryStep) (intake : Intake) (clock : Option (List ℕ)) (readings : Change ℕ) : Type 0 where
-  pub begun : is_run intake.words ≡ true → IfSome intake.text.before (λ bytes. IsFront (phases_begun story) (phases_spelled bytes))
+  pub begun : is_run intake.words ≡ true → IfSome intake.text.before (λ bytes. IsPrefixOf (phases_begun story) (phases_spelled bytes))
   pub all : is_run intake.words ≡ true → is_through status story ≡ true → IfSome intake.text.before (λ bytes. phases_begun story ≡ phases_spelled bytes)
   pub none : is_run intake.words ≡ true → IfSome intake.text.before (λ bytes. is_session bytes ≡ false → story ≡ [])
-  pub moments : IfSome clock (λ told. moments_begun story ≡ clock_moments told readings.before (length (moments_begun story)))
+  pub moments : IfSome clock (λ modeled. moments_begun story ≡ clock_moments modeled readings.before (length (moments_begun story)))
   pub read : ReadsClock status story readings
 
 -- a sink that failed took the transcripts of all phases but the last, and each command of these phases is finished
@@ -78,7 +78,7 @@ pub record IsCutAtLast (story : List StoryStep) (earlier : List ℕ) (old new : 
   pub written : (more : List ℕ) × Appends old new (earlier ++ more)
 
 -- the story begins with the base that the disk stood for as it was handed in, and with the disk's counts then
-pub record BeginsOn (disk : Sight) (story : List StoryStep) : Type 0 where
+pub record BeginsOn (disk : DiskState) (story : List StoryStep) : Type 0 where
   pub base : Base
   pub handed : Handed
   pub on : IsBaseOn disk base handed
@@ -87,7 +87,7 @@ pub record BeginsOn (disk : Sight) (story : List StoryStep) : Type 0 where
 -- *One legal history*: the story is legal, of the base that the disk stood for, so a phase begins where each command of the
 -- one before is finished. Each command of the last phase is finished too where the session was run through, and where the
 -- sink failed.
-pub record IsOneHistory (status : Status) (story : List StoryStep) (disk : Sight) (old new : Option (List ℕ)) : Type 0 where
+pub record IsOneHistory (status : Status) (story : List StoryStep) (disk : DiskState) (old new : Option (List ℕ)) : Type 0 where
   pub legal : Legal story
   pub base : is_opened story ≡ true → BeginsOn disk story
   pub complete : is_through status story ≡ true → all_done (state_of story) ≡ true
@@ -96,33 +96,33 @@ pub record IsOneHistory (status : Status) (story : List StoryStep) (disk : Sight
 -- *Commanded*: each build of the history that ends is the one of its lane's clearmake, whose build from nothing at the reference
 -- rows, on the versions that the view selects there, has the same units.
 pub record AreOfTheirCommands (story : List StoryStep) : Type 0 where
-  pub each : (front rest : List StoryStep) (tag : Tag) (build : Build)
-      → story ≡ front ++ story_steps.Other (steps.End tag) ∷ rest
-      → build_by (state_of front) tag ≡ Some build → IsOfCommand (state_of front) tag.lane build
+  pub each : (prefix rest : List StoryStep) (tag : Tag) (build : Build)
+      → story ≡ prefix ++ story_steps.Other (steps.End tag) ∷ rest
+      → build_by (state_of prefix) tag ≡ Some build → IsOfCommand (state_of prefix) tag.lane build
 
 -- *Builds as from nothing*: what the units of each build of the history have come to, where it ends and no disk failed under it,
 -- is replied as its build from nothing is. So the text of the history is the one that building from nothing tells.
 pub record AreFromNothing (story : List StoryStep) : Type 0 where
-  pub text : rendered story ≡ text_from_nothing story
-  pub each : (front rest : List StoryStep) (tag : Tag) (build : Build)
-      → story ≡ front ++ story_steps.Other (steps.End tag) ∷ rest
-      → build_by (state_of front) tag ≡ Some build → build.faulted ≡ false
-      → reply_of (state_of front).base build ≡ reply_from_nothing (state_of front).base build
+  pub text : text_of_story story ≡ text_from_nothing story
+  pub each : (prefix rest : List StoryStep) (tag : Tag) (build : Build)
+      → story ≡ prefix ++ story_steps.Other (steps.End tag) ∷ rest
+      → build_by (state_of prefix) tag ≡ Some build → build.faulted ≡ false
+      → reply_of (state_of prefix).base build ≡ reply_from_nothing (state_of prefix).base build
 
 -- A front of the line of a status was written, whose cause had come. It is one that has a line: want of memory has none, and
 -- without a base no call ends well.
-pub record PrintsFront (intake : Intake) (faults : Change ℕ) (disk : Change Sight) (old new : Option (List ℕ)) : Type 0 where
+pub record PrintsPrefix (intake : Intake) (faults : Change ℕ) (disk : Change DiskState) (old new : Option (List ℕ)) : Type 0 where
   pub status : Status
   pub cause : HasCause status intake faults disk []
   pub uncut : is_cut status ≡ false
-  pub written : AppendsFront old new (status_line status)
+  pub written : AppendsPrefix old new (status_line status)
 
 -- *Printed replies*: what the sink holds more is the text of the history, where a base was opened; else it is the
 -- status's line. Where the sink failed it is a front of the history's text, or of the line of the cause that had come. Where
 -- memory ran out it is a front of the history's text; where no base was opened, nothing.
-pub record ArePrinted (status : Status) (story : List StoryStep) (intake : Intake) (faults : Change ℕ) (disk : Change Sight) (old new : Option (List ℕ)) : Type 0 where
-  pub whole : is_opened story ≡ true → is_cut status ≡ false → Appends old new (rendered story)
-  pub front : is_opened story ≡ true → is_cut status ≡ true → AppendsFront old new (rendered story)
+pub record ArePrinted (status : Status) (story : List StoryStep) (intake : Intake) (faults : Change ℕ) (disk : Change DiskState) (old new : Option (List ℕ)) : Type 0 where
+  pub whole : is_opened story ≡ true → is_cut status ≡ false → Appends old new (text_of_story story)
+  pub prefix : is_opened story ≡ true → is_cut status ≡ true → AppendsPrefix old new (text_of_story story)
   pub line : is_opened story ≡ false → is_cut status ≡ false → Appends old new (status_line status)
-  pub line_front : is_opened story ≡ false → status ≡ statuses.WriteFault → PrintsFront intake faults disk old new
+  pub line_prefix : is_opened story ≡ false → status ≡ statuses.WriteFault → PrintsPrefix intake faults disk old new
   pub nothing : is_opened story ≡ false → status ≡ statuses.NoMemory → Appends old new []

@@ -9,17 +9,17 @@ use Rattle.cc_names.specs.declared.memory.Or.TheVariants.{NoMemory, Is}
 use Rattle.cc_names.specs.declared.steps.Counts.{Counts}
 use Rattle.cc_names.specs.declared.steps.StoryStep.{StoryStep}
 use Rattle.cc_names.specs.declared.steps.StoryStep.TheVariants as story_steps
-use Rattle.cc_names.specs.Counts.{raised}
-use Rattle.cc_outside.specs.Feeds.{AppendsFront}
-use Rattle.cc_outside.specs.Sights.{ClockSight, SinkSight}
+use Rattle.cc_names.specs.Counts.{raised_count}
+use Rattle.cc_outside.specs.Feeds.{AppendsPrefix}
+use Rattle.cc_outside.specs.GhostStates.{ClockState, SinkState}
 use Rattle.cc_outside.specs.declared.sinks.WriteFault.{WriteFault}
 use Rattle.session_text.specs.Formed.{IsPhase}
 use Rattle.legal_history.specs.Stories.States.{all_done}
 use Rattle.legal_history.specs.Stories.Steps.{state_of}
 use Rattle.session_run.specs.Calls.Asked.{text_limit}
 use Rattle.session_run.specs.Promises.Headline.{IsCutAtLast, clock_moments}
-use Rattle.session_run.specs.Story.Begun.{IsFront, phases_begun, moments_begun, is_opened}
-use Rattle.session_run.specs.Story.Rendered.{earlier_text, rendered, has_failure}
+use Rattle.session_run.specs.Story.Begun.{IsPrefixOf, phases_begun, moments_begun, is_opened}
+use Rattle.session_run.specs.Story.Rendered.{earlier_text, text_of_story, has_failure}
 use Rattle.session_run.specs.declared.statuses.Status.{Status}
 use Rattle.session_run.specs.declared.statuses.Status.TheVariants as statuses
 
@@ -48,9 +48,9 @@ pub record Outside : Type 0 where
   pub reading : ℕ
 
 -- the outside of a run by how its sink and its clock were seen before and after
-abbrev pub outside_of : SinkSight → SinkSight → ClockSight → ClockSight → Outside
+abbrev pub outside_of : SinkState → SinkState → ClockState → ClockState → Outside
 outside_of sink new_sink clock new_clock =
-    record { held = sink.held; holds = new_sink.held; moments = clock.told; first = clock.readings; reading = new_clock.readings }
+    record { held = sink.held; holds = new_sink.held; moments = clock.modeled; first = clock.readings; reading = new_clock.readings }
 
 -- these phases have been run, and their transcripts written
 pub record HasRunPhases (phases : List Phase) (story : List StoryStep) (outside : Outside) (failed : Bool) : Type 0 where
@@ -58,10 +58,10 @@ pub record HasRunPhases (phases : List Phase) (story : List StoryStep) (outside 
   pub phases_are : phases_begun story ≡ phases
   pub number : (state_of story).number ≡ length phases
   pub finished : all_done (state_of story) ≡ true
-  pub moments_are : IfSome outside.moments (λ told. moments_begun story ≡ clock_moments told outside.first (length phases))
-  pub reading_is : outside.reading ≡ raised outside.first (length phases)
+  pub moments_are : IfSome outside.moments (λ modeled. moments_begun story ≡ clock_moments modeled outside.first (length phases))
+  pub reading_is : outside.reading ≡ raised_count outside.first (length phases)
   pub failures : has_failure story ≡ failed
-  pub written : Appends outside.held outside.holds (rendered story)
+  pub written : Appends outside.held outside.holds (text_of_story story)
 
 -- where the sink failed, its last transcript is cut
 abbrev pub IsCutBy : Or WriteFault → List StoryStep → Option (List ℕ) → Option (List ℕ) → Type 0
@@ -70,16 +70,16 @@ IsCutBy (Is fault) story old new = IsCutAtLast story (earlier_text story) old ne
 
 -- how often the clock was read where so many phases had begun: once for each, or where memory ran out perhaps once more
 abbrev pub ReadsBy : Or WriteFault → ℕ → Outside → Type 0
-ReadsBy NoMemory count outside = (outside.reading ≡ raised outside.first count) ⊎ (outside.reading ≡ raised outside.first (count + 1))
-ReadsBy (Is fault) count outside = outside.reading ≡ raised outside.first count
+ReadsBy NoMemory count outside = (outside.reading ≡ raised_count outside.first count) ⊎ (outside.reading ≡ raised_count outside.first (count + 1))
+ReadsBy (Is fault) count outside = outside.reading ≡ raised_count outside.first count
 
 -- the run of these phases was given up
 pub record IsRunGivenUp (cut : Or WriteFault) (phases : List Phase) (story : List StoryStep) (outside : Outside) : Type 0 where
   pub opened : is_opened story ≡ true
-  pub begun : IsFront (phases_begun story) phases
-  pub moments_are : IfSome outside.moments (λ told. moments_begun story ≡ clock_moments told outside.first (length (moments_begun story)))
+  pub begun : IsPrefixOf (phases_begun story) phases
+  pub moments_are : IfSome outside.moments (λ modeled. moments_begun story ≡ clock_moments modeled outside.first (length (moments_begun story)))
   pub reading_is : ReadsBy cut (length (phases_begun story)) outside
-  pub written : AppendsFront outside.held outside.holds (rendered story)
+  pub written : AppendsPrefix outside.held outside.holds (text_of_story story)
   pub cut_at : IsCutBy cut story outside.held outside.holds
 
 -- the sink's faults rose where it failed

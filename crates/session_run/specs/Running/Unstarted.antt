@@ -6,7 +6,7 @@ use Rattle.cc_names.specs.declared.memory.Or.{Or}
 use Rattle.cc_names.specs.declared.memory.Or.TheVariants as ors
 use Rattle.cc_names.specs.declared.refusals.SessionError.{SessionError}
 use Rattle.cc_names.specs.Counts.{Rose}
-use Rattle.cc_outside.specs.Feeds.{AppendsFront}
+use Rattle.cc_outside.specs.Feeds.{AppendsPrefix}
 use Rattle.cc_outside.specs.declared.sources.Unread.{Unread}
 use Rattle.cc_outside.specs.declared.sources.Unread.TheVariants.{Fault}
 use Rattle.cc_outside.specs.declared.sources.Unread.TheVariants as unreads
@@ -74,7 +74,7 @@ unstarted_line unstarted = status_line (unstarted_status unstarted)
 pub record WritesUnstarted (unstarted : Unstarted) (status : Status) (old new : Option (List ℕ)) (faults : Change ℕ) : Type 0 where
   pub whole : is_cut status ≡ false → Appends old new (unstarted_line unstarted)
   pub answer : is_cut status ≡ false → status ≡ unstarted_status unstarted
-  pub front : status ≡ statuses.WriteFault → AppendsFront old new (unstarted_line unstarted)
+  pub prefix : status ≡ statuses.WriteFault → AppendsPrefix old new (unstarted_line unstarted)
   pub nothing : status ≡ statuses.NoMemory → Appends old new []
   pub memory : status ≡ statuses.NoMemory → unstarted ≡ why.Unopened opens.NoMemory
   pub fault : status ≡ statuses.WriteFault → Rose faults.before faults.after

@@ -36,5 +36,5 @@ moments_begun (story_steps.PhaseBegun phase moment ∷ story) = moment ∷ momen
 moments_begun (x ∷ story) = moments_begun story
 
 -- the first items of a list, from its front on
-abbrev pub IsFront : {A : Type 0} → List A → List A → Type 0
-IsFront {A = A} front whole = (rest : List A) × (whole ≡ front ++ rest)
+abbrev pub IsPrefixOf : {A : Type 0} → List A → List A → Type 0
+IsPrefixOf {A = A} prefix whole = (rest : List A) × (whole ≡ prefix ++ rest)

@@ -18,16 +18,16 @@ end_from_nothing b None = None
 end_from_nothing b (Some build) = Some (if build.faulted then replies.DiskFault else reply_from_nothing b build)
 
 -- the replies to the commands of a lane that a step finishes, those of builds from nothing
-abbrev pub told_by : State → ℕ → StoryStep → List Reply
-told_by s lane (story_steps.Other (steps.End tag)) = in_lane lane tag (end_from_nothing s.base (build_by s tag))
-told_by s lane step = replies_by s lane step
+abbrev pub replies_of_step : State → ℕ → StoryStep → List Reply
+replies_of_step s lane (story_steps.Other (steps.End tag)) = in_lane lane tag (end_from_nothing s.base (build_by s tag))
+replies_of_step s lane step = replies_by s lane step
 
 -- a lane's replies after a step; a new phase has none yet
-abbrev pub told_after : State → StoryStep → Replies → Replies
-told_after s (story_steps.PhaseBegun phase moment) replies lane = []
-told_after s step replies lane = replies lane ++ told_by s lane step
+abbrev pub lane_replies_after : State → StoryStep → Replies → Replies
+lane_replies_after s (story_steps.PhaseBegun phase moment) replies lane = []
+lane_replies_after s step replies lane = replies lane ++ replies_of_step s lane step
 
 -- The text of a story as building from nothing tells it: its transcripts, with each build that ended without a fault of
 -- the disk told by the build from nothing. Only the words kept, winked and built are the unit's own.
 abbrev pub text_from_nothing : List StoryStep → List ℕ
-text_from_nothing story = transcripts (ended_over told_after story)
+text_from_nothing story = transcripts (ended_over lane_replies_after story)

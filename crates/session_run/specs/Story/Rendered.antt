@@ -92,8 +92,8 @@ abbrev pub earlier_text : List StoryStep → List ℕ
 earlier_text story = transcripts (earlier_phases story)
 
 -- The text of a story: the transcripts of its phases in order, the last one where all its commands are finished.
-abbrev pub rendered : List StoryStep → List ℕ
-rendered story = transcripts (ended_phases story)
+abbrev pub text_of_story : List StoryStep → List ℕ
+text_of_story story = transcripts (ended_phases story)
 
 -- whether a command failed, by its reply: it was refused, or it built and a unit is not made
 abbrev pub is_failure : Reply → Bool

@@ -2,13 +2,13 @@
 use Rattle.std.proofs.Common.{◌≡◌, ℕ, ◌⊎◌, inl, inr, true, List, [], ◌∷◌, ◌++◌, length, length-append, refl, sym, ap, ap₂, subst, ◌∙◌, arith}
 use Rattle.cc_names.specs.Formed.{IsFormed, Plain}
 use Rattle.disk_model.specs.Devices.{bytes_of}
-use Rattle.disk_model.specs.Told.{Sight, IfTold}
+use Rattle.disk_model.specs.DiskStates.{DiskState, IfModeled}
 use Rattle.base_model.specs.Rows.{Base, size}
 use Rattle.base_model.specs.Fits.{fits, is_base}
-use Rattle.row_form.specs.Spelled.{spelled}
+use Rattle.row_form.specs.Spelled.{spelling_of}
 use Rattle.row_form.proofs.ExactRow.{one_spelling}
 use Rattle.vob_journal.specs.Frames.{frames}
-use Rattle.vob_journal.proofs.Telling.{told_map}
+use Rattle.vob_journal.proofs.Telling.{modeled_map}
 use Rattle.story_log.specs.Bases.Opening.{IsBaseOn, IsDamaged, IsUndamaged}
 use Rattle.story_log.specs.Story.Formed.{AreFormed}
 use Rattle.story_log.specs.Stopping.Standing.{payloads}
@@ -16,21 +16,21 @@ use Rattle.story_log.specs.Story.Handed.{Handed}
 use Rattle.story_log.proofs.Cases.{both}
 
 -- a row that keeps its form is told by its spelling
-row_told : (one two : Plain) → IsFormed one → IsFormed two → spelled one ≡ spelled two → one ≡ two
-row_told one two h k is = one_spelling one two h k is
+row_by_spelling : (one two : Plain) → IsFormed one → IsFormed two → spelling_of one ≡ spelling_of two → one ≡ two
+row_by_spelling one two h k is = one_spelling one two h k is
 
 -- where two lists that go on are the same, their fronts are, or one front is a part of the other
 abbrev Goes : List (List ℕ) → List ℕ → List (List ℕ) → Type 0
-Goes front next whole = (rest : List (List ℕ)) × (whole ≡ front ++ next ∷ rest)
+Goes prefix next whole = (rest : List (List ℕ)) × (whole ≡ prefix ++ next ∷ rest)
 
-which_front : (xs ys r s : List (List ℕ)) (x y : List ℕ) → xs ++ x ∷ r ≡ ys ++ y ∷ s → ((xs ≡ ys) × (x ≡ y)) ⊎ (Goes xs x ys ⊎ Goes ys y xs)
-which_front [] [] r s x y e = inl (refl, cc)
-which_front [] (q ∷ ys) r s x y e = inr (inl (ys, cc))
-which_front (p ∷ xs) [] r s x y e = inr (inr (xs, cc))
-which_front (p ∷ xs) (q ∷ ys) r s x y e =
+which_prefix : (xs ys r s : List (List ℕ)) (x y : List ℕ) → xs ++ x ∷ r ≡ ys ++ y ∷ s → ((xs ≡ ys) × (x ≡ y)) ⊎ (Goes xs x ys ⊎ Goes ys y xs)
+which_prefix [] [] r s x y e = inl (refl, cc)
+which_prefix [] (q ∷ ys) r s x y e = inr (inl (ys, cc))
+which_prefix (p ∷ xs) [] r s x y e = inr (inr (xs, cc))
+which_prefix (p ∷ xs) (q ∷ ys) r s x y e =
     let head : p ≡ q = cc in
     let tail : xs ++ x ∷ r ≡ ys ++ y ∷ s = cc in
-    elim (which_front xs ys r s x y tail) [
+    elim (which_prefix xs ys r s x y tail) [
       | inl same ↦ inl (ap₂ (λ a b. a ∷ b) head same.0, same.1)
       | inr other ↦ elim other [
         | inl goes ↦ inr (inl (goes.0, ap₂ (λ a b. a ∷ b) (sym head) goes.1))
@@ -39,15 +39,15 @@ which_front (p ∷ xs) (q ∷ ys) r s x y e =
     ]
 
 -- a front does not go on behind its last payload
-too_long : (front more rest : List (List ℕ)) (last next : List ℕ) → front ++ last ∷ [] ≡ (front ++ last ∷ more) ++ next ∷ rest → ⊥
-too_long front more rest last next e =
-    absurd (omega (arith, ap length e, length-append front (last ∷ []), length-append (front ++ last ∷ more) (next ∷ rest), length-append front (last ∷ more)))
+too_long : (prefix more rest : List (List ℕ)) (last next : List ℕ) → prefix ++ last ∷ [] ≡ (prefix ++ last ∷ more) ++ next ∷ rest → ⊥
+too_long prefix more rest last next e =
+    absurd (omega (arith, ap length e, length-append prefix (last ∷ []), length-append (prefix ++ last ∷ more) (next ∷ rest), length-append prefix (last ∷ more)))
 
-none_left : (front rest : List (List ℕ)) (next : List ℕ) → [] ≡ front ++ next ∷ rest → ⊥
-none_left front rest next e = absurd (omega (arith, ap length e, length-append front (next ∷ rest)))
+none_left : (prefix rest : List (List ℕ)) (next : List ℕ) → [] ≡ prefix ++ next ∷ rest → ⊥
+none_left prefix rest next e = absurd (omega (arith, ap length e, length-append prefix (next ∷ rest)))
 
 same_last : (xs ys : List (List ℕ)) (x y : List ℕ) → xs ++ x ∷ [] ≡ ys ++ y ∷ [] → (xs ≡ ys) × (x ≡ y)
-same_last xs ys x y e = by (which_front xs ys [] [] x y e)
+same_last xs ys x y e = by (which_prefix xs ys [] [] x y e)
   where
     by : ((xs ≡ ys) × (x ≡ y)) ⊎ (Goes xs x ys ⊎ Goes ys y xs) → (xs ≡ ys) × (x ≡ y)
     by (inl same) = same
@@ -57,35 +57,35 @@ same_last xs ys x y e = by (which_front xs ys [] [] x y e)
 -- a base of formed rows is told by its journal
 pub same_base : (b c : Base) → AreFormed b → AreFormed c → payloads b ≡ payloads c → b ≡ c
 same_base [] [] h k e = refl
-same_base [] (two ∷ c) h k e = absurd (none_left (payloads c) [] (spelled two) e)
-same_base (one ∷ b) [] h k e = absurd (none_left (payloads b) [] (spelled one) (sym e))
+same_base [] (two ∷ c) h k e = absurd (none_left (payloads c) [] (spelling_of two) e)
+same_base (one ∷ b) [] h k e = absurd (none_left (payloads b) [] (spelling_of one) (sym e))
 same_base (one ∷ b) (two ∷ c) h k e =
-    let parts = same_last (payloads b) (payloads c) (spelled one) (spelled two) e in
-    ap₂ (λ row older. row ∷ older) (row_told one two h.0 k.0 parts.1) (same_base b c h.1 k.1 parts.0)
+    let parts = same_last (payloads b) (payloads c) (spelling_of one) (spelling_of two) e in
+    ap₂ (λ row older. row ∷ older) (row_by_spelling one two h.0 k.0 parts.1) (same_base b c h.1 k.1 parts.0)
 
 -- where a front of a base's journal ends, the next payload spells the base's row there
-record GoesOn (front : List (List ℕ)) (payload : List ℕ) : Type 0 where
+record GoesOn (prefix : List (List ℕ)) (payload : List ℕ) : Type 0 where
   older : Base
   row : Plain
-  found : payloads older ≡ front
-  spells : payload ≡ spelled row
+  found : payloads older ≡ prefix
+  spells : payload ≡ spelling_of row
   fit : fits older row.deed ≡ true
   formed : IsFormed row
   earlier : AreFormed older
 
-next_row : (row : Plain) (older : Base) (front rest : List (List ℕ)) (payload : List ℕ) → is_base (row ∷ older) ≡ true → AreFormed (row ∷ older) → payloads (row ∷ older) ≡ front ++ payload ∷ rest
-    → ((more : List (List ℕ)) → payloads older ≡ front ++ payload ∷ more → GoesOn front payload) → GoesOn front payload
-next_row row older front rest payload good h e before = by (which_front (payloads older) front [] rest (spelled row) payload e)
+next_row : (row : Plain) (older : Base) (prefix rest : List (List ℕ)) (payload : List ℕ) → is_base (row ∷ older) ≡ true → AreFormed (row ∷ older) → payloads (row ∷ older) ≡ prefix ++ payload ∷ rest
+    → ((more : List (List ℕ)) → payloads older ≡ prefix ++ payload ∷ more → GoesOn prefix payload) → GoesOn prefix payload
+next_row row older prefix rest payload good h e before = by (which_prefix (payloads older) prefix [] rest (spelling_of row) payload e)
   where
-    by : ((payloads older ≡ front) × (spelled row ≡ payload)) ⊎ (Goes (payloads older) (spelled row) front ⊎ Goes front payload (payloads older)) → GoesOn front payload
+    by : ((payloads older ≡ prefix) × (spelling_of row ≡ payload)) ⊎ (Goes (payloads older) (spelling_of row) prefix ⊎ Goes prefix payload (payloads older)) → GoesOn prefix payload
     by (inl same) = record { older = older; row = row; found = same.0; spells = sym same.1; fit = (both (fits older row.deed) (is_base older) good).0; formed = h.0; earlier = h.1 }
-    by (inr (inl goes)) = absurd (too_long (payloads older) goes.0 rest (spelled row) payload (e ∙ ap (λ l. l ++ payload ∷ rest) goes.1))
+    by (inr (inl goes)) = absurd (too_long (payloads older) goes.0 rest (spelling_of row) payload (e ∙ ap (λ l. l ++ payload ∷ rest) goes.1))
     by (inr (inr goes)) = before goes.0 goes.1
 
-goes_on : (b : Base) (front rest : List (List ℕ)) (payload : List ℕ) → is_base b ≡ true → AreFormed b → payloads b ≡ front ++ payload ∷ rest → GoesOn front payload
-goes_on [] front rest payload good h e = absurd (none_left front rest payload e)
-goes_on (row ∷ older) front rest payload good h e =
-    next_row row older front rest payload good h e (λ more f. goes_on older front more payload (both (fits older row.deed) (is_base older) good).1 h.1 f)
+goes_on : (b : Base) (prefix rest : List (List ℕ)) (payload : List ℕ) → is_base b ≡ true → AreFormed b → payloads b ≡ prefix ++ payload ∷ rest → GoesOn prefix payload
+goes_on [] prefix rest payload good h e = absurd (none_left prefix rest payload e)
+goes_on (row ∷ older) prefix rest payload good h e =
+    next_row row older prefix rest payload good h e (λ more f. goes_on older prefix more payload (both (fits older row.deed) (is_base older) good).1 h.1 f)
 
 -- the journal of such a base is not damaged
 pub undamaged : (b : Base) → is_base b ≡ true → AreFormed b → IsUndamaged (payloads b)
@@ -96,7 +96,7 @@ undamaged b good h n damaged =
 
 -- and a journal is damaged once
 pub damaged_once : (list : List (List ℕ)) (m n : ℕ) → IsDamaged list m → IsDamaged list n → m ≡ n
-damaged_once list m n one two = by (which_front (payloads one.base) (payloads two.base) one.rest two.rest one.payload two.payload (sym one.list_is ∙ two.list_is))
+damaged_once list m n one two = by (which_prefix (payloads one.base) (payloads two.base) one.rest two.rest one.payload two.payload (sym one.list_is ∙ two.list_is))
   where
     by : ((payloads one.base ≡ payloads two.base) × (one.payload ≡ two.payload)) ⊎ (Goes (payloads one.base) one.payload (payloads two.base) ⊎ Goes (payloads two.base) two.payload (payloads one.base)) → m ≡ n
     by (inl same) = one.number ∙ ap size (same_base one.base two.base one.formed two.formed same.0) ∙ sym two.number
@@ -122,7 +122,7 @@ damaged_once list m n one two = by (which_front (payloads one.base) (payloads tw
     }))
 
 -- nor is that of a disk on which a base was opened
-pub undamaged_on : (old : Sight) (base : Base) (handed : Handed) → IsBaseOn old base handed → IfTold old.told (λ d. IsUndamaged (frames (bytes_of 0 d)))
+pub undamaged_on : (old : DiskState) (base : Base) (handed : Handed) → IsBaseOn old base handed → IfModeled old.modeled (λ d. IsUndamaged (frames (bytes_of 0 d)))
 undamaged_on old base handed on =
-    told_map (λ d. frames (bytes_of 0 d) ≡ payloads base) (λ d. IsUndamaged (frames (bytes_of 0 d))) old.told
+    modeled_map (λ d. frames (bytes_of 0 d) ≡ payloads base) (λ d. IsUndamaged (frames (bytes_of 0 d))) old.modeled
     (λ d is. subst IsUndamaged (sym is) (undamaged base on.fits on.formed)) on.found

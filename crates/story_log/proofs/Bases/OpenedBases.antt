@@ -4,7 +4,7 @@ use Rattle.std.proofs.lemmas.List.{append-nil}
 use Rattle.cc_names.specs.declared.steps.StoryStep.TheVariants as story_steps
 use Rattle.disk_model.specs.Devices.{Device, Failed, Leaves, LeavesNow, MayLeave, Measures, Idles, bytes_of, file_of}
 use Rattle.disk_model.specs.Files.{IsImage, stable}
-use Rattle.disk_model.specs.Told.{Sight, IfTold, Both, IsCounted}
+use Rattle.disk_model.specs.DiskStates.{DiskState, IfModeled, Both, IsCounted}
 use Rattle.base_model.specs.Rows.{Base}
 use Rattle.legal_history.specs.Stories.States.{Opening}
 use Rattle.cc_names.specs.Counts.{rises}
@@ -19,8 +19,8 @@ use Rattle.vob_journal.specs.declared.left.Left.TheVariants as lefts
 use Rattle.vob_journal.proofs.Adding.{measured_adds}
 use Rattle.vob_journal.proofs.Journals.{stable_image}
 use Rattle.vob_journal.proofs.Passing.{passes_none, passes_call}
-use Rattle.vob_journal.proofs.Staying.{told_then}
-use Rattle.vob_journal.proofs.Telling.{both_from, both_map, both_then, told_both, told_back}
+use Rattle.vob_journal.proofs.Staying.{modeled_then}
+use Rattle.vob_journal.proofs.Telling.{both_from, both_map, both_then, modeled_both, modeled_back}
 use Rattle.story_log.specs.Stopping.Backed.{IsMirrored, IsBacked}
 use Rattle.story_log.specs.Logging.Logs.{Logged, opened_log}
 use Rattle.story_log.specs.Bases.Opening.{IsBaseOn, IsOpened, IsDamaged, StopsBy, FailsToOpen}
@@ -70,137 +70,137 @@ idle_keeps d e is (inr missed) = subst (Keeps d) (sym missed) (record {
   now = λ image left. inl (handed_image d is image left);
 })
 
-both_idle : (old new : Option Device) → IfTold old (λ d. file_of 0 d ≡ stable (bytes_of 0 d)) → Both Idles old new → Both Keeps old new
+both_idle : (old new : Option Device) → IfModeled old (λ d. file_of 0 d ≡ stable (bytes_of 0 d)) → Both Idles old new → Both Keeps old new
 both_idle old new is idles = both_from (λ d. file_of 0 d ≡ stable (bytes_of 0 d)) Idles Keeps old new idle_keeps is idles
 
 -- A journal that was opened on a disk: it has the disk's frames, none of them read yet.
-pub record IsNewOn {D : Type 0} (sight : D → Sight) (first : Sight) (journal : Shown D) : Type 0 where
-  pub list : IfTold first.told (λ d. journal.list ≡ frames (bytes_of 0 d))
+pub record IsNewOn {D : Type 0} (ghost_state : D → DiskState) (first : DiskState) (journal : Shown D) : Type 0 where
+  pub list : IfModeled first.modeled (λ d. journal.list ≡ frames (bytes_of 0 d))
   pub left : journal.left ≡ lefts.Nothing
-  pub keeps : Both (Moves journal.list [] journal.list []) first.told (sight journal.disk).told
-  pub adds : Both (Adds may_read) first.told (sight journal.disk).told
-  pub files : Both SameFiles first.told (sight journal.disk).told
-  pub counts : OneMore first (sight journal.disk)
+  pub keeps : Both (Moves journal.list [] journal.list []) first.modeled (ghost_state journal.disk).modeled
+  pub adds : Both (Adds may_read) first.modeled (ghost_state journal.disk).modeled
+  pub files : Both SameFiles first.modeled (ghost_state journal.disk).modeled
+  pub counts : OneMore first (ghost_state journal.disk)
 
-pub new_on : {D : Type 0} (sight : D → Sight) (first : Sight) (journal : Shown D) → IfTold first.told (λ d. journal.list ≡ frames (bytes_of 0 d)) → journal.left ≡ lefts.Nothing → journal.loose ≡ [] → Both (Moves journal.list [] journal.list journal.loose) first.told (sight journal.disk).told → Both (Measures 0) first.told (sight journal.disk).told → Both SameFiles first.told (sight journal.disk).told → OneMore first (sight journal.disk) → IsNewOn sight first journal
-new_on sight first journal list left loose moves measured files counts = record {
+pub new_on : {D : Type 0} (ghost_state : D → DiskState) (first : DiskState) (journal : Shown D) → IfModeled first.modeled (λ d. journal.list ≡ frames (bytes_of 0 d)) → journal.left ≡ lefts.Nothing → journal.leftover ≡ [] → Both (Moves journal.list [] journal.list journal.leftover) first.modeled (ghost_state journal.disk).modeled → Both (Measures 0) first.modeled (ghost_state journal.disk).modeled → Both SameFiles first.modeled (ghost_state journal.disk).modeled → OneMore first (ghost_state journal.disk) → IsNewOn ghost_state first journal
+new_on ghost_state first journal list left leftover moves measured files counts = record {
   list = list;
   left = left;
-  keeps = subst (λ l. Both (Moves journal.list [] journal.list l) first.told (sight journal.disk).told) loose moves;
-  adds = both_map (Measures 0) (Adds may_read) first.told (sight journal.disk).told measured_adds measured;
+  keeps = subst (λ l. Both (Moves journal.list [] journal.list l) first.modeled (ghost_state journal.disk).modeled) leftover moves;
+  adds = both_map (Measures 0) (Adds may_read) first.modeled (ghost_state journal.disk).modeled measured_adds measured;
   files = files;
   counts = counts;
 }
 
-since_first : {D : Type 0} (sight : D → Sight) (first : Sight) (opened read : Shown D) → IsNewOn sight first opened → OnlyReads sight opened read → Both (Moves opened.list [] opened.list []) first.told (sight read.disk).told
-since_first sight first opened read new reads =
+since_first : {D : Type 0} (ghost_state : D → DiskState) (first : DiskState) (opened read : Shown D) → IsNewOn ghost_state first opened → OnlyReads ghost_state opened read → Both (Moves opened.list [] opened.list []) first.modeled (ghost_state read.disk).modeled
+since_first ghost_state first opened read new reads =
     let P : Device → Device → Type 0 = Moves opened.list [] opened.list [] in
-    both_then P P P first.told (sight opened.disk).told (sight read.disk).told (moves_then opened.list) new.keeps reads.stops
+    both_then P P P first.modeled (ghost_state opened.disk).modeled (ghost_state read.disk).modeled (moves_then opened.list) new.keeps reads.stops
 
-pub keeps_first : {D : Type 0} (sight : D → Sight) (first : Sight) (opened read : Shown D) → IsNewOn sight first opened → OnlyReads sight opened read → Both Keeps first.told (sight read.disk).told
-keeps_first sight first opened read new reads =
-    both_from (λ d. opened.list ≡ frames (bytes_of 0 d)) (Moves opened.list [] opened.list []) Keeps first.told (sight read.disk).told
-    (λ d e is moves. subst (λ l. Moves l [] l [] d e) is moves) new.list (since_first sight first opened read new reads)
+pub keeps_first : {D : Type 0} (ghost_state : D → DiskState) (first : DiskState) (opened read : Shown D) → IsNewOn ghost_state first opened → OnlyReads ghost_state opened read → Both Keeps first.modeled (ghost_state read.disk).modeled
+keeps_first ghost_state first opened read new reads =
+    both_from (λ d. opened.list ≡ frames (bytes_of 0 d)) (Moves opened.list [] opened.list []) Keeps first.modeled (ghost_state read.disk).modeled
+    (λ d e is moves. subst (λ l. Moves l [] l [] d e) is moves) new.list (since_first ghost_state first opened read new reads)
 
 -- both files are as they were handed in
-pub files_first : {D : Type 0} (sight : D → Sight) (first : Sight) (opened read : Shown D) → IsNewOn sight first opened → OnlyReads sight opened read → Both SameFiles first.told (sight read.disk).told
-files_first sight first opened read new reads = told_then first.told (sight opened.disk).told (sight read.disk).told new.files reads.files
+pub files_first : {D : Type 0} (ghost_state : D → DiskState) (first : DiskState) (opened read : Shown D) → IsNewOn ghost_state first opened → OnlyReads ghost_state opened read → Both SameFiles first.modeled (ghost_state read.disk).modeled
+files_first ghost_state first opened read new reads = modeled_then first.modeled (ghost_state opened.disk).modeled (ghost_state read.disk).modeled new.files reads.files
 
 -- why reading stopped, told of the disk as it was handed in
-pub stops_first : {D : Type 0} (sight : D → Sight) (first : Sight) (cause : OpenCause) (opened read : Shown D) → IsNewOn sight first opened → StopsBy (sight opened.disk).told (λ _. opened.list) cause (sight opened.disk).faults (sight read.disk).faults → StopsBy first.told (λ d. frames (bytes_of 0 d)) cause first.faults (sight read.disk).faults
-stops_first sight first (causes.Damaged n) opened read new h = (
+pub stops_first : {D : Type 0} (ghost_state : D → DiskState) (first : DiskState) (cause : OpenCause) (opened read : Shown D) → IsNewOn ghost_state first opened → StopsBy (ghost_state opened.disk).modeled (λ _. opened.list) cause (ghost_state opened.disk).faults (ghost_state read.disk).faults → StopsBy first.modeled (λ d. frames (bytes_of 0 d)) cause first.faults (ghost_state read.disk).faults
+stops_first ghost_state first (causes.Damaged n) opened read new h = (
   h.0 ∙ new.counts.1,
-  told_both (λ _. IsDamaged opened.list n) (λ d. opened.list ≡ frames (bytes_of 0 d)) (λ d. IsDamaged (frames (bytes_of 0 d)) n) first.told
+  modeled_both (λ _. IsDamaged opened.list n) (λ d. opened.list ≡ frames (bytes_of 0 d)) (λ d. IsDamaged (frames (bytes_of 0 d)) n) first.modeled
       (λ d damaged is. subst (λ l. IsDamaged l n) is damaged)
-      (told_back (Moves opened.list [] opened.list []) (λ _. IsDamaged opened.list n) (λ _. IsDamaged opened.list n) first.told (sight opened.disk).told (λ d e moves damaged. damaged) new.keeps h.1) new.list,
+      (modeled_back (Moves opened.list [] opened.list []) (λ _. IsDamaged opened.list n) (λ _. IsDamaged opened.list n) first.modeled (ghost_state opened.disk).modeled (λ d e moves damaged. damaged) new.keeps h.1) new.list,
 )
-stops_first sight first causes.DiskFault opened read new h = subst (λ f. rises f (sight read.disk).faults ≡ true) new.counts.1 h
-stops_first sight first causes.NoMemory opened read new h = h ∙ new.counts.1
+stops_first ghost_state first causes.DiskFault opened read new h = subst (λ f. rises f (ghost_state read.disk).faults ≡ true) new.counts.1 h
+stops_first ghost_state first causes.NoMemory opened read new h = h ∙ new.counts.1
 
 -- no base was opened
-unchanged_told : (first : Sight) (now : Option Device) → IfTold first.told (λ d. first.ticks ≡ length d.calls) → Both Keeps first.told now
-    → IfTold first.told (λ d. IfTold now (λ e. (k : ℕ) (image : List ℕ) → first.ticks < k → MayLeave 0 e k image → frames image ≡ frames (bytes_of 0 d)))
-unchanged_told first now ticks keeps = by first.told now ticks keeps
+unchanged_modeled : (first : DiskState) (now : Option Device) → IfModeled first.modeled (λ d. first.ticks ≡ length d.calls) → Both Keeps first.modeled now
+    → IfModeled first.modeled (λ d. IfModeled now (λ e. (k : ℕ) (image : List ℕ) → first.ticks < k → MayLeave 0 e k image → frames image ≡ frames (bytes_of 0 d)))
+unchanged_modeled first now ticks keeps = by first.modeled now ticks keeps
   where
-    by : (old new : Option Device) → IfTold old (λ d. first.ticks ≡ length d.calls) → Both Keeps old new
-        → IfTold old (λ d. IfTold new (λ e. (k : ℕ) (image : List ℕ) → first.ticks < k → MayLeave 0 e k image → frames image ≡ frames (bytes_of 0 d)))
+    by : (old new : Option Device) → IfModeled old (λ d. first.ticks ≡ length d.calls) → Both Keeps old new
+        → IfModeled old (λ d. IfModeled new (λ e. (k : ℕ) (image : List ℕ) → first.ticks < k → MayLeave 0 e k image → frames image ≡ frames (bytes_of 0 d)))
     by None new same keep = tt
     by (Some d) None same keep = tt
     by (Some d) (Some e) same keep = λ k image later left. may_leave_list (frames (bytes_of 0 d)) d e k image (omega (arith, same, later)) keep left
 
-pub fails_to_open : (first now : Sight) (cause : OpenCause) → IsCounted first → Both Keeps first.told now.told → Both SameFiles first.told now.told → StopsBy first.told (λ d. frames (bytes_of 0 d)) cause first.faults now.faults → FailsToOpen first cause now
+pub fails_to_open : (first now : DiskState) (cause : OpenCause) → IsCounted first → Both Keeps first.modeled now.modeled → Both SameFiles first.modeled now.modeled → StopsBy first.modeled (λ d. frames (bytes_of 0 d)) cause first.faults now.faults → FailsToOpen first cause now
 fails_to_open first now cause counted keeps files because = record {
   because = because;
-  tells = both_tells Keeps first.told now.told keeps;
-  unchanged = unchanged_told first now.told counted.told keeps;
+  tells = both_tells Keeps first.modeled now.modeled keeps;
+  unchanged = unchanged_modeled first now.modeled counted.modeled keeps;
   files = files;
 }
 
 -- the length of the journal could not be asked
-pub fails_at_once : (first now : Sight) → IsCounted first → IsCounted now → IfTold first.told (λ d. file_of 0 d ≡ stable (bytes_of 0 d)) → Both Idles first.told now.told → Both SameFiles first.told now.told → OneFault first now → FailsToOpen first causes.DiskFault now
+pub fails_at_once : (first now : DiskState) → IsCounted first → IsCounted now → IfModeled first.modeled (λ d. file_of 0 d ≡ stable (bytes_of 0 d)) → Both Idles first.modeled now.modeled → Both SameFiles first.modeled now.modeled → OneFault first now → FailsToOpen first causes.DiskFault now
 fails_at_once first now counted after is idles files fault =
-    fails_to_open first now causes.DiskFault counted (both_idle first.told now.told is idles) files (raised_rises first now counted after fault.1)
+    fails_to_open first now causes.DiskFault counted (both_idle first.modeled now.modeled is idles) files (raised_rises first now counted after fault.1)
 
 -- the journal behind a base that was opened
-covered_opened : (opening : Opening) (list loose : List (List ℕ)) (d e : Device) → opening.counts.ticks ≡ length d.calls → list ≡ payloads opening.base → loose ≡ [] → Moves list [] list [] d e → IsMirrored opening [] list loose lefts.Nothing e
-covered_opened opening list loose d e ticks is none moves = record {
+covered_opened : (opening : Opening) (list leftover : List (List ℕ)) (d e : Device) → opening.counts.ticks ≡ length d.calls → list ≡ payloads opening.base → leftover ≡ [] → Moves list [] list [] d e → IsMirrored opening [] list leftover lefts.Nothing e
+covered_opened opening list leftover d e ticks is none moves = record {
   list_is = is;
-  loose_is = inl (ap (λ l. list ++ l) none ∙ append-nil list ∙ is);
+  leftover_is = inl (ap (λ l. list ++ l) none ∙ append-nil list ∙ is);
   nothing = λ _. none;
   stops = λ k image later left. leaves_list list d e k image (omega (arith, ticks, later)) moves left ∙ is;
   now = λ image left. subst (λ l. Stands list l image) (sym none) (moves.now image left);
 }
 
 -- This base was opened.
-module _ {D : Type 0} (sight : D → Sight) (first : Sight) (handed : Handed) (base : Base) (opened read : Shown D)
-    (counted : IsCounted first) (ticks : handed.counts.ticks ≡ first.ticks) (faults : handed.counts.faults ≡ first.faults) (tells : handed.tells ≡ is_some first.told)
-    (new : IsNewOn sight first opened) (reads : OnlyReads sight opened read) (sound : (sight read.disk).faults ≡ (sight opened.disk).faults) (through : IsReadThrough sight base read) where
-  list_so : IfTold (sight read.disk).told (λ _. opened.list ≡ payloads base)
-  list_so = told_both (λ _. read.list ≡ payloads base ++ read.rest) (λ _. read.rest ≡ []) (λ _. opened.list ≡ payloads base) (sight read.disk).told
+module _ {D : Type 0} (ghost_state : D → DiskState) (first : DiskState) (handed : Handed) (base : Base) (opened read : Shown D)
+    (counted : IsCounted first) (ticks : handed.counts.ticks ≡ first.ticks) (faults : handed.counts.faults ≡ first.faults) (tells : handed.tells ≡ is_some first.modeled)
+    (new : IsNewOn ghost_state first opened) (reads : OnlyReads ghost_state opened read) (sound : (ghost_state read.disk).faults ≡ (ghost_state opened.disk).faults) (through : IsReadThrough ghost_state base read) where
+  list_so : IfModeled (ghost_state read.disk).modeled (λ _. opened.list ≡ payloads base)
+  list_so = modeled_both (λ _. read.list ≡ payloads base ++ read.rest) (λ _. read.rest ≡ []) (λ _. opened.list ≡ payloads base) (ghost_state read.disk).modeled
       (λ d is none. sym reads.list ∙ is ∙ ap (λ l. payloads base ++ l) none ∙ append-nil (payloads base)) through.so_far.list_is through.nothing
 
-  pub opened_backed : IsBacked (state_of (story_steps.Opened (oldest_first base) handed.counts handed.tells ∷ [])) (sight read.disk) read.list read.loose read.ended read.left read.settled
+  pub opened_backed : IsBacked (state_of (story_steps.Opened (oldest_first base) handed.counts handed.tells ∷ [])) (ghost_state read.disk) read.list read.leftover read.ended read.left read.settled
   opened_backed = record {
     opening = record { base = reverse (oldest_first base); counts = handed.counts; tells = handed.tells };
     opened = refl;
-    tells = tells ∙ sym (both_tells (Moves opened.list [] opened.list []) first.told (sight read.disk).told (since_first sight first opened read new reads));
+    tells = tells ∙ sym (both_tells (Moves opened.list [] opened.list []) first.modeled (ghost_state read.disk).modeled (since_first ghost_state first opened read new reads));
     at_end = through.ended;
     calm = λ e. reads.left ∙ new.left;
     shut = λ e some. absurd (cc);
     base = refl;
     ticks = omega (arith, ticks, new.counts.0, reads.ticks);
     faults = omega (arith, faults, new.counts.1, sound);
-    covered = by first.told (sight read.disk).told counted.told list_so (since_first sight first opened read new reads);
+    covered = by first.modeled (ghost_state read.disk).modeled counted.modeled list_so (since_first ghost_state first opened read new reads);
   }
     where
-      by : (old now : Option Device) → IfTold old (λ d. first.ticks ≡ length d.calls) → IfTold now (λ _. opened.list ≡ payloads base) → Both (Moves opened.list [] opened.list []) old now
-          → IfTold now (IsMirrored (record { base = reverse (oldest_first base); counts = handed.counts; tells = handed.tells }) [] read.list read.loose read.left)
+      by : (old now : Option Device) → IfModeled old (λ d. first.ticks ≡ length d.calls) → IfModeled now (λ _. opened.list ≡ payloads base) → Both (Moves opened.list [] opened.list []) old now
+          → IfModeled now (IsMirrored (record { base = reverse (oldest_first base); counts = handed.counts; tells = handed.tells }) [] read.list read.leftover read.left)
       by old None same is moves = tt
       by None (Some e) same is moves = absurd moves
       by (Some d) (Some e) same is moves =
-          subst (λ left. IsMirrored (record { base = reverse (oldest_first base); counts = handed.counts; tells = handed.tells }) [] read.list read.loose left e) (sym (reads.left ∙ new.left))
-          (subst (λ l. IsMirrored (record { base = reverse (oldest_first base); counts = handed.counts; tells = handed.tells }) [] l read.loose lefts.Nothing e) (sym reads.list)
-          (covered_opened (record { base = reverse (oldest_first base); counts = handed.counts; tells = handed.tells }) opened.list read.loose d e (ticks ∙ same) (is ∙ ap payloads (sym (oldest_back base))) through.so_far.loose moves))
+          subst (λ left. IsMirrored (record { base = reverse (oldest_first base); counts = handed.counts; tells = handed.tells }) [] read.list read.leftover left e) (sym (reads.left ∙ new.left))
+          (subst (λ l. IsMirrored (record { base = reverse (oldest_first base); counts = handed.counts; tells = handed.tells }) [] l read.leftover lefts.Nothing e) (sym reads.list)
+          (covered_opened (record { base = reverse (oldest_first base); counts = handed.counts; tells = handed.tells }) opened.list read.leftover d e (ticks ∙ same) (is ∙ ap payloads (sym (oldest_back base))) through.so_far.leftover moves))
 
   base_on : IsBaseOn first base handed
   base_on = record {
     ticks = ticks;
     faults = faults;
     tells = tells;
-    found = told_both (λ _. opened.list ≡ payloads base) (λ d. opened.list ≡ frames (bytes_of 0 d)) (λ d. frames (bytes_of 0 d) ≡ payloads base) first.told (λ d is same. sym same ∙ is)
-        (told_back (Moves opened.list [] opened.list []) (λ _. opened.list ≡ payloads base) (λ _. opened.list ≡ payloads base) first.told (sight read.disk).told (λ d e moves is. is) (since_first sight first opened read new reads) list_so) new.list;
+    found = modeled_both (λ _. opened.list ≡ payloads base) (λ d. opened.list ≡ frames (bytes_of 0 d)) (λ d. frames (bytes_of 0 d) ≡ payloads base) first.modeled (λ d is same. sym same ∙ is)
+        (modeled_back (Moves opened.list [] opened.list []) (λ _. opened.list ≡ payloads base) (λ _. opened.list ≡ payloads base) first.modeled (ghost_state read.disk).modeled (λ d e moves is. is) (since_first ghost_state first opened read new reads) list_so) new.list;
     fits = through.so_far.good;
     formed = through.so_far.formed;
   }
 
-  pub is_opened : (log : Logged) → log ≡ opened_log base handed (sight read.disk) → IsCounted (sight read.disk) → IsOpened first log
+  pub is_opened : (log : Logged) → log ≡ opened_log base handed (ghost_state read.disk) → IsCounted (ghost_state read.disk) → IsOpened first log
   is_opened log is fit = record {
     base = base;
     handed = handed;
     on = base_on;
-    is = is ∙ ap (opened_log base handed) (sym (ap (λ l. l.sight) is));
-    sound = ap (λ l. l.sight.faults) is ∙ sound ∙ new.counts.1;
-    fit = subst IsCounted (sym (ap (λ l. l.sight) is)) fit;
-    adds = subst (λ s. Both (Adds may_read) first.told s.told) (sym (ap (λ l. l.sight) is)) (adds_on first.told (sight opened.disk).told (sight read.disk).told new.adds reads.adds);
-    files = subst (λ s. Both SameFiles first.told s.told) (sym (ap (λ l. l.sight) is)) (files_first sight first opened read new reads);
+    is = is ∙ ap (opened_log base handed) (sym (ap (λ l. l.ghost_state) is));
+    sound = ap (λ l. l.ghost_state.faults) is ∙ sound ∙ new.counts.1;
+    fit = subst IsCounted (sym (ap (λ l. l.ghost_state) is)) fit;
+    adds = subst (λ s. Both (Adds may_read) first.modeled s.modeled) (sym (ap (λ l. l.ghost_state) is)) (adds_on first.modeled (ghost_state opened.disk).modeled (ghost_state read.disk).modeled new.adds reads.adds);
+    files = subst (λ s. Both SameFiles first.modeled s.modeled) (sym (ap (λ l. l.ghost_state) is)) (files_first ghost_state first opened read new reads);
   }

@@ -9,7 +9,7 @@ use Rattle.cc_names.specs.declared.steps.StoryStep.TheVariants as story_steps
 use Rattle.legal_history.specs.Stories.States.{State, hanging}
 use Rattle.legal_history.specs.Stories.Steps.{after, state_from}
 use Rattle.story_log.specs.Logging.Leaving.{left_by}
-use Rattle.story_log.specs.Story.Telling.{story_of, AreTold}
+use Rattle.story_log.specs.Story.Telling.{story_of, AreNamedBySteps}
 use Rattle.story_log.specs.Story.Handed.{Handed}
 
 -- the newest step decides
@@ -33,7 +33,7 @@ left_by-other left (steps.Fault tag found before faults tick) no_commit no_fault
 left_by-other left step no_commit no_fault = refl
 
 -- the state of the story knows it
-hanging_by : (on : Handed) (n p : ℕ) (kept : List Step) (rows : List Plain) (phases : List Phase) (s : State) → AreTold n p kept rows phases → hanging (state_from s (story_of on kept rows phases)).ends ≡ left_by (hanging s.ends) kept
+hanging_by : (on : Handed) (n p : ℕ) (kept : List Step) (rows : List Plain) (phases : List Phase) (s : State) → AreNamedBySteps n p kept rows phases → hanging (state_from s (story_of on kept rows phases)).ends ≡ left_by (hanging s.ends) kept
 hanging_by on n p [] rows phases s h = refl
 hanging_by on n p (steps.Opened m ∷ kept) rows phases s h = hanging_by on (n + (m - 1)) p kept (drop (m - 1) rows) phases _ h.2
 hanging_by on n p (steps.PhaseBegun number moment ∷ kept) rows [] s h = absurd h
@@ -48,5 +48,5 @@ hanging_by on n p (steps.Concluded tag unit outcome ∷ kept) rows phases s h = 
 hanging_by on n p (steps.End tag ∷ kept) rows phases s h = hanging_by on n p kept rows phases (after s (story_steps.Other (steps.End tag))) h
 hanging_by on n p (steps.Fault tag found before faults tick ∷ kept) rows phases s h = hanging_by on n p kept rows phases (after s (story_steps.Other (steps.Fault tag found before faults tick))) h
 
-pub hanging_is : (on : Handed) (n p : ℕ) (kept : List Step) (rows : List Plain) (phases : List Phase) (s : State) → AreTold n p kept rows phases → hanging (state_from s (story_of on kept rows phases)).ends ≡ left_by (hanging s.ends) kept
+pub hanging_is : (on : Handed) (n p : ℕ) (kept : List Step) (rows : List Plain) (phases : List Phase) (s : State) → AreNamedBySteps n p kept rows phases → hanging (state_from s (story_of on kept rows phases)).ends ≡ left_by (hanging s.ends) kept
 hanging_is = hanging_by

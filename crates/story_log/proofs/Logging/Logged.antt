@@ -6,12 +6,12 @@ use Rattle.cc_names.specs.declared.rows.Tag.{Tag}
 use Rattle.cc_names.specs.declared.steps.Step.{Step}
 use Rattle.cc_names.specs.declared.steps.Step.TheVariants as steps
 use Rattle.cc_names.specs.declared.steps.StoryStep.TheVariants as story_steps
-use Rattle.disk_model.specs.Told.{Sight, IfTold, Both, IsCounted}
+use Rattle.disk_model.specs.DiskStates.{DiskState, IfModeled, Both, IsCounted}
 use Rattle.base_model.specs.Rows.{Base}
 use Rattle.legal_history.specs.Stories.States.{State, start}
 use Rattle.legal_history.specs.Stories.Steps.{after, state_of}
-use Rattle.row_form.specs.Spelled.{spelled}
-use Rattle.vob_journal.specs.Lefts.{loose_after, settled_after}
+use Rattle.row_form.specs.Spelled.{spelling_of}
+use Rattle.vob_journal.specs.Lefts.{leftover_after, settled_after}
 use Rattle.vob_journal.specs.Moves.{Moves}
 use Rattle.vob_journal.specs.declared.left.Left.{Left}
 use Rattle.vob_journal.specs.declared.left.Left.TheVariants as lefts
@@ -19,18 +19,18 @@ use Rattle.story_log.specs.Stopping.Backed.{IsBacked}
 use Rattle.story_log.specs.Story.Faults.{is_fault}
 use Rattle.story_log.specs.Logging.Leaving.{left_in, LeftSo}
 use Rattle.story_log.specs.Logging.Logs.{IsLogged}
-use Rattle.story_log.specs.Story.Telling.{story_of, AreTold, stands_alone}
+use Rattle.story_log.specs.Story.Telling.{story_of, AreNamedBySteps, stands_alone}
 use Rattle.base_rows.specs.Order.{oldest_first}
 use Rattle.story_log.specs.Story.Handed.{Handed}
 use Rattle.story_log.proofs.Story.Growing.{state_from-more}
 use Rattle.story_log.proofs.Logging.Leavings.{hanging_is}
 use Rattle.story_log.proofs.Logging.Logging.{backed_same, backed_commit, backed_fault}
-use Rattle.story_log.proofs.Logging.LogSteps.{oldest_more, told_row, told_phase, is_told_step}
+use Rattle.story_log.proofs.Logging.LogSteps.{oldest_more, named_row, named_phase, is_named_step}
 use Rattle.story_log.proofs.Story.Stories.{story_of-commit, story_of-phase, story_of-step}
 
 -- the state of the story of what is kept
-abbrev pub state_kept : Handed → List Step → List Plain → List Phase → State
-state_kept on kept base phases = state_of (story_of on kept (oldest_first base) phases)
+abbrev pub logged_state : Handed → List Step → List Plain → List Phase → State
+logged_state on kept base phases = state_of (story_of on kept (oldest_first base) phases)
 
 -- a step that is neither a commit nor a fault leaves the opening, the base and the ends
 quiet_opened : (s : State) (step : Step) → stands_alone step ≡ true → is_fault (story_steps.Other step) ≡ false → (after s (story_steps.Other step)).opened ≡ s.opened
@@ -46,53 +46,53 @@ quiet_ends s (steps.Fault tag left before faults tick) alone quiet = absurd (cc)
 quiet_ends s step alone quiet = refl
 
 -- a row was committed
-pub logged_row : (on : Handed) (kept more : List Step) (base grown : Base) (phases : List Phase) (tag : Tag) (number tick : ℕ) (row : Plain) (old new : Sight) (list loose list' loose' : List (List ℕ)) (ended ended' : Bool) (left left' : Left) (settled settled' : Bool) → IsLogged on kept base phases old list loose ended left settled → more ≡ kept ++ steps.Commit tag number tick ∷ [] → grown ≡ row ∷ base → row.tag ≡ tag → number ≡ length base + 1 → Both (Moves list loose list' loose') old.told new.told → IfTold old.told (λ _. (list' ≡ list ++ spelled row ∷ []) × (loose' ≡ [])) → tick ≡ new.ticks → new.faults ≡ old.faults → IsCounted old → IsCounted new → ended' ≡ true → left' ≡ lefts.Nothing → settled' ≡ settled_after left' → IsLogged on more grown phases new list' loose' ended' left' settled'
-logged_row on kept more base grown phases tag number tick row old new list loose list' loose' ended ended' left left' settled settled' h e g t n moves appended at same was counted end none set = record {
-  told = told_row kept more base grown phases tag number tick row h.told e g t n;
-  backed = subst (λ s. IsBacked s new list' loose' ended' left' settled') (sym state)
-      (backed_commit (state_kept on kept base phases) row tick old new list loose list' loose' ended ended' left left' settled settled' h.backed moves appended at same was counted end none set);
+pub logged_row : (on : Handed) (kept more : List Step) (base grown : Base) (phases : List Phase) (tag : Tag) (number tick : ℕ) (row : Plain) (old new : DiskState) (list leftover list' leftover' : List (List ℕ)) (ended ended' : Bool) (left left' : Left) (settled settled' : Bool) → IsLogged on kept base phases old list leftover ended left settled → more ≡ kept ++ steps.Commit tag number tick ∷ [] → grown ≡ row ∷ base → row.tag ≡ tag → number ≡ length base + 1 → Both (Moves list leftover list' leftover') old.modeled new.modeled → IfModeled old.modeled (λ _. (list' ≡ list ++ spelling_of row ∷ []) × (leftover' ≡ [])) → tick ≡ new.ticks → new.faults ≡ old.faults → IsCounted old → IsCounted new → ended' ≡ true → left' ≡ lefts.Nothing → settled' ≡ settled_after left' → IsLogged on more grown phases new list' leftover' ended' left' settled'
+logged_row on kept more base grown phases tag number tick row old new list leftover list' leftover' ended ended' left left' settled settled' h e g t n moves appended at same was counted end none set = record {
+  modeled = named_row kept more base grown phases tag number tick row h.modeled e g t n;
+  backed = subst (λ s. IsBacked s new list' leftover' ended' left' settled') (sym state)
+      (backed_commit (logged_state on kept base phases) row tick old new list leftover list' leftover' ended ended' left left' settled settled' h.backed moves appended at same was counted end none set);
 }
   where
-    state : state_kept on more grown phases ≡ after (state_kept on kept base phases) (story_steps.Commit row tick)
-    state = ap (λ xs. state_kept on xs grown phases) e ∙ ap (λ ys. state_kept on (kept ++ steps.Commit tag number tick ∷ []) ys phases) g
+    state : logged_state on more grown phases ≡ after (logged_state on kept base phases) (story_steps.Commit row tick)
+    state = ap (λ xs. logged_state on xs grown phases) e ∙ ap (λ ys. logged_state on (kept ++ steps.Commit tag number tick ∷ []) ys phases) g
         ∙ ap (λ rows. state_of (story_of on (kept ++ steps.Commit tag number tick ∷ []) rows phases)) (oldest_more row base)
-        ∙ ap state_of (story_of-commit on kept (oldest_first base) phases tag number tick row h.told)
+        ∙ ap state_of (story_of-commit on kept (oldest_first base) phases tag number tick row h.modeled)
         ∙ state_from-more start (story_of on kept (oldest_first base) phases) (story_steps.Commit row tick)
 
 -- a phase began
-pub logged_phase : (on : Handed) (kept more : List Step) (base : Base) (phases grown : List Phase) (number moment : ℕ) (phase : Phase) (sight : Sight) (list loose : List (List ℕ)) (ended : Bool) (left : Left) (settled : Bool) → IsLogged on kept base phases sight list loose ended left settled → more ≡ kept ++ steps.PhaseBegun number moment ∷ [] → grown ≡ phases ++ phase ∷ [] → number ≡ length phases + 1 → IsLogged on more base grown sight list loose ended left settled
-logged_phase on kept more base phases grown number moment phase sight list loose ended left settled h e g n = record {
-  told = told_phase kept more base phases grown number moment phase h.told e g n;
-  backed = subst (λ s. IsBacked s sight list loose ended left settled) (sym state)
-      (backed_same (state_kept on kept base phases) (after (state_kept on kept base phases) (story_steps.PhaseBegun phase moment)) sight list loose ended left settled refl refl refl h.backed);
+pub logged_phase : (on : Handed) (kept more : List Step) (base : Base) (phases grown : List Phase) (number moment : ℕ) (phase : Phase) (ghost_state : DiskState) (list leftover : List (List ℕ)) (ended : Bool) (left : Left) (settled : Bool) → IsLogged on kept base phases ghost_state list leftover ended left settled → more ≡ kept ++ steps.PhaseBegun number moment ∷ [] → grown ≡ phases ++ phase ∷ [] → number ≡ length phases + 1 → IsLogged on more base grown ghost_state list leftover ended left settled
+logged_phase on kept more base phases grown number moment phase ghost_state list leftover ended left settled h e g n = record {
+  modeled = named_phase kept more base phases grown number moment phase h.modeled e g n;
+  backed = subst (λ s. IsBacked s ghost_state list leftover ended left settled) (sym state)
+      (backed_same (logged_state on kept base phases) (after (logged_state on kept base phases) (story_steps.PhaseBegun phase moment)) ghost_state list leftover ended left settled refl refl refl h.backed);
 }
   where
-    state : state_kept on more base grown ≡ after (state_kept on kept base phases) (story_steps.PhaseBegun phase moment)
-    state = ap (λ xs. state_kept on xs base grown) e ∙ ap (λ ys. state_kept on (kept ++ steps.PhaseBegun number moment ∷ []) base ys) g
-        ∙ ap state_of (story_of-phase on kept (oldest_first base) phases number moment phase h.told)
+    state : logged_state on more base grown ≡ after (logged_state on kept base phases) (story_steps.PhaseBegun phase moment)
+    state = ap (λ xs. logged_state on xs base grown) e ∙ ap (λ ys. logged_state on (kept ++ steps.PhaseBegun number moment ∷ []) base ys) g
+        ∙ ap state_of (story_of-phase on kept (oldest_first base) phases number moment phase h.modeled)
         ∙ state_from-more start (story_of on kept (oldest_first base) phases) (story_steps.PhaseBegun phase moment)
 
 -- a step is told that stands alone
-state_step : (on : Handed) (kept more : List Step) (base : Base) (phases : List Phase) (step : Step) → AreTold 1 0 kept (oldest_first base) phases → stands_alone step ≡ true → more ≡ kept ++ step ∷ [] → state_kept on more base phases ≡ after (state_kept on kept base phases) (story_steps.Other step)
+state_step : (on : Handed) (kept more : List Step) (base : Base) (phases : List Phase) (step : Step) → AreNamedBySteps 1 0 kept (oldest_first base) phases → stands_alone step ≡ true → more ≡ kept ++ step ∷ [] → logged_state on more base phases ≡ after (logged_state on kept base phases) (story_steps.Other step)
 state_step on kept more base phases step h alone e =
-    ap (λ xs. state_kept on xs base phases) e
+    ap (λ xs. logged_state on xs base phases) e
     ∙ ap state_of (story_of-step on kept (oldest_first base) phases step h alone)
     ∙ state_from-more start (story_of on kept (oldest_first base) phases) (story_steps.Other step)
 
-pub logged_step : (on : Handed) (kept more : List Step) (base : Base) (phases : List Phase) (step : Step) (sight : Sight) (list loose : List (List ℕ)) (ended : Bool) (left : Left) (settled : Bool) → IsLogged on kept base phases sight list loose ended left settled → stands_alone step ≡ true → is_fault (story_steps.Other step) ≡ false → more ≡ kept ++ step ∷ [] → IsLogged on more base phases sight list loose ended left settled
-logged_step on kept more base phases step sight list loose ended left settled h alone quiet e = record {
-  told = is_told_step kept more base phases step h.told alone e;
-  backed = subst (λ s. IsBacked s sight list loose ended left settled) (sym (state_step on kept more base phases step h.told alone e))
-      (let s = state_kept on kept base phases in
-      backed_same s (after s (story_steps.Other step)) sight list loose ended left settled (quiet_opened s step alone quiet) (quiet_base s step alone quiet) (quiet_ends s step alone quiet) h.backed);
+pub logged_step : (on : Handed) (kept more : List Step) (base : Base) (phases : List Phase) (step : Step) (ghost_state : DiskState) (list leftover : List (List ℕ)) (ended : Bool) (left : Left) (settled : Bool) → IsLogged on kept base phases ghost_state list leftover ended left settled → stands_alone step ≡ true → is_fault (story_steps.Other step) ≡ false → more ≡ kept ++ step ∷ [] → IsLogged on more base phases ghost_state list leftover ended left settled
+logged_step on kept more base phases step ghost_state list leftover ended left settled h alone quiet e = record {
+  modeled = is_named_step kept more base phases step h.modeled alone e;
+  backed = subst (λ s. IsBacked s ghost_state list leftover ended left settled) (sym (state_step on kept more base phases step h.modeled alone e))
+      (let s = logged_state on kept base phases in
+      backed_same s (after s (story_steps.Other step)) ghost_state list leftover ended left settled (quiet_opened s step alone quiet) (quiet_base s step alone quiet) (quiet_ends s step alone quiet) h.backed);
 }
 
 -- the disk failed
-pub logged_fault : (on : Handed) (kept more : List Step) (base : Base) (phases : List Phase) (tag : Tag) (row : Plain) (earlier found : Option Plain) (before faults tick : ℕ) (old new : Sight) (list loose list' loose' : List (List ℕ)) (ended ended' : Bool) (left left' : Left) (settled settled' : Bool) → IsLogged on kept base phases old list loose ended left settled → more ≡ kept ++ steps.Fault tag found before faults tick ∷ [] → Both (Moves list loose list' loose') old.told new.told → IfTold old.told (λ _. (list' ≡ list) × (loose' ≡ loose_after left' loose (spelled row))) → earlier ≡ left_in kept → LeftSo earlier row left' found → tick ≡ new.ticks → faults ≡ new.faults → IsCounted old → IsCounted new → ended' ≡ true → settled' ≡ settled_after left' → (left' ≡ lefts.Earlier → settled ≡ false) → IsLogged on more base phases new list' loose' ended' left' settled'
-logged_fault on kept more base phases tag row earlier found before faults tick old new list loose list' loose' ended ended' left left' settled settled' h e moves stays copied so at counts was counted end set ajar = record {
-  told = is_told_step kept more base phases (steps.Fault tag found before faults tick) h.told refl e;
-  backed = subst (λ t. IsBacked t new list' loose' ended' left' settled') (sym (state_step on kept more base phases (steps.Fault tag found before faults tick) h.told refl e))
-      (let s = state_kept on kept base phases in
-      backed_fault s tag row found before faults tick old new list loose list' loose' ended ended' left left' settled settled' (after s (story_steps.Other (steps.Fault tag found before faults tick))) refl refl refl h.backed moves stays
-      (subst (λ o. LeftSo o row left' found) (copied ∙ sym (hanging_is on 1 0 kept (oldest_first base) phases start h.told)) so) at counts was counted end set ajar);
+pub logged_fault : (on : Handed) (kept more : List Step) (base : Base) (phases : List Phase) (tag : Tag) (row : Plain) (earlier found : Option Plain) (before faults tick : ℕ) (old new : DiskState) (list leftover list' leftover' : List (List ℕ)) (ended ended' : Bool) (left left' : Left) (settled settled' : Bool) → IsLogged on kept base phases old list leftover ended left settled → more ≡ kept ++ steps.Fault tag found before faults tick ∷ [] → Both (Moves list leftover list' leftover') old.modeled new.modeled → IfModeled old.modeled (λ _. (list' ≡ list) × (leftover' ≡ leftover_after left' leftover (spelling_of row))) → earlier ≡ left_in kept → LeftSo earlier row left' found → tick ≡ new.ticks → faults ≡ new.faults → IsCounted old → IsCounted new → ended' ≡ true → settled' ≡ settled_after left' → (left' ≡ lefts.Earlier → settled ≡ false) → IsLogged on more base phases new list' leftover' ended' left' settled'
+logged_fault on kept more base phases tag row earlier found before faults tick old new list leftover list' leftover' ended ended' left left' settled settled' h e moves stays copied so at counts was counted end set ajar = record {
+  modeled = is_named_step kept more base phases (steps.Fault tag found before faults tick) h.modeled refl e;
+  backed = subst (λ t. IsBacked t new list' leftover' ended' left' settled') (sym (state_step on kept more base phases (steps.Fault tag found before faults tick) h.modeled refl e))
+      (let s = logged_state on kept base phases in
+      backed_fault s tag row found before faults tick old new list leftover list' leftover' ended ended' left left' settled settled' (after s (story_steps.Other (steps.Fault tag found before faults tick))) refl refl refl h.backed moves stays
+      (subst (λ o. LeftSo o row left' found) (copied ∙ sym (hanging_is on 1 0 kept (oldest_first base) phases start h.modeled)) so) at counts was counted end set ajar);
 }

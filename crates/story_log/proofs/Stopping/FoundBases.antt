@@ -10,7 +10,7 @@ use Rattle.cc_names.specs.declared.steps.Step.TheVariants as steps
 use Rattle.cc_names.specs.declared.steps.StoryStep.{StoryStep}
 use Rattle.cc_names.specs.declared.steps.StoryStep.TheVariants as story_steps
 use Rattle.disk_model.specs.Devices.{Device, bytes_of}
-use Rattle.disk_model.specs.Told.{Sight, IfTold}
+use Rattle.disk_model.specs.DiskStates.{DiskState, IfModeled}
 use Rattle.vob_journal.specs.Frames.{frames}
 use Rattle.base_model.specs.Rows.{Base}
 use Rattle.base_model.specs.Fits.{is_base}
@@ -26,7 +26,7 @@ use Rattle.story_log.specs.Story.Handed.{Handed}
 use Rattle.story_log.specs.Bases.Opening.{IsBaseOn, IsUndamaged}
 use Rattle.story_log.specs.Story.Formed.{NamesOnly, TellsOnly}
 use Rattle.story_log.specs.Stopping.Standing.{payloads, base_by, left_after, left_within, StandsFor, MayBeFound}
-use Rattle.legal_history.proofs.Stories.Fronts.{first_opens}
+use Rattle.legal_history.proofs.Stories.Prefixes.{first_opens}
 use Rattle.story_log.proofs.Bases.Damages.{same_base, undamaged}
 use Rattle.story_log.proofs.Story.Growing.{state_from-more, legal_more}
 use Rattle.story_log.proofs.Cases.{some_same}
@@ -77,10 +77,10 @@ one_more P opening end ends old new behind within h k found (inr earlier) = by e
     by (inr two) = stands_base P opening (base_by opening ends) (left_within end) found old within two.1
 
 -- what a stop leaves of a legal story is such a base
-only_left : (P : Plain → Type 0) → Laws → (front : List StoryStep) (opening : Opening) (b : Base) → Legal front → (state_of front).opened ≡ Some opening → IsLeftByStop (state_of front) b → AllByRecursion P b → IsOnly P opening b
-only_left P laws front opening b legal opened left each = record {
-  good = laws.base front b legal left;
-  sound = λ sound. laws.sound front opening b legal opened sound left;
+only_left : (P : Plain → Type 0) → Laws → (prefix : List StoryStep) (opening : Opening) (b : Base) → Legal prefix → (state_of prefix).opened ≡ Some opening → IsLeftByStop (state_of prefix) b → AllByRecursion P b → IsOnly P opening b
+only_left P laws prefix opening b legal opened left each = record {
+  good = laws.base prefix b legal left;
+  sound = λ sound. laws.sound prefix opening b legal opened sound left;
   each = each;
 }
 
@@ -94,20 +94,20 @@ stays_found P s t opening opened base ends h = record {
 }
 
 -- a fault leaves what fits
-left_fits : (P : Plain → Type 0) → Laws → (front : List StoryStep) (opening : Opening) (tag : Tag) (left : Option Plain) → Legal front → IsFound P (state_of front) opening → LeavesRow (state_of front) tag left → IfSome left P → FitsBehind P opening (state_of front).base left
-left_fits P laws front opening tag None legal h leaves named = tt
-left_fits P laws front opening tag (Some row) legal h (inl own) named =
-    only_left P laws front opening (row ∷ (state_of front).base) legal h.opened (WithRowInFlight row own.1 refl) (named, h.only.each)
-left_fits P laws front opening tag (Some row) legal h (inr earlier) named =
-    only_left P laws front opening (row ∷ (state_of front).base) legal h.opened (WithRowLeft row earlier refl) (named, h.only.each)
+left_fits : (P : Plain → Type 0) → Laws → (prefix : List StoryStep) (opening : Opening) (tag : Tag) (left : Option Plain) → Legal prefix → IsFound P (state_of prefix) opening → LeavesRow (state_of prefix) tag left → IfSome left P → FitsBehind P opening (state_of prefix).base left
+left_fits P laws prefix opening tag None legal h leaves named = tt
+left_fits P laws prefix opening tag (Some row) legal h (inl own) named =
+    only_left P laws prefix opening (row ∷ (state_of prefix).base) legal h.opened (WithRowInFlight row own.1 refl) (named, h.only.each)
+left_fits P laws prefix opening tag (Some row) legal h (inr earlier) named =
+    only_left P laws prefix opening (row ∷ (state_of prefix).base) legal h.opened (WithRowLeft row earlier refl) (named, h.only.each)
 
 -- each lawful step keeps it
-step_found : (P : Plain → Type 0) → Laws → (front : List StoryStep) (opening : Opening) (x : StoryStep) → Legal front → Lawful (state_of front) x → NamesOnly P x → IsFound P (state_of front) opening → IsFound P (after (state_of front) x) opening
-step_found P laws front opening (story_steps.Opened rows counts tells) legal lawful named h = absurd (let closed : is_some (state_of front).opened ≡ false = lawful.first in let open_ : is_some (state_of front).opened ≡ true = ap is_some h.opened in cc)
-step_found P laws front opening (story_steps.PhaseBegun phase moment) legal lawful named h = stays_found P (state_of front) (after (state_of front) (story_steps.PhaseBegun phase moment)) opening refl refl refl h
-step_found P laws front opening (story_steps.Commit row tick) legal lawful named h =
-    let s = state_of front in
-    let grown : IsOnly P opening (row ∷ s.base) = only_left P laws front opening (row ∷ s.base) legal h.opened (WithRowInFlight row lawful.may refl) (named, h.only.each) in
+step_found : (P : Plain → Type 0) → Laws → (prefix : List StoryStep) (opening : Opening) (x : StoryStep) → Legal prefix → Lawful (state_of prefix) x → NamesOnly P x → IsFound P (state_of prefix) opening → IsFound P (after (state_of prefix) x) opening
+step_found P laws prefix opening (story_steps.Opened rows counts tells) legal lawful named h = absurd (let closed : is_some (state_of prefix).opened ≡ false = lawful.first in let open_ : is_some (state_of prefix).opened ≡ true = ap is_some h.opened in cc)
+step_found P laws prefix opening (story_steps.PhaseBegun phase moment) legal lawful named h = stays_found P (state_of prefix) (after (state_of prefix) (story_steps.PhaseBegun phase moment)) opening refl refl refl h
+step_found P laws prefix opening (story_steps.Commit row tick) legal lawful named h =
+    let s = state_of prefix in
+    let grown : IsOnly P opening (row ∷ s.base) = only_left P laws prefix opening (row ∷ s.base) legal h.opened (WithRowInFlight row lawful.may refl) (named, h.only.each) in
     let by : IsOnly P opening (row ∷ base_by opening s.ends) = subst (λ b. IsOnly P opening (row ∷ b)) h.base grown in
     record {
       opened = h.opened;
@@ -115,9 +115,9 @@ step_found P laws front opening (story_steps.Commit row tick) legal lawful named
       only = grown;
       found = one_more P opening (Committed row tick) s.ends (subst (IsOnly P opening) h.base h.only) by tt by h.found;
     }
-step_found P laws front opening (story_steps.Other (steps.Fault tag left before faults tick)) legal lawful named h =
-    let s = state_of front in
-    let by : FitsBehind P opening (base_by opening s.ends) left = subst (λ b. FitsBehind P opening b left) h.base (left_fits P laws front opening tag left legal h lawful.leaves named) in
+step_found P laws prefix opening (story_steps.Other (steps.Fault tag left before faults tick)) legal lawful named h =
+    let s = state_of prefix in
+    let by : FitsBehind P opening (base_by opening s.ends) left = subst (λ b. FitsBehind P opening b left) h.base (left_fits P laws prefix opening tag left legal h lawful.leaves named) in
     let only : IsOnly P opening (base_by opening s.ends) = subst (IsOnly P opening) h.base h.only in
     record {
       opened = h.opened;
@@ -125,22 +125,22 @@ step_found P laws front opening (story_steps.Other (steps.Fault tag left before 
       only = h.only;
       found = one_more P opening (Faulted left faults tick) s.ends only only by by h.found;
     }
-step_found P laws front opening (story_steps.Other (steps.Refused tag refusal)) legal lawful named h = stays_found P (state_of front) (after (state_of front) (story_steps.Other (steps.Refused tag refusal))) opening refl refl refl h
-step_found P laws front opening (story_steps.Other (steps.Answer tag text)) legal lawful named h = stays_found P (state_of front) (after (state_of front) (story_steps.Other (steps.Answer tag text))) opening refl refl refl h
-step_found P laws front opening (story_steps.Other (steps.Begin tag rows units)) legal lawful named h = stays_found P (state_of front) (after (state_of front) (story_steps.Other (steps.Begin tag rows units))) opening refl refl refl h
-step_found P laws front opening (story_steps.Other (steps.Start tag unit)) legal lawful named h = stays_found P (state_of front) (after (state_of front) (story_steps.Other (steps.Start tag unit))) opening refl refl refl h
-step_found P laws front opening (story_steps.Other (steps.Concluded tag unit outcome)) legal lawful named h = stays_found P (state_of front) (after (state_of front) (story_steps.Other (steps.Concluded tag unit outcome))) opening refl refl refl h
-step_found P laws front opening (story_steps.Other (steps.End tag)) legal lawful named h = stays_found P (state_of front) (after (state_of front) (story_steps.Other (steps.End tag))) opening refl refl refl h
-step_found P laws front opening (story_steps.Other step) legal lawful named h = absurd lawful
+step_found P laws prefix opening (story_steps.Other (steps.Refused tag refusal)) legal lawful named h = stays_found P (state_of prefix) (after (state_of prefix) (story_steps.Other (steps.Refused tag refusal))) opening refl refl refl h
+step_found P laws prefix opening (story_steps.Other (steps.Answer tag text)) legal lawful named h = stays_found P (state_of prefix) (after (state_of prefix) (story_steps.Other (steps.Answer tag text))) opening refl refl refl h
+step_found P laws prefix opening (story_steps.Other (steps.Begin tag rows units)) legal lawful named h = stays_found P (state_of prefix) (after (state_of prefix) (story_steps.Other (steps.Begin tag rows units))) opening refl refl refl h
+step_found P laws prefix opening (story_steps.Other (steps.Start tag unit)) legal lawful named h = stays_found P (state_of prefix) (after (state_of prefix) (story_steps.Other (steps.Start tag unit))) opening refl refl refl h
+step_found P laws prefix opening (story_steps.Other (steps.Concluded tag unit outcome)) legal lawful named h = stays_found P (state_of prefix) (after (state_of prefix) (story_steps.Other (steps.Concluded tag unit outcome))) opening refl refl refl h
+step_found P laws prefix opening (story_steps.Other (steps.End tag)) legal lawful named h = stays_found P (state_of prefix) (after (state_of prefix) (story_steps.Other (steps.End tag))) opening refl refl refl h
+step_found P laws prefix opening (story_steps.Other step) legal lawful named h = absurd lawful
 
 -- and so does the rest of a legal story
-all_found : (P : Plain → Type 0) → Laws → (front rest : List StoryStep) (opening : Opening) → Legal front → LegalFrom (state_of front) rest → TellsOnly P rest → IsFound P (state_of front) opening → IsFound P (state_of (front ++ rest)) opening
-all_found P laws front [] opening legal more named h = subst (λ t. IsFound P (state_of t) opening) (sym (append-nil front)) h
-all_found P laws front (x ∷ rest) opening legal more named h =
-    let one : state_of (front ++ x ∷ []) ≡ after (state_of front) x = state_from-more start front x in
-    subst (λ t. IsFound P (state_of t) opening) (append_assoc front (x ∷ []) rest)
-    (all_found P laws (front ++ x ∷ []) rest opening (legal_more start front x legal more.0) (subst (λ t. LegalFrom t rest) (sym one) more.1) named.1
-    (subst (λ t. IsFound P t opening) (sym one) (step_found P laws front opening x legal more.0 named.0 h)))
+all_found : (P : Plain → Type 0) → Laws → (prefix rest : List StoryStep) (opening : Opening) → Legal prefix → LegalFrom (state_of prefix) rest → TellsOnly P rest → IsFound P (state_of prefix) opening → IsFound P (state_of (prefix ++ rest)) opening
+all_found P laws prefix [] opening legal more named h = subst (λ t. IsFound P (state_of t) opening) (sym (append-nil prefix)) h
+all_found P laws prefix (x ∷ rest) opening legal more named h =
+    let one : state_of (prefix ++ x ∷ []) ≡ after (state_of prefix) x = state_from-more start prefix x in
+    subst (λ t. IsFound P (state_of t) opening) (append_assoc prefix (x ∷ []) rest)
+    (all_found P laws (prefix ++ x ∷ []) rest opening (legal_more start prefix x legal more.0) (subst (λ t. LegalFrom t rest) (sym one) more.1) named.1
+    (subst (λ t. IsFound P t opening) (sym one) (step_found P laws prefix opening x legal more.0 named.0 h)))
 
 -- the first step of a legal story opens a base
 first_found : (P : Plain → Type 0) (x : StoryStep) → Lawful start x → NamesOnly P x → is_some (after start x).opened ≡ true → (opening : Opening) × IsFound P (after start x) opening
@@ -194,10 +194,10 @@ opens_again laws story opening k found legal named opened may =
     }
 
 -- the base that is opened on a disk that reads so is that one
-told_is : (told : Option Device) (device : Device) (P : Device → Type 0) → told ≡ Some device → IfTold told P → P device
-told_is told device P is h = subst (λ t. IfTold t P) is h
+modeled_is : (modeled : Option Device) (device : Device) (P : Device → Type 0) → modeled ≡ Some device → IfModeled modeled P → P device
+modeled_is modeled device P is h = subst (λ t. IfModeled t P) is h
 
-pub found_is_sound : (opened base : Base) (disk : Sight) (device : Device) (handed : Handed) → disk.told ≡ Some device → OpensAgain opened (frames (bytes_of 0 device)) → IsBaseOn disk base handed → IsSound opened → IsSound base
+pub found_is_sound : (opened base : Base) (disk : DiskState) (device : Device) (handed : Handed) → disk.modeled ≡ Some device → OpensAgain opened (frames (bytes_of 0 device)) → IsBaseOn disk base handed → IsSound opened → IsSound base
 found_is_sound opened base disk device handed is again on sound =
-    let spelled = told_is disk.told device (λ d. frames (bytes_of 0 d) ≡ payloads base) is on.found in
+    let spelled = modeled_is disk.modeled device (λ d. frames (bytes_of 0 d) ≡ payloads base) is on.found in
     subst IsSound (sym (again.one base on.formed spelled)) (again.sound sound)

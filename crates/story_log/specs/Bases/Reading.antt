@@ -3,11 +3,11 @@ use Rattle.std.specs.Prelude.{◌≡◌, ◌≤◌, ℕ, Bool, true, false, Opti
 use Rattle.cc_names.specs.Formed.{IsFormed, Plain}
 use Rattle.cc_names.specs.declared.rows.Deed.{Deed}
 use Rattle.disk_model.specs.Devices.{LeavesNow}
-use Rattle.disk_model.specs.Told.{Sight, IfTold, Both}
+use Rattle.disk_model.specs.DiskStates.{DiskState, IfModeled, Both}
 use Rattle.base_model.specs.Rows.{Base, size}
 use Rattle.base_model.specs.Fits.{fits, is_base}
 use Rattle.cc_names.specs.Counts.{rises}
-use Rattle.row_form.specs.Spelled.{spelled}
+use Rattle.row_form.specs.Spelled.{spelling_of}
 use Rattle.vob_journal.specs.Added.{Adds, may_read}
 use Rattle.vob_journal.specs.Answered.{Gives}
 use Rattle.vob_journal.specs.Frames.{frames}
@@ -21,13 +21,13 @@ use Rattle.story_log.specs.declared.opening.OpenCause.{OpenCause}
 use Rattle.story_log.specs.declared.opening.OpenCause.TheVariants as causes
 
 -- What reading leaves of a journal with nothing loose: its list, which each stop since finds, and both files as they were.
-pub record OnlyReads {D : Type 0} (sight : D → Sight) (old new : Shown D) : Type 0 where
+pub record OnlyReads {D : Type 0} (ghost_state : D → DiskState) (old new : Shown D) : Type 0 where
   pub list : new.list ≡ old.list
   pub left : new.left ≡ old.left
-  pub ticks : (sight old.disk).ticks ≤ (sight new.disk).ticks
-  pub stops : Both (Moves old.list [] old.list []) (sight old.disk).told (sight new.disk).told
-  pub adds : Both (Adds may_read) (sight old.disk).told (sight new.disk).told
-  pub files : Both SameFiles (sight old.disk).told (sight new.disk).told
+  pub ticks : (ghost_state old.disk).ticks ≤ (ghost_state new.disk).ticks
+  pub stops : Both (Moves old.list [] old.list []) (ghost_state old.disk).modeled (ghost_state new.disk).modeled
+  pub adds : Both (Adds may_read) (ghost_state old.disk).modeled (ghost_state new.disk).modeled
+  pub files : Both SameFiles (ghost_state old.disk).modeled (ghost_state new.disk).modeled
 
 -- the end of a list was read where nothing was found
 abbrev pub EndsAt : Option (List ℕ) → Bool → Type 0
@@ -35,11 +35,11 @@ EndsAt None ended = ended ≡ true
 EndsAt (Some payload) ended = Unit {0}
 
 -- the next payload, or the end of the list, and nothing is loose there either
-pub record NextIs {D : Type 0} (sight : D → Sight) (found : Option (List ℕ)) (old new : Shown D) : Type 0 where
-  pub loose : new.loose ≡ []
+pub record NextIs {D : Type 0} (ghost_state : D → DiskState) (found : Option (List ℕ)) (old new : Shown D) : Type 0 where
+  pub leftover : new.leftover ≡ []
   pub ends : EndsAt found new.ended
-  pub sound : (sight new.disk).faults ≡ (sight old.disk).faults
-  pub gives : IfTold (sight old.disk).told (λ _. Gives found old.rest new.rest)
+  pub sound : (ghost_state new.disk).faults ≡ (ghost_state old.disk).faults
+  pub gives : IfModeled (ghost_state old.disk).modeled (λ _. Gives found old.rest new.rest)
 
 -- why no payload was read, with the disk's counts of faults before and after
 abbrev pub IsMissed : OpenCause → ℕ → ℕ → Type 0
@@ -55,7 +55,7 @@ IsMisfit b deed causes.NoMemory = Unit {0}
 
 -- a payload spells this row, which is formed and fits a base
 pub record IsNextRow (b : Base) (payload : List ℕ) (row : Plain) : Type 0 where
-  pub spells : payload ≡ spelled row
+  pub spells : payload ≡ spelling_of row
   pub formed : IsFormed row
   pub fits : fits b row.deed ≡ true
 
@@ -66,20 +66,20 @@ IsNoRow b payload causes.DiskFault = ⊥
 IsNoRow b payload causes.NoMemory = Unit {0}
 
 -- What was read so far is a base of formed rows, and the journal's list is theirs and what is still to be read.
-pub record IsReadSoFar {D : Type 0} (sight : D → Sight) (base : Base) (journal : Shown D) : Type 0 where
+pub record IsReadSoFar {D : Type 0} (ghost_state : D → DiskState) (base : Base) (journal : Shown D) : Type 0 where
   pub good : is_base base ≡ true
   pub formed : AreFormed base
-  pub loose : journal.loose ≡ []
-  pub now : IfTold (sight journal.disk).told (λ d. (image : List ℕ) → LeavesNow 0 d image → frames image ≡ journal.list)
-  pub list_is : IfTold (sight journal.disk).told (λ _. journal.list ≡ payloads base ++ journal.rest)
+  pub leftover : journal.leftover ≡ []
+  pub now : IfModeled (ghost_state journal.disk).modeled (λ d. (image : List ℕ) → LeavesNow 0 d image → frames image ≡ journal.list)
+  pub list_is : IfModeled (ghost_state journal.disk).modeled (λ _. journal.list ≡ payloads base ++ journal.rest)
 
 -- the whole journal was read: its list is that of this base
-pub record IsReadThrough {D : Type 0} (sight : D → Sight) (base : Base) (journal : Shown D) : Type 0 where
-  pub so_far : IsReadSoFar sight base journal
+pub record IsReadThrough {D : Type 0} (ghost_state : D → DiskState) (base : Base) (journal : Shown D) : Type 0 where
+  pub so_far : IsReadSoFar ghost_state base journal
   pub ended : journal.ended ≡ true
-  pub nothing : IfTold (sight journal.disk).told (λ _. journal.rest ≡ [])
+  pub nothing : IfModeled (ghost_state journal.disk).modeled (λ _. journal.rest ≡ [])
 
 -- behind the base that was read there is one more row, or the end
-abbrev pub ReadsOn : {D : Type 0} → (D → Sight) → Base → Option Plain → Shown D → Type 0
-ReadsOn sight base None journal = IsReadThrough sight base journal
-ReadsOn sight base (Some row) journal = IsReadSoFar sight (row ∷ base) journal
+abbrev pub ReadsOn : {D : Type 0} → (D → DiskState) → Base → Option Plain → Shown D → Type 0
+ReadsOn ghost_state base None journal = IsReadThrough ghost_state base journal
+ReadsOn ghost_state base (Some row) journal = IsReadSoFar ghost_state (row ∷ base) journal

@@ -6,13 +6,13 @@ use Rattle.cc_names.specs.declared.steps.Step.TheVariants as steps
 use Rattle.cc_names.specs.declared.steps.StoryStep.TheVariants as story_steps
 use Rattle.disk_model.specs.Counting.{next_count}
 use Rattle.disk_model.specs.Devices.{Device}
-use Rattle.disk_model.specs.Told.{Sight, Both, IsCounted}
+use Rattle.disk_model.specs.DiskStates.{DiskState, Both, IsCounted}
 use Rattle.legal_history.specs.Stories.States.{State, ticks_of, faults_of, hanging}
 use Rattle.legal_history.specs.Stories.Steps.{state_of}
 use Rattle.cc_names.specs.Counts.{rises}
-use Rattle.row_form.specs.Spelled.{spelled}
+use Rattle.row_form.specs.Spelled.{spelling_of}
 use Rattle.vob_journal.specs.Added.{WritesOn}
-use Rattle.vob_journal.specs.Calls.{committed}
+use Rattle.vob_journal.specs.Calls.{device_after_commit}
 use Rattle.story_log.specs.Story.Faults.{is_fault}
 use Rattle.story_log.specs.Logging.Logs.{Logged, with_row, with_step, with_step_on}
 use Rattle.story_log.specs.Story.Telling.{stands_alone}
@@ -26,21 +26,21 @@ MayLeaveRow s row (Some left) = (left ≡ row) ⊎ (hanging s.ends ≡ Some left
 
 -- the calls that commit a row behind a tail, and no others
 abbrev pub CommitsRow : Plain → Device → Device → Type 0
-CommitsRow row d e = (settled : Bool) × (tail : ℕ) × (e ≡ committed settled tail (spelled row) d)
+CommitsRow row d e = (settled : Bool) × (tail : ℕ) × (e ≡ device_after_commit settled tail (spelling_of row) d)
 
 -- the row was committed at a later tick than any end before
 pub record IsCommitted (old new : Logged) (row : Plain) : Type 0 where
   pub tick : ℕ
-  pub sight : Sight
+  pub ghost_state : DiskState
   pub formed : IsFormed row
-  pub grows : new ≡ with_row old row tick sight
+  pub grows : new ≡ with_row old row tick ghost_state
   pub ticked : rises (ticks_of (state_of old.story).opened (state_of old.story).ends) tick ≡ true
-  pub at : tick ≡ sight.ticks
-  pub spent : old.sight.ticks < tick
-  pub faults : sight.faults ≡ old.sight.faults
-  pub fit : IsCounted sight
-  pub writes : Both WritesOn old.sight.told sight.told
-  pub calls : Both (CommitsRow row) old.sight.told sight.told
+  pub at : tick ≡ ghost_state.ticks
+  pub spent : old.ghost_state.ticks < tick
+  pub faults : ghost_state.faults ≡ old.ghost_state.faults
+  pub fit : IsCounted ghost_state
+  pub writes : Both WritesOn old.ghost_state.modeled ghost_state.modeled
+  pub calls : Both (CommitsRow row) old.ghost_state.modeled ghost_state.modeled
 
 -- a step that names no row and no phase, and is no fault of the disk
 abbrev pub IsQuiet : Step → Type 0
@@ -57,20 +57,20 @@ pub record IsFaulted (old new : Logged) (row : Plain) (ending : Option Step) : T
   pub before : ℕ
   pub faults : ℕ
   pub tick : ℕ
-  pub sight : Sight
+  pub ghost_state : DiskState
   pub formed : IsFormed row
-  pub grows : new ≡ with_ending (with_step_on old (steps.Fault row.tag left before faults tick) sight) ending
+  pub grows : new ≡ with_ending (with_step_on old (steps.Fault row.tag left before faults tick) ghost_state) ending
   pub rose : rises before faults ≡ true
   pub later : faults_of (state_of old.story).opened (state_of old.story).ends ≤ before
   pub leaves : MayLeaveRow (state_of old.story) row left
   pub ticked : rises (ticks_of (state_of old.story).opened (state_of old.story).ends) tick ≡ true
-  pub counted : before ≡ old.sight.faults
+  pub counted : before ≡ old.ghost_state.faults
   pub one : faults ≡ next_count before
-  pub told : faults ≡ sight.faults
-  pub at : tick ≡ sight.ticks
-  pub spent : rises old.sight.ticks tick ≡ true
-  pub fit : IsCounted sight
-  pub writes : Both WritesOn old.sight.told sight.told
+  pub modeled : faults ≡ ghost_state.faults
+  pub at : tick ≡ ghost_state.ticks
+  pub spent : rises old.ghost_state.ticks tick ≡ true
+  pub fit : IsCounted ghost_state
+  pub writes : Both WritesOn old.ghost_state.modeled ghost_state.modeled
 
 -- what became of a row
 abbrev pub Appends : Logged → Logged → Plain → Option Step → Appended → Type 0

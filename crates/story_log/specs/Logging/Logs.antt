@@ -5,13 +5,13 @@ use Rattle.cc_names.specs.declared.commands.Phase.{Phase}
 use Rattle.cc_names.specs.declared.steps.Step.{Step}
 use Rattle.cc_names.specs.declared.steps.StoryStep.{StoryStep}
 use Rattle.cc_names.specs.declared.steps.StoryStep.TheVariants as story_steps
-use Rattle.disk_model.specs.Told.{Sight}
+use Rattle.disk_model.specs.DiskStates.{DiskState}
 use Rattle.base_model.specs.Rows.{Base}
 use Rattle.legal_history.specs.Stories.Steps.{state_of}
 use Rattle.vob_journal.specs.declared.left.Left.{Left}
 use Rattle.story_log.specs.Stopping.Backed.{IsBacked}
 use Rattle.story_log.specs.Story.Handed.{Handed}
-use Rattle.story_log.specs.Story.Telling.{story_of, AreTold}
+use Rattle.story_log.specs.Story.Telling.{story_of, AreNamedBySteps}
 use Rattle.base_rows.specs.Order.{oldest_first}
 
 -- a story, oldest step first, with the base to which it has led and all phases, in their order, and what contracts see of the
@@ -20,36 +20,36 @@ pub record Logged : Type 0 where
   pub story : List StoryStep
   pub base : Base
   pub phases : List Phase
-  pub sight : Sight
+  pub ghost_state : DiskState
 
 -- the steps tell all rows of the base and all phases, and the journal is that of their story
-pub record IsLogged (handed : Handed) (steps : List Step) (base : Base) (phases : List Phase) (sight : Sight) (list loose : List (List ℕ)) (ended : Bool) (left : Left) (settled : Bool) : Type 0 where
-  pub told : AreTold 1 0 steps (oldest_first base) phases
-  pub backed : IsBacked (state_of (story_of handed steps (oldest_first base) phases)) sight list loose ended left settled
+pub record IsLogged (handed : Handed) (steps : List Step) (base : Base) (phases : List Phase) (ghost_state : DiskState) (list leftover : List (List ℕ)) (ended : Bool) (left : Left) (settled : Bool) : Type 0 where
+  pub modeled : AreNamedBySteps 1 0 steps (oldest_first base) phases
+  pub backed : IsBacked (state_of (story_of handed steps (oldest_first base) phases)) ghost_state list leftover ended left settled
 
 -- this base was opened
-abbrev pub opened_log : Base → Handed → Sight → Logged
-opened_log base handed sight =
-    record { story = story_steps.Opened (oldest_first base) handed.counts handed.tells ∷ []; base = base; phases = []; sight = sight }
+abbrev pub opened_log : Base → Handed → DiskState → Logged
+opened_log base handed ghost_state =
+    record { story = story_steps.Opened (oldest_first base) handed.counts handed.tells ∷ []; base = base; phases = []; ghost_state = ghost_state }
 
 -- with a phase that began
 abbrev pub with_phase : Logged → Phase → ℕ → Logged
 with_phase log phase moment =
-    record { story = log.story ++ story_steps.PhaseBegun phase moment ∷ []; base = log.base; phases = log.phases ++ phase ∷ []; sight = log.sight }
+    record { story = log.story ++ story_steps.PhaseBegun phase moment ∷ []; base = log.base; phases = log.phases ++ phase ∷ []; ghost_state = log.ghost_state }
 
 -- with a row that was committed, acknowledged at this tick of the disk, which is then so
-abbrev pub with_row : Logged → Plain → ℕ → Sight → Logged
-with_row log row tick sight =
-    record { story = log.story ++ story_steps.Commit row tick ∷ []; base = row ∷ log.base; phases = log.phases; sight = sight }
+abbrev pub with_row : Logged → Plain → ℕ → DiskState → Logged
+with_row log row tick ghost_state =
+    record { story = log.story ++ story_steps.Commit row tick ∷ []; base = row ∷ log.base; phases = log.phases; ghost_state = ghost_state }
 
 -- with a step that is told as it stands
 abbrev pub with_step : Logged → Step → Logged
-with_step log step = record { story = log.story ++ story_steps.Other step ∷ []; base = log.base; phases = log.phases; sight = log.sight }
+with_step log step = record { story = log.story ++ story_steps.Other step ∷ []; base = log.base; phases = log.phases; ghost_state = log.ghost_state }
 
 -- with another state of the disk
-abbrev pub with_sight : Logged → Sight → Logged
-with_sight log sight = record { story = log.story; base = log.base; phases = log.phases; sight = sight }
+abbrev pub with_ghost_state : Logged → DiskState → Logged
+with_ghost_state log ghost_state = record { story = log.story; base = log.base; phases = log.phases; ghost_state = ghost_state }
 
 -- with such a step, while the disk changed
-abbrev pub with_step_on : Logged → Step → Sight → Logged
-with_step_on log step sight = record { story = log.story ++ story_steps.Other step ∷ []; base = log.base; phases = log.phases; sight = sight }
+abbrev pub with_step_on : Logged → Step → DiskState → Logged
+with_step_on log step ghost_state = record { story = log.story ++ story_steps.Other step ∷ []; base = log.base; phases = log.phases; ghost_state = ghost_state }

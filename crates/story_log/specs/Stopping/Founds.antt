@@ -2,7 +2,7 @@
 use Rattle.std.specs.Prelude.{◌≡◌, ℕ, true, Some, List}
 use Rattle.cc_names.specs.declared.steps.StoryStep.{StoryStep}
 use Rattle.disk_model.specs.Devices.{Device, bytes_of}
-use Rattle.disk_model.specs.Told.{Sight}
+use Rattle.disk_model.specs.DiskStates.{DiskState}
 use Rattle.base_model.specs.Rows.{Base}
 use Rattle.base_model.specs.Fits.{is_base}
 use Rattle.legal_history.specs.Builds.Values.{IsSound}
@@ -51,6 +51,6 @@ StopOpensAgain = (story : List StoryStep) (opening : Opening) (k : ℕ) (found :
 -- So who opens what was found begins on a sound base: whatever base is opened on a disk that reads so is sound, where the one
 -- was that had been opened before.
 abbrev pub FoundBaseIsSound : Type 0
-FoundBaseIsSound = (opened base : Base) (disk : Sight) (device : Device) (handed : Handed)
-    → disk.told ≡ Some device → OpensAgain opened (frames (bytes_of 0 device))
+FoundBaseIsSound = (opened base : Base) (disk : DiskState) (device : Device) (handed : Handed)
+    → disk.modeled ≡ Some device → OpensAgain opened (frames (bytes_of 0 device))
     → IsBaseOn disk base handed → IsSound opened → IsSound base

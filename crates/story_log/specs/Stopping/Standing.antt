@@ -3,12 +3,12 @@ use Rattle.std.specs.Prelude.{◌≡◌, ℕ, ◌<◌, ◌≤◌, ◌⊎◌, Opt
 use Rattle.cc_names.specs.Formed.{Plain}
 use Rattle.base_model.specs.Rows.{Base}
 use Rattle.legal_history.specs.Stories.States.{Opening, End, Committed, Faulted, ticks_of}
-use Rattle.row_form.specs.Spelled.{spelled}
+use Rattle.row_form.specs.Spelled.{spelling_of}
 
 -- the payloads that spell the rows of a base, from row 1 on
 abbrev pub payloads : Base → List (List ℕ)
 payloads [] = []
-payloads (row ∷ older) = payloads older ++ spelled row ∷ []
+payloads (row ∷ older) = payloads older ++ spelling_of row ∷ []
 
 -- a base with the row that a fault may have left behind it
 abbrev pub with_left : Option Plain → Base → Base

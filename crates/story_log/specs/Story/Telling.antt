@@ -22,16 +22,16 @@ story_of h (step ∷ more) rows phases = story_steps.Other step ∷ story_of h m
 
 -- The rows and the phases are those that the steps name, in their order, where rows are numbered from n on and p phases
 -- went before: each commit has its row's tag and number, each beginning of a phase the number of that phase.
-abbrev pub AreTold : ℕ → ℕ → List Step → List Plain → List Phase → Type 0
-AreTold n p [] [] [] = ⊤
-AreTold n p [] [] (phase ∷ phases) = ⊥
-AreTold n p [] (row ∷ rows) phases = ⊥
-AreTold n p (steps.Opened m ∷ more) rows phases = (1 ≤ m) × (m - 1 ≤ length rows) × AreTold (n + (m - 1)) p more (drop (m - 1) rows) phases
-AreTold n p (steps.PhaseBegun number moment ∷ more) rows [] = ⊥
-AreTold n p (steps.PhaseBegun number moment ∷ more) rows (phase ∷ phases) = (number ≡ p + 1) × AreTold n (p + 1) more rows phases
-AreTold n p (steps.Commit tag number tick ∷ more) [] phases = ⊥
-AreTold n p (steps.Commit tag number tick ∷ more) (row ∷ rows) phases = (row.tag ≡ tag) × (number ≡ n) × AreTold (n + 1) p more rows phases
-AreTold n p (step ∷ more) rows phases = AreTold n p more rows phases
+abbrev pub AreNamedBySteps : ℕ → ℕ → List Step → List Plain → List Phase → Type 0
+AreNamedBySteps n p [] [] [] = ⊤
+AreNamedBySteps n p [] [] (phase ∷ phases) = ⊥
+AreNamedBySteps n p [] (row ∷ rows) phases = ⊥
+AreNamedBySteps n p (steps.Opened m ∷ more) rows phases = (1 ≤ m) × (m - 1 ≤ length rows) × AreNamedBySteps (n + (m - 1)) p more (drop (m - 1) rows) phases
+AreNamedBySteps n p (steps.PhaseBegun number moment ∷ more) rows [] = ⊥
+AreNamedBySteps n p (steps.PhaseBegun number moment ∷ more) rows (phase ∷ phases) = (number ≡ p + 1) × AreNamedBySteps n (p + 1) more rows phases
+AreNamedBySteps n p (steps.Commit tag number tick ∷ more) [] phases = ⊥
+AreNamedBySteps n p (steps.Commit tag number tick ∷ more) (row ∷ rows) phases = (row.tag ≡ tag) × (number ≡ n) × AreNamedBySteps (n + 1) p more rows phases
+AreNamedBySteps n p (step ∷ more) rows phases = AreNamedBySteps n p more rows phases
 
 -- whether a step is told as it stands: it names no row and no phase
 abbrev pub stands_alone : Step → Bool
@@ -41,16 +41,16 @@ stands_alone (steps.Commit tag number tick) = false
 stands_alone step = true
 
 -- the rows of a story, in their order: those of the base that was opened, and that of each commit
-abbrev pub rows_told : List StoryStep → List Plain
-rows_told [] = []
-rows_told (story_steps.Opened rows counts tells ∷ story) = rows ++ rows_told story
-rows_told (story_steps.Commit row tick ∷ story) = row ∷ rows_told story
-rows_told (step ∷ story) = rows_told story
+abbrev pub rows_named : List StoryStep → List Plain
+rows_named [] = []
+rows_named (story_steps.Opened rows counts tells ∷ story) = rows ++ rows_named story
+rows_named (story_steps.Commit row tick ∷ story) = row ∷ rows_named story
+rows_named (step ∷ story) = rows_named story
 
 -- some steps tell a story, with the rows and phases that they name
 pub record TellsStory (kept : List Step) (story : List StoryStep) : Type 0 where
   pub handed : Handed
   pub rows : List Plain
   pub phases : List Phase
-  pub told : AreTold 1 0 kept rows phases
+  pub modeled : AreNamedBySteps 1 0 kept rows phases
   pub is : story ≡ story_of handed kept rows phases

@@ -1,7 +1,7 @@
 //! How often each script is run and asks the gate.
 
 use super::assert_session_at;
-use crate::gates::{Counting, Runs};
+use crate::hooks::{Counting, Runs};
 use crate::sessions::{ALONE, Runtime};
 use std::alloc::Global;
 use std::test::Fail;
@@ -39,9 +39,9 @@ fn assert_counts(
     reads: &[u64],
     case: &str,
 ) -> Result<(), Fail> {
-    let gate = Counting::new(runs);
-    assert_session_at(rt, alloc, &gate, ALONE, case)?;
-    assert!(rt; !gate.was_astray(), "in {case:?}");
+    let hook = Counting::new(runs);
+    assert_session_at(rt, alloc, &hook, ALONE, case)?;
+    assert!(rt; !hook.was_astray(), "in {case:?}");
     for (runs, reads) in runs.iter().zip(reads) {
         assert_eq!(rt; runs.counts(), (1, *reads, 1), "in {case:?}");
     }
@@ -88,7 +88,7 @@ status 0, 7 rows
 ";
 
 #[test]
-fn each_read_asks_the_gate(rt: HostRuntime) -> Result<(), Fail> {
+fn each_read_asks_the_hook(rt: HostRuntime) -> Result<(), Fail> {
     assert_counts(&rt, rt.alloc(), &[Runs::new("out")], &[4], OF_FOUR_FILES)
 }
 

@@ -1,12 +1,12 @@
 //! Scripts that meet: of two lanes and of one build, where a builder steals, and where a unit is released or laid twice.
 
 use super::assert_held;
-use crate::gates::{About, GatePoint, Hold};
-use crate::sessions::{ALONE, Front};
+use crate::hooks::{About, Hold, HookPoint};
+use crate::sessions::{ALONE, Preamble};
 use std::test::Fail;
 
 // A makefile and its source in the base, seen by two views: `in` is of row 8.
-const ONE_FILE: Front = Front {
+const ONE_FILE: Preamble = Preamble {
     asked: "\
 phase
 lane a
@@ -24,7 +24,7 @@ checkin v in
 checkin v .
 mkview w
 ",
-    told: "\
+    reported: "\
 phase 1
 lane a
 1 mkview ok
@@ -64,12 +64,12 @@ status 0, 12 rows
 fn scripts_of_two_lanes_meet_at_their_reads(rt: HostRuntime) -> Result<(), Fail> {
     let holds = [
         Hold::new(
-            GatePoint::new(1, "out", About::Read),
-            GatePoint::new(2, "out", About::Read),
+            HookPoint::new(1, "out", About::Read),
+            HookPoint::new(2, "out", About::Read),
         ),
         Hold::new(
-            GatePoint::new(2, "out", About::Read),
-            GatePoint::new(1, "out", About::Read),
+            HookPoint::new(2, "out", About::Read),
+            HookPoint::new(1, "out", About::Read),
         ),
     ];
     assert_held(&rt, rt.alloc(), &holds, ONE_FILE, TWO_LANES)
@@ -115,12 +115,12 @@ status 0, 8 rows
 fn scripts_of_one_build_meet_at_their_reads(rt: HostRuntime) -> Result<(), Fail> {
     let holds = [
         Hold::new(
-            GatePoint::new(1, "main.o", About::Read),
-            GatePoint::new(1, "util.o", About::Read),
+            HookPoint::new(1, "main.o", About::Read),
+            HookPoint::new(1, "util.o", About::Read),
         ),
         Hold::new(
-            GatePoint::new(1, "util.o", About::Read),
-            GatePoint::new(1, "main.o", About::Read),
+            HookPoint::new(1, "util.o", About::Read),
+            HookPoint::new(1, "main.o", About::Read),
         ),
     ];
     assert_held(&rt, rt.alloc(), &holds, ALONE, PROGRAM_OF_TWO)
@@ -130,12 +130,12 @@ fn scripts_of_one_build_meet_at_their_reads(rt: HostRuntime) -> Result<(), Fail>
 fn scripts_of_one_build_are_inside_at_once(rt: HostRuntime) -> Result<(), Fail> {
     let holds = [
         Hold::new(
-            GatePoint::new(1, "main.o", About::Enter),
-            GatePoint::new(1, "util.o", About::Enter),
+            HookPoint::new(1, "main.o", About::Enter),
+            HookPoint::new(1, "util.o", About::Enter),
         ),
         Hold::new(
-            GatePoint::new(1, "util.o", About::Enter),
-            GatePoint::new(1, "main.o", About::Enter),
+            HookPoint::new(1, "util.o", About::Enter),
+            HookPoint::new(1, "main.o", About::Enter),
         ),
     ];
     assert_held(&rt, rt.alloc(), &holds, ALONE, PROGRAM_OF_TWO)
@@ -170,8 +170,8 @@ status 0, 5 rows
 #[test]
 fn a_builder_without_tasks_steals_one(rt: HostRuntime) -> Result<(), Fail> {
     let holds = [Hold::new(
-        GatePoint::new(1, "a", About::Enter),
-        GatePoint::new(1, "c", About::Enter),
+        HookPoint::new(1, "a", About::Enter),
+        HookPoint::new(1, "c", About::Enter),
     )];
     assert_held(&rt, rt.alloc(), &holds, ALONE, STOLEN)
 }
@@ -210,16 +210,16 @@ status 0, 6 rows
 fn a_unit_is_driven_once_it_is_released(rt: HostRuntime) -> Result<(), Fail> {
     let holds = [
         Hold::new(
-            GatePoint::new(1, "a", About::Enter),
-            GatePoint::new(1, "c", About::Enter),
+            HookPoint::new(1, "a", About::Enter),
+            HookPoint::new(1, "c", About::Enter),
         ),
         Hold::new(
-            GatePoint::new(1, "b", About::Enter),
-            GatePoint::new(1, "d", About::Enter),
+            HookPoint::new(1, "b", About::Enter),
+            HookPoint::new(1, "d", About::Enter),
         ),
         Hold::new(
-            GatePoint::new(1, "d", About::Enter),
-            GatePoint::new(1, "b", About::Enter),
+            HookPoint::new(1, "d", About::Enter),
+            HookPoint::new(1, "b", About::Enter),
         ),
     ];
     assert_held(&rt, rt.alloc(), &holds, ALONE, RELEASED)
@@ -260,12 +260,12 @@ status 0, 6 rows
 fn a_unit_that_is_laid_twice_is_run_once(rt: HostRuntime) -> Result<(), Fail> {
     let holds = [
         Hold::new(
-            GatePoint::new(1, "x", About::Enter),
-            GatePoint::new(1, "d", About::Enter),
+            HookPoint::new(1, "x", About::Enter),
+            HookPoint::new(1, "d", About::Enter),
         ),
         Hold::new(
-            GatePoint::new(1, "d", About::Enter),
-            GatePoint::new(1, "f", About::Enter),
+            HookPoint::new(1, "d", About::Enter),
+            HookPoint::new(1, "f", About::Enter),
         ),
     ];
     assert_held(&rt, rt.alloc(), &holds, ALONE, LAID_TWICE)

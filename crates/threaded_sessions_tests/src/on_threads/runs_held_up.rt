@@ -1,13 +1,13 @@
 //! Builds that are held while another lane goes on: what they read is what it was as they began, and their views are left alone.
 
 use super::assert_held;
-use crate::gates::{About, GatePoint, Hold};
-use crate::sessions::Front;
+use crate::hooks::{About, Hold, HookPoint};
+use crate::sessions::Preamble;
 use std::test::Fail;
 
 // The versions of `in` are rows 8 and 13, and the label stands on the first. View `w` selects by the label, `v` and `v2` the
 // latest.
-const LABELLED: Front = Front {
+const LABELLED: Preamble = Preamble {
     asked: "\
 phase
 lane a
@@ -38,7 +38,7 @@ setcs w
 |element * /main/LATEST
 mkview v2
 ",
-    told: "\
+    reported: "\
 phase 1
 lane a
 1 mkview ok
@@ -66,12 +66,12 @@ lane a
 fn holds_between_builds() -> [Hold; 2] {
     [
         Hold::new(
-            GatePoint::new(2, "pre", About::Enter),
-            GatePoint::new(1, "out", About::Enter),
+            HookPoint::new(2, "pre", About::Enter),
+            HookPoint::new(1, "out", About::Enter),
         ),
         Hold::new(
-            GatePoint::new(1, "out", About::Enter),
-            GatePoint::new(2, "out", About::Enter),
+            HookPoint::new(1, "out", About::Enter),
+            HookPoint::new(2, "out", About::Enter),
         ),
     ]
 }

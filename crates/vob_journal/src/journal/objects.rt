@@ -10,14 +10,14 @@ use disk_model::{Counts, Disk, DiskFault, Objects};
 impl<D: Disk> Objects for Journal<D> {
     ghost use Rattle.vob_journal.specs.StoringLaws.{keeps_itself, keeps_on};
 
-    ghost sight = { λ journal. D.sight journal.disk };
+    ghost ghost_state = { λ journal. D.ghost_state journal.disk };
 
-    ghost keeps = { λ old new. KeepsJournal D.sight old new };
+    ghost keeps = { λ old new. KeepsJournal D.ghost_state old new };
 
-    ghost reflexive = { λ journal. keeps_itself D.sight journal };
+    ghost reflexive = { λ journal. keeps_itself D.ghost_state journal };
 
     ghost transitive = { λ one two three first then.
-        keeps_on D.sight one two three first then };
+        keeps_on D.ghost_state one two three first then };
 
     fn length(&mut self) -> Result<u64, DiskFault> {
         self.disk.length(1)

@@ -6,14 +6,14 @@ use Rattle.label_book.specs.Marks.{Marks, KeepsAll, has_room}
 use Rattle.base_rows.proofs.labels.reserve_all.Goals as goal
 
 -- what is kept twice is kept
-kept_both : (first second third : Marks) → KeepsAll first second → KeepsAll second third → KeepsAll first third
-kept_both first second third one two = record {
+stored_both : (first second third : Marks) → KeepsAll first second → KeepsAll second third → KeepsAll first third
+stored_both first second third one two = record {
   pairs = λ l e. two.pairs l e ∙ one.pairs l e;
   ready = λ l e is. two.ready l e (one.ready l e is);
 }
 
 pub returns-in_err-reserve-clause-kept : goal.returns-in_err-reserve-clause-kept
-returns-in_err-reserve-clause-kept c = kept_both _ _ _ c.loop-one.invariant.kept c.reserve.ensures.kept
+returns-in_err-reserve-clause-kept c = stored_both _ _ _ c.loop-one.invariant.kept c.reserve.ensures.kept
 
 -- one element more has room
 pub loop-one-preserved : goal.loop-one-preserved
@@ -22,7 +22,7 @@ loop-one-preserved c =
     let i = c.loop-one.one-index in
     let zero : Placed = record { element = 0; version = 0 } in
     record {
-      kept = kept_both _ _ _ c.loop-one.invariant.kept c.reserve.ensures.kept;
+      kept = stored_both _ _ _ c.loop-one.invariant.kept c.reserve.ensures.kept;
       ready = λ k d lt. elim (cases_eq k i) [
         | inl same ↦
             let here : get_or placed i zero ≡ get_or placed k d = get_or_default placed i zero d c.loop-one-test.true ∙ ap (λ j. get_or placed j d) (sym same) in

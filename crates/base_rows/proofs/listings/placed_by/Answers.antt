@@ -7,7 +7,7 @@ use Rattle.cc_names.specs.Formed.{IsListOf, IsPlaced, element_of}
 use Rattle.cc_names.specs.declared.rows.Placed.{Placed}
 use Rattle.base_model.specs.Closures.{Listing, as_placed, placed_by}
 use Rattle.base_model.specs.Rows.{size}
-use Rattle.base_rows.proofs.KeptListings.{kept_listing, nothing_listed}
+use Rattle.base_rows.proofs.StoredListings.{stored_listing, nothing_listed}
 use Rattle.base_rows.proofs.PlacedForms.{placed_formed}
 use Rattle.base_rows.proofs.listings.placed_by.Goals as goal
 
@@ -25,7 +25,7 @@ pub returns-in-Some : goal.returns-in-Some
 returns-in-Some c =
     let b = c.args.rows.now in
     let limit : size b ≤ 4000000 = omega (arith, c.size.ensures) in
-    let kept = ap (λ (entries : Listing). map as_placed entries) (kept_listing c.in-Some.versions.now.entries b c.args.object c.places_of.ensures.ordered c.in-Some.ensures) in
+    let kept = ap (λ (entries : Listing). map as_placed entries) (stored_listing c.in-Some.versions.now.entries b c.args.object c.places_of.ensures.ordered c.in-Some.ensures) in
     record {
       placed = IfOk-weaker c.places_of.result (λ placed. placed.items ≡ map as_placed c.in-Some.versions.now.entries) (λ placed. placed.items ≡ placed_by b c.args.object) (λ placed is. is ∙ kept) c.places_of.ensures.placed;
       formed = IfOk-weaker c.places_of.result (λ placed. placed.items ≡ map as_placed c.in-Some.versions.now.entries) (λ placed. IsListOf IsPlaced placed.items × IsStrictlySortedBy nat_cmp (map element_of placed.items))

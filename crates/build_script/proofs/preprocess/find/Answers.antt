@@ -5,7 +5,7 @@ use Rattle.cc_names.specs.Paths.{is_root}
 use Rattle.script_grammar.specs.Includes.{under}
 use Rattle.build_script.specs.Making.{found_with}
 use Rattle.script_grammar.specs.Parts.{gives, own_of}
-use Rattle.script_grammar.specs.Run.{probed}
+use Rattle.script_grammar.specs.Run.{probe_of}
 use Rattle.script_grammar.proofs.CarriedLemmas.{carried_over, carried_as, carried_pure}
 use Rattle.build_script.proofs.IncludeLemmas.{carried_ended, carried_passed}
 use Rattle.build_script.proofs.preprocess.find.Goals as goal
@@ -25,7 +25,7 @@ returns-in-Some-clause-went g c =
 pub returns-then-is_root-clause-went : goal.returns-then-is_root-clause-went
 returns-then-is_root-clause-went g c =
     let root : is_root c.args.path.now ≡ true = sym c.is_root.ensures ∙ c.if-is_root.true in
-    let looks = λ (b : Bool). probed (own_of c.args.making.written.now) c.args.path.now (c.args.path.now ∷ (if b then [] else filter_map (under c.args.path.now) c.args.directories.now)) c.args.probes.now in
+    let looks = λ (b : Bool). probe_of (own_of c.args.making.written.now) c.args.path.now (c.args.path.now ∷ (if b then [] else filter_map (under c.args.path.now) c.args.directories.now)) c.args.probes.now in
     let missed = rw c.in_default.is at (c.in_ok-found.ensures.went []) in
     carried_as (ap looks (sym root)) (carried_over g.met.F.Files.transitive missed
     (carried_pure _ _ _ g.met.F.Files.reflexive _ _ _ _ _ (c.absent.ensures c.probe.new.probes)))
@@ -33,6 +33,6 @@ returns-then-is_root-clause-went g c =
 pub returns-clause-went : goal.returns-clause-went
 returns-clause-went g c =
     let below : is_root c.args.path.now ≡ false = sym c.is_root.ensures ∙ c.if-is_root.false in
-    let looks = λ (b : Bool). probed (own_of c.args.making.written.now) c.args.path.now (c.args.path.now ∷ (if b then [] else filter_map (under c.args.path.now) c.args.directories.now)) c.args.probes.now in
+    let looks = λ (b : Bool). probe_of (own_of c.args.making.written.now) c.args.path.now (c.args.path.now ∷ (if b then [] else filter_map (under c.args.path.now) c.args.directories.now)) c.args.probes.now in
     let missed = rw c.in_default.is at (c.in_ok-found.ensures.went (filter_map (under c.args.path.now) c.args.directories.now)) in
     carried_as (ap looks (sym below)) (carried_over g.met.F.Files.transitive missed c.find_under.ensures.went)

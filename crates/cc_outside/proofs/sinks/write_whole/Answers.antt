@@ -1,16 +1,16 @@
 use Rattle.std.proofs.Common.{arith, ℕ, length-drop}
-use Rattle.cc_outside.proofs.Flows.{Appends-then, AppendsFront-then, on_err}
+use Rattle.cc_outside.proofs.Flows.{Appends-then, AppendsPrefix-then, on_err}
 use Rattle.cc_outside.proofs.sinks.write_whole.Goals as goal
 
-pub returns-in_err-done-clause-front : goal.returns-in_err-done-clause-front
-returns-in_err-done-clause-front g c =
-    on_err _ _ (AppendsFront-then _ (g.K.Sink.sight c.loop-done.sink).held _ c.loop-done.done c.args.text.now
+pub returns-in_err-done-clause-prefix : goal.returns-in_err-done-clause-prefix
+returns-in_err-done-clause-prefix g c =
+    on_err _ _ (AppendsPrefix-then _ (g.K.Sink.ghost_state c.loop-done.sink).held _ c.loop-done.done c.args.text.now
     c.loop-done.invariant.within c.loop-done.invariant.written c.in_err-done.ensures.bytes)
 
 pub loop-done-preserved : goal.loop-done-preserved
 loop-done-preserved g c = record {
   within = omega (arith, length-drop {A = ℕ}, c.in_ok-done.ensures.within);
-  written = Appends-then _ (g.K.Sink.sight c.loop-done.sink).held _ c.loop-done.done c.in_ok-done.field-0 c.args.text.now
+  written = Appends-then _ (g.K.Sink.ghost_state c.loop-done.sink).held _ c.loop-done.done c.in_ok-done.field-0 c.args.text.now
       c.loop-done.invariant.written c.in_ok-done.ensures.bytes;
   kept = omega (arith, c.write.ensures.kept);
 }

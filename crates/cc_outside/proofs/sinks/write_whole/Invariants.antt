@@ -5,8 +5,8 @@ use Rattle.cc_outside.proofs.sinks.write_whole.Given as goal
 abbrev pub invariant-loop-done : goal.invariant-loop-done
 invariant-loop-done g l = record {
   within : l.done ≤ length l.text;
-  written : Appends (g.K.Sink.sight l.initial.sink).held (g.K.Sink.sight l.sink).held (take l.done l.text);
-  kept : (g.K.Sink.sight l.initial.sink).faults ≤ (g.K.Sink.sight l.sink).faults;
+  written : Appends (g.K.Sink.ghost_state l.initial.sink).held (g.K.Sink.ghost_state l.sink).held (take l.done l.text);
+  kept : (g.K.Sink.ghost_state l.initial.sink).faults ≤ (g.K.Sink.ghost_state l.sink).faults;
 }
 
 abbrev pub decreases-loop-done : goal.decreases-loop-done

@@ -5,7 +5,7 @@ use Rattle.cc_outside.proofs.sources.read_whole.Goals as goal
 pub loop-bytes-init : goal.loop-bytes-init
 loop-bytes-init g c = record {
   room = c.in_ok-piece.ensures.len;
-  bytes = rw c.new-bytes.ensures.items (Consumes-none (g.S.Source.sight c.args.source.now).left);
+  bytes = rw c.new-bytes.ensures.items (Consumes-none (g.S.Source.ghost_state c.args.source.now).left);
   short = omega (arith, c.new-bytes.ensures.len);
   counted = omega (arith, c.new-bytes.ensures.len);
   kept = omega arith;
@@ -13,7 +13,7 @@ loop-bytes-init g c = record {
 
 pub returns-then-count-eq0-clause-bytes : goal.returns-then-count-eq0-clause-bytes
 returns-then-count-eq0-clause-bytes g c =
-    rw c.of.ensures (Consumes-end _ (g.S.Source.sight c.loop-bytes.source).left _ c.loop-bytes.bytes.items c.read.new.into c.in-Ok.count
+    rw c.of.ensures (Consumes-end _ (g.S.Source.ghost_state c.loop-bytes.source).left _ c.loop-bytes.bytes.items c.read.new.into c.in-Ok.count
     c.loop-bytes.invariant.bytes c.in-Ok.ensures.bytes.0 c.if-count-eq0.true)
 
 pub loop-bytes-preserved : goal.loop-bytes-preserved
@@ -21,7 +21,7 @@ loop-bytes-preserved g c = record {
   room = c.loop-bytes.invariant.room;
   bytes =
       rw c.in_ok-extend_from_slice.ensures.items
-      (Consumes-then _ (g.S.Source.sight c.loop-bytes.source).left _ c.loop-bytes.bytes.items (take c.in-Ok.count c.read.new.into)
+      (Consumes-then _ (g.S.Source.ghost_state c.loop-bytes.source).left _ c.loop-bytes.bytes.items (take c.in-Ok.count c.read.new.into)
       c.loop-bytes.invariant.bytes c.in-Ok.ensures.bytes.0);
   short =
       omega (arith, c.in_ok-extend_from_slice.ensures.len, c.in-Ok.ensures.within, c.read.auto.into, c.min-room.ensures, c.len-in-loop-bytes.ensures, c.loop-bytes.invariant.short, length-take {A = ℕ});
@@ -30,9 +30,9 @@ loop-bytes-preserved g c = record {
   kept = omega (arith, c.read.ensures.kept, c.loop-bytes.invariant.kept);
 }
 
-pub returns-clause-told : goal.returns-clause-told
-returns-clause-told g c =
-    Consumes-length _ (g.S.Source.sight c.loop-bytes.source).left c.loop-bytes.bytes.items c.args.limit
+pub returns-clause-modeled : goal.returns-clause-modeled
+returns-clause-modeled g c =
+    Consumes-length _ (g.S.Source.ghost_state c.loop-bytes.source).left c.loop-bytes.bytes.items c.args.limit
     c.loop-bytes.invariant.bytes (omega (arith, c.loop-bytes.bytes.ok))
 
 pub returns-clause-too_long : goal.returns-clause-too_long

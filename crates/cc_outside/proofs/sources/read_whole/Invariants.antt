@@ -1,15 +1,15 @@
 use Rattle.std.proofs.Common.{◌≡◌, ◌≤◌, ◌-◌, ◌+◌, vec_len}
 use Rattle.std.specs.Io.KnownBytes.{Consumes}
-use Rattle.cc_names.specs.Counts.{raised}
+use Rattle.cc_names.specs.Counts.{raised_count}
 use Rattle.cc_outside.proofs.sources.read_whole.Given as goal
 
 abbrev pub invariant-loop-bytes : goal.invariant-loop-bytes
 invariant-loop-bytes g l = record {
   room : vec_len l.piece ≡ 65536;
-  bytes : Consumes (g.S.Source.sight l.initial.source).left (g.S.Source.sight l.source).left l.bytes.items;
+  bytes : Consumes (g.S.Source.ghost_state l.initial.source).left (g.S.Source.ghost_state l.source).left l.bytes.items;
   short : vec_len l.bytes ≤ l.limit + 1;
-  counted : (g.S.Source.sight l.source).given ≡ raised (g.S.Source.sight l.initial.source).given (vec_len l.bytes);
-  kept : (g.S.Source.sight l.initial.source).faults ≤ (g.S.Source.sight l.source).faults;
+  counted : (g.S.Source.ghost_state l.source).given ≡ raised_count (g.S.Source.ghost_state l.initial.source).given (vec_len l.bytes);
+  kept : (g.S.Source.ghost_state l.initial.source).faults ≤ (g.S.Source.ghost_state l.source).faults;
 }
 
 abbrev pub decreases-loop-bytes : goal.decreases-loop-bytes

@@ -12,6 +12,6 @@ returns-clause-pass g t c =
 
 pub returns-clause-finished : goal.returns-clause-finished
 returns-clause-finished g t c =
-    subst (λ r. OnOk r (AreLanesDone c.join.result.seen c.args.first c.args.lanes g.T.PhaseDesk.number)) (sym c.and.ensures)
+    subst (λ r. OnOk r (AreLanesDone c.join.result.seen c.args.first c.args.lanes g.T.PhaseService.number)) (sym c.and.ensures)
     (both_done c.args.first (c.args.lanes - c.args.lanes / 2) (c.args.lanes / 2) c.args.lanes _ _ _ _ c.join-two.result.1.1 c.join-two.result.0.1 (omega arith) (omega arith) (omega arith)
     c.join-two.ensures.second.1 c.join-two.ensures.first.1 c.join.ensures.seen)

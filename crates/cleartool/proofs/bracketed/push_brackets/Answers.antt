@@ -14,7 +14,7 @@ returns-in_ok-push-in-Some c =
     let others = c.in-Some.others.now in
     let names : List (List ℕ) = map (λ (label : Bor (List ℕ)). label.now) others in
     let more = concat (map (λ (word : Bor (List ℕ)). behind_comma word.now) others) in
-    let told : first ++ more ≡ with_commas (first ∷ names) =
+    let reported : first ++ more ≡ with_commas (first ∷ names) =
     ap (λ (bytes : List (List ℕ)). first ++ concat bytes) (sym (map_map behind_comma (λ (label : Bor (List ℕ)). label.now) others)) ∙ sym (commas_more first names) in
     let written : c.push_more.new.text.items ≡ text ++ (codes " (" ++ with_commas (first ∷ names)) =
     c.in_ok-push_more-in-Some.ensures
@@ -24,7 +24,7 @@ returns-in_ok-push-in-Some c =
     ∙ ap (λ (bytes : List ℕ). (text ++ codes " (") ++ bytes) c.as_bytes.ensures)
     ∙ append_assoc (text ++ codes " (") first more
     ∙ append_assoc text (codes " (") (first ++ more)
-    ∙ ap (λ (bytes : List ℕ). text ++ (codes " (" ++ bytes)) told in
+    ∙ ap (λ (bytes : List ℕ). text ++ (codes " (" ++ bytes)) reported in
     c.in_ok-push-in-Some.ensures.items
     ∙ ap (λ (bytes : List ℕ). bytes ++ codes ")") written
     ∙ append_assoc text (codes " (" ++ with_commas (first ∷ names)) (codes ")")

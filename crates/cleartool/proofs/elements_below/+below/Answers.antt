@@ -6,7 +6,7 @@ use Rattle.std.specs.Cmp.Lexicographic.{slice_cmp}
 use Rattle.std.specs.List.{list_any}
 use Rattle.std.specs.Ordering.{nat_cmp}
 use Rattle.cc_names.specs.declared.selection.Seen.{Seen}
-use Rattle.base_model.specs.Catalogs.{named}
+use Rattle.base_model.specs.Catalogs.{element_named}
 use Rattle.base_model.specs.Closures.{is_among}
 use Rattle.cleartool.specs.ElementsBelow.{is_element, lies_below, seen_where}
 use Rattle.cleartool.proofs.CatalogsGiven.{names_given}
@@ -38,7 +38,7 @@ add_elements-returns t c = λ q.
     let old = get (slice_cmp nat_cmp) c.args.found.now q in
     let inserted = get (slice_cmp nat_cmp) c.insert.new.self q in
     let found = get (slice_cmp nat_cmp) c.loop-name.found q in
-    let given : (name : List ℕ) → is_some (named name (catalog_at b v path)) ≡ true → is_among name names ≡ true = λ name is.
+    let given : (name : List ℕ) → is_some (element_named name (catalog_at b v path)) ≡ true → is_among name names ≡ true = λ name is.
     ap (is_among name) c.into_iter-name-iterator.ensures.into_iter_gives.0
     ∙ c.in_ok-names.ensures name
     ∙ names_given b v path c.in-Element.element c.in-Element.field-1 c.are_base.ensures (sym c.at-seen.ensures ∙ c.in-Element.is) name is in

@@ -2,7 +2,7 @@
 use Rattle.std.proofs.Common.{ℕ, List, ◌++◌, append-nil, append_assoc, map, ap, sym, ◌∙◌}
 use Rattle.std.specs.List.{concat}
 use Rattle.cleartool.specs.HeldObjects.{line_at}
-use Rattle.cleartool.proofs.HeldListed.{lsdo_told}
+use Rattle.cleartool.proofs.HeldListed.{lsdo_by_paths}
 use Rattle.cleartool.proofs.held_objects.lsdo_text.Goals as goal
 
 pub loop-path-preserved : goal.loop-path-preserved
@@ -26,4 +26,4 @@ returns c =
     ∙ ap (λ (left : List (List ℕ)). text ++ concat (map line left)) (sym c.in-None.ensures.steps.0)
     ∙ c.loop-path.invariant
     ∙ ap (λ (left : List (List ℕ)). concat (map line left)) c.into_iter-path-iterator.ensures.into_iter_gives.0
-    ∙ lsdo_told b v c.in_ok-paths.paths.keys c.into_iter-path-iterator.ensures.into_iter_gives.4 c.in_ok-paths.ensures.found
+    ∙ lsdo_by_paths b v c.in_ok-paths.paths.keys c.into_iter-path-iterator.ensures.into_iter_gives.4 c.in_ok-paths.ensures.found

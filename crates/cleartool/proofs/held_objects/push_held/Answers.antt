@@ -2,8 +2,8 @@
 use Rattle.std.proofs.Common.{ℕ, true, List, [], ◌∷◌, ◌++◌, Option, ap, ap₂, sym, ◌∙◌}
 use Rattle.std.specs.Prelude.{codes, decimal}
 use Rattle.std.specs.Option.{option_map_or}
-use Rattle.base_model.specs.Changes.{held}
-use Rattle.legal_history.specs.Queries.ListingTexts.{held_line}
+use Rattle.base_model.specs.Changes.{objects_held}
+use Rattle.legal_history.specs.Queries.DirectoryTexts.{held_line}
 use Rattle.legal_history.specs.Queries.VersionNames.{at_version}
 use Rattle.cleartool.proofs.Behind.{four_behind}
 use Rattle.cleartool.proofs.held_objects.push_held.Goals as goal
@@ -24,4 +24,4 @@ returns-in_ok-push-in-Some c =
     ∙ ap (λ (bytes : List ℕ). bytes ++ codes " references ") (c.in_ok-push_object-in-Some.ensures ∙ ap (λ (bytes : List ℕ). text ++ at_version bytes (decimal id)) c.as_bytes.ensures.bytes))
     c.in_ok-holders-in-Some.ensures)
     ∙ four_behind text object (codes " references ") _ (10 ∷ [])
-    ∙ ap (λ (found : Option ℕ). text ++ option_map_or (λ id. held_line (held b) v true path id) found []) (sym c.in-Some.is ∙ c.held.ensures)
+    ∙ ap (λ (found : Option ℕ). text ++ option_map_or (λ id. held_line (objects_held b) v true path id) found []) (sym c.in-Some.is ∙ c.held.ensures)

@@ -1,7 +1,7 @@
 -- The parts of the line are written one after the other.
 use Rattle.std.proofs.Common.{◌≡◌, ℕ, List, [], ◌∷◌, ◌++◌, append_assoc, ap, sym, ◌∙◌}
 use Rattle.date_text.specs.Dates.{text_of}
-use Rattle.legal_history.specs.Queries.HistoryTexts.{dated, line_where}
+use Rattle.legal_history.specs.Queries.HistoryTexts.{dated_line, line_where}
 use Rattle.cleartool.proofs.histories.push_line.Goals as goal
 
 joined : (text date words name : List ℕ) → (((((text ++ date) ++ 32 ∷ []) ++ words) ++ name) ++ 10 ∷ []) ≡ text ++ ((date ++ 32 ∷ (words ++ name)) ++ 10 ∷ [])
@@ -27,4 +27,4 @@ returns-in_ok-push-2 c =
     (c.in_ok-push.ensures.items
     ∙ ap (λ (bytes : List ℕ). bytes ++ 32 ∷ []) (c.in_ok-extend_from_slice.ensures.items ∙ ap (λ (bytes : List ℕ). text ++ bytes) date))))
     ∙ joined text (text_of c.args.moment) words name
-    ∙ sym (ap (λ tells. text ++ line_where tells (dated c.args.moment (words ++ name))) c.if-tells.true)
+    ∙ sym (ap (λ tells. text ++ line_where tells (dated_line c.args.moment (words ++ name))) c.if-tells.true)

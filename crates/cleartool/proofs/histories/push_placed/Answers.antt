@@ -3,7 +3,7 @@ use Rattle.std.proofs.Common.{ℕ, ◌+◌, ◌==◌, List, ◌++◌, drop, get_
 use Rattle.std.specs.Prelude.{codes}
 use Rattle.std.proofs.lemmas.List.{at_drop_all, at_drop_more}
 use Rattle.cc_names.specs.declared.rows.Placed.{Placed}
-use Rattle.legal_history.specs.Queries.HistoryTexts.{dated, line_where, placed_lines}
+use Rattle.legal_history.specs.Queries.HistoryTexts.{dated_line, line_where, placed_lines}
 use Rattle.cleartool.proofs.histories.push_placed.Goals as goal
 
 pub loop-one-preserved : goal.loop-one-preserved
@@ -18,8 +18,8 @@ loop-one-preserved c =
     let text = c.loop-one.text.items in
     let rest = placed_lines b e moment label (drop (i + 1) placed) in
     ap (λ (bytes : List ℕ). bytes ++ rest) c.in_ok-push_line.ensures
-    ∙ append_assoc text (line_where (one.element == e) (dated moment (codes "label " ++ c.deref.result.now))) rest
-    ∙ ap (λ (name : List ℕ). text ++ (line_where (one.element == e) (dated moment (codes "label " ++ name)) ++ rest)) (c.deref.ensures.value ∙ c.in_ok-name.ensures)
+    ∙ append_assoc text (line_where (one.element == e) (dated_line moment (codes "label " ++ c.deref.result.now))) rest
+    ∙ ap (λ (name : List ℕ). text ++ (line_where (one.element == e) (dated_line moment (codes "label " ++ name)) ++ rest)) (c.deref.ensures.value ∙ c.in_ok-name.ensures)
     ∙ sym (at_drop_more (λ (left : List Placed). text ++ placed_lines b e moment label left) placed i (record { element = 0; version = 0 }) c.loop-one-test.true)
     ∙ c.loop-one.invariant
 

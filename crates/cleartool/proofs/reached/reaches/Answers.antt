@@ -27,8 +27,8 @@ returns-then-version-source c =
 
 none : (versions rest : List ℕ) (popped : Option ℕ) (count behind : ℕ) → ((version : ℕ) → popped ≡ Some version → ⊥) → MatchOption popped ((count ≡ 0) × (behind ≡ 0)) (λ _. behind + 1 ≡ count) →
     versions ≡ rest ++ option_to_list popped → rest ≡ take (count - 1) versions → versions ≡ []
-none versions rest None count behind not_some cases all front = all ∙ ap (λ before. before ++ []) (front ∙ ap (λ n. take (n - 1) versions) cases.0)
-none versions rest (Some last) count behind not_some cases all front = absurd (not_some last refl)
+none versions rest None count behind not_some cases all prefix = all ∙ ap (λ before. before ++ []) (prefix ∙ ap (λ n. take (n - 1) versions) cases.0)
+none versions rest (Some last) count behind not_some cases all prefix = absurd (not_some last refl)
 
 pub returns : goal.returns
 returns c =

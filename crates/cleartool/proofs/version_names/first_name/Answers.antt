@@ -19,4 +19,4 @@ returns c =
     ∙ append_assoc path (47 ∷ []) c.as_bytes.result.now ∙ ap (λ (bytes : List ℕ). path ++ 47 ∷ bytes) c.as_bytes.ensures.bytes in
     let named : path ++ 47 ∷ c.args.name.now ≡ behind_slashes (codes "main" ∷ (names_above changes above ++ c.args.name.now ∷ [])) =
     sym (slashes_more (codes "main" ∷ names_above changes above) c.args.name.now) in
-    subst (λ (bytes : List ℕ). IfOk c.numbered.result (λ text. text ≡ bytes ++ 47 ∷ decimal 0)) (written ∙ named) c.numbered.ensures
+    subst (λ (bytes : List ℕ). IfOk c.version_of_number.result (λ text. text ≡ bytes ++ 47 ∷ decimal 0)) (written ∙ named) c.version_of_number.ensures

@@ -44,4 +44,4 @@ returns-in_ok-branch-in-Some-version_id_of c =
     let is = stands b branch c.in-Some.newest c.in-Some-version_id_of.version_id (found b branch c.in-Some.newest (Some c.in-Some-version_id_of.version_id) (sym c.in-Some.ensures) (sym c.in-Some-version_id_of.ensures)) in
     let named : c.in_ok-branch-in-Some-version_id_of.branch.items ++ 47 ∷ decimal (c.in-Some-version_id_of.version_id.number + 1) ≡ name_on (tree b) branch (element_of_branch (tree b) branch) =
     ap₂ (λ (bytes : List ℕ) n. bytes ++ 47 ∷ decimal n) c.in_ok-branch-in-Some-version_id_of.ensures is.0 ∙ sym (ap (name_on (tree b) branch) is.1) in
-    subst (λ (bytes : List ℕ). IfOk c.numbered.result (λ text. text ≡ bytes)) named c.numbered.ensures
+    subst (λ (bytes : List ℕ). IfOk c.version_of_number.result (λ text. text ≡ bytes)) named c.version_of_number.ensures

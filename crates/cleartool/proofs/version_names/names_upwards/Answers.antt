@@ -4,7 +4,7 @@ use Rattle.cleartool.specs.Naming.{names_above}
 use Rattle.base_model.specs.Changes.{tree}
 use Rattle.base_model.specs.Rows.{Base, first_rows, size}
 use Rattle.base_model.proofs.Stay.{all_rows}
-use Rattle.base_rows.proofs.Fronts.{size_of_first}
+use Rattle.base_rows.proofs.Prefixes.{size_of_first}
 use Rattle.cleartool.proofs.NamesBack.{one_more}
 use Rattle.cleartool.proofs.version_names.names_upwards.Goals as goal
 

@@ -4,11 +4,11 @@ use Rattle.legal_history.specs.Queries.VersionNames.{at_version, branch_name, li
 use Rattle.cleartool.specs.VersionTrees.{left_lines, steps_left, steps_of}
 use Rattle.cleartool.specs.declared.version_trees.Part.{Part}
 use Rattle.cleartool.specs.declared.version_trees.Part.TheVariants.{Branch}
-use Rattle.cleartool.proofs.TreeParts.{branch_fewer, branch_told}
+use Rattle.cleartool.proofs.TreeParts.{branch_fewer, branch_is_written}
 use Rattle.cleartool.proofs.version_trees.tell_branch.Goals as goal
 
-pub returns-clause-told : goal.returns-clause-told
-returns-clause-told c = λ e.
+pub returns-clause-reported : goal.returns-clause-reported
+returns-clause-reported c = λ e.
     let b = c.args.rows.now in
     let path = c.args.path.now in
     let text = c.args.text.now.items in
@@ -19,7 +19,7 @@ returns-clause-told c = λ e.
     (c.in_ok-push_at_version.ensures ∙ ap₂ (λ (one two : List ℕ). text ++ at_version one two) c.as_bytes.ensures.bytes (c.deref.ensures.value ∙ c.in_ok-name.ensures))
     ∙ append_assoc text (at_version path name) (10 ∷ []) in
     ap₂ (λ (bytes : List ℕ) (parts : List Part). bytes ++ left_lines b path e parts) written c.in_ok-push-2.ensures.items
-    ∙ branch_told b path e text c.args.left.now.items c.args.depth c.args.branch c.if-depth-eq0.false
+    ∙ branch_is_written b path e text c.args.left.now.items c.args.depth c.args.branch c.if-depth-eq0.false
 
 pub returns-clause-fewer : goal.returns-clause-fewer
 returns-clause-fewer c =

@@ -13,11 +13,11 @@ use Rattle.cleartool.specs.declared.version_trees.Part.{Part}
 use Rattle.cleartool.specs.declared.version_trees.Part.TheVariants.{Branch, Versions}
 use Rattle.cleartool.proofs.NextNames.{few_on}
 use Rattle.cleartool.proofs.NumberedVersions.{numbered_at}
-use Rattle.cleartool.proofs.TreeParts.{none_fewer, version_fewer, version_told}
+use Rattle.cleartool.proofs.TreeParts.{none_fewer, version_fewer, version_is_written}
 use Rattle.cleartool.proofs.version_trees.tell_version.Goals as goal
 
-pub returns-in-None-clause-told : goal.returns-in-None-clause-told
-returns-in-None-clause-told c = λ e labels.
+pub returns-in-None-clause-reported : goal.returns-in-None-clause-reported
+returns-in-None-clause-reported c = λ e labels.
     let b = c.args.rows.now in
     let rows = rows_on b c.args.branch in
     let none : slice_get rows c.args.number ≡ None = sym (numbered_at b c.args.branch c.args.number) ∙ sym c.version_numbered.ensures ∙ c.in-None.is in
@@ -44,8 +44,8 @@ overflow_add-number c =
     let limit = c.size.ensures.limit in
     omega (arith, within, many, few, size, limit)
 
-pub returns-in_ok-leave_branches-in-Some-clause-told : goal.returns-in_ok-leave_branches-in-Some-clause-told
-returns-in_ok-leave_branches-in-Some-clause-told c = λ e labels.
+pub returns-in_ok-leave_branches-in-Some-clause-reported : goal.returns-in_ok-leave_branches-in-Some-clause-reported
+returns-in_ok-leave_branches-in-Some-clause-reported c = λ e labels.
     let b = c.args.rows.now in
     let path = c.args.path.now in
     let text = c.args.text.now.items in
@@ -56,7 +56,7 @@ returns-in_ok-leave_branches-in-Some-clause-told c = λ e labels.
     c.in_ok-push_version-in-Some.ensures ∙ ap (λ (own : List (List ℕ)). text ++ line (at_version path (version_name b version) ++ in_brackets own)) (labels version) in
     ap₂ (λ (bytes : List ℕ) (parts : List Part). bytes ++ left_lines b path e parts) written
     (c.in_ok-leave_branches-in-Some.ensures ∙ ap (λ (parts : List Part). parts ++ map (Branch c.args.depth) (branches_leaving version (tree b))) c.in_ok-push-in-Some.ensures.items)
-    ∙ version_told b path e text c.args.left.now.items c.args.depth c.args.branch c.args.number version (drop_at rows c.args.number version one)
+    ∙ version_is_written b path e text c.args.left.now.items c.args.depth c.args.branch c.args.number version (drop_at rows c.args.number version one)
 
 pub returns-in_ok-leave_branches-in-Some-clause-fewer : goal.returns-in_ok-leave_branches-in-Some-clause-fewer
 returns-in_ok-leave_branches-in-Some-clause-fewer c =

@@ -7,7 +7,7 @@ use Rattle.label_book.specs.Holding.{MovesByPlace, MoveList, all_held, held_in, 
 use Rattle.label_book.proofs.Added.{same_pair}
 use Rattle.label_book.proofs.Entries.{held_grown, held_push, step_grown, step_same, writes}
 use Rattle.label_book.proofs.Found.{no_key}
-use Rattle.label_book.proofs.Kept.{kept_set, kept_grown, kept_push}
+use Rattle.label_book.proofs.StoredMoves.{stored_set, stored_grown, stored_push}
 use Rattle.label_book.proofs.Newest.{is_itself}
 use Rattle.label_book.proofs.Ready.{has_room, set_ready, push_ready}
 use Rattle.label_book.proofs.Book.reserve_one.Goals as goal
@@ -33,7 +33,7 @@ returns-in_err-reserve-clause-kept c =
     let entries = c.self.inside.moves.entries in
     let place : IsPlaceOf c.args.label.now c.args.element (all_held names entries) c.in-Some.place = search rules in
     rw (← c.self.view_is)
-    (kept_set names entries c.in-Some.place c.index_mut-moves.result.now c.reserve.new.self place.within c.index_mut-moves.ensures.value c.reserve.ensures.items c.reserve.ensures.len c.reserve.ensures.capacity)
+    (stored_set names entries c.in-Some.place c.index_mut-moves.result.now c.reserve.new.self place.within c.index_mut-moves.ensures.value c.reserve.ensures.items c.reserve.ensures.len c.reserve.ensures.capacity)
 
 pub returns-in-Some-clause-kept : goal.returns-in-Some-clause-kept
 returns-in-Some-clause-kept c =
@@ -41,7 +41,7 @@ returns-in-Some-clause-kept c =
     let entries = c.self.inside.moves.entries in
     let place : IsPlaceOf c.args.label.now c.args.element (all_held names entries) c.in-Some.place = search rules in
     rw (← c.self.view_is)
-    (kept_set names entries c.in-Some.place c.index_mut-moves.result.now c.reserve.new.self place.within c.index_mut-moves.ensures.value c.reserve.ensures.items c.reserve.ensures.len c.reserve.ensures.capacity)
+    (stored_set names entries c.in-Some.place c.index_mut-moves.result.now c.reserve.new.self place.within c.index_mut-moves.ensures.value c.reserve.ensures.items c.reserve.ensures.len c.reserve.ensures.capacity)
 
 -- it has room there
 pub returns-in-Some-clause-ready : goal.returns-in-Some-clause-ready
@@ -62,12 +62,12 @@ returns-in-Some-clause-ready c =
 -- a label may be new, while no change is
 pub returns-in_err-label-clause-kept : goal.returns-in_err-label-clause-kept
 returns-in_err-label-clause-kept c =
-    rw (← c.self.view_is) (kept_grown c.self.inside.labels.keys c.place_of_label.new.labels.keys c.self.inside.moves.entries c.place_of_label.ensures.grown c.self.invariant.named)
+    rw (← c.self.view_is) (stored_grown c.self.inside.labels.keys c.place_of_label.new.labels.keys c.self.inside.moves.entries c.place_of_label.ensures.grown c.self.invariant.named)
 
 pub returns-in_err-put_last-clause-kept : goal.returns-in_err-put_last-clause-kept
 returns-in_err-put_last-clause-kept c =
     rw (← c.self.view_is, c.in_err-put_last.ensures.unchanged)
-    (kept_grown c.self.inside.labels.keys c.place_of_label.new.labels.keys c.self.inside.moves.entries c.place_of_label.ensures.grown c.self.invariant.named)
+    (stored_grown c.self.inside.labels.keys c.place_of_label.new.labels.keys c.self.inside.moves.entries c.place_of_label.ensures.grown c.self.invariant.named)
 
 -- what stands nowhere has no key
 pub put_last-requires : goal.put_last-requires
@@ -87,7 +87,7 @@ pub returns-clause-kept : goal.returns-clause-kept
 returns-clause-kept c =
     let entry : MovesByPlace = (record { label = c.in_ok-label.label; element = c.args.element }, c.in_ok-moves.moves) in
     rw (← c.self.view_is, c.in_ok-put_last.ensures.put)
-    (kept_push c.self.inside.labels.keys c.place_of_label.new.labels.keys c.self.inside.moves.entries entry c.place_of_label.ensures.grown c.self.invariant.named c.in_ok-moves.ensures.items)
+    (stored_push c.self.inside.labels.keys c.place_of_label.new.labels.keys c.self.inside.moves.entries entry c.place_of_label.ensures.grown c.self.invariant.named c.in_ok-moves.ensures.items)
 
 pub returns-clause-ready : goal.returns-clause-ready
 returns-clause-ready c =

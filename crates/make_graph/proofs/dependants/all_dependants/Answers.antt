@@ -5,7 +5,7 @@ use Rattle.cc_names.specs.declared.units.Unit.{Unit}
 use Rattle.make_graph.specs.Dependants.{Names}
 use Rattle.make_graph.specs.Waits.{dependants_of, is_in, makers_of}
 use Rattle.make_graph.proofs.DependantLemmas.{dependants_before, dependants_more}
-use Rattle.make_graph.proofs.KeptLemmas.{maker_at}
+use Rattle.make_graph.proofs.CachedLemmas.{maker_at}
 use Rattle.make_graph.proofs.dependants.all_dependants.Goals as goal
 
 pub loop-unit-preserved : goal.loop-unit-preserved

@@ -1,6 +1,6 @@
 use Rattle.std.proofs.Common.{◌≡◌, ◌<◌, ◌++◌, [], ◌∷◌, Some, Err, length, ap, sym, ◌∙◌, option_copied, append_assoc, length-append, arith}
-use Rattle.make_grammar.specs.Walks.{Walk, number_of, opened}
-use Rattle.make_graph.specs.Visits.{entered, behind, next_of, resume, news}
+use Rattle.make_grammar.specs.Walks.{Walk, number_of, with_open_unit}
+use Rattle.make_graph.specs.Visits.{visit_of_unit, behind, next_of, resume, news}
 use Rattle.make_graph.specs.declared.walks.Visit.{Visit}
 use Rattle.make_graph.proofs.VisitLemmas.{step_close, step_past, step_again, step_enter, news_opened, news_closed, entered_new}
 use Rattle.make_graph.proofs.walks.advance.Goals as goal
@@ -33,10 +33,10 @@ returns-clause-goes c =
           step_past c.args.units.now c.args.stack.now.items c.args.top c.in-Some.path.now c.args.walk.now lt next (sym c.meet.ensures ∙ w.in-Past.is)
           ∙ (ap (λ l. resume c.args.units.now 0 l c.args.walk.now) (sym pushed) ∙ ap (resume c.args.units.now 0 c.match-meet.stack.items) (sym w.walk-is))
       | in-Enter+in_ok-visit-in-Enter+in_ok-push-in-Enter+in_ok-push-in-Enter-2 w ↦
-          let first : Visit = entered c.args.units.now w.in-Enter.unit in
+          let first : Visit = visit_of_unit c.args.units.now w.in-Enter.unit in
           let pushed : c.match-meet.stack.items ≡ (c.args.stack.now.items ++ behind c.args.top ∷ []) ++ first ∷ [] = cc (w.stack-is, w.in_ok-push-in-Enter.ensures.items, w.in_ok-push-in-Enter-2.ensures.items, w.behind-in-Enter.ensures, w.in_ok-visit-in-Enter.ensures) in
           step_enter c.args.units.now c.args.stack.now.items c.args.top c.in-Some.path.now c.args.walk.now w.in-Enter.unit lt next (sym c.meet.ensures ∙ w.in-Enter.is)
-          ∙ (ap (λ l. resume c.args.units.now 0 l (opened w.in-Enter.unit c.args.walk.now)) (sym (append_assoc c.args.stack.now.items (behind c.args.top ∷ []) (first ∷ [])) ∙ sym pushed)
+          ∙ (ap (λ l. resume c.args.units.now 0 l (with_open_unit w.in-Enter.unit c.args.walk.now)) (sym (append_assoc c.args.stack.now.items (behind c.args.top ∷ []) (first ∷ [])) ∙ sym pushed)
           ∙ ap (resume c.args.units.now 0 c.match-meet.stack.items) (sym (w.walk-is ∙ w.mark.ensures)))
     ]
 
@@ -50,7 +50,7 @@ returns-clause-room c =
           let same = ap (λ (v : Walk). news v.marks) w.walk-is in
           omega (arith, longer, same, room)
       | in-Enter+in_ok-visit-in-Enter+in_ok-push-in-Enter+in_ok-push-in-Enter-2 w ↦
-          let first : Visit = entered c.args.units.now w.in-Enter.unit in
+          let first : Visit = visit_of_unit c.args.units.now w.in-Enter.unit in
           let pushed : c.match-meet.stack.items ≡ (c.args.stack.now.items ++ behind c.args.top ∷ []) ++ first ∷ [] = cc (w.stack-is, w.in_ok-push-in-Enter.ensures.items, w.in_ok-push-in-Enter-2.ensures.items, w.behind-in-Enter.ensures, w.in_ok-visit-in-Enter.ensures) in
           let longer = ap length pushed ∙ (length-append (c.args.stack.now.items ++ behind c.args.top ∷ []) (first ∷ [])) in
           let long = length-append c.args.stack.now.items (behind c.args.top ∷ []) in

@@ -5,7 +5,7 @@ use Rattle.make_grammar.specs.Rules.{MakeRule, SuffixRule}
 use Rattle.make_grammar.specs.Serving.{prerequisites_of}
 use Rattle.make_grammar.specs.Statements.{Definition, macros_of}
 use Rattle.make_grammar.specs.WordPaths.{each_once}
-use Rattle.make_text.proofs.GatherLemmas.{kept_prerequisites}
+use Rattle.make_text.proofs.GatherLemmas.{preserved_prerequisites}
 use Rattle.make_text.proofs.endings.contents_of.Goals as goal
 
 pub of_parts-requires : goal.of_parts-requires
@@ -13,7 +13,7 @@ of_parts-requires c =
     let rules = joined_rules c.as_slice.result.now in
     c.in_ok-ruled.ensures.prerequisites
     ∙ ap each_once
-    (sym (kept_prerequisites c.into_parts-macros.result.suffixes.keys (groups_of c.as_slice.result.now) rules) ∙ ap (flat_map prerequisites_of) (sym c.in_ok-ruled.ensures.rules))
+    (sym (preserved_prerequisites c.into_parts-macros.result.suffixes.keys (groups_of c.as_slice.result.now) rules) ∙ ap (flat_map prerequisites_of) (sym c.in_ok-ruled.ensures.rules))
 
 pub returns : goal.returns
 returns c =

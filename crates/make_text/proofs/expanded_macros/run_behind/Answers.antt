@@ -1,6 +1,6 @@
 use Rattle.std.proofs.Common.{◌≡◌, ◌-◌, ◌<◌, ◌≤◌, refl, sym, ap, ◌∙◌, subst, ℕ, List, true, false, length, drop, arith}
 use Rattle.make_grammar.specs.Statements.{expanded_by, macros_of}
-use Rattle.make_grammar.specs.Macros.{Expansion, followed, no_automatic, plain}
+use Rattle.make_grammar.specs.Macros.{Expansion, one_after_other, no_automatic, plain}
 use Rattle.make_text.specs.Runs.{AreResults}
 use Rattle.make_text.specs.Steps.{opened_of, IsExpandedText}
 use Rattle.make_text.specs.declared.expanded_macros.Ran.{Ran}
@@ -24,7 +24,7 @@ ended-requires c =
     let macros = macros_of c.args.macros.now in
     let before = c.args.results.written.items in
     let part = expanded_by macros c.args.text.now in
-    let went = rw c.in-Ends.is at (c.in_ok-step.ensures.went (followed (plain before) part) c.steps.invariant.runs) in
+    let went = rw c.in-Ends.is at (c.in_ok-step.ensures.went (one_after_other (plain before) part) c.steps.invariant.runs) in
     fewer before c.step.new.self.written.items part false c.len-start.result (sym went.0) c.steps.invariant.start
 
 pub looped-requires : goal.looped-requires
@@ -32,7 +32,7 @@ looped-requires c =
     let macros = macros_of c.args.macros.now in
     let before = c.args.results.written.items in
     let part = expanded_by macros c.args.text.now in
-    let went = rw c.in-Loops.is at (c.in_ok-step.ensures.went (followed (plain before) part) c.steps.invariant.runs) in
+    let went = rw c.in-Loops.is at (c.in_ok-step.ensures.went (one_after_other (plain before) part) c.steps.invariant.runs) in
     let same : c.as_slice.result.now ≡ c.step.new.self.written.items = cc in
     subst (λ (w : List ℕ). c.len-start.result ≤ length w) (sym same)
     (fewer before c.step.new.self.written.items part true c.len-start.result (sym went) c.steps.invariant.start)
@@ -44,7 +44,7 @@ returns-in-Ends-clause-outcome c =
     let part = expanded_by macros c.args.text.now in
     let start = c.len-start.result in
     let whole = c.step.new.self.written.items in
-    let went = rw c.in-Ends.is at (c.in_ok-step.ensures.went (followed (plain before) part) c.steps.invariant.runs) in
+    let went = rw c.in-Ends.is at (c.in_ok-step.ensures.went (one_after_other (plain before) part) c.steps.invariant.runs) in
     let is = part_is before whole part false start (sym went.0) c.steps.invariant.start in
     where_ok (λ (ran : Ran). IsExpandedText (record { bytes = drop start whole; loops = false }) ran.outcome) (λ (ran : Ran). IsExpandedText part ran.outcome) c.ended.result c.ended.ensures.outcome
     (λ ran h. subst (λ (t : Expansion). IsExpandedText t ran.outcome) is h)
@@ -53,7 +53,7 @@ pub returns-in-Ends-clause-results : goal.returns-in-Ends-clause-results
 returns-in-Ends-clause-results c =
     let macros = macros_of c.args.macros.now in
     let e = c.step.new.self in
-    let total = followed (plain c.args.results.written.items) (expanded_by macros c.args.text.now) in
+    let total = one_after_other (plain c.args.results.written.items) (expanded_by macros c.args.text.now) in
     let went = rw c.in-Ends.is at (c.in_ok-step.ensures.went total c.steps.invariant.runs) in
     let left : Results = record { states = e.states; written = e.written } in
     where_ok (λ (ran : Ran). ran.results ≡ left) (λ (ran : Ran). AreResults macros ran.results.written.items ran.results.states) c.ended.result c.ended.ensures.results
@@ -66,7 +66,7 @@ returns-in-Loops-clause-outcome c =
     let part = expanded_by macros c.args.text.now in
     let start = c.len-start.result in
     let whole = c.step.new.self.written.items in
-    let went = rw c.in-Loops.is at (c.in_ok-step.ensures.went (followed (plain before) part) c.steps.invariant.runs) in
+    let went = rw c.in-Loops.is at (c.in_ok-step.ensures.went (one_after_other (plain before) part) c.steps.invariant.runs) in
     let same : c.as_slice.result.now ≡ whole = cc in
     let is = ap (λ (w : List ℕ). record { bytes = drop start w; loops = true }) same ∙ part_is before whole part true start (sym went) c.steps.invariant.start in
     where_ok (λ (ran : Ran). IsExpandedText (record { bytes = drop start c.as_slice.result.now; loops = true }) ran.outcome) (λ (ran : Ran). IsExpandedText part ran.outcome) c.looped.result c.looped.ensures.outcome
@@ -77,7 +77,7 @@ returns-then-written_behind-gt-EXPANSION_LIMIT-clause-outcome c =
     let macros = macros_of c.args.macros.now in
     let before = c.args.results.written.items in
     let part = expanded_by macros c.args.text.now in
-    let total = followed (plain before) part in
+    let total = one_after_other (plain before) part in
     let new = c.step.new.self in
     let went = rw c.in-Goes.is at (c.in_ok-step.ensures.went total c.steps.invariant.runs) in
     let longer = runs_longer macros no_automatic total new.rest.now new.written.items (opened_of macros new.opened.items) new.states went.runs in
@@ -87,7 +87,7 @@ returns-then-written_behind-gt-EXPANSION_LIMIT-clause-outcome c =
 
 pub steps-preserved : goal.steps-preserved
 steps-preserved c =
-    let total = followed (plain c.args.results.written.items) (expanded_by (macros_of c.args.macros.now) c.args.text.now) in
+    let total = one_after_other (plain c.args.results.written.items) (expanded_by (macros_of c.args.macros.now) c.args.text.now) in
     record {
       apart = c.steps.invariant.apart;
       start = c.steps.invariant.start;

@@ -18,13 +18,13 @@ pub returns-in-Ends : goal.returns-in-Ends
 returns-in-Ends c =
     let total = expansion_of (macros_of c.args.macros.now) (automatic_of c.args.automatic.now) c.args.text.now in
     let went = rw c.in-Ends.is at (c.in_ok-step.ensures.went total c.steps.invariant.1) in
-    subst (λ t. IsExpandedText t c.bounded.result) (sym went.0) c.bounded.ensures
+    subst (λ t. IsExpandedText t c.unless_too_long.result) (sym went.0) c.unless_too_long.ensures
 
 pub returns-in-Loops : goal.returns-in-Loops
 returns-in-Loops c =
     let total = expansion_of (macros_of c.args.macros.now) (automatic_of c.args.automatic.now) c.args.text.now in
     let went = rw c.in-Loops.is at (c.in_ok-step.ensures.went total c.steps.invariant.1) in
-    subst (λ t. IsExpandedText t c.bounded-in-Loops.result) (sym went) c.bounded-in-Loops.ensures
+    subst (λ t. IsExpandedText t c.unless_too_long-in-Loops.result) (sym went) c.unless_too_long-in-Loops.ensures
 
 pub returns-then-len-gt-EXPANSION_LIMIT : goal.returns-then-len-gt-EXPANSION_LIMIT
 returns-then-len-gt-EXPANSION_LIMIT c =

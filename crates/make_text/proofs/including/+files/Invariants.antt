@@ -1,11 +1,11 @@
 use Rattle.std.proofs.Common.{◌≡◌, ◌+◌, ◌*◌, Ok, drop, length}
 use Rattle.make_grammar.specs.LogicalLines.{logical_lines}
 use Rattle.make_text.specs.Readers.{Keeps}
-use Rattle.make_grammar.specs.Statements.{included, include_line, include_paths, read_lines}
+use Rattle.make_grammar.specs.Statements.{reading_of_include, include_line, include_paths, read_lines}
 use Rattle.make_text.proofs.including.+files.Given as goal
 
-abbrev pub decreases-included : goal.decreases-included
-decreases-included g l = 5 * l.left
+abbrev pub decreases-reading_of_include : goal.decreases-reading_of_include
+decreases-reading_of_include g l = 5 * l.left
 
 abbrev pub decreases-include_line : goal.decreases-include_line
 decreases-include_line g l = 5 * l.left + 1
@@ -23,8 +23,8 @@ abbrev pub invariant-include_line-loop-path : goal.invariant-include_line-loop-p
 invariant-include_line-loop-path g l =
     record {
       reads :
-          include_paths (included (g.X.Texts.texts l.texts) l.left l.file.value l.line) (drop l.path-index l.path-items) (Ok l.reader.reading)
-          ≡ include_line (included (g.X.Texts.texts l.texts) l.left l.file.value l.line) l.file.value l.line l.behind l.fn.reader.reading;
+          include_paths (reading_of_include (g.X.Texts.texts l.texts) l.left l.file.value l.line) (drop l.path-index l.path-items) (Ok l.reader.reading)
+          ≡ include_line (reading_of_include (g.X.Texts.texts l.texts) l.left l.file.value l.line) l.file.value l.line l.behind l.fn.reader.reading;
       kept : Keeps l.reader.scripted.keys l.reader.reading.rules;
     }
 
@@ -32,8 +32,8 @@ abbrev pub invariant-read_lines-lines : goal.invariant-read_lines-lines
 invariant-read_lines-lines g l =
     record {
       reads :
-          read_lines (included (g.X.Texts.texts l.texts) l.left l.file.value) l.file.value l.lines l.reader.reading
-          ≡ read_lines (included (g.X.Texts.texts l.texts) l.left l.file.value) l.file.value (logical_lines l.text) l.fn.reader.reading;
+          read_lines (reading_of_include (g.X.Texts.texts l.texts) l.left l.file.value) l.file.value l.lines l.reader.reading
+          ≡ read_lines (reading_of_include (g.X.Texts.texts l.texts) l.left l.file.value) l.file.value (logical_lines l.text) l.fn.reader.reading;
       kept : Keeps l.reader.scripted.keys l.reader.reading.rules;
     }
 

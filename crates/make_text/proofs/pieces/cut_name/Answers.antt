@@ -12,8 +12,8 @@ returns-in-Some c =
     record {
       pieces =
           name_to c.args.close c.in-Some.end text (sym c.in-Some.ensures.place)
-          ∙ ap (λ v. v ++ pieces_of (drop (c.in-Some.end + 1) text)) (sym c.named.ensures)
-          ∙ ap (λ v. pieces_in c.named.result ++ pieces_of v) (sym rest);
+          ∙ ap (λ v. v ++ pieces_of (drop (c.in-Some.end + 1) text)) (sym c.piece_of_name.ensures)
+          ∙ ap (λ v. pieces_in c.piece_of_name.result ++ pieces_of v) (sym rest);
       shorter = rw rest (omega (arith, length-drop (c.in-Some.end + 1) text));
     }
 

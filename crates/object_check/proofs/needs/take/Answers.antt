@@ -5,7 +5,7 @@ use Rattle.std.specs.BTreeSet.{contains}
 use Rattle.std.specs.Ordering.{nat_cmp}
 use Rattle.std.specs.Prelude.{is_some}
 use Rattle.cc_names.specs.declared.rows.ReadOf.{ReadOf}
-use Rattle.base_model.specs.Changes.{live}
+use Rattle.base_model.specs.Changes.{live_row}
 use Rattle.object_check.specs.Needed.{name_object}
 use Rattle.object_check.proofs.Needing.{needs_more, needs_same}
 use Rattle.object_check.proofs.needs.take.Goals as goal
@@ -19,7 +19,7 @@ returns-then-not-is_needed c =
     let b = c.args.rows.now in
     let id = c.args.id in
     let old = contains nat_cmp c.args.needed.now in
-    let none = neither (old id) (is_some (live b id)) (sym c.is_needed.ensures ∙ c.if-not-is_needed.true) in
+    let none = neither (old id) (is_some (live_row b id)) (sym c.is_needed.ensures ∙ c.if-not-is_needed.true) in
     needs_same b id old c.requires none.0 none.1
 
 pub returns : goal.returns

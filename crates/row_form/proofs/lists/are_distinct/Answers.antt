@@ -16,9 +16,9 @@ holds : (a : Bool) (P Q : Type 0) → a ≡ true → MatchBool a P Q → P
 holds true P Q e h = h
 holds false P Q e h = absurd (cc)
 
-front : (targets : List (List ℕ)) (index : ℕ) (target : List ℕ) → index < length targets → target ≡ get_or targets index target
+prefix : (targets : List (List ℕ)) (index : ℕ) (target : List ℕ) → index < length targets → target ≡ get_or targets index target
     → drop index targets ≡ target ∷ drop (index + 1) targets
-front targets index target h e =
+prefix targets index target h e =
     drop-cons targets index target h ∙ ap (λ t. t ∷ drop (suc index) targets) (sym e) ∙ ap (λ n. target ∷ drop n targets) (sym (add-one index))
 
 pub loop-target-init : goal.loop-target-init
@@ -29,8 +29,8 @@ returns-then-not-branch c =
     let keys = c.loop-target.seen.keys in
     let there = not_false _ _ c.in_ok-insert.ensures.added c.if-not-branch.true in
     let seen : is_seen keys c.target-item.result ≡ true = ap (is_seen keys) (sym c.as_bytes.ensures.bytes) ∙ there in
-    let front_is = front c.args.targets.now c.loop-target.target-index c.target-item.result c.loop-target-test.true c.target-item.is in
-    sym (c.loop-target.invariant ∙ ap (are_fresh keys) front_is ∙ fresh_seen keys _ _ seen)
+    let prefix_is = prefix c.args.targets.now c.loop-target.target-index c.target-item.result c.loop-target-test.true c.target-item.is in
+    sym (c.loop-target.invariant ∙ ap (are_fresh keys) prefix_is ∙ fresh_seen keys _ _ seen)
 
 pub loop-target-preserved : goal.loop-target-preserved
 loop-target-preserved c =
@@ -38,5 +38,5 @@ loop-target-preserved c =
     let away = not_true _ _ c.in_ok-insert.ensures.added c.if-not-branch.false in
     let fresh : is_seen keys c.target-item.result ≡ false = ap (is_seen keys) (sym c.as_bytes.ensures.bytes) ∙ away in
     let put = holds _ _ _ c.if-not-branch.false c.in_ok-insert.ensures.keys in
-    let front_is = front c.args.targets.now c.loop-target.target-index c.target-item.result c.loop-target-test.true c.target-item.is in
-    c.loop-target.invariant ∙ ap (are_fresh keys) front_is ∙ fresh_next keys c.insert.new.self.keys c.as_bytes.result _ _ c.as_bytes.ensures.bytes fresh put
+    let prefix_is = prefix c.args.targets.now c.loop-target.target-index c.target-item.result c.loop-target-test.true c.target-item.is in
+    c.loop-target.invariant ∙ ap (are_fresh keys) prefix_is ∙ fresh_next keys c.insert.new.self.keys c.as_bytes.result _ _ c.as_bytes.ensures.bytes fresh put

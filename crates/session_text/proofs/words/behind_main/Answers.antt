@@ -3,7 +3,7 @@ use Rattle.std.proofs.lemmas.Grind.{common_steps}
 use Rattle.std.specs.List.{slice_split}
 use Rattle.cc_names.specs.Answers.{Gives}
 use Rattle.cc_names.specs.Paths.{is_slash}
-use Rattle.session_text.specs.Words.{behind_main, with_branch, numbered, type_word}
+use Rattle.session_text.specs.Words.{behind_main, with_branch, version_of_parts, type_word}
 use Rattle.session_text.proofs.Versions.{behind_main-next, behind_main-last, fault-of_branch, fault-along}
 use Rattle.session_text.proofs.words.behind_main.Goals as goal
 
@@ -27,5 +27,5 @@ branches-preserved c =
 
 pub returns : goal.returns
 returns c =
-    let all = c.branches.invariant ∙ behind_main-last c.branches.rest.now c.branches.branches.items (sym c.first_slash.ensures.place ∙ c.in_default.is) ∙ ap (λ v. numbered c.branches.branches.items v) (sym c.number.ensures) in
-    subst (Gives c.numbered.result) (sym all) c.numbered.ensures
+    let all = c.branches.invariant ∙ behind_main-last c.branches.rest.now c.branches.branches.items (sym c.first_slash.ensures.place ∙ c.in_default.is) ∙ ap (λ v. version_of_parts c.branches.branches.items v) (sym c.number.ensures) in
+    subst (Gives c.version_of_parts.result) (sym all) c.version_of_parts.ensures

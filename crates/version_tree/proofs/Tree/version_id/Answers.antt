@@ -2,7 +2,7 @@ use Rattle.std.proofs.Common.{◌≡◌, eqb, Some, None, sym, ◌∙◌, arith}
 use Rattle.std.specs.Prelude.{find, option_map}
 use Rattle.std.proofs.lemmas.Grind.{common_steps}
 use Rattle.cc_names.specs.Versions.{branch_of_change, change_at, element_of_branch, number_of_version, versions_on}
-use Rattle.version_tree.specs.Branches.{versions_kept}
+use Rattle.version_tree.specs.Branches.{versions_stored}
 use Rattle.version_tree.proofs.VersionIds.{version_id_without_element, version_id_found}
 use Rattle.version_tree.proofs.Tree.version_id.Goals as goal
 
@@ -20,7 +20,7 @@ returns c =
     let change = c.in_ok-change_at.field-0.now in
     let made : change_at c.args.self.now.changes c.args.version ≡ Some change = grind (arith, common_steps, c.change_at.ensures, c.in_ok-change_at.was) in
     let belongs : element_of_branch c.args.self.now.changes (branch_of_change change) ≡ Some c.in_ok-element.element = grind (arith, common_steps, c.element_of.ensures, c.in_ok-element.was, c.branch_of-branch.ensures) in
-    let kept : versions_kept c.in_ok-branch_at.field-0.now ≡ versions_on c.args.self.now.changes c.branch_of-branch.result =
+    let kept : versions_stored c.in_ok-branch_at.field-0.now ≡ versions_on c.args.self.now.changes c.branch_of-branch.result =
     grind (arith, common_steps, c.branch_at.ensures.versions, c.in_ok-branch_at.was) in
     let numbers : option_map number_of_version (find (λ v. eqb v.row c.args.version) (versions_on c.args.self.now.changes (branch_of_change change))) ≡ Some c.in_ok-number.number =
     rw (← c.branch_of-branch.ensures, ← kept) (sym c.number_of.ensures ∙ c.in_ok-number.was) in

@@ -8,7 +8,7 @@ use Rattle.cc_names.specs.Paths.{is_root, is_slash, names_of, IsPath}
 use Rattle.cc_names.specs.declared.selection.Seen.{Seen}
 use Rattle.base_model.specs.Rows.{Base}
 use Rattle.base_model.specs.Seen.{at, at_names, below, entries_of}
-use Rattle.view_lookup.proofs.PathFronts.{BeginsName, FirstSlash, IsUncut, begins_behind, first_slash, names_before, names_of_front, split_front, split_whole}
+use Rattle.view_lookup.proofs.PathPrefixes.{BeginsName, FirstSlash, IsUncut, begins_behind, first_slash, names_before, names_of_prefix, split_prefix, split_whole}
 use Rattle.view_lookup.proofs.seen.at.Goals as goal
 
 at_more : (b : Base) (v : List ℕ) (above : List (List ℕ)) (name : List ℕ) → at_names b v (reverse (above ++ (name ∷ []))) ≡ below b v (above ++ (name ∷ [])) name (entries_of b v (at_names b v (reverse above)))
@@ -23,8 +23,8 @@ to_slash : (b : Base) (v path : List ℕ) (start len : ℕ) (seen : Seen) → Is
 to_slash b v path start len seen is_path below_root inside begins slash seen_is =
     let name = take len (drop start path) in
     let before = names_before path start in
-    let split = split_front path start len begins slash.uncut in
-    ap (λ names. below b v names name (entries_of b v seen)) (names_of_front path start len is_path below_root inside slash ∙ split)
+    let split = split_prefix path start len begins slash.uncut in
+    ap (λ names. below b v names name (entries_of b v seen)) (names_of_prefix path start len is_path below_root inside slash ∙ split)
     ∙ ap (λ s. below b v (before ++ (name ∷ [])) name (entries_of b v s)) seen_is
     ∙ sym (at_more b v before name)
     ∙ ap (λ names. at_names b v (reverse names)) (sym split ∙ ap (names_before path) (sym (add-one (start + len))))

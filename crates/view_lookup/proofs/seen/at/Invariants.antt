@@ -1,6 +1,6 @@
 use Rattle.std.proofs.Common.{◌≡◌, ◌-◌, ◌≤◌, length, reverse}
 use Rattle.base_model.specs.Seen.{at_names}
-use Rattle.view_lookup.proofs.PathFronts.{BeginsName, names_before}
+use Rattle.view_lookup.proofs.PathPrefixes.{BeginsName, names_before}
 use Rattle.view_lookup.proofs.seen.at.Given as goal
 
 -- a name begins at the place, and what is seen is what stands at the path of the names before it

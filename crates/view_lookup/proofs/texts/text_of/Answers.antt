@@ -5,7 +5,7 @@ use Rattle.base_model.specs.Rows.{Base, first_rows, row_at, size}
 use Rattle.base_model.specs.Texts.{source_of, text}
 use Rattle.base_model.proofs.Stay.{all_rows}
 use Rattle.view_lookup.specs.Sources.{plain_source}
-use Rattle.view_lookup.proofs.TextRows.{below_shorter, text_by, text_of_row, text_told}
+use Rattle.view_lookup.proofs.TextRows.{below_shorter, text_by, text_of_row, text_by_its_row}
 use Rattle.view_lookup.proofs.texts.text_of.Goals as goal
 
 pub loop-found-init : goal.loop-found-init
@@ -19,12 +19,12 @@ returns-in-Bytes c =
     let older = c.loop-found.older in
     let number = c.loop-found.number in
     let first = c.first_rows-older-in-Some.result in
-    let told : text older number path ≡ text_by first path (plain_source c.source_of.result) =
-    text_told older number path
+    let update_by_row : text older number path ≡ text_by first path (plain_source c.source_of.result) =
+    text_by_its_row older number path
     ∙ ap (text_of_row (first_rows number older) path) (sym c.in-Some.ensures)
     ∙ ap (λ (b : Base). text_by b path (source_of b path c.in-Some.found.now.deed)) (sym c.first_rows-older-in-Some.ensures)
     ∙ ap (text_by first path) (sym (c.source_of.ensures ∙ ap (source_of first path) c.deed.ensures.deed)) in
-    sym (ap (λ source. text_by first path (plain_source source)) c.in-Bytes.is) ∙ sym told ∙ c.loop-found.invariant
+    sym (ap (λ source. text_by first path (plain_source source)) c.in-Bytes.is) ∙ sym update_by_row ∙ c.loop-found.invariant
 
 pub loop-found-smaller : goal.loop-found-smaller
 loop-found-smaller c =
@@ -38,12 +38,12 @@ loop-found-preserved c =
     let older = c.loop-found.older in
     let number = c.loop-found.number in
     let first = c.first_rows-older-in-Some.result in
-    let told : text older number path ≡ text_by first path (plain_source c.source_of.result) =
-    text_told older number path
+    let update_by_row : text older number path ≡ text_by first path (plain_source c.source_of.result) =
+    text_by_its_row older number path
     ∙ ap (text_of_row (first_rows number older) path) (sym c.in-Some.ensures)
     ∙ ap (λ (b : Base). text_by b path (source_of b path c.in-Some.found.now.deed)) (sym c.first_rows-older-in-Some.ensures)
     ∙ ap (text_by first path) (sym (c.source_of.ensures ∙ ap (source_of first path) c.deed.ensures.deed)) in
-    sym (ap (λ source. text_by first path (plain_source source)) c.in-OfRow.is) ∙ sym told ∙ c.loop-found.invariant
+    sym (ap (λ source. text_by first path (plain_source source)) c.in-OfRow.is) ∙ sym update_by_row ∙ c.loop-found.invariant
 
 pub returns-in-NoText : goal.returns-in-NoText
 returns-in-NoText c =
@@ -51,12 +51,12 @@ returns-in-NoText c =
     let older = c.loop-found.older in
     let number = c.loop-found.number in
     let first = c.first_rows-older-in-Some.result in
-    let told : text older number path ≡ text_by first path (plain_source c.source_of.result) =
-    text_told older number path
+    let update_by_row : text older number path ≡ text_by first path (plain_source c.source_of.result) =
+    text_by_its_row older number path
     ∙ ap (text_of_row (first_rows number older) path) (sym c.in-Some.ensures)
     ∙ ap (λ (b : Base). text_by b path (source_of b path c.in-Some.found.now.deed)) (sym c.first_rows-older-in-Some.ensures)
     ∙ ap (text_by first path) (sym (c.source_of.ensures ∙ ap (source_of first path) c.deed.ensures.deed)) in
-    sym (ap (λ source. text_by first path (plain_source source)) c.in-NoText.is) ∙ sym told ∙ c.loop-found.invariant
+    sym (ap (λ source. text_by first path (plain_source source)) c.in-NoText.is) ∙ sym update_by_row ∙ c.loop-found.invariant
 
 pub returns : goal.returns
 returns c =
@@ -65,4 +65,4 @@ returns c =
     let number = c.loop-found.number in
     let none : c.row_at.result ≡ None = search rules in
     let nowhere : row_at older number ≡ None = sym c.row_at.ensures ∙ ap option_copied none in
-    sym (text_told older number path ∙ ap (text_of_row (first_rows number older) path) nowhere) ∙ c.loop-found.invariant
+    sym (text_by_its_row older number path ∙ ap (text_of_row (first_rows number older) path) nowhere) ∙ c.loop-found.invariant

@@ -1,17 +1,17 @@
 use Rattle.disk_model.specs.Devices.{Measures, Idles}
 use Rattle.vob_journal.specs.Reads.{Rests}
 use Rattle.vob_journal.proofs.Journals.{measured_rests}
-use Rattle.vob_journal.proofs.Staying.{idle_rests, told_rest_on}
+use Rattle.vob_journal.proofs.Staying.{idle_rests, modeled_rest_on}
 use Rattle.vob_journal.proofs.Telling.{both_map}
 use Rattle.vob_journal.proofs.foreign.foreign_bytes.Goals as goal
 
 pub returns-in-Err-clause-rests : goal.returns-in-Err-clause-rests
-returns-in-Err-clause-rests g c = both_map Idles Rests _ _ idle_rests c.in-Err.ensures.told
+returns-in-Err-clause-rests g c = both_map Idles Rests _ _ idle_rests c.in-Err.ensures.modeled
 
 pub returns-in-Ok-tail_of-clause-rests : goal.returns-in-Ok-tail_of-clause-rests
 returns-in-Ok-tail_of-clause-rests g c =
-    told_rest_on _ _ _ (both_map (Measures 0) Rests _ _ measured_rests c.in-Ok.ensures.told) (told_rest_on _ _ _ c.in-Ok-tail_of.ensures.rests c.foreign_at.ensures.rests)
+    modeled_rest_on _ _ _ (both_map (Measures 0) Rests _ _ measured_rests c.in-Ok.ensures.modeled) (modeled_rest_on _ _ _ c.in-Ok-tail_of.ensures.rests c.foreign_at.ensures.rests)
 
 pub returns-in-Err-tail_of-clause-rests : goal.returns-in-Err-tail_of-clause-rests
 returns-in-Err-tail_of-clause-rests g c =
-    told_rest_on _ _ _ (both_map (Measures 0) Rests _ _ measured_rests c.in-Ok.ensures.told) c.in-Err-tail_of.ensures.rests
+    modeled_rest_on _ _ _ (both_map (Measures 0) Rests _ _ measured_rests c.in-Ok.ensures.modeled) c.in-Err-tail_of.ensures.rests

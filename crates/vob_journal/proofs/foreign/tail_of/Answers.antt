@@ -1,46 +1,46 @@
 use Rattle.std.proofs.Common.{◌≡◌, ◌≤◌, ◌+◌, Some, None, length, drop, sym, ◌∙◌, subst, arith}
 use Rattle.disk_model.specs.Devices.{bytes_of}
-use Rattle.disk_model.specs.Told.{IfTold}
+use Rattle.disk_model.specs.DiskStates.{IfModeled}
 use Rattle.vob_journal.specs.Found.{Finds, IsWithin, ShowsOn}
 use Rattle.vob_journal.specs.Frames.{head, is_shut}
-use Rattle.vob_journal.proofs.Leaving.{told_further, told_behind}
-use Rattle.vob_journal.proofs.Staying.{told_rest_on}
-use Rattle.vob_journal.proofs.Telling.{told_map}
+use Rattle.vob_journal.proofs.Leaving.{modeled_further, modeled_behind}
+use Rattle.vob_journal.proofs.Staying.{modeled_rest_on}
+use Rattle.vob_journal.proofs.Telling.{modeled_map}
 use Rattle.vob_journal.proofs.foreign.tail_of.Goals as goal
 
 pub frames-preserved : goal.frames-preserved
 frames-preserved g c =
-    let first = (g.D.Disk.sight c.args.disk.now).told in
-    let old = (g.D.Disk.sight c.frames.disk).told in
-    let new = (g.D.Disk.sight c.read_frame.new.disk).told in
+    let first = (g.D.Disk.ghost_state c.args.disk.now).modeled in
+    let old = (g.D.Disk.ghost_state c.frames.disk).modeled in
+    let new = (g.D.Disk.ghost_state c.read_frame.new.disk).modeled in
     let tail = c.frames.tail in
     let kept = c.frames.invariant in
     let answer = c.in-Ok-Payload.ensures in
-    let is_payload : IfTold old (λ d. head (drop tail (bytes_of 0 d)) ≡ Some c.in-Ok-Payload.payload) =
-    subst (λ f. IfTold old (λ d. Finds f (drop tail (bytes_of 0 d)))) c.in-Ok-Payload.field-0-is answer.found in
-    let found = subst (λ p. IfTold old (λ d. head (drop tail (bytes_of 0 d)) ≡ Some p)) (sym c.as_bytes.ensures) is_payload in
+    let is_payload : IfModeled old (λ d. head (drop tail (bytes_of 0 d)) ≡ Some c.in-Ok-Payload.payload) =
+    subst (λ f. IfModeled old (λ d. Finds f (drop tail (bytes_of 0 d)))) c.in-Ok-Payload.field-0-is answer.found in
+    let found = subst (λ p. IfModeled old (λ d. head (drop tail (bytes_of 0 d)) ≡ Some p)) (sym c.as_bytes.ensures) is_payload in
     let is_within : tail + (5 + length c.in-Ok-Payload.payload) ≤ c.args.size = subst (IsWithin tail c.args.size) c.in-Ok-Payload.field-0-is answer.within in
     record {
       within = subst (λ p. tail + (5 + length p) ≤ c.args.size) (sym c.as_bytes.ensures) is_within;
       shows = subst (ShowsOn new) c.in-Ok-Payload.field-0-is answer.shows;
-      rests = told_rest_on first old new kept.rests answer.rests;
-      so_far = told_further tail c.as_bytes.result.now first old kept.rests found kept.so_far;
+      rests = modeled_rest_on first old new kept.rests answer.rests;
+      so_far = modeled_further tail c.as_bytes.result.now first old kept.rests found kept.so_far;
       ticks = omega (arith, kept.ticks, answer.counts.0);
       faults = answer.counts.2 ∙ kept.faults;
     }
 
 pub returns-in-Ok-End-clause-rests : goal.returns-in-Ok-End-clause-rests
-returns-in-Ok-End-clause-rests g c = told_rest_on _ _ _ c.frames.invariant.rests c.in-Ok-End.ensures.rests
+returns-in-Ok-End-clause-rests g c = modeled_rest_on _ _ _ c.frames.invariant.rests c.in-Ok-End.ensures.rests
 
 pub returns-in-Err-clause-rests : goal.returns-in-Err-clause-rests
-returns-in-Err-clause-rests g c = told_rest_on _ _ _ c.frames.invariant.rests c.in-Err.ensures.rests
+returns-in-Err-clause-rests g c = modeled_rest_on _ _ _ c.frames.invariant.rests c.in-Err.ensures.rests
 
 pub returns-in-Ok-End-clause-behind : goal.returns-in-Ok-End-clause-behind
 returns-in-Ok-End-clause-behind g c =
-    let old = (g.D.Disk.sight c.frames.disk).told in
+    let old = (g.D.Disk.ghost_state c.frames.disk).modeled in
     let tail = c.frames.tail in
-    let found : IfTold old (λ d. (head (drop tail (bytes_of 0 d)) ≡ None) × (c.in-Ok-End.field-0-0 ≡ is_shut (drop tail (bytes_of 0 d)))) =
-    subst (λ f. IfTold old (λ d. Finds f (drop tail (bytes_of 0 d)))) c.in-Ok-End.field-0-is c.in-Ok-End.ensures.found in
-    told_behind tail _ old c.frames.invariant.rests
-    (told_map (λ d. (head (drop tail (bytes_of 0 d)) ≡ None) × (c.in-Ok-End.field-0-0 ≡ is_shut (drop tail (bytes_of 0 d)))) (λ d. head (drop tail (bytes_of 0 d)) ≡ None) old (λ d h. h.0) found)
+    let found : IfModeled old (λ d. (head (drop tail (bytes_of 0 d)) ≡ None) × (c.in-Ok-End.field-0-0 ≡ is_shut (drop tail (bytes_of 0 d)))) =
+    subst (λ f. IfModeled old (λ d. Finds f (drop tail (bytes_of 0 d)))) c.in-Ok-End.field-0-is c.in-Ok-End.ensures.found in
+    modeled_behind tail _ old c.frames.invariant.rests
+    (modeled_map (λ d. (head (drop tail (bytes_of 0 d)) ≡ None) × (c.in-Ok-End.field-0-0 ≡ is_shut (drop tail (bytes_of 0 d)))) (λ d. head (drop tail (bytes_of 0 d)) ≡ None) old (λ d h. h.0) found)
     c.frames.invariant.so_far

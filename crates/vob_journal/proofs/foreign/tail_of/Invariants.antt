@@ -1,6 +1,6 @@
 use Rattle.std.proofs.Common.{◌≡◌, ◌≤◌, ◌-◌, drop}
 use Rattle.disk_model.specs.Devices.{bytes_of}
-use Rattle.disk_model.specs.Told.{IfTold, Both}
+use Rattle.disk_model.specs.DiskStates.{IfModeled, Both}
 use Rattle.vob_journal.specs.Foreign.{behind}
 use Rattle.vob_journal.specs.Reads.{Rests}
 use Rattle.vob_journal.specs.Windows.{IfShows}
@@ -9,11 +9,11 @@ use Rattle.vob_journal.proofs.foreign.tail_of.Given as goal
 abbrev pub invariant-frames : goal.invariant-frames
 invariant-frames g l = record {
   within : l.tail ≤ l.size;
-  shows : IfShows l.window (g.D.Disk.sight l.disk).told;
-  rests : Both Rests (g.D.Disk.sight l.fn.disk).told (g.D.Disk.sight l.disk).told;
-  so_far : IfTold (g.D.Disk.sight l.fn.disk).told (λ d. behind (bytes_of 0 d) ≡ behind (drop l.tail (bytes_of 0 d)));
-  ticks : (g.D.Disk.sight l.fn.disk).ticks ≤ (g.D.Disk.sight l.disk).ticks;
-  faults : (g.D.Disk.sight l.disk).faults ≡ (g.D.Disk.sight l.fn.disk).faults;
+  shows : IfShows l.window (g.D.Disk.ghost_state l.disk).modeled;
+  rests : Both Rests (g.D.Disk.ghost_state l.fn.disk).modeled (g.D.Disk.ghost_state l.disk).modeled;
+  so_far : IfModeled (g.D.Disk.ghost_state l.fn.disk).modeled (λ d. behind (bytes_of 0 d) ≡ behind (drop l.tail (bytes_of 0 d)));
+  ticks : (g.D.Disk.ghost_state l.fn.disk).ticks ≤ (g.D.Disk.ghost_state l.disk).ticks;
+  faults : (g.D.Disk.ghost_state l.disk).faults ≡ (g.D.Disk.ghost_state l.fn.disk).faults;
 }
 
 abbrev pub decreases-frames : goal.decreases-frames

@@ -1,6 +1,6 @@
 -- a row is committed, or the disk fails: what is kept then, and how the story went on
 use Rattle.std.proofs.Common.{◌≡◌, ℕ, true, Option, Some, None, Ok, List, ◌++◌, ◌∷◌, [], ap, ap₂, sym, subst, ◌∙◌}
-use Rattle.cleartool.specs.Naming.{name_told}
+use Rattle.cleartool.specs.Naming.{replied_name}
 use Rattle.cc_names.specs.Formed.{Plain}
 use Rattle.cc_names.specs.declared.replies.Reply.TheVariants as replies
 use Rattle.cc_names.specs.declared.steps.Step.TheVariants as steps
@@ -8,36 +8,36 @@ use Rattle.cc_names.specs.declared.steps.StoryStep.{StoryStep}
 use Rattle.cc_names.specs.declared.steps.StoryStep.TheVariants as story_steps
 use Rattle.base_model.specs.Fits.{fits}
 use Rattle.legal_history.specs.Commands.Decisions.{Makes}
-use Rattle.legal_history.specs.Stories.States.{decided}
+use Rattle.legal_history.specs.Stories.States.{decision_for}
 use Rattle.legal_history.specs.Stories.Steps.{state_of}
 use Rattle.base_core.specs.Calls.Acting.{Acts, IsRowToCommit}
-use Rattle.base_core.specs.Keeping.Kept.{IsCoreKept}
-use Rattle.base_core.specs.Keeping.Lanes.{LaneKept, with_reply}
+use Rattle.base_core.specs.Keeping.CoreInvariants.{CoreInvariant}
+use Rattle.base_core.specs.Keeping.Lanes.{LaneState, with_reply}
 use Rattle.story_log.specs.Logging.Appending.{IsCommitted, IsFaulted, Appends}
 use Rattle.base_core.specs.Calls.Answering.{append_reply, append_done}
 use Rattle.story_log.specs.Logging.Logs.{Logged}
 use Rattle.base_core.specs.Story.Counted.{KeepsCount}
-use Rattle.base_core.specs.Story.Replying.{count_told, row_reply}
+use Rattle.base_core.specs.Story.Replying.{replied_count, row_reply}
 use Rattle.base_core.specs.Story.Shown.{Shown}
 use Rattle.story_log.specs.declared.logs.Appended.{Appended}
 use Rattle.story_log.specs.declared.logs.Appended.TheVariants as appends
-use Rattle.base_core.proofs.Acting.Faulting.{kept_next_fault, next_faults}
-use Rattle.base_core.proofs.Acting.Finishing.{kept_next_row}
+use Rattle.base_core.proofs.Acting.Faulting.{preserved_next_fault, next_faults}
+use Rattle.base_core.proofs.Acting.Finishing.{preserved_next_row}
 use Rattle.base_core.proofs.Keeping.Rooms.{row_has_room}
 use Rattle.base_core.proofs.Story.Counts.{shown_of}
 use Rattle.base_core.proofs.core_value.Core.commit.Goals as goal
 
 -- what is kept, whatever became of the row
-kept_append : (log new : Logged) (lanes : List LaneKept) (now : ℕ) (story : List StoryStep) (row : Plain) (lane : ℕ) (name : Option (List ℕ)) (count : Option ℕ) (appended : Appended) → log.story ≡ story → lane ≡ row.tag.lane → IsCoreKept log lanes now → IsRowToCommit (state_of story) row
-    → name_told (row ∷ log.base) row.deed ≡ name → count_told row.deed ≡ count → Appends log new row None appended → IsCoreKept new (with_reply lanes lane (append_reply appended name count)) now
-kept_append log new lanes now story row lane name count appends.Committed same at_lane h next named counted became =
+preserved_append : (log new : Logged) (lanes : List LaneState) (now : ℕ) (story : List StoryStep) (row : Plain) (lane : ℕ) (name : Option (List ℕ)) (count : Option ℕ) (appended : Appended) → log.story ≡ story → lane ≡ row.tag.lane → CoreInvariant log lanes now → IsRowToCommit (state_of story) row
+    → replied_name (row ∷ log.base) row.deed ≡ name → replied_count row.deed ≡ count → Appends log new row None appended → CoreInvariant new (with_reply lanes lane (append_reply appended name count)) now
+preserved_append log new lanes now story row lane name count appends.Committed same at_lane h next named counted became =
     let done : IsCommitted log new row = became in
-    subst (λ own. IsCoreKept own (with_reply lanes lane (row_reply name count)) now) (sym done.grows)
-    (kept_next_row log lanes now story row lane done.tick done.sight done.ticked same at_lane h next done.formed (row_reply name count) (next.finishes.reply (row ∷ log.base) ∙ ap Some (ap₂ row_reply named counted)))
-kept_append log new lanes now story row lane name count appends.Faulted same at_lane h next named counted became =
+    subst (λ own. CoreInvariant own (with_reply lanes lane (row_reply name count)) now) (sym done.grows)
+    (preserved_next_row log lanes now story row lane done.tick done.ghost_state done.ticked same at_lane h next done.formed (row_reply name count) (next.finishes.reply (row ∷ log.base) ∙ ap Some (ap₂ row_reply named counted)))
+preserved_append log new lanes now story row lane name count appends.Faulted same at_lane h next named counted became =
     let done : IsFaulted log new row None = became in
-    subst (λ own. IsCoreKept own (with_reply lanes lane replies.DiskFault) now) (sym done.grows)
-    (kept_next_fault log lanes now story row lane done.left done.before done.faults done.tick done.sight done.rose done.later done.leaves done.ticked same at_lane h next done.formed)
+    subst (λ own. CoreInvariant own (with_reply lanes lane replies.DiskFault) now) (sym done.grows)
+    (preserved_next_fault log lanes now story row lane done.left done.before done.faults done.tick done.ghost_state done.rose done.later done.leaves done.ticked same at_lane h next done.formed)
 
 -- the story went on by a step of that kind
 acts_so : (log new : Logged) (story : List StoryStep) (row : Plain) (appended : Appended) → log.story ≡ story → IsRowToCommit (state_of story) row → Appends log new row None appended → Acts story new.story row.tag.lane (append_done appended)
@@ -46,7 +46,7 @@ acts_so log new story row appends.Committed same next became =
     record {
       step = story_steps.Commit row done.tick;
       grows = ap (λ (l : Logged). l.story) done.grows ∙ ap (λ t. t ++ story_steps.Commit row done.tick ∷ []) same;
-      is = (next.of_next.next, next.at_moment, subst (λ t. decided (state_of story) t ≡ Some (Ok (Makes row.deed))) next.of_next.next next.made);
+      is = (next.of_next.next, next.at_moment, subst (λ t. decision_for (state_of story) t ≡ Some (Ok (Makes row.deed))) next.of_next.next next.made);
     }
 acts_so log new story row appends.Faulted same next became =
     let done : IsFaulted log new row None = became in
@@ -61,7 +61,7 @@ counts_so log new old row appends.Committed view became =
     (record {
       steps = story_steps.Commit row done.tick ∷ [];
       grows = ap (λ (l : Logged). l.story) done.grows;
-      counts = (done.sight, (done.at, done.spent, done.faults, done.fit, done.writes, done.calls), ap (λ (l : Logged). l.sight) done.grows);
+      counts = (done.ghost_state, (done.at, done.spent, done.faults, done.fit, done.writes, done.calls), ap (λ (l : Logged). l.ghost_state) done.grows);
     })
 counts_so log new old row appends.Faulted view became =
     let done : IsFaulted log new row None = became in
@@ -69,7 +69,7 @@ counts_so log new old row appends.Faulted view became =
     (record {
       steps = story_steps.Other (steps.Fault row.tag done.left done.before done.faults done.tick) ∷ [];
       grows = ap (λ (l : Logged). l.story) done.grows;
-      counts = (done.sight, (done.counted, done.told, done.one, done.at, done.spent, done.fit, done.writes), ap (λ (l : Logged). l.sight) done.grows);
+      counts = (done.ghost_state, (done.counted, done.modeled, done.one, done.at, done.spent, done.fit, done.writes), ap (λ (l : Logged). l.ghost_state) done.grows);
     })
 
 pub append-requires-clause-fits : goal.append-requires-clause-fits
@@ -82,13 +82,13 @@ reply-requires-clause-room g c = (row_has_room c.self.inside.log c.self.inside.l
 pub invariant_of-self-2 : goal.invariant_of-self-2
 invariant_of-self-2 g c =
     let name = c.in_ok-name.name in
-    let named : name_told (c.args.row ∷ c.self.inside.log.base) c.args.row.deed ≡ name =
-    ap₂ (λ b deed. name_told (c.args.row ∷ b) deed) (sym c.rows.ensures) (sym c.deed.ensures.deed) ∙ sym (c.in_ok-name.ensures c.args.row (sym c.deed.ensures.deed)) in
-    let count = c.count_told-count.result in
-    let counted : count_told c.args.row.deed ≡ count = ap count_told (sym c.deed-2.ensures.deed) ∙ sym c.count_told-count.ensures in
-    subst (λ lanes. IsCoreKept c.append.new.self lanes c.self.inside.moment)
+    let named : replied_name (c.args.row ∷ c.self.inside.log.base) c.args.row.deed ≡ name =
+    ap₂ (λ b deed. replied_name (c.args.row ∷ b) deed) (sym c.rows.ensures) (sym c.deed.ensures.deed) ∙ sym (c.in_ok-name.ensures c.args.row (sym c.deed.ensures.deed)) in
+    let count = c.replied_count-count.result in
+    let counted : replied_count c.args.row.deed ≡ count = ap replied_count (sym c.deed-2.ensures.deed) ∙ sym c.replied_count-count.ensures in
+    subst (λ lanes. CoreInvariant c.append.new.self lanes c.self.inside.moment)
     (sym (c.reply.ensures ∙ ap (λ reply. with_reply c.self.inside.lanes c.tag-lane.result.lane reply) c.append_reply.ensures))
-    (kept_append c.self.inside.log c.append.new.self c.self.inside.lanes c.self.inside.moment c.args.self.now.story c.args.row c.tag-lane.result.lane name count c.in_ok-appended.appended
+    (preserved_append c.self.inside.log c.append.new.self c.self.inside.lanes c.self.inside.moment c.args.self.now.story c.args.row c.tag-lane.result.lane name count c.in_ok-appended.appended
     (ap (λ v. v.story) c.self.view_is) (ap (λ t. t.lane) c.tag-lane.ensures) c.self.invariant c.requires named counted c.in_ok-appended.ensures.ok)
 
 pub returns-clause-ok : goal.returns-clause-ok

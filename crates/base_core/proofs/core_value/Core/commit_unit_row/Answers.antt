@@ -7,13 +7,13 @@ use Rattle.legal_history.specs.Stories.States.{next_tag}
 use Rattle.legal_history.specs.Stories.Steps.{state_of}
 use Rattle.story_log.specs.Logging.Appending.{Appends, IsCommitted, IsFaulted}
 use Rattle.clearmake.specs.Going.{GoesOn, HasOutcome, Finishes}
-use Rattle.base_core.specs.Keeping.Kept.{IsCoreKept}
+use Rattle.base_core.specs.Keeping.CoreInvariants.{CoreInvariant}
 use Rattle.story_log.specs.Logging.Logs.{with_step, with_step_on}
-use Rattle.base_core.proofs.Building.BrokenBuilds.{kept_broken_object, broken_object_finishes}
+use Rattle.base_core.proofs.Building.BrokenBuilds.{preserved_broken_object, broken_object_finishes}
 use Rattle.story_log.proofs.Cases.{some_same}
 use Rattle.base_core.proofs.Keeping.LaneSlots.{lane_slot, slot_there}
 use Rattle.base_core.proofs.Keeping.Rooms.{build_has_room}
-use Rattle.base_core.proofs.Building.ObjectSteps.{gives_here, kept_object, object_so, object_fits}
+use Rattle.base_core.proofs.Building.ObjectSteps.{gives_here, preserved_object, object_so, object_fits}
 use Rattle.base_core.proofs.Building.UnitCalls.{builds_waits}
 use Rattle.base_core.proofs.core_value.Core.commit_unit_row.Goals as goal
 
@@ -68,24 +68,24 @@ pub invariant_of-self-in-Committed : goal.invariant_of-self-in-Committed
 invariant_of-self-in-Committed g c =
     let gives = gives_here c.self.inside.log c.self.inside.lanes c.self.inside.moment c.args.self.now.story c.args.lane c.args.unit c.args.row c.args.object (ap (λ v. v.story) c.self.view_is) c.self.invariant c.requires c.a_build_is_consistent.ensures in
     let done : IsCommitted c.self.inside.log c.append.new.self c.args.row = subst (Appends c.self.inside.log c.append.new.self c.args.row (Some (steps.End c.tag-tag.result))) c.in-Committed.is c.in_ok-append.ensures.ok in
-    subst (λ log. IsCoreKept log c.note.new.self c.self.inside.moment) (sym done.grows)
-    (kept_object c.self.inside.log c.self.inside.lanes c.note.new.self c.self.inside.moment c.args.lane c.args.unit c.args.row c.args.object done.tick done.sight done.ticked c.self.invariant gives (λ build e. c.note.ensures build e) done.formed)
+    subst (λ log. CoreInvariant log c.note.new.self c.self.inside.moment) (sym done.grows)
+    (preserved_object c.self.inside.log c.self.inside.lanes c.note.new.self c.self.inside.moment c.args.lane c.args.unit c.args.row c.args.object done.tick done.ghost_state done.ticked c.self.invariant gives (λ build e. c.note.ensures build e) done.formed)
 
 pub invariant_of-self-in-Faulted : goal.invariant_of-self-in-Faulted
 invariant_of-self-in-Faulted g c =
     let gives = gives_here c.self.inside.log c.self.inside.lanes c.self.inside.moment c.args.self.now.story c.args.lane c.args.unit c.args.row c.args.object (ap (λ v. v.story) c.self.view_is) c.self.invariant c.requires c.a_build_is_consistent.ensures in
     let done : IsFaulted c.self.inside.log c.append.new.self c.args.row (Some (steps.End c.tag-tag.result)) = subst (Appends c.self.inside.log c.append.new.self c.args.row (Some (steps.End c.tag-tag.result))) c.in-Faulted.is c.in_ok-append.ensures.ok in
     let tagged : c.tag-tag.result ≡ next_tag (state_of c.self.inside.log.story) c.args.lane = c.tag-tag.ensures ∙ ap (λ v. next_tag (state_of v.story) c.args.lane) (sym c.self.view_is) in
-    subst (λ log. IsCoreKept log c.close.new.self c.self.inside.moment) (sym done.grows)
-    (subst (λ lanes. IsCoreKept (with_step (with_step_on c.self.inside.log (steps.Fault c.args.row.tag done.left done.before done.faults done.tick) done.sight) (steps.End c.tag-tag.result)) lanes c.self.inside.moment) (sym c.close.ensures)
-    (kept_broken_object c.self.inside.log c.self.inside.lanes c.self.inside.moment c.args.lane c.args.unit c.args.row c.args.object c.tag-tag.result done.left done.before done.faults done.tick done.sight done.rose done.later done.leaves done.ticked c.self.invariant gives tagged done.formed))
+    subst (λ log. CoreInvariant log c.close.new.self c.self.inside.moment) (sym done.grows)
+    (subst (λ lanes. CoreInvariant (with_step (with_step_on c.self.inside.log (steps.Fault c.args.row.tag done.left done.before done.faults done.tick) done.ghost_state) (steps.End c.tag-tag.result)) lanes c.self.inside.moment) (sym c.close.ensures)
+    (preserved_broken_object c.self.inside.log c.self.inside.lanes c.self.inside.moment c.args.lane c.args.unit c.args.row c.args.object c.tag-tag.result done.left done.before done.faults done.tick done.ghost_state done.rose done.later done.leaves done.ticked c.self.invariant gives tagged done.formed))
 
 pub returns-in-Committed-clause-ok : goal.returns-in-Committed-clause-ok
 returns-in-Committed-clause-ok g c =
     let gives = gives_here c.self.inside.log c.self.inside.lanes c.self.inside.moment c.args.self.now.story c.args.lane c.args.unit c.args.row c.args.object (ap (λ v. v.story) c.self.view_is) c.self.invariant c.requires c.a_build_is_consistent.ensures in
     let done : IsCommitted c.self.inside.log c.append.new.self c.args.row = subst (Appends c.self.inside.log c.append.new.self c.args.row (Some (steps.End c.tag-tag.result))) c.in-Committed.is c.in_ok-append.ensures.ok in
     subst (λ log. GoesOn c.args.self.now.story log.story c.args.lane × HasOutcome (state_of log.story) c.args.lane c.args.unit) (sym done.grows)
-    (object_so c.self.inside.log c.args.self.now.story c.args.lane c.args.unit c.args.row c.args.object done.tick done.sight (ap (λ v. v.story) c.self.view_is) gives)
+    (object_so c.self.inside.log c.args.self.now.story c.args.lane c.args.unit c.args.row c.args.object done.tick done.ghost_state (ap (λ v. v.story) c.self.view_is) gives)
 
 pub returns-in-Faulted-clause-ok : goal.returns-in-Faulted-clause-ok
 returns-in-Faulted-clause-ok g c =
@@ -93,4 +93,4 @@ returns-in-Faulted-clause-ok g c =
     let done : IsFaulted c.self.inside.log c.append.new.self c.args.row (Some (steps.End c.tag-tag.result)) = subst (Appends c.self.inside.log c.append.new.self c.args.row (Some (steps.End c.tag-tag.result))) c.in-Faulted.is c.in_ok-append.ensures.ok in
     let tagged : c.tag-tag.result ≡ next_tag (state_of c.self.inside.log.story) c.args.lane = c.tag-tag.ensures ∙ ap (λ v. next_tag (state_of v.story) c.args.lane) (sym c.self.view_is) in
     subst (λ log. Finishes c.args.self.now.story log.story c.args.lane) (sym done.grows)
-    (broken_object_finishes c.self.inside.log c.self.inside.lanes c.self.inside.moment c.args.self.now.story c.args.lane c.args.unit c.args.row c.args.object c.tag-tag.result done.left done.before done.faults done.tick done.sight (ap (λ v. v.story) c.self.view_is) c.self.invariant gives tagged)
+    (broken_object_finishes c.self.inside.log c.self.inside.lanes c.self.inside.moment c.args.self.now.story c.args.lane c.args.unit c.args.row c.args.object c.tag-tag.result done.left done.before done.faults done.tick done.ghost_state (ap (λ v. v.story) c.self.view_is) c.self.invariant gives tagged)

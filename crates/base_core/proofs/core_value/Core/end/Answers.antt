@@ -4,17 +4,17 @@ use Rattle.cc_names.specs.declared.steps.Step.TheVariants as steps
 use Rattle.legal_history.specs.Stories.States.{next_tag}
 use Rattle.legal_history.specs.Stories.Steps.{state_of}
 use Rattle.clearmake.specs.Going.{Finishes}
-use Rattle.base_core.specs.Keeping.Kept.{IsCoreKept}
+use Rattle.base_core.specs.Keeping.CoreInvariants.{CoreInvariant}
 use Rattle.story_log.specs.Logging.Logs.{with_step}
 use Rattle.base_core.proofs.Story.Counts.{log_stays}
-use Rattle.base_core.proofs.Building.EndSteps.{kept_ended, ended_finishes}
-use Rattle.base_core.proofs.Building.FoundBuilds.{build_kept}
+use Rattle.base_core.proofs.Building.EndSteps.{preserved_ended, ended_finishes}
+use Rattle.base_core.proofs.Building.FoundBuilds.{build_preserved}
 use Rattle.base_core.proofs.Keeping.Rooms.{build_has_room}
 use Rattle.base_core.proofs.Building.UnitCalls.{builds_waits}
 use Rattle.base_core.proofs.core_value.Core.end.Goals as goal
 
 pub tag-tag-requires : goal.tag-tag-requires
-tag-tag-requires g c = builds_waits (state_of c.args.self.now.story) c.args.lane (next_tag (state_of c.args.self.now.story) c.args.lane) (build_kept c.self.inside.log c.self.inside.lanes c.self.inside.moment c.args.self.now.story c.args.lane c.requires.build (ap (λ v. v.story) c.self.view_is) c.self.invariant c.requires.active).waits
+tag-tag-requires g c = builds_waits (state_of c.args.self.now.story) c.args.lane (next_tag (state_of c.args.self.now.story) c.args.lane) (build_preserved c.self.inside.log c.self.inside.lanes c.self.inside.moment c.args.self.now.story c.args.lane c.requires.build (ap (λ v. v.story) c.self.view_is) c.self.invariant c.requires.active).waits
 
 pub close-requires-clause-from : goal.close-requires-clause-from
 close-requires-clause-from g c = (build_has_room c.self.inside.log c.self.inside.lanes c.self.inside.moment c.args.self.now.story c.args.lane c.requires.build (ap (λ v. v.story) c.self.view_is) c.self.invariant c.requires.active).from
@@ -27,9 +27,9 @@ close-requires-clause-room g c = (build_has_room c.self.inside.log c.self.inside
 
 pub invariant_of-self-2 : goal.invariant_of-self-2
 invariant_of-self-2 g c =
-    subst (λ log. IsCoreKept log c.close.new.self c.self.inside.moment) (sym c.in_ok-tell.ensures.ok)
-    (subst (λ lanes. IsCoreKept (with_step c.self.inside.log (steps.End c.tag-tag.result)) lanes c.self.inside.moment) (sym c.close.ensures)
-    (kept_ended c.self.inside.log c.self.inside.lanes c.self.inside.moment c.args.lane c.args.self.now.story c.rows.result c.tag-tag.result c.build_at.result.now c.in_ok-reply.reply
+    subst (λ log. CoreInvariant log c.close.new.self c.self.inside.moment) (sym c.in_ok-tell.ensures.ok)
+    (subst (λ lanes. CoreInvariant (with_step c.self.inside.log (steps.End c.tag-tag.result)) lanes c.self.inside.moment) (sym c.close.ensures)
+    (preserved_ended c.self.inside.log c.self.inside.lanes c.self.inside.moment c.args.lane c.args.self.now.story c.rows.result c.tag-tag.result c.build_at.result.now c.in_ok-reply.reply
     (ap (λ v. v.story) c.self.view_is) c.self.invariant c.requires c.build_at.ensures.active (sym c.rows.ensures) c.tag-tag.ensures c.in_ok-reply.ensures))
 
 pub returns-in_err-tell-clause-counted : goal.returns-in_err-tell-clause-counted

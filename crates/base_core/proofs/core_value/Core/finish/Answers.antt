@@ -1,10 +1,10 @@
 -- the tail is settled: what is kept then
 use Rattle.std.proofs.Common.{sym, subst}
-use Rattle.base_core.specs.Keeping.Kept.{IsCoreKept}
-use Rattle.base_core.proofs.Keeping.Freshly.{kept_sight}
+use Rattle.base_core.specs.Keeping.CoreInvariants.{CoreInvariant}
+use Rattle.base_core.proofs.Keeping.Freshly.{preserved_ghost_state}
 use Rattle.base_core.proofs.core_value.Core.finish.Goals as goal
 
 pub invariant_of-self : goal.invariant_of-self
 invariant_of-self g c =
-    subst (λ log. IsCoreKept log c.self.inside.lanes c.self.inside.moment) (sym c.settle.ensures.same)
-    (kept_sight c.self.inside.log c.self.inside.lanes c.self.inside.moment c.settle.new.self.sight c.self.invariant)
+    subst (λ log. CoreInvariant log c.self.inside.lanes c.self.inside.moment) (sym c.settle.ensures.same)
+    (preserved_ghost_state c.self.inside.log c.self.inside.lanes c.self.inside.moment c.settle.new.self.ghost_state c.self.invariant)

@@ -1,6 +1,6 @@
 -- what a lane has to do is told by what its next command asks for
 use Rattle.std.proofs.Common.{sym, ap, ◌∙◌}
-use Rattle.cc_names.specs.declared.desks.Next.TheVariants as nexts
+use Rattle.cc_names.specs.declared.occasions.Next.TheVariants as nexts
 use Rattle.session_text.specs.declared.lanes.Ahead.TheVariants as aheads
 use Rattle.base_core.proofs.Keeping.Waiting.{next_so, waits_to_build}
 use Rattle.base_core.proofs.core_value.Core.next.Goals as goal

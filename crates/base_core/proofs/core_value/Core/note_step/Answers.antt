@@ -4,10 +4,10 @@ use Rattle.build_core.specs.Comes.{came_of}
 use Rattle.legal_history.specs.Builds.Active.{build_of}
 use Rattle.legal_history.specs.Stories.Steps.{state_of}
 use Rattle.base_core.specs.Calls.BuildCalls.{Noted}
-use Rattle.base_core.specs.Keeping.Kept.{IsCoreKept}
+use Rattle.base_core.specs.Keeping.CoreInvariants.{CoreInvariant}
 use Rattle.story_log.proofs.Cases.{some_same}
 use Rattle.base_core.proofs.Keeping.LaneSlots.{lane_slot, slot_there}
-use Rattle.base_core.proofs.Building.UnitNotes.{kept_noted, noted_so}
+use Rattle.base_core.proofs.Building.UnitNotes.{preserved_noted, noted_so}
 use Rattle.base_core.proofs.Story.Counts.{log_stays}
 use Rattle.base_core.proofs.core_value.Core.note_step.Goals as goal
 
@@ -25,8 +25,8 @@ note-requires-clause-unit g c = λ build e. subst (λ b. c.args.unit < length b.
 
 pub invariant_of-self-2 : goal.invariant_of-self-2
 invariant_of-self-2 g c =
-    subst (λ log. IsCoreKept log c.note.new.self c.self.inside.moment) (sym c.in_ok-tell.ensures.ok)
-    (kept_noted c.self.inside.log c.self.inside.lanes c.note.new.self c.self.inside.moment c.args.self.now.story c.args.lane c.args.unit c.args.step (came_of c.args.came)
+    subst (λ log. CoreInvariant log c.note.new.self c.self.inside.moment) (sym c.in_ok-tell.ensures.ok)
+    (preserved_noted c.self.inside.log c.self.inside.lanes c.note.new.self c.self.inside.moment c.args.self.now.story c.args.lane c.args.unit c.args.step (came_of c.args.came)
     (ap (λ v. v.story) c.self.view_is) c.self.invariant c.requires (λ build e. c.note.ensures build e))
 
 pub returns-clause-ok : goal.returns-clause-ok

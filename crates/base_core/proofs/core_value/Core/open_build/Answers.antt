@@ -4,17 +4,17 @@ use Rattle.cc_names.specs.declared.steps.Step.TheVariants as steps
 use Rattle.legal_history.specs.Stories.Steps.{state_of}
 use Rattle.clearmake.specs.Calls.{IsBuilding}
 use Rattle.clearmake.specs.Going.{GoesOn}
-use Rattle.base_core.specs.Keeping.Kept.{IsCoreKept}
+use Rattle.base_core.specs.Keeping.CoreInvariants.{CoreInvariant}
 use Rattle.story_log.specs.Logging.Logs.{with_step}
-use Rattle.base_core.proofs.Building.OpenSteps.{kept_opened, opened_so}
+use Rattle.base_core.proofs.Building.OpenSteps.{preserved_opened, opened_so}
 use Rattle.base_core.proofs.Story.Counts.{log_stays}
 use Rattle.base_core.proofs.core_value.Core.open_build.Goals as goal
 
 pub invariant_of-self-2 : goal.invariant_of-self-2
 invariant_of-self-2 g c =
-    subst (λ log. IsCoreKept log c.open.new.self c.self.inside.moment) (sym c.in_ok-tell.ensures.ok)
-    (subst (λ lanes. IsCoreKept (with_step c.self.inside.log (steps.Begin c.tag-tag.result c.rows.result (length c.units.result.now))) lanes c.self.inside.moment) (sym c.open.ensures)
-    (kept_opened c.self.inside.log c.self.inside.lanes c.self.inside.moment c.rows.result (length c.units.result.now) c.args.self.now.story c.tag-tag.result c.args.build
+    subst (λ log. CoreInvariant log c.open.new.self c.self.inside.moment) (sym c.in_ok-tell.ensures.ok)
+    (subst (λ lanes. CoreInvariant (with_step c.self.inside.log (steps.Begin c.tag-tag.result c.rows.result (length c.units.result.now))) lanes c.self.inside.moment) (sym c.open.ensures)
+    (preserved_opened c.self.inside.log c.self.inside.lanes c.self.inside.moment c.rows.result (length c.units.result.now) c.args.self.now.story c.tag-tag.result c.args.build
     (ap (λ v. v.story) c.self.view_is) c.self.invariant c.requires c.tag-tag.ensures c.rows.ensures (ap length c.units.ensures)))
 
 pub returns-clause-ok : goal.returns-clause-ok

@@ -2,10 +2,10 @@
 use Rattle.std.proofs.Common.{[], ap, sym, subst, ◌∙◌}
 use Rattle.cc_names.specs.declared.replies.Reply.TheVariants as replies
 use Rattle.cc_names.specs.declared.steps.Step.TheVariants as steps
-use Rattle.base_core.specs.Keeping.Kept.{IsCoreKept}
+use Rattle.base_core.specs.Keeping.CoreInvariants.{CoreInvariant}
 use Rattle.story_log.specs.Logging.Logs.{with_step}
 use Rattle.base_core.proofs.Story.Counts.{log_stays}
-use Rattle.base_core.proofs.Acting.Finishing.{kept_next_answer}
+use Rattle.base_core.proofs.Acting.Finishing.{preserved_next_answer}
 use Rattle.base_core.proofs.Keeping.Rooms.{answer_has_room}
 use Rattle.base_core.proofs.core_value.Core.tell_nothing.Goals as goal
 
@@ -17,6 +17,6 @@ returns-in_err-tell-clause-counted g c = log_stays c.self.inside.log c.tell.new.
 
 pub invariant_of-self-2 : goal.invariant_of-self-2
 invariant_of-self-2 g c =
-    subst (λ log. IsCoreKept log c.reply.new.self c.self.inside.moment) (sym (c.in_ok-tell.ensures.ok ∙ ap (λ text. with_step c.self.inside.log (steps.Answer c.args.tag text)) (c.of-text.ensures ∙ c.new.ensures.items)))
-    (subst (λ lanes. IsCoreKept (with_step c.self.inside.log (steps.Answer c.args.tag [])) lanes c.self.inside.moment) (sym c.reply.ensures)
-    (kept_next_answer c.self.inside.log c.self.inside.lanes c.self.inside.moment c.args.self.now.story c.args.tag [] (replies.Count 0) (ap (λ v. v.story) c.self.view_is) c.self.invariant c.requires))
+    subst (λ log. CoreInvariant log c.reply.new.self c.self.inside.moment) (sym (c.in_ok-tell.ensures.ok ∙ ap (λ text. with_step c.self.inside.log (steps.Answer c.args.tag text)) (c.of-text.ensures ∙ c.new.ensures.items)))
+    (subst (λ lanes. CoreInvariant (with_step c.self.inside.log (steps.Answer c.args.tag [])) lanes c.self.inside.moment) (sym c.reply.ensures)
+    (preserved_next_answer c.self.inside.log c.self.inside.lanes c.self.inside.moment c.args.self.now.story c.args.tag [] (replies.Count 0) (ap (λ v. v.story) c.self.view_is) c.self.invariant c.requires))

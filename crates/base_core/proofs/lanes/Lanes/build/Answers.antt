@@ -1,6 +1,6 @@
 -- the lane's build, or no lane
 use Rattle.std.proofs.Common.{◌-◌, length, get_or, sym, ap, ◌∙◌, arith}
-use Rattle.build_core.specs.Slots.{numbered}
+use Rattle.build_core.specs.Slots.{numbered_slots}
 use Rattle.legal_history.specs.Builds.Active.{build_of}
 use Rattle.base_core.specs.Keeping.Lanes.{builds_in}
 use Rattle.base_core.proofs.Keeping.LaneSets.{build_there, builds_count}
@@ -10,7 +10,7 @@ use Rattle.base_core.proofs.lanes.Lanes.build.Goals.{then-lane-eq0-via-then-lane
 
 pub returns-then-lane-eq0 : goal.returns-then-lane-eq0
 returns-then-lane-eq0 c = elim c.then-lane-eq0.branch [
-  | then-lane-eq0-via-then-lane-eq0 w ↦ sym (ap (build_of (numbered 1 (builds_in c.args.self.now))) w.if-lane-eq0.true ∙ build_zero (builds_in c.args.self.now))
+  | then-lane-eq0-via-then-lane-eq0 w ↦ sym (ap (build_of (numbered_slots 1 (builds_in c.args.self.now))) w.if-lane-eq0.true ∙ build_zero (builds_in c.args.self.now))
   | then-lane-eq0-via-else-lane-eq0+then-lane-len w ↦ sym (build_nowhere (builds_in c.args.self.now) c.args.lane (omega (arith, w.if-lane-len.true, w.len.ensures, builds_count c.args.self.now, ap length c.self.view_is)))
 ]
 

@@ -3,7 +3,7 @@ use Rattle.std.proofs.Common.{suc, reverse, take, ap, sym, ◌∙◌}
 use Rattle.std.proofs.lemmas.List.{reverse-reverse}
 use Rattle.base_model.specs.Rows.{Base, first_rows}
 use Rattle.base_rows.specs.Shown.{Shown}
-use Rattle.base_rows.proofs.Fronts.{first_of_slice}
+use Rattle.base_rows.proofs.Prefixes.{first_of_slice}
 use Rattle.base_rows.proofs.bases.FirstRows.as_slice.Goals as goal
 
 pub returns : goal.returns

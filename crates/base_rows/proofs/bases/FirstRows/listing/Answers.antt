@@ -6,7 +6,7 @@ use Rattle.base_model.specs.Closures.{listing}
 use Rattle.base_model.specs.Rows.{Base, first_rows, size}
 use Rattle.base_rows.specs.Listings.{version_in, versions_of}
 use Rattle.base_rows.specs.Shown.{Shown}
-use Rattle.base_rows.proofs.Fronts.{size_of_first}
+use Rattle.base_rows.proofs.Prefixes.{size_of_first}
 use Rattle.base_rows.proofs.ListingsStay.{listing_of_first, no_listing}
 use Rattle.base_rows.proofs.bases.FirstRows.listing.Goals as goal
 

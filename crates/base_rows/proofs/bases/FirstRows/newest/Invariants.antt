@@ -1,5 +1,5 @@
 use Rattle.std.proofs.Common.{◌≡◌, ◌<◌, ◌≤◌, length, reverse, IfSome}
-use Rattle.base_rows.specs.LookUps.{newest, first_told, told_at}
+use Rattle.base_rows.specs.LookUps.{newest, first_update, update_at}
 use Rattle.base_rows.specs.Marked.{rows_from, AreLinked}
 use Rattle.base_rows.proofs.bases.FirstRows.newest.Given as goal
 
@@ -9,7 +9,7 @@ invariant-loop-next g l = record {
   within : IfSome l.next (λ place. place < length l.links);
   shorter : length l.links ≤ length l.initial.links;
   linked : AreLinked (reverse l.links);
-  left : first_told (told_at (g.L.LookUp.effect l.look) l.self) (rows_from (reverse l.links) l.next) ≡ newest (g.L.LookUp.effect l.look) l.self;
+  left : first_update (update_at (g.L.LookUp.effect l.look) l.self) (rows_from (reverse l.links) l.next) ≡ newest (g.L.LookUp.effect l.look) l.self;
 }
 
 abbrev pub decreases-loop-next : goal.decreases-loop-next

@@ -5,7 +5,7 @@ use Rattle.std.specs.Option.{option_or}
 use Rattle.std.proofs.lemmas.List.{length-take-le}
 use Rattle.base_model.specs.Rows.{Base, first_rows}
 use Rattle.base_rows.specs.LookUps.{set_at, last_set, oldest}
-use Rattle.base_rows.specs.Marked.{rows_from, marked}
+use Rattle.base_rows.specs.Marked.{rows_from, marked_rows}
 use Rattle.base_rows.specs.Shown.{Shown}
 use Rattle.base_rows.specs.Subjects.{key}
 use Rattle.base_rows.specs.declared.marks.Link.{Link}
@@ -27,16 +27,16 @@ loop-next-init g c =
     let next : c.copied-next.result ≡ heads (key c.base.inside.hashing subject) = found ∙ ap heads at_key in
     let same : c.as_slice-links.result.now ≡ links = c.as_slice-links.ensures.value in
     let first : first_rows (suc count) all ≡ c.args.self.now = ap (λ (shown : Shown). first_rows (suc count) shown.base) c.base.view_is ∙ c.self.view_is in
-    let told : last_set (set_at effect c.args.self.now) (marked c.base.inside.hashing (key c.base.inside.hashing subject) all) ≡ oldest effect c.args.self.now =
-    subst (λ (b : Base). last_set (set_at effect b) (marked c.base.inside.hashing (key c.base.inside.hashing subject) all) ≡ oldest effect b) first
-    (oldest_of_first c.base.inside.hashing subject effect (g.met.L.LookUp.bears c.args.look.now) (suc count) all) in
-    let from : rows_from (reverse c.as_slice-links.result.now) c.copied-next.result ≡ marked c.base.inside.hashing (key c.base.inside.hashing subject) all =
+    let update_by_row : last_set (set_at effect c.args.self.now) (marked_rows c.base.inside.hashing (key c.base.inside.hashing subject) all) ≡ oldest effect c.args.self.now =
+    subst (λ (b : Base). last_set (set_at effect b) (marked_rows c.base.inside.hashing (key c.base.inside.hashing subject) all) ≡ oldest effect b) first
+    (oldest_of_first c.base.inside.hashing subject effect (g.met.L.LookUp.affects c.args.look.now) (suc count) all) in
+    let from : rows_from (reverse c.as_slice-links.result.now) c.copied-next.result ≡ marked_rows c.base.inside.hashing (key c.base.inside.hashing subject) all =
     ap (λ (ls : List Link). rows_from (reverse ls) c.copied-next.result) same ∙ ap (rows_from (reverse links)) next ∙ c.base.invariant.marks.rows (key c.base.inside.hashing subject) in
     record {
       within = rw (next, same) (c.base.invariant.marks.chained.within (key c.base.inside.hashing subject));
       shorter = omega arith;
       linked = rw same c.base.invariant.marks.chained.linked;
-      left = or_none (last_set (set_at effect c.args.self.now) (rows_from (reverse c.as_slice-links.result.now) c.copied-next.result)) ∙ ap (last_set (set_at effect c.args.self.now)) from ∙ told;
+      left = or_none (last_set (set_at effect c.args.self.now) (rows_from (reverse c.as_slice-links.result.now) c.copied-next.result)) ∙ ap (last_set (set_at effect c.args.self.now)) from ∙ update_by_row;
     }
 
 pub offset_bounds-links-place : goal.offset_bounds-links-place

@@ -3,7 +3,7 @@ use Rattle.std.proofs.Common.{◌≡◌, suc, reverse, ap, sym, ◌∙◌}
 use Rattle.base_model.specs.Rows.{Base, first_rows, size}
 use Rattle.base_rows.specs.Shown.{Shown}
 use Rattle.base_rows.proofs.FilesSeen.{row_seen}
-use Rattle.base_rows.proofs.Fronts.{size_of_first}
+use Rattle.base_rows.proofs.Prefixes.{size_of_first}
 use Rattle.base_rows.proofs.bases.FirstRows.seen_file.Goals as goal
 
 pub returns-in-Some : goal.returns-in-Some

@@ -2,7 +2,7 @@
 use Rattle.std.proofs.Common.{◌≡◌, ◌+◌, ◌<◌, suc, length, ap, sym, ◌∙◌, arith}
 use Rattle.base_model.specs.Rows.{Base, first_rows, size}
 use Rattle.base_model.specs.Fits.{row_limit}
-use Rattle.base_rows.proofs.Fronts.{base_short, size_of_first}
+use Rattle.base_rows.proofs.Prefixes.{base_short, size_of_first}
 use Rattle.base_rows.proofs.bases.FirstRows.size.Goals as goal
 
 pub overflow_add-result : goal.overflow_add-result

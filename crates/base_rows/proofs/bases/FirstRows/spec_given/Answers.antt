@@ -6,7 +6,7 @@ use Rattle.base_model.specs.Rows.{Base, deed_at, deed_of, first_rows, size}
 use Rattle.base_rows.specs.SetSpecs.{row_of_parsed, rules_at, rules_set, specs_set}
 use Rattle.base_rows.specs.Shown.{Shown}
 use Rattle.base_rows.specs.declared.view_specs.Parsed.{Parsed}
-use Rattle.base_rows.proofs.Fronts.{size_of_first}
+use Rattle.base_rows.proofs.Prefixes.{size_of_first}
 use Rattle.base_rows.proofs.SpecsSet.{no_row_past, row_of_first, rules_by_row, specs_fall}
 use Rattle.base_rows.proofs.bases.FirstRows.spec_given.Goals as goal
 

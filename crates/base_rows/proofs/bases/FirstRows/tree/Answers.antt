@@ -5,7 +5,7 @@ use Rattle.base_model.specs.Changes.{tree}
 use Rattle.base_model.specs.Rows.{Base, first_rows, size}
 use Rattle.base_model.proofs.TreesStay.{tree_of_first_rows}
 use Rattle.base_rows.specs.Shown.{Shown}
-use Rattle.base_rows.proofs.Fronts.{size_of_first}
+use Rattle.base_rows.proofs.Prefixes.{size_of_first}
 use Rattle.base_rows.proofs.bases.FirstRows.tree.Goals as goal
 
 pub returns : goal.returns

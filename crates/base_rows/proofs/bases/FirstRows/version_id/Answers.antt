@@ -4,7 +4,7 @@ use Rattle.cc_names.specs.Versions.{version_id}
 use Rattle.base_model.specs.Changes.{tree}
 use Rattle.base_model.specs.Rows.{Base, first_rows, size}
 use Rattle.base_rows.specs.Shown.{Shown}
-use Rattle.base_rows.proofs.Fronts.{size_of_first}
+use Rattle.base_rows.proofs.Prefixes.{size_of_first}
 use Rattle.base_rows.proofs.ListingsStay.{no_version_id, version_id_of_first}
 use Rattle.base_rows.proofs.bases.FirstRows.version_id.Goals as goal
 

@@ -2,9 +2,9 @@
 use Rattle.std.proofs.Common.{◌≡◌, ℕ, ◌+◌, Bool, true, false, not, Option, length, refl, ap, sym, subst, ◌∙◌}
 use Rattle.std.specs.Prelude.{if◌then◌else◌}
 use Rattle.cc_names.specs.Versions.{is_number}
-use Rattle.cleartool.specs.Reached.{TakesIn}
+use Rattle.cleartool.specs.Reached.{AddsVersions}
 use Rattle.cleartool.specs.declared.reached.Walk.{Walk}
-use Rattle.cleartool.proofs.TakenIn.{new_taken}
+use Rattle.cleartool.proofs.AddedVersions.{new_taken}
 use Rattle.cleartool.proofs.reached.Walk.take.Goals as goal
 
 was_new : (there added : Bool) → added ≡ not there → added ≡ true → there ≡ false
@@ -16,6 +16,6 @@ returns-in_ok-push-in-Some c =
     let old = c.args.self.now in
     let new : Walk = record { seen = c.insert.new.self; left = c.push.new.self } in
     let put = c.in_ok-insert-in-Some.ensures in
-    subst (λ (version : Option ℕ). TakesIn (λ n. is_number n version) old new) (sym c.in-Some.is)
+    subst (λ (version : Option ℕ). AddsVersions (λ n. is_number n version) old new) (sym c.in-Some.is)
     (new_taken c.in-Some.version old new put.updates.0 (was_new _ _ put.added c.if-branch.true) c.in_ok-push-in-Some.ensures.items
     (put.len ∙ ap (λ (added : Bool). length old.seen.keys + (if added then 1 else 0)) c.if-branch.true) put.ordered)

@@ -4,7 +4,7 @@ use Rattle.std.proofs.lemmas.List.{at_drop_all, at_drop_more}
 use Rattle.std.specs.List.{list_any}
 use Rattle.base_model.specs.Closures.{is_among}
 use Rattle.cleartool.specs.Owned.{is_name, name_at}
-use Rattle.cleartool.proofs.GivenRows.{names_told}
+use Rattle.cleartool.proofs.GivenRows.{names_found}
 use Rattle.cleartool.proofs.PathSets.{moved_over}
 use Rattle.cleartool.proofs.sets.given_names.names_given.Goals as goal
 
@@ -28,4 +28,4 @@ returns c = λ q.
     sym (at_drop_all (λ (left : List ℕ). list_any is left || is_among q c.loop-number.found.keys) c.deref-number-items.result.now c.loop-number.number-index c.loop-number-test.false)
     ∙ c.loop-number.invariant q
     ∙ ap (list_any is) (c.deref-number-items.ensures.value ∙ c.in_ok-numbers.ensures)
-    ∙ names_told b c.args.directory q b (λ n low. refl)
+    ∙ names_found b c.args.directory q b (λ n low. refl)

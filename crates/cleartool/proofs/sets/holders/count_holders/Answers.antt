@@ -2,7 +2,7 @@
 use Rattle.std.proofs.Common.{◌≡◌, ℕ, Bool, true, false, ◌||◌, List, refl, ap, ap₂, ◌∙◌}
 use Rattle.std.specs.List.{list_any}
 use Rattle.cc_names.specs.References.{is_held_by}
-use Rattle.base_model.specs.Changes.{held}
+use Rattle.base_model.specs.Changes.{objects_held}
 use Rattle.base_model.specs.Closures.{is_among}
 use Rattle.cleartool.specs.Owned.{is_name, winker_at}
 use Rattle.cleartool.proofs.HoldersFound.{holder_found, holders_counted}
@@ -19,7 +19,7 @@ returns c =
     let b = c.args.rows.now in
     let id = c.args.object in
     let views = c.add_winkers.new.views.keys in
-    let among : (w : List ℕ) → is_among w views ≡ is_held_by (held b) w id = λ w.
+    let among : (w : List ℕ) → is_among w views ≡ is_held_by (objects_held b) w id = λ w.
     let is : ℕ → Bool = λ n. is_name w (winker_at b n) in
     c.in_ok-add_winkers.ensures w
     ∙ ap₂ (λ (winks maker : Bool). winks || maker)

@@ -5,7 +5,7 @@ use Rattle.std.specs.List.{list_any}
 use Rattle.cc_names.specs.Formed.{IsBelowRoot}
 use Rattle.base_model.specs.Closures.{is_among}
 use Rattle.cleartool.specs.Owned.{is_given_by}
-use Rattle.cleartool.proofs.GivenRows.{paths_told}
+use Rattle.cleartool.proofs.GivenRows.{paths_found}
 use Rattle.cleartool.proofs.PathSets.{moved_over}
 use Rattle.cleartool.proofs.sets.owned_paths.paths_owned.Goals as goal
 
@@ -42,9 +42,9 @@ returns c =
           sym (at_drop_all (λ (left : List ℕ). list_any (is_given_by b q) left || is_among q c.loop-number.found.keys) numbers c.loop-number.number-index c.loop-number-test.false)
           ∙ c.loop-number.invariant.found q
           ∙ ap (list_any (is_given_by b q)) same
-          ∙ paths_told b v q b (λ n low. refl);
+          ∙ paths_found b v q b (λ n low. refl);
       below = λ q given.
           c.loop-number.invariant.below q
-          (ap (list_any (is_given_by b q)) same ∙ paths_told b v q b (λ n low. refl) ∙ given)
+          (ap (list_any (is_given_by b q)) same ∙ paths_found b v q b (λ n low. refl) ∙ given)
           (at_drop_all (list_any (is_given_by b q)) numbers c.loop-number.number-index c.loop-number-test.false);
     }

@@ -1,6 +1,6 @@
 use Rattle.std.proofs.Common.{ap, ◌∙◌, sym, subst, ℕ, List}
 use Rattle.cc_names.specs.Answers.{FaultIs, Gives}
-use Rattle.make_grammar.specs.Grammar.{checked, lines_read}
+use Rattle.make_grammar.specs.Grammar.{checked_contents, lines_read}
 use Rattle.make_text.proofs.EndingLemmas.{checked_fault, makefile_is}
 use Rattle.make_text.proofs.contents.Makefile.read.Goals as goal
 
@@ -13,7 +13,7 @@ returns-in-Ok g c =
     let lines =
     ap (λ (text : List ℕ). lines_read files file text overrides) (sym c.text_at-text.ensures)
     ∙ (ap (λ (p : List ℕ). lines_read files p c.text_at-text.result.now overrides) (sym path) ∙ c.in-Ok.ensures) in
-    subst (Gives c.checked.result) (sym (makefile_is files file overrides (files file) ∙ ap checked lines)) c.checked.ensures
+    subst (Gives c.checked_contents.result) (sym (makefile_is files file overrides (files file) ∙ ap checked_contents lines)) c.checked_contents.ensures
 
 pub returns : goal.returns
 returns g c =
@@ -25,4 +25,4 @@ returns g c =
     ap (λ (text : List ℕ). lines_read files file text overrides) (sym c.text_at-text.ensures)
     ∙ ap (λ (p : List ℕ). lines_read files p c.text_at-text.result.now overrides) (sym path) in
     subst (FaultIs c.in-Err.fault) (sym (makefile_is files file overrides (files file)))
-    (subst (λ r. FaultIs c.in-Err.fault (checked r)) (sym lines) (checked_fault c.in-Err.fault _ c.in-Err.ensures))
+    (subst (λ r. FaultIs c.in-Err.fault (checked_contents r)) (sym lines) (checked_fault c.in-Err.fault _ c.in-Err.ensures))

@@ -15,5 +15,5 @@ invariant_of-self-2 g c =
 pub returns-clause-ok : goal.returns-clause-ok
 returns-clause-ok g c =
     let phases : c.push_reserved.new.self.items ≡ c.self.inside.phases.items ++ c.args.phase ∷ [] = c.push_reserved.ensures.items ∙ ap (λ xs. xs ++ c.args.phase ∷ []) c.reserve.ensures.items in
-    shown_phase (handed_in c.self.inside.handed g.D.Disk.tells) c.self.inside.steps.items _ c.self.inside.rows.base c.self.inside.phases.items _ (c.len.result + 1) c.args.moment c.args.phase _ c.self.invariant.told c.in_ok-push_step.ensures.ok phases
+    shown_phase (handed_in c.self.inside.handed g.D.Disk.tells) c.self.inside.steps.items _ c.self.inside.rows.base c.self.inside.phases.items _ (c.len.result + 1) c.args.moment c.args.phase _ c.self.invariant.modeled c.in_ok-push_step.ensures.ok phases
     ∙ ap (λ log. with_phase log c.args.phase c.args.moment) c.self.view_is

@@ -11,5 +11,5 @@ invariant_of-self-2 g c = logged_step (handed_in c.self.inside.handed g.D.Disk.t
 
 pub returns-clause-ok : goal.returns-clause-ok
 returns-clause-ok g c =
-    shown_step (handed_in c.self.inside.handed g.D.Disk.tells) c.self.inside.steps.items _ c.self.inside.rows.base c.self.inside.phases.items c.args.step _ c.self.invariant.told c.requires.alone c.in_ok-push_step.ensures.ok
+    shown_step (handed_in c.self.inside.handed g.D.Disk.tells) c.self.inside.steps.items _ c.self.inside.rows.base c.self.inside.phases.items c.args.step _ c.self.invariant.modeled c.requires.alone c.in_ok-push_step.ensures.ok
     ∙ ap (λ log. with_step log c.args.step) c.self.view_is

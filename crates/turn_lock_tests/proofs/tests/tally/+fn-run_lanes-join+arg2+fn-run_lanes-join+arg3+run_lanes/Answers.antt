@@ -4,7 +4,7 @@ use Rattle.std.specs.List.{range_with_len}
 use native.Mathlib.Decide.{dec_le}
 use mathlib.Core.Logic.{dite}
 use mathlib.Core.List.{IsPrefix, Sublist}
-use Rattle.turn_lock.specs.Sight.{IsLongerOf}
+use Rattle.turn_lock.specs.PassState.{IsLongerOf}
 use Rattle.turn_lock_tests.specs.declared.tests.tally.Note.{Note}
 use Rattle.turn_lock.proofs.Prefixes.{begins_itself}
 use Rattle.turn_lock_tests.proofs.Standing.{stands_on}

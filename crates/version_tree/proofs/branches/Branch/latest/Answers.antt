@@ -4,7 +4,7 @@ use Rattle.std.specs.Option.{option_or}
 use Rattle.std.proofs.lemmas.Grind.{common_steps}
 use Rattle.cc_names.specs.Versions.{is_before}
 use Rattle.version_tree.specs.Branches.{row_of_later, row_if}
-use Rattle.version_tree.proofs.VersionsKept.{latest_search}
+use Rattle.version_tree.proofs.VersionsStored.{latest_search}
 use Rattle.version_tree.proofs.branches.Branch.latest.Goals as goal
 
 -- a version behind version 0 is the last one

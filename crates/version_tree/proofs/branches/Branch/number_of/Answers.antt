@@ -3,7 +3,7 @@ use Rattle.std.specs.Prelude.{find}
 use Rattle.std.proofs.lemmas.Bool.Decides.{nat_tests}
 use Rattle.std.proofs.lemmas.Grind.{common_steps}
 use Rattle.version_tree.specs.Branches.{row_of_later}
-use Rattle.version_tree.proofs.VersionsKept.{number_found, number_missed}
+use Rattle.version_tree.proofs.VersionsStored.{number_found, number_missed}
 use Rattle.version_tree.proofs.branches.Branch.number_of.Goals as goal
 
 -- a version behind version 0

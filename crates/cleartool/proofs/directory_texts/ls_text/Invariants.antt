@@ -1,0 +1,13 @@
+use Rattle.std.proofs.Common.{◌≡◌, ◌++◌, map}
+use Rattle.std.specs.List.{concat}
+use Rattle.legal_history.specs.Queries.DirectoryTexts.{names_in}
+use Rattle.cleartool.specs.Listed.{SeesDirectory, line_of}
+use Rattle.cleartool.proofs.ByKeys.{text_of_key}
+use Rattle.cleartool.proofs.directory_texts.ls_text.Given as goal
+
+-- what is written, and then the lines of the names that are left
+abbrev pub invariant-loop-name : goal.invariant-loop-name
+invariant-loop-name l =
+    SeesDirectory l.rows l.view l.directory l.element →
+    l.text.items ++ concat (map (text_of_key (line_of l.rows l.view l.directory) (names_in l.rows l.view l.directory)) l.name-iterator)
+    ≡ concat (map (text_of_key (line_of l.rows l.view l.directory) (names_in l.rows l.view l.directory)) l.initial.name-iterator)
