@@ -1,5 +1,5 @@
 -- What a row adds to the trees of versions, and how code tells it.
-use Rattle.std.specs.Prelude.{◌≡◌, ℕ, ◌<◌, IsTrue, IsSome, Option, Some, None, option_map, List, ◌∷◌}
+use Rattle.std.specs.Prelude.{ℕ, ◌<◌, IsTrue, IsSome, Option, Some, None, option_map, List, ◌∷◌}
 use Rattle.cc_names.specs.Branches.{branch_of_version}
 use Rattle.cc_names.specs.Versions.{latest}
 use Rattle.cc_names.specs.declared.changes.TreeChange.{TreeChange}

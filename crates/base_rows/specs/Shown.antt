@@ -23,7 +23,7 @@ pub record Shown : Type 0 where
 
 -- This is at hand for one more row of this deed, and there is room for it.
 pub record HasRoom (shown : Shown) (deed : Deed) (prepared : Prepared) : Type 0 where
-  pub prepared : IsPrepared prepared shown.hashing shown.base deed
+  pub ready : IsPrepared prepared shown.hashing shown.base deed
   pub row : 1 ≤ shown.room
   pub marks : length prepared.keys.items ≤ shown.room
   pub place : HasPlace shown.trees prepared.growth

@@ -167,23 +167,23 @@ fn last_gone(rows: &FirstRows<'_>, view: &Name) -> Option<u64>
 
 /// The object that the view holds at the path. Takes the time of `newest`, twice, and time linear in the targets of the objects
 /// that are looked at.
-pub fn objects_held(rows: &FirstRows<'_>, view: &Name, path: &Path) -> Option<u64>
+pub fn held_object(rows: &FirstRows<'_>, view: &Name, path: &Path) -> Option<u64>
     ensures { result ≡ held_at (objects_held rows.now) view.now path.now }
 {
     within(last_gone(rows, view), rows.newest(&ObjectOf { view, path }))
 }
 
-/// Whether the view holds the object at each of these paths. Takes the time of `objects_held` for each path, as far as the first where
+/// Whether the view holds the object at each of these paths. Takes the time of `held_object` for each path, as far as the first where
 /// it doesn't.
 fn is_held_at_each(rows: &FirstRows<'_>, view: &Name, paths: &[Path], object: u64) -> bool
     ensures { result ≡ held_at_each rows.now view.now paths.now object }
 {
     paths
         .iter()
-        .all(|path| objects_held(rows, view, path) == Some(object))
+        .all(|path| held_object(rows, view, path) == Some(object))
 }
 
-/// The object that the view holds at each of these paths, where it is one and there are paths. Takes the time of `objects_held` for
+/// The object that the view holds at each of these paths, where it is one and there are paths. Takes the time of `held_object` for
 /// each path, as far as the first where the view holds another object or none.
 pub fn held_at_all(rows: &FirstRows<'_>, view: &Name, paths: &[Path]) -> Option<u64>
     ensures { result ≡ held_at_all rows.now view.now paths.now }
@@ -191,7 +191,7 @@ pub fn held_at_all(rows: &FirstRows<'_>, view: &Name, paths: &[Path]) -> Option<
     let [first, others @ ..] = paths else {
         return None;
     };
-    let object = objects_held(rows, view, first)?;
+    let object = held_object(rows, view, first)?;
     if is_held_at_each(rows, view, others, object) {
         Some(object)
     } else {

@@ -63,6 +63,7 @@ impl Source for MemorySource {
         ensures counted { IfOk result (λ count. self.new.given ≡ raised_count self.old.given count) }
         ensures uncounted { OnErr result (self.new.given ≡ self.old.given) }
         ensures kept { self.old.faults ≤ self.new.faults }
+        ensures sound { IfOk result (λ count. self.new.faults ≡ self.old.faults) }
         ensures fault { OnErr result (Rose self.old.faults self.new.faults) }
         ensures answer { result ≡ feed_answer self.old (length into.old) }
         ensures after { self.new ≡ feed_after self.old result }

@@ -36,6 +36,7 @@ pub trait Source {
         ensures counted { IfOk result (λ count. Gave (ghost_state self.old) (ghost_state self.new) count) }
         ensures uncounted { OnErr result ((ghost_state self.new).given ≡ (ghost_state self.old).given) }
         ensures kept { (ghost_state self.old).faults ≤ (ghost_state self.new).faults }
+        ensures sound { IfOk result (λ count. (ghost_state self.new).faults ≡ (ghost_state self.old).faults) }
         ensures fault { OnErr result (Rose (ghost_state self.old).faults (ghost_state self.new).faults) };
 }
 
@@ -65,9 +66,13 @@ pub fn read_whole<S: Source>(
     ensures counted { IfOk result
         (λ text. Gave (S.ghost_state source.old) (S.ghost_state source.new) (length text)) }
     ensures kept { (S.ghost_state source.old).faults ≤ (S.ghost_state source.new).faults }
+    ensures sound { IfOk result
+        (λ text. (S.ghost_state source.new).faults ≡ (S.ghost_state source.old).faults) }
     ensures fault { OnFault result (Rose (S.ghost_state source.old).faults (S.ghost_state source.new).faults) }
     ensures too_long { OnTooLong result
         (GaveAbove limit (S.ghost_state source.old) (S.ghost_state source.new)) }
+    ensures sound_above { OnTooLong result
+        ((S.ghost_state source.new).faults ≡ (S.ghost_state source.old).faults) }
     ensures modeled { OnTooLong result
         (IfSome (S.ghost_state source.old).left (λ bytes. limit < length bytes)) }
     ensures taken { RoseAtMost (limit + 1) (S.ghost_state source.old).given (S.ghost_state source.new).given }

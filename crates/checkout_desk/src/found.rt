@@ -21,7 +21,7 @@ use cc_names::refusals::Refusal;
 use cc_names::rows::Tag;
 use cc_names::selection::{Picked, Seen};
 use std::alloc::Global;
-use view_lookup::{FirstRows, at, held, is_directory_element};
+use view_lookup::{FirstRows, at, held_object, is_directory_element};
 
 /// The element that is selected at a path, and what was picked of it.
 #[derive(Clone, Copy)]
@@ -78,7 +78,7 @@ pub fn find_object(
     ensures { Finds result
         (λ more. for_object path.now (held_at (objects_held rows.now) view.now path.now) more) }
 {
-    match held(rows, view, path) {
+    match held_object(rows, view, path) {
         Some(object) => Ok(object),
         None => Err(Or::Is(Refusal::NoObject(path.copy(alloc)?))),
     }

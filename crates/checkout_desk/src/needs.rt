@@ -14,7 +14,7 @@ use cc_names::rows::Tag;
 use cc_names::selection::Seen;
 use std::alloc::Global;
 use view_lookup::{
-    FirstRows, branch_named, has_name, has_out, held, is_branch_type, is_directory_element,
+    FirstRows, branch_named, has_name, has_out, held_object, is_branch_type, is_directory_element,
     is_label_type, private, view_row,
 };
 
@@ -121,7 +121,7 @@ pub fn needs_free_path(
 {
     if has_name(rows, view, directory, name)
         || private(rows, view, path).is_some()
-        || held(rows, view, path).is_some()
+        || held_object(rows, view, path).is_some()
     {
         return Err(Or::Is(Refusal::NameTaken(path.copy(alloc)?)));
     }

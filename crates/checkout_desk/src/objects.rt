@@ -16,7 +16,7 @@ use cc_names::paths::Path;
 use cc_names::refusals::Refusal;
 use cc_names::rows::{Deed, Row};
 use std::alloc::Global;
-use view_lookup::{FirstRows, held};
+use view_lookup::{FirstRows, held_object};
 
 /// The view holds an object at the path.
 fn needs_object(
@@ -27,13 +27,13 @@ fn needs_object(
 ) -> Result<(), Or<Refusal>>
     ensures { Tests result (needs_object rows.now view.now path.now) }
 {
-    if held(rows, view, path).is_none() {
+    if held_object(rows, view, path).is_none() {
         return Err(Or::Is(Refusal::NoObject(path.copy(alloc)?)));
     }
     Ok(())
 }
 
-/// The row of `rmdo V P`, or its first refusal. Takes the time of `held`.
+/// The row of `rmdo V P`, or its first refusal. Takes the time of `held_object`.
 pub fn rmdo(
     alloc: Global,
     rows: &FirstRows<'_>,

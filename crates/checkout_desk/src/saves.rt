@@ -22,7 +22,7 @@ use cc_names::rows::{Deed, Row, Tag};
 use cc_names::selection::Seen;
 use cc_names::texts::Text;
 use std::alloc::Global;
-use view_lookup::{FirstRows, at, checked_out, held, is_directory_element};
+use view_lookup::{FirstRows, at, checked_out, held_object, is_directory_element};
 
 /// An element that is saved at a path is no directory, and the view has it out.
 fn saves_element(
@@ -56,7 +56,7 @@ fn saves_at(
         Seen::Private(_) => Ok(()),
         Seen::Element(element, _) => saves_element(alloc, rows, view, path, element),
         Seen::Unselected(element) => saves_element(alloc, rows, view, path, element),
-        Seen::Nothing => match held(rows, view, path) {
+        Seen::Nothing => match held_object(rows, view, path) {
             Some(_) => Err(Or::Is(Refusal::IsDerived(path.copy(alloc)?))),
             None => Ok(()),
         },

@@ -1,23 +1,19 @@
 -- What becomes of a unit that is driven to its outcome.
-use Rattle.std.proofs.Common.{◌≡◌, sym, subst, ◌∙◌, ℕ, ◌+◌, Bool, true, false, not, Result, Ok, Err, List}
+use Rattle.std.proofs.Common.{◌≡◌, sym, subst, ℕ, ◌+◌, Bool, true, false, not, Result, Ok, Err, List}
 use Rattle.std.specs.Bool.{OnTrue}
 use Rattle.std.specs.Prelude.{IfOk, OnErr, OnOk, is_ok}
 use Rattle.std.specs.Result.{result_eq}
 use mathlib.Core.List.{IsPrefix}
-use Rattle.cc_names.specs.declared.occasions.Begun.{Begun}
-use Rattle.cc_names.specs.declared.occasions.Begun.TheVariants as begins
-use Rattle.cc_names.specs.declared.occasions.Next.TheVariants as nexts
 use Rattle.cc_names.specs.declared.memory.NoMemory.{NoMemory}
 use Rattle.cc_names.specs.declared.rows.Tag.{Tag}
 use Rattle.cc_names.specs.declared.steps.StoryStep.{StoryStep}
 use Rattle.script_grammar.specs.Run.{Ran}
 use Rattle.legal_history.specs.Stories.Lawful.{Legal}
 use Rattle.legal_history.specs.Stories.Steps.{state_of}
-use Rattle.clearmake.specs.Building.{IsOpened, IsSwept, opened_of}
-use Rattle.clearmake.specs.Calls.{Begins, IsCarried, IsOver, IsRunOfUnit, Tries, WaitsFor}
+use Rattle.clearmake.specs.Building.{IsSwept}
+use Rattle.clearmake.specs.Calls.{IsCarried, IsOver, IsRunOfUnit, Tries, WaitsFor}
 use Rattle.clearmake.specs.Driving.{IsDriven, IsTried}
 use Rattle.clearmake.specs.Going.{Finishes, HasOutcome}
-use Rattle.clearmake.specs.Nexts.{next_of}
 use Rattle.clearmake.specs.Passes.{AreDone, Builds, IsPast}
 use Rattle.clearmake.specs.contracts.turns.TurnEndPartialEq.TheImpl.{eq-value}
 use Rattle.clearmake.specs.declared.turns.TurnEnd.{TurnEnd}
@@ -25,7 +21,7 @@ use Rattle.clearmake.specs.declared.turns.TurnEnd.TheVariants as turn_ends
 use Rattle.clearmake.specs.declared.turns.UnitTurn.{UnitTurn}
 use Rattle.clearmake.specs.declared.turns.UnitTurn.TheVariants as turns
 use Rattle.clearmake.proofs.Later.{run_stays}
-use Rattle.clearmake.proofs.Steps.{builds_on, done_later, done_more, finished_past, finishes_begins, goes_begins, is_over, next_goes_on, same_begins, waits_for_none}
+use Rattle.clearmake.proofs.Steps.{builds_on, done_later, done_more, finished_past, finishes_begins, goes_begins, is_over, same_begins, waits_for_none}
 
 -- a desk's answer to a try
 pub tries_so : (old new : List StoryStep) (tag : Tag) (count n : ℕ) (result : Result UnitTurn NoMemory) → Builds old tag count → IfOk result (λ turn. Tries old new tag.lane n turn) → OnErr result (new ≡ old) → Legal new →
@@ -78,13 +74,6 @@ left_so was now tag count n same left (Ok turn_ends.Concluded) done p is waits h
 left_so was now tag count n same left (Ok (turn_ends.NotReady m)) done p is waits h = none_waits was now tag count n m done p h
 left_so was now tag count n same left (Ok turn_ends.Over) done p is waits h = h
 left_so was now tag count n same left (Err error) done p is waits h = tt
-
--- a desk's answer to the begin of a build
-pub begins_so : (old new : List StoryStep) (tag : Tag) (result : Result Begun NoMemory) → next_of (state_of old) tag.lane ≡ nexts.Build tag → IfOk result (λ begun. Begins old new tag.lane begun) → OnErr result (new ≡ old) →
-    IsPrefix old new × IsOpened (opened_of result) new tag
-begins_so old new tag (Ok (begins.Units count)) next ok err = (goes_begins old new tag.lane ok.0, record { next = next_goes_on old new tag.lane ok.0 ∙ next; building = ok.1 })
-begins_so old new tag (Ok begins.Refused) next ok err = (finishes_begins old new tag.lane ok, finished_past old new tag next ok)
-begins_so old new tag (Err error) next ok err = (same_begins old new err, tt)
 
 -- a desk's answer to the end of a build
 pub ends_so : (old new : List StoryStep) (tag : Tag) (count : ℕ) (result : Result Prim.Unit NoMemory) → Builds old tag count → OnOk result (Finishes old new tag.lane) → OnErr result (new ≡ old) →

@@ -1,30 +1,18 @@
 -- What becomes of lanes on threads.
-use Rattle.std.proofs.Common.{◌≡◌, ap, sym, subst, ◌∙◌, ℕ, ◌+◌, ◌≤◌, Bool, false, Result, Ok, Err, ⊎_elim, List, lt_of_not-le, arith}
+use Rattle.std.proofs.Common.{◌≡◌, sym, subst, ℕ, ◌+◌, ◌≤◌, Bool, false, Result, Ok, Err, ⊎_elim, List, lt_of_not-le, arith}
 use Rattle.std.specs.Prelude.{OnOk, is_err}
 use Rattle.std.specs.Result.{result_and}
 use native.Mathlib.Decide.{dec_le}
 use mathlib.Core.Logic.{dite}
 use mathlib.Core.List.{IsPrefix}
-use Rattle.cc_names.specs.declared.occasions.Next.TheVariants as nexts
 use Rattle.cc_names.specs.declared.memory.NoMemory.{NoMemory}
-use Rattle.cc_names.specs.declared.rows.Tag.{Tag}
 use Rattle.cc_names.specs.declared.steps.StoryStep.{StoryStep}
 use Rattle.legal_history.specs.Stories.Lawful.{Legal}
-use Rattle.legal_history.specs.Stories.States.{State, next_tag}
 use Rattle.legal_history.specs.Stories.Steps.{state_of}
 use Rattle.turn_lock.specs.PassState.{IsLongerOf}
-use Rattle.clearmake.specs.Nexts.{next_of}
 use Rattle.clearmake.specs.Passes.{AreLanesDone, IsLaneDone}
 use Rattle.clearmake.proofs.Joins.{both_begin}
 use Rattle.clearmake.proofs.Later.{finished_stays}
-use Rattle.clearmake.proofs.Nexts.{tag_is_next}
-
--- what is built is the next command of the lane that its tag names
-pub builds_its_next : (s : State) (lane : ℕ) (tag : Tag) → next_of s lane ≡ nexts.Build tag → next_of s lane ≡ nexts.Build (next_tag s lane)
-builds_its_next s lane tag e = e ∙ ap nexts.Build (sym (tag_is_next s lane tag e))
-
-pub builds_by_tag : (s : State) (lane : ℕ) (tag : Tag) → next_of s lane ≡ nexts.Build tag → next_of s tag.lane ≡ nexts.Build tag
-builds_by_tag s lane tag e = subst (λ n. next_of s n ≡ nexts.Build tag) (ap (λ (t : Tag). t.lane) (tag_is_next s lane tag e)) e
 
 -- the phase of a story in which some lanes are done
 abbrev InPhase : ℕ → List StoryStep → Type 0

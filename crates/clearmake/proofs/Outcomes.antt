@@ -19,14 +19,11 @@ use Rattle.base_model.specs.Texts.{text, text_of_row}
 use Rattle.legal_history.specs.Builds.Choices.{visible}
 use Rattle.legal_history.specs.Stories.States.{State}
 use Rattle.legal_history.specs.Stories.Steps.{state_of}
-use Rattle.clearmake.specs.Calls.{IsRunOfUnit, IsStarted, WasStarted}
+use Rattle.clearmake.specs.Calls.{IsRunOfUnit, IsStarted}
 use Rattle.clearmake.specs.Outside.{RanSo}
 use Rattle.clearmake.specs.Passes.{IsPast}
 use Rattle.clearmake.specs.FoundTexts.{sees, standing_of}
 use Rattle.clearmake.proofs.Later.{stands_so}
-
-pub was_started : (s : State) (lane n : ℕ) (script : List Line) (targets : List (List ℕ)) → IsStarted s lane n script targets → WasStarted s lane n
-was_started s lane n script targets h = record { build = h.has.build; active = h.has.active; unit = h.has.unit; is_unit = h.has.is_unit; started = h.started }
 
 with_row : (row : ℕ) (found : Option (List ℕ)) → option_map text_of (option_map (λ bytes. let standing : Standing = record { row = row; text = bytes } in standing) found) ≡ found
 with_row row None = refl

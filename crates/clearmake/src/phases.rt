@@ -24,7 +24,7 @@ const WHOLE: u64 = 65_536;
 /// among them, what is left is carried out once more, one lane after the other and each build by one builder.
 ///
 /// The desk comes back with a story that begins with its own. On `Ok` each lane has nothing left to do. `Err` where memory ran
-/// out twice for a lane, among all and by itself, or where there was none for the lock; a build that had begun stays active.
+/// out among all lanes and again for one by itself, or where there was none for the lock; a build that had begun stays active.
 /// It need not return: it waits for the threads that it starts, and these wait for one another at the desk.
 pub fn run_phase<R: Threads + Wait + Sync, C: PhaseService + Send, G: Hook + Sync>(
     rt: &R,

@@ -24,7 +24,7 @@ use cc_names::refusals::Refusal;
 use cc_names::selection::{Picked, Seen};
 use cc_names::texts::Text;
 use std::alloc::Global;
-use view_lookup::{FirstRows, at, held, is_directory_element, view_row};
+use view_lookup::{FirstRows, at, held_object, is_directory_element, view_row};
 
 /// Adds the line of a name and words behind it.
 fn push_words(text: &mut Vec<u8>, name: &[u8], words: &[u8]) -> Result<(), NoMemory>
@@ -90,7 +90,7 @@ fn push_held(
         ≡ text.old.items
         ++ object_line_where name.now (held_at (objects_held rows.now) view.now path.now)) }
 {
-    match held(rows, view, path) {
+    match held_object(rows, view, path) {
         None => Ok(()),
         Some(object) => {
             push_object(alloc, text, name, object)?;

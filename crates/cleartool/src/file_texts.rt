@@ -15,7 +15,7 @@ use cc_names::rows::Kind;
 use cc_names::selection::Seen;
 use cc_names::texts::Text;
 use std::alloc::Global;
-use view_lookup::{FirstRows, at, file_at, held, kind_of, text_of, view_row};
+use view_lookup::{FirstRows, at, file_at, held_object, kind_of, text_of, view_row};
 
 /// The refusal of a path at which a view sees no text: nothing is selected there and it holds no object, or
 /// there is a directory.
@@ -42,7 +42,7 @@ fn needs_text(
             None => Ok(None),
         },
         Seen::Unselected(_) => Ok(Some(Refusal::NoPath(path.copy(alloc)?))),
-        Seen::Nothing => match held(rows, view, path) {
+        Seen::Nothing => match held_object(rows, view, path) {
             Some(_) => Ok(None),
             None => Ok(Some(Refusal::NoPath(path.copy(alloc)?))),
         },
@@ -58,7 +58,7 @@ fn text_row(rows: &FirstRows<'_>, view: &Name, path: &Path) -> Option<u64>
         Seen::Private(_) => file_at(rows, view, path),
         Seen::Element(_, _) => file_at(rows, view, path),
         Seen::Unselected(_) => file_at(rows, view, path),
-        Seen::Nothing => held(rows, view, path),
+        Seen::Nothing => held_object(rows, view, path),
     }
 }
 

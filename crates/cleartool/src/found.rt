@@ -13,7 +13,7 @@ use cc_names::paths::Path;
 use cc_names::refusals::Refusal;
 use cc_names::selection::{Picked, Seen};
 use std::alloc::Global;
-use view_lookup::{FirstRows, at, held, view_row};
+use view_lookup::{FirstRows, at, held_object, view_row};
 
 /// The element that the view selects at a path, and what it picks of it; or the first refusal of a query about it.
 pub(crate) fn find_selected(
@@ -44,7 +44,7 @@ pub(crate) fn find_object(
 ) -> Result<u64, Or<Refusal>>
     ensures { FindsObject result (for_object path.now (held_at (objects_held rows.now) view.now path.now)) }
 {
-    match held(rows, view, path) {
+    match held_object(rows, view, path) {
         Some(object) => Ok(object),
         None => Err(Or::Is(Refusal::NoObject(path.copy(alloc)?))),
     }

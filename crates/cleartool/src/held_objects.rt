@@ -16,7 +16,7 @@ use cc_names::paths::Path;
 use cc_names::refusals::Refusal;
 use cc_names::texts::Text;
 use std::alloc::Global;
-use view_lookup::{FirstRows, held, view_row};
+use view_lookup::{FirstRows, held_object, view_row};
 
 /// Adds the line of the object that the view holds at a path, with the number of views that hold it; nothing where it holds none.
 fn push_held(
@@ -29,7 +29,7 @@ fn push_held(
     ensures { OnOk result
         (text.new.items ≡ text.old.items ++ line_at rows.now view.now path.now) }
 {
-    match held(rows, view, path) {
+    match held_object(rows, view, path) {
         None => Ok(()),
         Some(object) => {
             let holders = count_holders(alloc, rows, object)?;

@@ -204,7 +204,7 @@ fn diffcr_text(alloc: Global, rows: &FirstRows<'_>, one: u64, two: u64) -> Resul
 }
 
 /// The text of `diffcr V P W Q`, where the records of two objects that views hold differ, or its first refusal. Takes the time of
-/// `held` for both, and time linear in the records, times logarithmic in them, with that of the names of the rows that differ.
+/// `held_object` for both, and time linear in the records, times logarithmic in them, with that of the names of the rows that differ.
 pub fn diffcr(
     alloc: Global,
     rows: &FirstRows<'_>,

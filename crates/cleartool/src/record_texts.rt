@@ -92,7 +92,7 @@ fn catcr_text(alloc: Global, rows: &FirstRows<'_>, object: u64) -> Result<Text, 
 }
 
 /// The text of `catcr V P`, the record of the object that the view holds at the path, or its first refusal. Takes the time of
-/// `held`, time linear in the record, and for each entry that of its row's name.
+/// `held_object`, time linear in the record, and for each entry that of its row's name.
 pub fn catcr(
     alloc: Global,
     rows: &FirstRows<'_>,

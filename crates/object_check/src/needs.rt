@@ -11,7 +11,7 @@ use cc_names::memory::NoMemory;
 use cc_names::rows::{Deed, ReadOf};
 use std::alloc::Global;
 use std::collections::BTreeSet;
-use view_lookup::{FirstRows, is_publish, live, row_at};
+use view_lookup::{FirstRows, is_publish, live_row, row_at};
 
 /// The entries of an object's record; any other row has none.
 fn record_of<'a>(rows: &FirstRows<'a>, object: u64) -> &'a [ReadOf]
@@ -63,7 +63,7 @@ fn add_named(
 fn is_needed(rows: &FirstRows<'_>, needed: &BTreeSet<u64>, id: u64) -> bool
     ensures { result ≡ (contains nat_cmp needed.now id || is_some (live_row rows.now id)) }
 {
-    needed.contains(&id) || live(rows, id).is_some()
+    needed.contains(&id) || live_row(rows, id).is_some()
 }
 
 /// Adds a row, where it is needed, and the objects that its entries name. Those behind it are added by now.
@@ -81,7 +81,7 @@ fn take(rows: &FirstRows<'_>, needed: &mut BTreeSet<u64>, id: u64) -> Result<(),
 }
 
 /// The objects that have to be run again. An object that was scrubbed is one of them where an entry names it. Takes for each
-/// row the time of `live`, and for each entry of these objects time logarithmic in their number.
+/// row the time of `live_row`, and for each entry of these objects time logarithmic in their number.
 pub(crate) fn needed(alloc: Global, rows: &FirstRows<'_>) -> Result<BTreeSet<u64>, NoMemory>
     ensures live_row { IfOk result (λ needed. HasLive rows.now (contains nat_cmp needed)) }
     ensures closed { IfOk result (λ needed. IsClosed rows.now (contains nat_cmp needed)) }

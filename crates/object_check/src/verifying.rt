@@ -17,7 +17,7 @@ use cc_names::memory::NoMemory;
 use std::alloc::Global;
 use std::collections::{BTreeSet, HashMap};
 use std::hash::RandomState;
-use view_lookup::{FirstRows, live};
+use view_lookup::{FirstRows, live_row};
 
 /// What the row of this number is, where the values of the needed objects before it are kept. Keeps its own, where it is
 /// needed.
@@ -41,7 +41,7 @@ fn find(
         return Ok(Found::Dead);
     }
     let is_true = check(alloc, hashing, rows, needed, values, id)?;
-    if live(rows, id).is_none() {
+    if live_row(rows, id).is_none() {
         return Ok(Found::Dead);
     }
     if is_true {

@@ -1,5 +1,5 @@
 -- That a journal stays so through no call, and through one call after the other.
-use Rattle.std.proofs.Common.{ℕ, Option, Some, None, List, length, refl, ◌∙◌, subst, inl, inr, arith}
+use Rattle.std.proofs.Common.{Option, Some, None, refl, ◌∙◌, subst, inl, inr, arith}
 use Rattle.disk_model.specs.Files.{IsImage}
 use Rattle.disk_model.specs.Devices.{Device}
 use Rattle.disk_model.specs.DiskStates.{DiskState, Both}

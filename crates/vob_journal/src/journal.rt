@@ -61,7 +61,7 @@ impl<D: Disk> Journal<D> {
     ghost use Rattle.vob_journal.specs.Answered.{Gives, Ends, SettledAtEnd, OneMore, OneFault, MakesNoCall};
     ghost use Rattle.vob_journal.specs.Calls.{device_after_commit, settled_first};
     ghost use Rattle.vob_journal.specs.Frames.{frames};
-    ghost use Rattle.vob_journal.specs.Lefts.{leftover_after, settled_after};
+    ghost use Rattle.vob_journal.specs.Lefts.{FailsInPhase, leftover_after, settled_after};
     ghost use Rattle.vob_journal.specs.Moves.{Moves, Stands};
     ghost use Rattle.vob_journal.specs.Phases.{Spends, calls_of};
     ghost use Rattle.vob_journal.specs.Reads.{SameFiles, CountsReads};
@@ -170,8 +170,9 @@ impl<D: Disk> Journal<D> {
             (self.new.list ≡ self.old.list)
             × (self.new.leftover ≡ leftover_after self.new.left self.old.leftover frame.now))) }
         ensures left { OnOk result (self.new.left ≡ lefts.Nothing) }
-        ensures earlier { OnErr result
-            (self.new.left ≡ lefts.Earlier → self.old.settled ≡ false) }
+        ensures fails { OnErr result
+            (FailsInPhase self.old.settled self.new.left (D.ghost_state self.old.disk).ticks
+            (D.ghost_state self.new.disk).ticks) }
         ensures settled { self.new.settled ≡ settled_after self.new.left }
         ensures ended { self.new.ended ≡ true }
         ensures writes { Both WritesOn (D.ghost_state self.old.disk).modeled (D.ghost_state self.new.disk).modeled }

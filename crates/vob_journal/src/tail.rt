@@ -4,7 +4,7 @@ ghost use Rattle.std.specs.Prelude.{◌≡◌, ◌≤◌, ◌<◌, ◌+◌, ◌^
 ghost use Rattle.disk_model.specs.Devices.{bytes_of};
 ghost use Rattle.disk_model.specs.DiskStates.{IfModeled, Both};
 ghost use Rattle.vob_journal.specs.Answered.{MakesNoCall};
-ghost use Rattle.vob_journal.specs.declared.left.Left.TheVariants as lefts;
+ghost use Rattle.vob_journal.specs.Lefts.{FailsInPhase};
 ghost use Rattle.vob_journal.specs.Tails.{IsTail};
 ghost use Rattle.vob_journal.specs.Calls.{KeepsFrames, Settles, LeavesLeftover, CommitsFrame, FailsToAppend};
 ghost use Rattle.vob_journal.specs.Phases.{PutsDown, FailsToPut, Stages, IsStagedAt, OpensGate, MayOpen, Spends, calls_of};
@@ -92,7 +92,9 @@ pub(crate) fn commit<D: Disk>(
         (λ left.
         Both (FailsToAppend settled tail frame.now left) (D.ghost_state disk.old).modeled
         (D.ghost_state disk.new).modeled) }
-    ensures earlier { IfErr result (λ left. left ≡ lefts.Earlier → settled ≡ false) }
+    ensures fails { IfErr result
+        (λ left.
+        FailsInPhase settled left (D.ghost_state disk.old).ticks (D.ghost_state disk.new).ticks) }
     ensures counts { Spends (calls_of settled) result (D.ghost_state disk.old) (D.ghost_state disk.new) }
 {
     if let Err(_) = settle_tail(disk, settled, tail) {

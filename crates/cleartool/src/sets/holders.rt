@@ -73,7 +73,7 @@ fn add_winkers(
     Ok(())
 }
 
-/// How many views hold the object. Takes for each of its targets the time of `objects_held`: once for the view that made it, and once for
+/// How many views hold the object. Takes for each of its targets the time of `held_object`: once for the view that made it, and once for
 /// each wink of it.
 pub(crate) fn count_holders(
     alloc: Global,

@@ -1,6 +1,6 @@
 -- What no step may do, in general: what the worked steps with one thing wrong rest on.
 use Rattle.std.proofs.Common.{◌≡◌, ap, ⊎_elim, ℕ, Bool, true, false, Some, None, Ok, List, length}
-use Rattle.std.specs.Prelude.{◌||◌}
+use Rattle.std.specs.Prelude.{◌||◌, is_some}
 use Rattle.cc_names.specs.Formed.{Plain}
 use Rattle.cc_names.specs.Versions.{is_number}
 use Rattle.cc_names.specs.declared.refusals.ScriptFault.{ScriptFault}
@@ -66,6 +66,10 @@ no_publish active faulted h = let a = h.running.waits.active in let f = h.runnin
 -- a build under which the disk failed starts nothing
 pub no_start : {s : State} {tag : Tag} {n : ℕ} {build : Build} → build_by s tag ≡ Some build → build.faulted ≡ true → Starts s tag n → ⊥
 no_start active faulted h = let a = h.open_unit.waits.active in let f = h.open_unit.sound in cc
+
+-- a unit that has come to anything is not started once more
+pub no_second_start : {s : State} {tag : Tag} {n : ℕ} {build : Build} → build_by s tag ≡ Some build → is_some (came_to build n) ≡ true → Starts s tag n → ⊥
+no_second_start active come h = let a = h.open_unit.waits.active in let f = h.fresh in cc
 
 -- a build whose units are not all over, and under which the disk did not fail, does not end
 pub no_end : {s : State} {tag : Tag} {build : Build} → build_by s tag ≡ Some build → (is_complete build || build.faulted) ≡ false → EndsBuild s tag → ⊥

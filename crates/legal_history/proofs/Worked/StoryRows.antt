@@ -72,7 +72,7 @@ both_build_is_legal = (
                       (
                         record { units = _; chosen = refl; at_rows = refl; of_units = refl },
                         (
-                          record { build = _; unit = _; open_unit = record { waits = record { active = refl; is_unit = refl; waits = refl }; sound = refl; ready = refl; runs = refl }; nothing = refl },
+                          record { build = _; unit = _; open_unit = record { waits = record { active = refl; is_unit = refl; waits = refl }; sound = refl; ready = refl; runs = refl }; fresh = refl; nothing = refl },
                           (
                             record { may = record { moment = refl; made = record { n = 0; build = _; unit = _; place = refl; running = record { waits = record { active = refl; is_unit = refl; waits = refl }; sound = refl; started = refl }; nothing = refl; made = refl } }; ticked = refl },
                             (

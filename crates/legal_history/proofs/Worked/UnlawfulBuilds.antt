@@ -17,7 +17,7 @@ use Rattle.legal_history.specs.Stories.Steps.{state_of}
 use Rattle.legal_history.specs.Stories.Lawful.{Lawful}
 use Rattle.legal_history.specs.Worked.{tag, row, base_of}
 use Rattle.legal_history.proofs.Worked.FaultRows.{before_fault, published}
-use Rattle.legal_history.proofs.Worked.NoSteps.{apart, published_is, no_second, no_second_row, no_publish, no_start, no_end, no_failure, no_early_end, no_keep, no_wink}
+use Rattle.legal_history.proofs.Worked.NoSteps.{apart, published_is, no_second, no_second_row, no_publish, no_start, no_second_start, no_end, no_failure, no_early_end, no_keep, no_wink}
 use Rattle.legal_history.proofs.Worked.StoryParts.{one_lane}
 use Rattle.legal_history.proofs.Worked.TwoViews.{v, w, hi, makefile, script, clearmake, publish, first_deeds}
 
@@ -44,6 +44,9 @@ a_fault_that_left_another_object : Lawful started (story_steps.Other (steps.Faul
 unfolding is_empty_record
 a_fault_that_left_another_object h =
     ⊎_elim (λ made. apart is_empty_record (published_is refl refl refl refl made.1.made) refl refl) (λ e. apart is_some (sym e) refl refl) h.leaves
+
+a_second_start : Lawful started (story_steps.Other (steps.Start (tag 1 1 4) 0)) → ⊥
+a_second_start h = no_second_start refl refl h
 
 a_failure_of_a_run_that_succeeds : Lawful started (story_steps.Other (steps.Concluded (tag 1 1 4) 0 (ends.Failed (Script (script_faults.Absent (codes "in")))))) → ⊥
 a_failure_of_a_run_that_succeeds h = no_failure refl refl refl h

@@ -36,11 +36,12 @@ pub record IsRunning (s : State) (tag : Tag) (n : ℕ) (build : Build) (unit : U
   pub sound : build.faulted ≡ false
   pub started : came_to build n ≡ Some Started
 
--- a unit's script is started where the unit is open and may reuse no object
+-- a unit's script is started, once, where the unit is open and may reuse no object
 pub record Starts (s : State) (tag : Tag) (n : ℕ) : Type 0 where
   pub build : Build
   pub unit : Unit
   pub open_unit : IsOpen s tag n build unit
+  pub fresh : came_to build n ≡ None
   pub nothing : reusable s.base build n unit ≡ None
 
 -- a unit keeps the object that the view holds at every target, where that is the one that it may reuse

@@ -1,5 +1,5 @@
 -- The queries: the tests of each in their order, and its text.
-use Rattle.std.specs.Prelude.{ℕ, Bool, true, false, ◌||◌, is_none, Option, Some, None, Result, List, [], ◌∷◌, codes, unwrap_or, option_and_then, bytes_eq}
+use Rattle.std.specs.Prelude.{ℕ, ◌||◌, is_none, Option, Some, None, Result, List, [], ◌∷◌, codes, unwrap_or, option_and_then, bytes_eq}
 use Rattle.cc_names.specs.Paths.{root}
 use Rattle.cc_names.specs.References.{held_at}
 use Rattle.cc_names.specs.declared.commands.VersionName.{VersionName}

@@ -1,4 +1,4 @@
-use Rattle.std.proofs.Common.{arith, length-take, take, ℕ}
+use Rattle.std.proofs.Common.{refl, ◌∙◌, arith, length-take, take, ℕ}
 use Rattle.cc_outside.proofs.Flows.{Consumes-then, Consumes-none, Consumes-length, Consumes-end}
 use Rattle.cc_outside.proofs.sources.read_whole.Goals as goal
 
@@ -8,7 +8,7 @@ loop-bytes-init g c = record {
   bytes = rw c.new-bytes.ensures.items (Consumes-none (g.S.Source.ghost_state c.args.source.now).left);
   short = omega (arith, c.new-bytes.ensures.len);
   counted = omega (arith, c.new-bytes.ensures.len);
-  kept = omega arith;
+  sound = refl;
 }
 
 pub returns-then-count-eq0-clause-bytes : goal.returns-then-count-eq0-clause-bytes
@@ -27,7 +27,7 @@ loop-bytes-preserved g c = record {
       omega (arith, c.in_ok-extend_from_slice.ensures.len, c.in-Ok.ensures.within, c.read.auto.into, c.min-room.ensures, c.len-in-loop-bytes.ensures, c.loop-bytes.invariant.short, length-take {A = ℕ});
   counted =
       omega (arith, c.in_ok-extend_from_slice.ensures.len, c.in-Ok.ensures.counted, c.in-Ok.ensures.within, length-take {A = ℕ});
-  kept = omega (arith, c.read.ensures.kept, c.loop-bytes.invariant.kept);
+  sound = c.in-Ok.ensures.sound ∙ c.loop-bytes.invariant.sound;
 }
 
 pub returns-clause-modeled : goal.returns-clause-modeled

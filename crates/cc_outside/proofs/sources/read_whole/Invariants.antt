@@ -9,7 +9,7 @@ invariant-loop-bytes g l = record {
   bytes : Consumes (g.S.Source.ghost_state l.initial.source).left (g.S.Source.ghost_state l.source).left l.bytes.items;
   short : vec_len l.bytes ≤ l.limit + 1;
   counted : (g.S.Source.ghost_state l.source).given ≡ raised_count (g.S.Source.ghost_state l.initial.source).given (vec_len l.bytes);
-  kept : (g.S.Source.ghost_state l.initial.source).faults ≤ (g.S.Source.ghost_state l.source).faults;
+  sound : (g.S.Source.ghost_state l.source).faults ≡ (g.S.Source.ghost_state l.initial.source).faults;
 }
 
 abbrev pub decreases-loop-bytes : goal.decreases-loop-bytes

@@ -24,4 +24,4 @@ returns-in_ok-push-in-Some c =
     ∙ ap (λ (bytes : List ℕ). bytes ++ codes " references ") (c.in_ok-push_object-in-Some.ensures ∙ ap (λ (bytes : List ℕ). text ++ at_version bytes (decimal id)) c.as_bytes.ensures.bytes))
     c.in_ok-holders-in-Some.ensures)
     ∙ four_behind text object (codes " references ") _ (10 ∷ [])
-    ∙ ap (λ (found : Option ℕ). text ++ option_map_or (λ id. held_line (objects_held b) v true path id) found []) (sym c.in-Some.is ∙ c.held.ensures)
+    ∙ ap (λ (found : Option ℕ). text ++ option_map_or (λ id. held_line (objects_held b) v true path id) found []) (sym c.in-Some.is ∙ c.held_object.ensures)

@@ -81,7 +81,7 @@ invariant_of-self c =
     let fitting : fits older row.deed ≡ true = subst (λ (b : Base). fits b row.deed ≡ true) (sym base_is) c.requires.fits in
     let based : is_base (row ∷ older) ≡ true = ap₂ (λ one two. one && two) fitting c.self.invariant.fitting in
     let ready : IsPrepared c.args.prepared hashing older row.deed =
-    subst (λ (shown : Shown). IsPrepared c.args.prepared shown.hashing shown.base row.deed) (sym c.self.view_is) c.requires.room.prepared in
+    subst (λ (shown : Shown). IsPrepared c.args.prepared shown.hashing shown.base row.deed) (sym c.self.view_is) c.requires.room.ready in
     let change : change_of (c.len.result + 1) moment growth ≡ tree_change older row.moment row.deed =
     ap (λ n. change_of n moment growth) number ∙ ready.change moment ∙ ap (λ at. tree_change older at row.deed) c.moment.ensures in
     let keys : c.as_slice.result.now ≡ keys_of hashing older row.deed = c.as_slice.ensures.value ∙ ready.keys in

@@ -4,7 +4,7 @@ use Rattle.base_rows.specs.Effects.{gone_effect, object_effect}
 use Rattle.base_rows.specs.Lifetimes.{within}
 use Rattle.base_rows.proofs.Endings.{last_within}
 use Rattle.base_rows.proofs.Holdings.{held_by_last, held_effect}
-use Rattle.base_rows.proofs.objects.objects_held.Goals as goal
+use Rattle.base_rows.proofs.objects.held_object.Goals as goal
 
 pub returns : goal.returns
 returns c =
