@@ -1,5 +1,6 @@
 -- The entries of a record name earlier rows.
-use Rattle.std.proofs.Common.{◌≡◌, refl, subst, ℕ, ◌<◌, Bool, true, false, cond, ◌||◌, ◌==◌, Option, Some, None, List, [], ◌∷◌, arith}
+use Rattle.std.proofs.Common.{◌≡◌, refl, subst, ℕ, ◌<◌, Bool, true, false, cond, ◌||◌, ◌==◌, Option, Some, None, List, [], ◌∷◌}
+use Rattle.std.proofs.Common.{arith}
 use Rattle.std.specs.List.{list_all}
 use Rattle.std.specs.Prelude.{bytes_eq, find, option_map}
 use Rattle.cc_names.specs.declared.rows.Deed.{Deed}
@@ -7,7 +8,7 @@ use Rattle.cc_names.specs.declared.rows.Deed.TheVariants as deeds
 use Rattle.cc_names.specs.declared.rows.ReadOf.{ReadOf}
 use Rattle.base_model.specs.Rows.{Base, size, deed_at}
 use Rattle.base_model.specs.Changes.{targets_of_deed}
-use Rattle.base_model.specs.Closures.{entries_of_deed, is_among}
+use Rattle.base_model.specs.Closures.{entries_of_deed, is_path_among}
 use Rattle.base_model.specs.Conditions.{exists, is_entry, makes_file_text}
 use Rattle.base_model.specs.Fits.{deed_fits}
 use Rattle.base_model.specs.Objects.{row_in}
@@ -23,7 +24,8 @@ first_alone false h = absurd (cc)
 pub entry_below : (b : Base) (entry : ReadOf) → is_entry b entry ≡ true → entry.row < size b
 entry_below b entry h = by (deed_at b entry.row) refl h
   where
-    by : (o : Option Deed) → deed_at b entry.row ≡ o → ((entry.row == 0) || makes_file_text b entry.row o || is_among entry.path (targets_of_deed o)) ≡ true → entry.row < size b
+    by : (o : Option Deed) → deed_at b entry.row ≡ o → ((entry.row == 0) || makes_file_text b entry.row o
+        || is_path_among entry.path (targets_of_deed o)) ≡ true → entry.row < size b
     by None is h = let number = same_number entry.row 0 (first_alone (entry.row == 0) h) in omega arith
     by (Some deed) is h = deed_below b entry.row deed is
 
@@ -33,9 +35,11 @@ AreBelow n entries = (path : List ℕ) (r : ℕ) → row_in entries path ≡ Som
 
 entries_below : (b : Base) (entries : List ReadOf) → list_all (is_entry b) entries ≡ true → AreBelow (size b) entries
 entries_below b [] h = λ path r is. absurd (cc)
-entries_below b (entry ∷ entries) h = λ path r is. by path r (bytes_eq entry.path path) is (entries_below b entries (and_second (is_entry b entry) (list_all (is_entry b) entries) h) path r)
+entries_below b (entry ∷ entries) h = λ path r is. by path r (bytes_eq entry.path path) is
+    (entries_below b entries (and_second (is_entry b entry) (list_all (is_entry b) entries) h) path r)
   where
-    by : (path : List ℕ) (r : ℕ) (t : Bool) → option_map (λ (entry : ReadOf). entry.row) (cond t (Some entry) (find (λ entry. bytes_eq entry.path path) entries)) ≡ Some r →
+    by : (path : List ℕ) (r : ℕ) (t : Bool) → option_map (λ (entry : ReadOf). entry.row)
+        (cond t (Some entry) (find (λ entry. bytes_eq entry.path path) entries)) ≡ Some r →
         (row_in entries path ≡ Some r → r < size b) → r < size b
     by path r true is rest =
         let same : entry.row ≡ r = cc in

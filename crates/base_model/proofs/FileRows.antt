@@ -1,5 +1,6 @@
 -- The row of a file that a view sees made the text of a file.
-use Rattle.std.proofs.Common.{◌≡◌, refl, ap, subst, ◌∙◌, ℕ, ◌<◌, Bool, true, false, ◌||◌, Option, Some, None, List, [], ◌∷◌, ◌++◌, arith}
+use Rattle.std.proofs.Common.{◌≡◌, refl, ap, subst, ◌∙◌, ℕ, ◌<◌, Bool, true, false, ◌||◌, Option, Some, None, List, [], ◌∷◌}
+use Rattle.std.proofs.Common.{◌++◌, arith}
 use Rattle.std.specs.Prelude.{reverse}
 use Rattle.cc_names.specs.Formed.{Plain}
 use Rattle.cc_names.specs.Paths.{names_of, path_of_names}
@@ -33,11 +34,16 @@ pub record FileText (b : Base) (r : ℕ) : Type 0 where
 text_is_file : (b : Base) (r e : ℕ) → kind_of (tree b) e ≡ Some File → TextAt b r e → FileText b r
 text_is_file b r e kind h = record {
   low = h.low;
-  makes = ap (makes_file_text b r) h.made ∙ or_second (is_put h.deed) (is_some_file b (element_of_text b r h.deed)) (ap (is_some_file b) h.of_element ∙ ap is_file_kind kind);
+  makes = ap (makes_file_text b r) h.made ∙ or_second (is_put h.deed) (is_some_file b (element_of_text b r h.deed))
+      (ap (is_some_file b) h.of_element ∙ ap is_file_kind kind);
 }
 
 put_is_file : (b : Base) (r : ℕ) → PutAt b r → FileText b r
-put_is_file b r h = record { low = h.low; makes = ap (makes_file_text b r) h.made ∙ or_first (is_put h.deed) (is_some_file b (element_of_text b r h.deed)) h.puts }
+put_is_file b r h = record {
+  low = h.low;
+  makes = ap (makes_file_text b r) h.made
+      ∙ or_first (is_put h.deed) (is_some_file b (element_of_text b r h.deed)) h.puts;
+}
 
 -- the row of a file that is seen, if it is not row 0
 pub file_is_text : (b : Base) (v path : List ℕ) (r : ℕ) → is_base b ≡ true → file_at b v path ≡ Some r → 0 < r → FileText b r
@@ -45,9 +51,11 @@ file_is_text b v path r base h above = by (at b v path) refl h
   where
     picked_text : (e : ℕ) (picked : Picked) (own : Bool) → picked.out ≡ own → IsPick b v e picked → picked.row ≡ r → TextAt b r e
     picked_text e picked true is pick same = making_text b v e r (pick.own is ∙ ap Some same)
-    picked_text e picked false is pick same = version_text b e r base (subst (λ r. is_version_of b e r ≡ true) same (pick.version is)) above
+    picked_text e picked false is pick same = version_text b e r base (subst (λ r. is_version_of b e r ≡ true) same
+        (pick.version is)) above
 
-    of_kind : (e : ℕ) (picked : Picked) (k : Option Kind) → kind_of (tree b) e ≡ k → IsPick b v e picked → row_of_file picked k ≡ Some r → FileText b r
+    of_kind : (e : ℕ) (picked : Picked) (k : Option Kind) → kind_of (tree b) e ≡ k → IsPick b v e picked
+        → row_of_file picked k ≡ Some r → FileText b r
     of_kind e picked None is pick h = absurd (cc)
     of_kind e picked (Some Directory) is pick h = absurd (cc)
     of_kind e picked (Some File) is pick h = text_is_file b r e is (picked_text e picked picked.out refl pick cc)
@@ -55,10 +63,12 @@ file_is_text b v path r base h above = by (at b v path) refl h
     by : (seen : Seen) → at b v path ≡ seen → file_seen b seen ≡ Some r → FileText b r
     by (Private row) is h =
         let same : row ≡ r = cc in
-        subst (FileText b) same (put_is_file b row (private_put b v (path_of_names (reverse (reverse (names_of path)))) row (private_at b v (reverse (names_of path)) row is)))
+        subst (FileText b) same (put_is_file b row (private_put b v (path_of_names (reverse (reverse (names_of path)))) row
+        (private_at b v (reverse (names_of path)) row is)))
     by (Element e picked) is h =
         let seen = seen_element b v (reverse (names_of path)) e picked is in
-        of_kind e picked (kind_of (tree b) e) refl (picked_is b v e (reverse (reverse (names_of path))) picked base seen.element seen.picks) h
+        of_kind e picked (kind_of (tree b) e) refl (picked_is b v e (reverse (reverse (names_of path))) picked base seen.element
+        seen.picks) h
     by (Unselected e) is h = absurd (cc)
     by Nothing is h = absurd (cc)
 
@@ -72,18 +82,22 @@ some_file_stays row b (Some e) h = by (kind_of (tree b) e) refl h
     by (Some Directory) is h = absurd (cc)
     by (Some File) is h = ap is_file_kind (kind_stays row b e File is)
 
-file_text_by : (row : Plain) (b : Base) (r : ℕ) (o : Option Deed) → makes_file_text b r o ≡ true → makes_file_text (row ∷ b) r o ≡ true
+file_text_by : (row : Plain) (b : Base) (r : ℕ) (o : Option Deed) → makes_file_text b r o ≡ true
+    → makes_file_text (row ∷ b) r o ≡ true
 file_text_by row b r None h = h
 file_text_by row b r (Some deed) h = by (is_put deed) h
   where
-    by : (t : Bool) → (t || is_some_file b (element_of_text b r deed)) ≡ true → (t || is_some_file (row ∷ b) (element_of_text (row ∷ b) r deed)) ≡ true
+    by : (t : Bool) → (t || is_some_file b (element_of_text b r deed)) ≡ true
+        → (t || is_some_file (row ∷ b) (element_of_text (row ∷ b) r deed)) ≡ true
     by true h = refl
-    by false h = ap (is_some_file (row ∷ b)) (element_stays b (row ∷ b) r deed) ∙ some_file_stays row b (element_of_text b r deed) h
+    by false h = ap (is_some_file (row ∷ b)) (element_stays b (row ∷ b) r deed)
+        ∙ some_file_stays row b (element_of_text b r deed) h
 
 pub file_text_stays : (row : Plain) (b : Base) (r : ℕ) → FileText b r → FileText (row ∷ b) r
 file_text_stays row b r h = record {
   low = let low = h.low in omega arith;
-  makes = ap (λ o. makes_file_text (row ∷ b) r (deed_of o)) (row_stays row b r h.low) ∙ file_text_by row b r (deed_at b r) h.makes;
+  makes = ap (λ o. makes_file_text (row ∷ b) r (deed_of o)) (row_stays row b r h.low)
+      ∙ file_text_by row b r (deed_at b r) h.makes;
 }
 
 pub file_text_stays_all : (more b : Base) (r : ℕ) → FileText b r → FileText (more ++ b) r

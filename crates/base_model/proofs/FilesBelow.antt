@@ -1,5 +1,6 @@
 -- The row of a file that a view sees lies below the size of the base, so its text stays when rows are added.
-use Rattle.std.proofs.Common.{◌≡◌, refl, ap, sym, subst, ◌∙◌, ℕ, ◌<◌, ◌≤◌, Bool, true, false, Option, Some, None, List, [], ◌∷◌, ◌++◌, arith, nat_lt}
+use Rattle.std.proofs.Common.{◌≡◌, refl, ap, sym, subst, ◌∙◌, ℕ, ◌<◌, ◌≤◌, Bool, true, false, Option, Some, None, List, [], ◌∷◌}
+use Rattle.std.proofs.Common.{◌++◌, arith, nat_lt}
 use Rattle.std.specs.Prelude.{option_and_then, bytes_eq, reverse}
 use Rattle.cc_names.specs.Formed.{Plain}
 use Rattle.cc_names.specs.Last.{Effect, Keeps, Ends, Sets, only_if}
@@ -19,7 +20,8 @@ use Rattle.base_model.specs.Changes.{tree}
 use Rattle.base_model.specs.Texts.{text_of_row, texts, text}
 use Rattle.base_model.specs.Fits.{is_base}
 use Rattle.base_model.specs.Seen.{at, file_at, file_seen, row_of_file}
-use Rattle.base_model.specs.Views.{Checkout, TakenOut, out_effect, making, making_effect, making_of_out, made_out, taken_out, checkout_of_element, checkout_of_branch, private, private_effect}
+use Rattle.base_model.specs.Views.{Checkout, TakenOut, out_effect, making, making_effect, making_of_out, made_out, taken_out}
+use Rattle.base_model.specs.Views.{checkout_of_element, checkout_of_branch, private, private_effect}
 use Rattle.base_model.proofs.Below.{within, last_holds}
 use Rattle.base_model.proofs.PrivateFiles.{private_at}
 use Rattle.base_model.proofs.Makings.{seen_element}
@@ -47,7 +49,8 @@ private_sets v p n r deed h = absurd (cc)
 private_is_below : (b : Base) (v p : List ℕ) (r : ℕ) → private b v p ≡ Some r → r < size b
 private_is_below b v p r h =
     last_holds {X = Plain} {A = ℕ} (λ b r. r < size b) (λ older row. private_effect v p (size older) row.deed)
-    (λ row older r low. omega arith) (λ row older r is. let same : r ≡ size older = private_sets v p (size older) r row.deed is in omega arith) b r h
+    (λ row older r low. omega arith) (λ row older r is. let same : r ≡ size older = private_sets v p (size older) r row.deed is in
+    omega arith) b r h
 
 -- the row of a checkout that is there
 own_row : ℕ → Option TakenOut → ℕ
@@ -72,13 +75,15 @@ made_row n (deeds.Checkout v e origin reserved) = refl
 made_row n (deeds.Branch v e origin name how) = branch_row v e n how
 made_row n deed = refl
 
-pub out_row : (v : List ℕ) (e n : ℕ) (deed : Deed) (checkout : Checkout) → out_effect v e n deed ≡ Sets checkout → checkout.row ≡ n
+pub out_row : (v : List ℕ) (e n : ℕ) (deed : Deed) (checkout : Checkout) → out_effect v e n deed ≡ Sets checkout
+    → checkout.row ≡ n
 unfolding own_row
 out_row v e n deed checkout h =
     let set = set_is v e (made_out n deed) checkout (out_sets v e n deed checkout h) in
     ap (λ c. c.row) (sym set.3) ∙ ap (own_row n) (sym set.1) ∙ made_row n deed
 
-making_by : (v : List ℕ) (e n r : ℕ) (deed : Deed) (effect : Effect Checkout) → out_effect v e n deed ≡ effect → making_of_out effect ≡ Sets r → r ≡ n
+making_by : (v : List ℕ) (e n r : ℕ) (deed : Deed) (effect : Effect Checkout) → out_effect v e n deed ≡ effect
+    → making_of_out effect ≡ Sets r → r ≡ n
 making_by v e n r deed Keeps is h = absurd (cc)
 making_by v e n r deed Ends is h = absurd (cc)
 making_by v e n r deed (Sets checkout) is h = let own = out_row v e n deed checkout is in cc
@@ -90,7 +95,8 @@ making_sets v e n r deed h = making_by v e n r deed (out_effect v e n deed) refl
 making_is_below : (b : Base) (v : List ℕ) (e r : ℕ) → making b v e ≡ Some r → r < size b
 making_is_below b v e r h =
     last_holds {X = Plain} {A = ℕ} (λ b r. r < size b) (λ older row. making_effect v e (size older) row.deed)
-    (λ row older r low. omega arith) (λ row older r is. let same : r ≡ size older = making_sets v e (size older) r row.deed is in omega arith) b r h
+    (λ row older r low. omega arith) (λ row older r is. let same : r ≡ size older = making_sets v e (size older) r row.deed is in
+    omega arith) b r h
 
 pick_is_below : (b : Base) (v : List ℕ) (e : ℕ) (picked : Picked) → IsPick b v e picked → picked.row < size b
 pick_is_below b v e picked h = by picked.out refl
@@ -111,29 +117,42 @@ file_is_below b v path r base h = by (at b v path) refl h
     of_kind picked (Some Directory) h = absurd (cc)
 
     by : (seen : Seen) → at b v path ≡ seen → file_seen b seen ≡ Some r → r < size b
-    by (Private row) is h = let same : row ≡ r = cc in subst (λ r. r < size b) same (private_is_below b v (path_of_names (reverse (reverse (names_of path)))) row (private_at b v (reverse (names_of path)) row is))
+    by (Private row) is h = let same : row ≡ r = cc in subst (λ r. r < size b) same
+        (private_is_below b v (path_of_names (reverse (reverse (names_of path)))) row
+        (private_at b v (reverse (names_of path)) row is))
     by (Element e picked) is h =
         let seen = seen_element b v (reverse (names_of path)) e picked is in
         let same : picked.row ≡ r = of_kind picked (kind_of (tree b) e) h in
-        subst (λ r. r < size b) same (pick_is_below b v e picked (picked_is b v e (reverse (reverse (names_of path))) picked base seen.element seen.picks))
+        subst (λ r. r < size b) same (pick_is_below b v e picked (picked_is b v e (reverse (reverse (names_of path))) picked base
+        seen.element seen.picks))
     by (Unselected e) is h = absurd (cc)
     by Nothing is h = absurd (cc)
 
 -- a base is its first rows with the others behind them
 pub beyond : (b : Base) (t : ℕ) → Extends (first_rows t b) b
 beyond [] t = record { more = []; is = refl }
-beyond (row ∷ older) t = elim (nat_lt (size older) t) as (λ (x : Bool). nat_lt (size older) t ≡ x → Extends (first_rows t (row ∷ older)) (row ∷ older)) [
-  | true ↦ λ test. let low : size older < t = ltb-true _ _ test in record { more = []; is = sym (all_rows (row ∷ older) t (omega arith)) }
-  | false ↦ λ test. let high : t ≤ size older = ltb-false _ _ test in
-      let rest = beyond older t in
-      record { more = row ∷ rest.more; is = ap (λ b. row ∷ b) rest.is ∙ ap (λ b. row ∷ (rest.more ++ b)) (sym (first_rows_stay row older t high)) }
-] refl
+beyond (row ∷ older) t = elim (nat_lt (size older) t) as (λ (x : Bool). nat_lt (size older) t ≡ x
+    → Extends (first_rows t (row ∷ older)) (row ∷ older)) [
+      | true ↦ λ test. let low : size older < t = ltb-true _ _ test in record {
+        more = [];
+        is = sym (all_rows (row ∷ older) t (omega arith));
+      }
+      | false ↦ λ test. let high : t ≤ size older = ltb-false _ _ test in
+          let rest = beyond older t in
+          record {
+            more = row ∷ rest.more;
+            is = ap (λ b. row ∷ b) rest.is ∙ ap (λ b. row ∷ (rest.more ++ b))
+                (sym (first_rows_stay row older t high));
+          }
+    ] refl
 
 -- the text of a file that is seen in the first rows is what the base has there
-pub file_text : (b : Base) (t : ℕ) (v path : List ℕ) → is_base (first_rows t b) ≡ true → text_of_row b path (file_at (first_rows t b) v path) ≡ texts (first_rows t b) v path
+pub file_text : (b : Base) (t : ℕ) (v path : List ℕ) → is_base (first_rows t b) ≡ true
+    → text_of_row b path (file_at (first_rows t b) v path) ≡ texts (first_rows t b) v path
 file_text b t v path base = by (file_at (first_rows t b) v path) refl
   where
-    by : (o : Option ℕ) → file_at (first_rows t b) v path ≡ o → text_of_row b path o ≡ option_and_then (λ row. text (first_rows t b) row path) o
+    by : (o : Option ℕ) → file_at (first_rows t b) v path ≡ o → text_of_row b path o
+        ≡ option_and_then (λ row. text (first_rows t b) row path) o
     by None is = refl
     by (Some r) is =
         let low = file_is_below (first_rows t b) v path r base is in

@@ -17,9 +17,11 @@ none_first : (changes : List TreeChange) → of_first_rows 0 changes ≡ []
 none_first [] = refl
 none_first (change ∷ older) = let rest = none_first older in grind (arith, nat_tests)
 
-versions_stay : (more b : Base) (t : ℕ) → first_rows t (more ++ b) ≡ first_rows t b → of_first_rows t (tree (more ++ b)) ≡ of_first_rows t (tree b)
+versions_stay : (more b : Base) (t : ℕ) → first_rows t (more ++ b) ≡ first_rows t b
+    → of_first_rows t (tree (more ++ b)) ≡ of_first_rows t (tree b)
 versions_stay more b zero same = none_first (tree (more ++ b)) ∙ sym (none_first (tree b))
-versions_stay more b (suc t) same = tree_of_first_rows (more ++ b) (suc t) (omega arith) ∙ ap tree same ∙ sym (tree_of_first_rows b (suc t) (omega arith))
+versions_stay more b (suc t) same = tree_of_first_rows (more ++ b) (suc t) (omega arith) ∙ ap tree same
+    ∙ sym (tree_of_first_rows b (suc t) (omega arith))
 
 pub say_the_same : (more b : Base) (t : ℕ) → t ≤ size b → SayTheSame t b (more ++ b)
 say_the_same more b t low =

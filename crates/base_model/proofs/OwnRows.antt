@@ -10,7 +10,8 @@ use Rattle.cc_names.specs.declared.rows.Out.{Out}
 use Rattle.cc_names.specs.declared.rows.Out.TheVariants as outs
 use Rattle.base_model.specs.Rows.{Base, size, deed_of, deed_at}
 use Rattle.base_model.specs.Conditions.{element_of_text, is_put}
-use Rattle.base_model.specs.Views.{Checkout, TakenOut, checkout_of_element, checkout_of_branch, made_out, making, making_effect, making_of_out, out_effect, private, private_effect, taken_out}
+use Rattle.base_model.specs.Views.{Checkout, TakenOut, checkout_of_element, checkout_of_branch, made_out, making, making_effect}
+use Rattle.base_model.specs.Views.{making_of_out, out_effect, private, private_effect, taken_out}
 use Rattle.base_model.proofs.Below.{last_holds}
 use Rattle.base_model.proofs.Tables.{same_number}
 use Rattle.base_model.proofs.Origins.{out_sets, set_is}
@@ -23,23 +24,30 @@ record IsOwn (b : Base) (n : ℕ) (deed : Deed) (taken : TakenOut) : Type 0 wher
   row : taken.checkout.row ≡ n
   of_element : element_of_text b n deed ≡ Some taken.element
 
-own_by : (b : Base) (n : ℕ) (deed : Deed) (made taken : TakenOut) → IsOwn b n deed made → Some made ≡ Some taken → IsOwn b n deed taken
+own_by : (b : Base) (n : ℕ) (deed : Deed) (made taken : TakenOut) → IsOwn b n deed made → Some made ≡ Some taken
+    → IsOwn b n deed taken
 own_by b n deed made taken h e = let same : made ≡ taken = cc in subst (IsOwn b n deed) same h
 
-element_own : (b : Base) (v : List ℕ) (directory n : ℕ) (name : List ℕ) (kind : Kind) (how : Bool) (taken : TakenOut) → taken_out v n (checkout_of_element how n) ≡ Some taken →
+element_own : (b : Base) (v : List ℕ) (directory n : ℕ) (name : List ℕ) (kind : Kind) (how : Bool) (taken : TakenOut)
+    → taken_out v n (checkout_of_element how n) ≡ Some taken →
     IsOwn b n (deeds.Mkelem v directory name kind how) taken
-element_own b v directory n name kind true taken h = own_by b n (deeds.Mkelem v directory name kind true) _ taken (record { row = refl; of_element = refl }) h
+element_own b v directory n name kind true taken h = own_by b n (deeds.Mkelem v directory name kind true) _ taken
+    (record { row = refl; of_element = refl }) h
 element_own b v directory n name kind false taken h = absurd (cc)
 
-branch_own : (b : Base) (v : List ℕ) (e origin n : ℕ) (name : List ℕ) (how : Out) (taken : TakenOut) → taken_out v e (checkout_of_branch how n) ≡ Some taken →
+branch_own : (b : Base) (v : List ℕ) (e origin n : ℕ) (name : List ℕ) (how : Out) (taken : TakenOut)
+    → taken_out v e (checkout_of_branch how n) ≡ Some taken →
     IsOwn b n (deeds.Branch v e origin name how) taken
 branch_own b v e origin n name outs.No taken h = absurd (cc)
-branch_own b v e origin n name outs.Reserved taken h = own_by b n (deeds.Branch v e origin name outs.Reserved) _ taken (record { row = refl; of_element = refl }) h
-branch_own b v e origin n name outs.Unreserved taken h = own_by b n (deeds.Branch v e origin name outs.Unreserved) _ taken (record { row = refl; of_element = refl }) h
+branch_own b v e origin n name outs.Reserved taken h = own_by b n (deeds.Branch v e origin name outs.Reserved) _ taken
+    (record { row = refl; of_element = refl }) h
+branch_own b v e origin n name outs.Unreserved taken h = own_by b n (deeds.Branch v e origin name outs.Unreserved) _ taken
+    (record { row = refl; of_element = refl }) h
 
 made_own : (b : Base) (n : ℕ) (deed : Deed) (taken : TakenOut) → made_out n deed ≡ Some taken → IsOwn b n deed taken
 made_own b n (deeds.Mkelem v directory name kind how) taken h = element_own b v directory n name kind how taken h
-made_own b n (deeds.Checkout v e origin reserved) taken h = own_by b n (deeds.Checkout v e origin reserved) _ taken (record { row = refl; of_element = refl }) h
+made_own b n (deeds.Checkout v e origin reserved) taken h = own_by b n (deeds.Checkout v e origin reserved) _ taken
+    (record { row = refl; of_element = refl }) h
 made_own b n (deeds.Branch v e origin name how) taken h = branch_own b v e origin n name how taken h
 made_own b n deed taken h = absurd (cc)
 
@@ -48,7 +56,8 @@ record SetsOwn (b : Base) (e n r : ℕ) (deed : Deed) : Type 0 where
   number : r ≡ n
   of_element : element_of_text b n deed ≡ Some e
 
-checkout_sets : (b : Base) (v : List ℕ) (e n r : ℕ) (deed : Deed) (effect : Effect Checkout) → out_effect v e n deed ≡ effect → making_of_out effect ≡ Sets r → SetsOwn b e n r deed
+checkout_sets : (b : Base) (v : List ℕ) (e n r : ℕ) (deed : Deed) (effect : Effect Checkout) → out_effect v e n deed ≡ effect
+    → making_of_out effect ≡ Sets r → SetsOwn b e n r deed
 checkout_sets b v e n r deed Keeps is h = absurd (cc)
 checkout_sets b v e n r deed Ends is h = absurd (cc)
 checkout_sets b v e n r deed (Sets checkout) is h =
@@ -103,8 +112,19 @@ private_sets v p n r deed h = absurd (cc)
 pub private_put : (b : Base) (v p : List ℕ) (r : ℕ) → private b v p ≡ Some r → PutAt b r
 private_put b v p r h =
     last_holds {X = Plain} {A = ℕ} PutAt (λ older row. private_effect v p (size older) row.deed)
-    (λ row older r put. record { deed = put.deed; low = let low = put.low in omega arith; made = ap deed_of (row_stays row older r put.low) ∙ put.made; puts = put.puts })
+    (λ row older r put. record {
+      deed = put.deed;
+      low = let low = put.low in
+          omega arith;
+      made = ap deed_of (row_stays row older r put.low) ∙ put.made;
+      puts = put.puts;
+    })
     (λ row older r is.
     let set = private_sets v p (size older) r row.deed is in
-    subst (PutAt (row ∷ older)) (sym set.number) (record { deed = row.deed; low = omega arith; made = newest_deed row older; puts = set.puts }))
+    subst (PutAt (row ∷ older)) (sym set.number) (record {
+      deed = row.deed;
+      low = omega arith;
+      made = newest_deed row older;
+      puts = set.puts;
+    }))
     b r h

@@ -15,7 +15,8 @@ pub no_row : (b : Base) (deed : Deed) → deed_at b 0 ≡ Some deed → ⊥
 no_row [] deed is = cc
 no_row (row ∷ older) deed is = by (size older == 0) refl is (no_row older deed)
   where
-    by : (t : Bool) → (size older == 0) ≡ t → deed_of (elim t as (λ x. Option Plain) [ true ↦ Some row | false ↦ row_at older 0 ]) ≡ Some deed → (deed_at older 0 ≡ Some deed → ⊥) → ⊥
+    by : (t : Bool) → (size older == 0) ≡ t → deed_of (elim t as (λ x. Option Plain) [ true ↦ Some row | false ↦ row_at older 0 ])
+        ≡ Some deed → (deed_at older 0 ≡ Some deed → ⊥) → ⊥
     by true e is rest = let number = same_number (size older) 0 e in absurd (omega arith)
     by false e is rest = rest is
 

@@ -33,7 +33,8 @@ more_within (row ∷ more) b t h = let within = more_within more b t h in omega 
 
 pub first_rows_stay_all : (more b : Base) (t : ℕ) → t ≤ size b → first_rows t (more ++ b) ≡ first_rows t b
 first_rows_stay_all [] b t h = refl
-first_rows_stay_all (row ∷ more) b t h = first_rows_stay row (more ++ b) t (more_within more b t h) ∙ first_rows_stay_all more b t h
+first_rows_stay_all (row ∷ more) b t h = first_rows_stay row (more ++ b) t (more_within more b t h)
+    ∙ first_rows_stay_all more b t h
 
 pub row_stays_all : (more b : Base) (n : ℕ) → n < size b → row_at (more ++ b) n ≡ row_at b n
 row_stays_all [] b n h = refl
@@ -41,7 +42,8 @@ row_stays_all (row ∷ more) b n h = row_stays row (more ++ b) n (more_below mor
 
 pub text_stays_all : (more b : Base) (r : ℕ) (path : List ℕ) → r < size b → text (more ++ b) r path ≡ text b r path
 text_stays_all [] b r path h = refl
-text_stays_all (row ∷ more) b r path h = text_stays row (more ++ b) r path (more_below more b r h) ∙ text_stays_all more b r path h
+text_stays_all (row ∷ more) b r path h = text_stays row (more ++ b) r path (more_below more b r h)
+    ∙ text_stays_all more b r path h
 
 pub catalog_stays_all : (more b : Base) (r : ℕ) → r < size b → catalog_of (more ++ b) r ≡ catalog_of b r
 catalog_stays_all [] b r h = refl

@@ -22,11 +22,13 @@ abbrev picked_in : Option ℕ → Result (List Rule) SpecError → Option Picked
 picked_in out (Ok rules) = pick (two_versions out) 2 (codes "in" ∷ []) rules
 picked_in out (Err error) = None
 
-before_the_second : picked_in None (rules_of (codes "element in .../fix/LATEST" ++ 10 ∷ codes "element in /main/LATEST -time 14-Nov-2023.22:13:21")) ≡ Some (record { row = 4; line = 2; out = false })
+before_the_second : picked_in None (rules_of (codes "element in .../fix/LATEST" ++ 10
+    ∷ codes "element in /main/LATEST -time 14-Nov-2023.22:13:21")) ≡ Some (record { row = 4; line = 2; out = false })
 unfolding dates_on_literals
 before_the_second = refl
 
-checked_out : picked_in (Some 9) (rules_of (codes "element * CHECKEDOUT" ++ 10 ∷ codes "element * /main/LATEST")) ≡ Some (record { row = 9; line = 1; out = true })
+checked_out : picked_in (Some 9) (rules_of (codes "element * CHECKEDOUT" ++ 10 ∷ codes "element * /main/LATEST"))
+    ≡ Some (record { row = 9; line = 1; out = true })
 checked_out = refl
 
 ended : picked_in None (rules_of (codes "element in -none" ++ 10 ∷ codes "element * /main/LATEST")) ≡ None

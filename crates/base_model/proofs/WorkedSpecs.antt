@@ -20,9 +20,15 @@ on_all line selector before = record {
 }
 
 abbrev on_in : ℕ → Selector → Option ℕ → Rule
-on_in line selector before = record (on_all line selector before) { pattern = record { anchored = false; segments = OneName (codes "in") ∷ [] } }
+on_in line selector before = record (on_all line selector before) {
+  pattern = record {
+    anchored = false;
+    segments = OneName (codes "in") ∷ [];
+  };
+}
 
-default : rules_of (codes "element * CHECKEDOUT" ++ 10 ∷ codes "element * /main/LATEST" ++ 10 ∷ []) ≡ Ok (on_all 1 CheckedOut None ∷ on_all 2 (Latest []) None ∷ [])
+default : rules_of (codes "element * CHECKEDOUT" ++ 10 ∷ codes "element * /main/LATEST" ++ 10 ∷ [])
+    ≡ Ok (on_all 1 CheckedOut None ∷ on_all 2 (Latest []) None ∷ [])
 default = refl
 
 selected_by_time : rules_of (codes "element in .../fix/LATEST" ++ 10 ∷ codes "element in /main/LATEST -time 14-Nov-2023.22:13:21")

@@ -30,16 +30,16 @@ blanked_but keeps [] = []
 blanked_but keeps (row ∷ older) = blank_unless (keeps (size older)) row ∷ blanked_but keeps older
 
 -- A base with each output of each publish emptied.
-abbrev pub blanked : Base → Base
-blanked b = blanked_but (λ id. false) b
+abbrev pub with_blanks : Base → Base
+with_blanks b = blanked_but (λ id. false) b
 
 -- A base with each output of each scrubbed object emptied.
-abbrev pub emptied : Base → Base
-emptied b = blanked_but (λ id. is_some (live_row b id)) b
+abbrev pub without_bytes : Base → Base
+without_bytes b = blanked_but (λ id. is_some (live_row b id)) b
 
 -- Two bases have the same rows but for what their publishes have as outputs.
 abbrev pub AreSameButForOutputs : Base → Base → Type 0
-AreSameButForOutputs one two = blanked one ≡ blanked two
+AreSameButForOutputs one two = with_blanks one ≡ with_blanks two
 
 -- They differ in outputs of scrubbed objects alone: those of each live object are the same.
 pub record AreSameButForScrubbedOutputs (one two : Base) : Type 0 where

@@ -84,7 +84,8 @@ catalog_after BeginsEmpty of_version own = []
 catalog_after (BeginsAs origin) of_version own = of_version origin
 catalog_after (Adds name e) of_version own = with_name name e own
 catalog_after (Removes name) of_version own = without_name name own
-catalog_after (Renames from_name to_name) of_version own = with_new_name to_name (element_named from_name own) (without_name from_name own)
+catalog_after (Renames from_name to_name) of_version own = with_new_name to_name (element_named from_name own)
+    (without_name from_name own)
 
 -- the catalog of row r: that of the newest row where it is this one, else an older one
 abbrev pub made_or_older : Bool → CatalogSource → (ℕ → Catalog) → (List ℕ → ℕ → Catalog) → ℕ → Catalog

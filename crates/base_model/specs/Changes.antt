@@ -3,7 +3,7 @@ use Rattle.std.specs.Prelude.{ℕ, ◌==◌, Option, Some, None, List, [], ◌�
 use Rattle.std.specs.List.{list_any}
 use Rattle.cc_names.specs.Last.{Effect, Keeps, Ends, Sets, only_if, last}
 use Rattle.cc_names.specs.Branches.{branch_of_version}
-use Rattle.cc_names.specs.References.{Held, references}
+use Rattle.cc_names.specs.References.{ReferencesByPath, references}
 use Rattle.cc_names.specs.declared.rows.Kind.TheVariants.{Directory}
 use Rattle.cc_names.specs.declared.rows.Placed.{Placed}
 use Rattle.cc_names.specs.declared.rows.TypeKind.{TypeKind}
@@ -80,7 +80,7 @@ holdings [] = []
 holdings (row ∷ older) = holdings_after older row.deed (holdings older)
 
 -- the objects that views hold
-abbrev pub objects_held : Base → Held
+abbrev pub objects_held : Base → ReferencesByPath
 objects_held b = references (holdings b)
 
 -- an object lives from its publish until a scrub takes it

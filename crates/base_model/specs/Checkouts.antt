@@ -27,8 +27,8 @@ abbrev pub checkouts : Base → List TakenOut
 checkouts b = standing_among b b
 
 -- the view of a checkout
-abbrev pub view_of : TakenOut → List ℕ
-view_of taken = taken.view
+abbrev pub checkout_view : TakenOut → List ℕ
+checkout_view taken = taken.view
 
 -- the branch of a checkout: that of its origin
 abbrev pub branch_of : Base → Checkout → Option ℕ
@@ -40,7 +40,7 @@ reserves b branch taken = taken.checkout.reserved && is_number branch (branch_of
 
 -- the view that holds a reserved checkout on the branch
 abbrev pub reserver : Base → ℕ → Option (List ℕ)
-reserver b branch = option_map view_of (find (reserves b branch) (checkouts b))
+reserver b branch = option_map checkout_view (find (reserves b branch) (checkouts b))
 
 -- whether a checkout is another view's and reserves the branch
 abbrev pub is_others : Base → List ℕ → ℕ → TakenOut → Bool
@@ -48,7 +48,7 @@ is_others b v branch taken = not (bytes_eq taken.view v) && reserves b branch ta
 
 -- the other view that holds a reserved checkout on the branch
 abbrev pub other_reserver : Base → List ℕ → ℕ → Option (List ℕ)
-other_reserver b v branch = option_map view_of (find (is_others b v branch) (checkouts b))
+other_reserver b v branch = option_map checkout_view (find (is_others b v branch) (checkouts b))
 
 -- the oldest row of the view's checkouts in a list that has the newest first
 abbrev pub oldest_of : List ℕ → List TakenOut → Option ℕ

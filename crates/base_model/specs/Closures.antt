@@ -60,7 +60,11 @@ inputs_of b of_object (entry ∷ entries) =
 abbrev pub closure : Base → ℕ → Inputs
 closure [] id = []
 closure (row ∷ older) id =
-    elim (size older == id) [ true ↦ inputs_of older (closure older) (entries_of_deed (Some row.deed)) | false ↦ closure older id ]
+    elim (size older == id) [
+      | true ↦ inputs_of older (closure older) (entries_of_deed (Some row.deed))
+      | false ↦
+          closure older id
+    ]
 
 -- whether a version is one of the element
 abbrev pub is_of_element : ℕ → Option VersionId → Bool
@@ -83,7 +87,8 @@ Listing = List (ℕ × ℕ)
 -- a listing with one more version, of which the greatest of each element counts
 abbrev pub with_version_at : ℕ → Option VersionId → Listing → Listing
 with_version_at row None listing = listing
-with_version_at row (Some version_id) listing = put nat_cmp version_id.element (greater_of row (find nat_cmp version_id.element listing)) listing
+with_version_at row (Some version_id) listing = put nat_cmp version_id.element
+    (greater_of row (find nat_cmp version_id.element listing)) listing
 
 -- The version that the row of an input made. Row 0, which says that nothing was at the path, lists none.
 abbrev pub version_listed : Base → ℕ → Option VersionId
@@ -100,12 +105,12 @@ abbrev pub listing : Base → ℕ → Listing
 listing b id = listing_of b (closure b id)
 
 -- whether a path is among paths
-abbrev pub is_among : List ℕ → List (List ℕ) → Bool
-is_among path paths = list_any (bytes_eq path) paths
+abbrev pub is_path_among : List ℕ → List (List ℕ) → Bool
+is_path_among path paths = list_any (bytes_eq path) paths
 
 -- the version of the element that the record of the object lists, where the object has this target
 abbrev pub recorded_version : Base → ℕ → List ℕ → ℕ → Option ℕ
-recorded_version b id target e = only_where (is_among target (targets_of b id)) (find nat_cmp e (listing b id))
+recorded_version b id target e = only_where (is_path_among target (targets_of b id)) (find nat_cmp e (listing b id))
 
 -- an element with its version, as a place of a label
 abbrev pub as_placed : ℕ × ℕ → Placed

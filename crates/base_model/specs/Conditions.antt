@@ -1,5 +1,6 @@
 -- The conditions under which a row fits a base, each a test of its own.
-use Rattle.std.specs.Prelude.{ℕ, Bool, true, false, not, ◌&&◌, ◌||◌, ◌==◌, Option, Some, None, is_some, is_none, List, [], ◌∷◌, codes, option_and_then}
+use Rattle.std.specs.Prelude.{ℕ, Bool, true, false, not, ◌&&◌, ◌||◌, ◌==◌, Option, Some, None, is_some, is_none, List, [], ◌∷◌}
+use Rattle.std.specs.Prelude.{codes, option_and_then}
 use Rattle.std.specs.Option.{option_or}
 use Rattle.cc_names.specs.Branches.{branch_named, branch_of_version}
 use Rattle.cc_names.specs.Labels.{holder}
@@ -17,7 +18,7 @@ use Rattle.base_model.specs.Rows.{Base, size, deed_at, only_where}
 use Rattle.base_model.specs.Catalogs.{element_named, own_of}
 use Rattle.base_model.specs.Changes.{tree, labels, objects_held, live_row, kind_of_type, targets_of}
 use Rattle.base_model.specs.Checkouts.{reserver, other_reserver, branch_of, is_latest}
-use Rattle.base_model.specs.Closures.{is_among, is_version_of}
+use Rattle.base_model.specs.Closures.{is_path_among, is_version_of}
 use Rattle.base_model.specs.Views.{Checkout, view_row, out}
 
 -- whether the view exists
@@ -50,7 +51,7 @@ is_directory b e = is_directory_kind (kind_of (tree b) e)
 abbrev pub has_name : Base → List ℕ → ℕ → List ℕ → Bool
 has_name b v d name = is_some (element_named name (own_of b v d))
 
--- whether the view has out the element that the catalog of its checkout of a directory names so
+-- whether the view has checked out the element that the catalog of its checkout of a directory names so
 abbrev pub has_out_by_name : Base → List ℕ → ℕ → List ℕ → Bool
 has_out_by_name b v d name = is_some (option_and_then (out b v) (element_named name (own_of b v d)))
 
@@ -84,7 +85,7 @@ is_branch_type b name = is_branch_kind (kind_of_type b name)
 
 -- names that no type may have: `main`, `LATEST` and `CHECKEDOUT`
 abbrev pub is_reserved_name : List ℕ → Bool
-is_reserved_name name = is_among name (codes "main" ∷ codes "LATEST" ∷ codes "CHECKEDOUT" ∷ [])
+is_reserved_name name = is_path_among name (codes "main" ∷ codes "LATEST" ∷ codes "CHECKEDOUT" ∷ [])
 
 -- whether a type of either kind has the name, or none may have it
 abbrev pub is_type_taken : Base → List ℕ → Bool
@@ -125,7 +126,7 @@ makes_file_text b r (Some deed) = is_put deed || is_some_file b (element_of_text
 -- whether an entry says that its path was absent, or names the text of a file or an output at its path
 abbrev pub is_entry : Base → ReadOf → Bool
 is_entry b entry =
-    (entry.row == 0) || makes_file_text b entry.row (deed_at b entry.row) || is_among entry.path (targets_of b entry.row)
+    (entry.row == 0) || makes_file_text b entry.row (deed_at b entry.row) || is_path_among entry.path (targets_of b entry.row)
 
 -- whether an object is live and no view holds it
 abbrev pub may_be_scrubbed : Base → ℕ → Bool

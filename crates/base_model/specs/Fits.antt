@@ -9,7 +9,9 @@ use Rattle.base_model.specs.Rows.{Base, size}
 use Rattle.base_model.specs.Changes.{objects_held, live_row}
 use Rattle.base_model.specs.Checkouts.{is_latest}
 use Rattle.base_model.specs.Closures.{is_version_of}
-use Rattle.base_model.specs.Conditions.{exists, has_out, is_file, is_directory, has_name, has_out_by_name, is_unreserved, may_check_in, is_label_type, is_branch_type, is_type_taken, has_branch, has_label, is_entry, may_be_scrubbed, is_placed, arrow_row}
+use Rattle.base_model.specs.Conditions.{exists, has_out, is_file, is_directory, has_name, has_out_by_name, is_unreserved}
+use Rattle.base_model.specs.Conditions.{may_check_in, is_label_type, is_branch_type, is_type_taken, has_branch, has_label}
+use Rattle.base_model.specs.Conditions.{is_entry, may_be_scrubbed, is_placed, arrow_row}
 use Rattle.base_model.specs.Views.{out, private}
 
 -- a reserved checkout asks that nobody holds the branch

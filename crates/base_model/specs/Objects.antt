@@ -1,5 +1,6 @@
 -- Objects and their records: which object a view holds at some paths, and whether it sees what a record has.
-use Rattle.std.specs.Prelude.{ℕ, zero, suc, Bool, true, false, not, ◌&&◌, Option, Some, None, is_none, List, [], ◌∷◌, find, option_map, bytes_eq}
+use Rattle.std.specs.Prelude.{ℕ, zero, suc, Bool, true, false, not, ◌&&◌, Option, Some, None, is_none, List, [], ◌∷◌, find}
+use Rattle.std.specs.Prelude.{option_map, bytes_eq}
 use Rattle.std.specs.List.{list_all}
 use Rattle.std.specs.Option.{option_or}
 use Rattle.cc_names.specs.References.{held_at}

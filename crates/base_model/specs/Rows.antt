@@ -7,7 +7,8 @@ use Rattle.cc_names.specs.declared.rows.Deed.{Deed}
 abbrev pub Base : Type 0
 Base = List Plain
 
--- How many rows a base has, row 0 included. It is the number that the next row gets, and a row's number is the size of the rows below it.
+-- How many rows a base has, row 0 included. It is the number that the next row gets, and a row's number is the size of the rows
+-- below it.
 abbrev pub size : Base → ℕ
 size b = suc (length b)
 

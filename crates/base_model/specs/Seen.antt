@@ -1,5 +1,6 @@
 -- What stands at a path in a view.
-use Rattle.std.specs.Prelude.{ℕ, Bool, true, false, nat_le, Option, Some, None, Result, Ok, Err, List, [], ◌∷◌, length, reverse, if◌then◌else◌}
+use Rattle.std.specs.Prelude.{ℕ, Bool, true, false, nat_le, Option, Some, None, Result, Ok, Err, List, [], ◌∷◌, length, reverse}
+use Rattle.std.specs.Prelude.{if◌then◌else◌}
 use Rattle.cc_names.specs.Paths.{names_of, path_of_names}
 use Rattle.cc_names.specs.Versions.{kind_of}
 use Rattle.cc_names.specs.declared.rows.Kind.{Kind}
@@ -74,14 +75,15 @@ abbrev pub path_limit : ℕ
 path_limit = 1024
 
 -- what stands at a path, unless it is too long to be seen: renamed directories can make such paths
-abbrev pub unless_long : List ℕ → Seen → Seen
-unless_long path seen = if nat_le (length path) path_limit then seen else Nothing
+abbrev pub unless_too_long : List ℕ → Seen → Seen
+unless_too_long path seen = if nat_le (length path) path_limit then seen else Nothing
 
 -- what stands at the path of these names, whose last one is looked for in a catalog
 abbrev pub below : Base → List ℕ → List (List ℕ) → List ℕ → Option Catalog → Seen
 below b v names name None = Nothing
 below b v names name (Some entries) =
-    unless_long (path_of_names names) (private_or (private b v (path_of_names names)) (element_at b v names (element_named name entries)))
+    unless_too_long (path_of_names names) (private_or (private b v (path_of_names names))
+    (element_at b v names (element_named name entries)))
 
 -- what stands at the path of these names, the last name first; the root is element 0
 abbrev pub at_names : Base → List ℕ → List (List ℕ) → Seen

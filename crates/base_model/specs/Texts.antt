@@ -22,7 +22,8 @@ of_making (Some row) = OfRow row
 abbrev pub output_at : List ℕ → List (List ℕ) → List (List ℕ) → Option (List ℕ)
 output_at path [] outputs = None
 output_at path (target ∷ targets) [] = None
-output_at path (target ∷ targets) (output ∷ outputs) = if bytes_eq target path then Some output else output_at path targets outputs
+output_at path (target ∷ targets) (output ∷ outputs) = if bytes_eq target path then Some output else output_at path targets
+    outputs
 
 -- an output, where there is one
 abbrev pub of_output : Option (List ℕ) → TextSource
@@ -47,7 +48,12 @@ text [] r path = None
 text (row ∷ older) r path =
     elim (size older == r) [
       | false ↦ text older r path
-      | true ↦ elim (source_of older path row.deed) [ Bytes bytes ↦ Some bytes | OfRow origin ↦ text older origin path | NoText ↦ None ]
+      | true ↦ elim (source_of older path row.deed) [
+        | Bytes bytes ↦ Some bytes
+        | OfRow origin ↦ text older origin path
+        | NoText ↦
+            None
+      ]
     ]
 
 -- the text of the row that a path was found to have

@@ -1,4 +1,5 @@
--- A view's own state: its life, its checkouts, its private files and its config spec. Each is what the last deed that bears on it set.
+-- A view's own state: its life, its checkouts, its private files and its config spec. Each is what the last deed that affects it
+-- set.
 use Rattle.std.specs.Prelude.{ℕ, Bool, true, false, ◌&&◌, ◌==◌, Option, Some, None, List, [], ◌∷◌, bytes_eq}
 use Rattle.cc_names.specs.Last.{Effect, Keeps, Ends, Sets, only_if, last}
 use Rattle.cc_names.specs.declared.rows.Deed.{Deed}
@@ -49,7 +50,11 @@ taken_out v e (Some checkout) = Some (record { view = v; element = e; checkout =
 -- the checkout that a deed makes in row n
 abbrev pub made_out : ℕ → Deed → Option TakenOut
 made_out n (deeds.Mkelem v directory name kind out) = taken_out v n (checkout_of_element out n)
-made_out n (deeds.Checkout v e origin reserved) = Some (record { view = v; element = e; checkout = record { row = n; origin = origin; reserved = reserved } })
+made_out n (deeds.Checkout v e origin reserved) = Some (record {
+  view = v;
+  element = e;
+  checkout = record { row = n; origin = origin; reserved = reserved };
+})
 made_out n (deeds.Branch v e origin name out) = taken_out v e (checkout_of_branch out n)
 made_out n deed = None
 
@@ -101,7 +106,8 @@ private b v p = last (λ older row. private_effect v p (size older) row.deed) b
 abbrev pub default_spec : List ℕ
 default_spec =
     101 ∷ 108 ∷ 101 ∷ 109 ∷ 101 ∷ 110 ∷ 116 ∷ 32 ∷ 42 ∷ 32 ∷ 67 ∷ 72 ∷ 69 ∷ 67 ∷ 75 ∷ 69 ∷ 68 ∷ 79 ∷ 85 ∷ 84 ∷ 10
-    ∷ 101 ∷ 108 ∷ 101 ∷ 109 ∷ 101 ∷ 110 ∷ 116 ∷ 32 ∷ 42 ∷ 32 ∷ 47 ∷ 109 ∷ 97 ∷ 105 ∷ 110 ∷ 47 ∷ 76 ∷ 65 ∷ 84 ∷ 69 ∷ 83 ∷ 84 ∷ 10 ∷ []
+    ∷ 101 ∷ 108 ∷ 101 ∷ 109 ∷ 101 ∷ 110 ∷ 116 ∷ 32 ∷ 42 ∷ 32 ∷ 47 ∷ 109 ∷ 97 ∷ 105 ∷ 110 ∷ 47 ∷ 76 ∷ 65 ∷ 84 ∷ 69 ∷ 83 ∷ 84 ∷ 10
+    ∷ []
 
 -- a view begins with the default config spec
 abbrev pub spec_effect : List ℕ → Deed → Effect (List ℕ)

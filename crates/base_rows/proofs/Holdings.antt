@@ -1,5 +1,6 @@
--- What a view holds at a path, told by the last rows that bear on it.
-use Rattle.std.proofs.Common.{◌≡◌, ℕ, Bool, true, false, ◌&&◌, ◌||◌, cond, Option, Some, List, [], ◌∷◌, refl, ap, ap₂, sym, ◌∙◌, bytes_eq, not, None}
+-- What a view holds at a path, given by the last rows that affect it.
+use Rattle.std.proofs.Common.{◌≡◌, ℕ, Bool, true, false, ◌&&◌, ◌||◌, cond, Option, Some, List, [], ◌∷◌, refl, ap, ap₂, sym, ◌∙◌}
+use Rattle.std.proofs.Common.{bytes_eq, not, None}
 use Rattle.std.specs.declared.cmp.Ordering.{Ordering}
 use Rattle.std.specs.declared.cmp.Ordering.TheVariants.{Less, Equal, Greater}
 use Rattle.std.specs.Ordering.{nat_cmp, is_eq, ordering_then, eq_by_cmp}
@@ -10,7 +11,8 @@ use Rattle.std.specs.Cmp.{IsTotalOrder}
 use Rattle.std.proofs.lemmas.Cmp.{then_total, on_total, nat_list_cmp_total, nat_list_eq_equiv}
 use Rattle.std.proofs.lemmas.Map.Text.{is_eq-slice_cmp}
 use Rattle.cc_names.specs.Last.{Keeps, Ends, Sets, only_if, value_after}
-use Rattle.cc_names.specs.References.{ViewPath, Held, is_view_path, view_path_cmp, won, without_reference, view_gone, held_at, references}
+use Rattle.cc_names.specs.References.{ViewPath, ReferencesByPath, is_view_path, view_path_cmp, won, without_reference, view_gone}
+use Rattle.cc_names.specs.References.{held_at, references}
 use Rattle.cc_names.specs.declared.rows.Deed.{Deed}
 use Rattle.cc_names.specs.declared.rows.Deed.TheVariants as deeds
 use Rattle.base_model.specs.Rows.{Base, size}
@@ -22,7 +24,8 @@ use Rattle.base_rows.specs.LookUps.{Deeds, last_of}
 use Rattle.base_rows.proofs.Prefixes.{both}
 
 pub view_paths_total : IsTotalOrder view_path_cmp
-view_paths_total = then_total (on_total (λ (view_path : ViewPath). view_path.0) nat_list_cmp_total) (on_total (λ (view_path : ViewPath). view_path.1) nat_list_cmp_total)
+view_paths_total = then_total (on_total (λ (view_path : ViewPath). view_path.0) nat_list_cmp_total)
+    (on_total (λ (view_path : ViewPath). view_path.1) nat_list_cmp_total)
 
 -- both of two orders tie
 ties : (one two : Ordering) → is_eq (ordering_then one two) ≡ (is_eq one && is_eq two)
@@ -31,13 +34,16 @@ ties Equal two = refl
 ties Greater two = refl
 
 -- two view paths are one where their views and their paths are
-pub same_view_path : (v path w target : List ℕ) → eq_by_cmp view_path_cmp (v, path) (w, target) ≡ (bytes_eq w v && bytes_eq target path)
+pub same_view_path : (v path w target : List ℕ) → eq_by_cmp view_path_cmp (v, path) (w, target)
+    ≡ (bytes_eq w v && bytes_eq target path)
 same_view_path v path w target =
     ties (slice_cmp nat_cmp v w) (slice_cmp nat_cmp path target)
-    ∙ ap₂ ◌&&◌ (is_eq-slice_cmp v w ∙ nat_list_eq_equiv.symm v w) (is_eq-slice_cmp path target ∙ nat_list_eq_equiv.symm path target)
+    ∙ ap₂ ◌&&◌ (is_eq-slice_cmp v w ∙ nat_list_eq_equiv.symm v w) (is_eq-slice_cmp path target
+    ∙ nat_list_eq_equiv.symm path target)
 
 -- one target more
-one_more : (view here later : Bool) (id before : Option ℕ) → cond (view && later) id (cond (view && here) id before) ≡ cond (view && (here || later)) id before
+one_more : (view here later : Bool) (id before : Option ℕ) → cond (view && later) id (cond (view && here) id before)
+    ≡ cond (view && (here || later)) id before
 one_more false here later id before = refl
 one_more true true true id before = refl
 one_more true true false id before = refl
@@ -48,43 +54,64 @@ no_target true id before = refl
 no_target false id before = refl
 
 -- what a view holds at a path after one has won targets
-pub held_after_won : (v path w : List ℕ) (id : ℕ) (targets : List (List ℕ)) (objects_held : Held) → held_at (won w id targets objects_held) v path ≡ cond (bytes_eq w v && is_target path targets) (Some id) (held_at objects_held v path)
+pub held_after_won : (v path w : List ℕ) (id : ℕ) (targets : List (List ℕ)) (objects_held : ReferencesByPath)
+    → held_at (won w id targets objects_held) v path ≡ cond (bytes_eq w v && is_target path targets) (Some id)
+    (held_at objects_held v path)
 held_after_won v path w id [] objects_held = no_target (bytes_eq w v) (Some id) (held_at objects_held v path)
 held_after_won v path w id (target ∷ targets) objects_held =
     held_after_won v path w id targets (put view_path_cmp (w, target) id objects_held)
-    ∙ ap (cond (bytes_eq w v && is_target path targets) (Some id)) (find-put view_path_cmp view_paths_total (v, path) (w, target) id objects_held ∙ ap (λ same. cond same (Some id) (held_at objects_held v path)) (same_view_path v path w target))
+    ∙ ap (cond (bytes_eq w v && is_target path targets) (Some id)) (find-put view_path_cmp view_paths_total (v, path) (
+      w,
+      target,
+    ) id objects_held ∙ ap (λ same. cond same (Some id) (held_at objects_held v path)) (same_view_path v path w target))
     ∙ one_more (bytes_eq w v) (bytes_eq target path) (is_target path targets) (Some id) (held_at objects_held v path)
 
 -- view paths that tie are one
-tied_parts : (v path : List ℕ) (view_path : ViewPath) → view_path_cmp (v, path) view_path ≡ Equal → (v ≡ view_path.0) × (path ≡ view_path.1)
+tied_parts : (v path : List ℕ) (view_path : ViewPath) → view_path_cmp (v, path) view_path ≡ Equal → (v ≡ view_path.0)
+    × (path ≡ view_path.1)
 tied_parts v path view_path same =
-    let parts : (is_eq (slice_cmp nat_cmp v view_path.0) && is_eq (slice_cmp nat_cmp path view_path.1)) ≡ true = sym (ties (slice_cmp nat_cmp v view_path.0) (slice_cmp nat_cmp path view_path.1)) ∙ ap is_eq same in
-    let each = both (is_eq (slice_cmp nat_cmp v view_path.0)) (is_eq (slice_cmp nat_cmp path view_path.1)) parts in
-    ((bytes_eq-Decides v view_path.0).0 (sym (is_eq-slice_cmp v view_path.0) ∙ each.0), (bytes_eq-Decides path view_path.1).0 (sym (is_eq-slice_cmp path view_path.1) ∙ each.1))
+    let parts : (is_eq (slice_cmp nat_cmp v view_path.0) && is_eq (slice_cmp nat_cmp path view_path.1)) ≡ true =
+    sym (ties (slice_cmp nat_cmp v view_path.0) (slice_cmp nat_cmp path view_path.1)) ∙ ap is_eq same in
+    let each = both (is_eq (slice_cmp nat_cmp v view_path.0)) (is_eq (slice_cmp nat_cmp path view_path.1)) parts in (
+      (bytes_eq-Decides v view_path.0).0 (sym (is_eq-slice_cmp v view_path.0) ∙ each.0),
+      (bytes_eq-Decides path view_path.1).0 (sym (is_eq-slice_cmp path view_path.1) ∙ each.1),
+    )
 
 tied : (v path : List ℕ) (view_path : ViewPath) → view_path_cmp (v, path) view_path ≡ Equal → v ≡ view_path.0
 tied v path view_path same = (tied_parts v path view_path same).0
 
 tied_view_path : (v path : List ℕ) (view_path : ViewPath) → view_path_cmp (v, path) view_path ≡ Equal → (v, path) ≡ view_path
-tied_view_path v path view_path same = ap₂ (λ one two. (one, two)) (tied_parts v path view_path same).0 (tied_parts v path view_path same).1
+tied_view_path v path view_path same = ap₂ (λ one two. (one, two)) (tied_parts v path view_path same).0
+    (tied_parts v path view_path same).1
 
 -- what a view holds after one is gone
 turned : (is : Bool) (there : Option ℕ) → cond (not is) there None ≡ cond is None there
 turned true there = refl
 turned false there = refl
 
-held_after_gone : (v path w : List ℕ) (objects_held : Held) → held_at (view_gone w objects_held) v path ≡ cond (bytes_eq w v) None (held_at objects_held v path)
+held_after_gone : (v path w : List ℕ) (objects_held : ReferencesByPath)
+    → held_at (view_gone w objects_held) v path ≡ cond (bytes_eq w v) None (held_at objects_held v path)
 held_after_gone v path w objects_held =
-    find-where_key view_path_cmp (λ view_path. not (bytes_eq view_path.0 w)) (v, path) (λ view_path same. sym (ap (λ name. not (bytes_eq name w)) (tied v path view_path same))) objects_held
+    find-where_key view_path_cmp (λ view_path. not (bytes_eq view_path.0 w)) (
+      v,
+      path,
+    ) (λ view_path same. sym (ap (λ name. not (bytes_eq name w)) (tied v path view_path same))) objects_held
     ∙ turned (bytes_eq v w) (held_at objects_held v path)
     ∙ ap (λ is. cond is None (held_at objects_held v path)) (nat_list_eq_equiv.symm v w)
 
 -- what a view holds after it has lost a path
-held_after_lost : (v path w q : List ℕ) (objects_held : Held) → held_at (without_reference w q objects_held) v path ≡ cond (bytes_eq w v && bytes_eq q path) None (held_at objects_held v path)
+held_after_lost : (v path w q : List ℕ) (objects_held : ReferencesByPath)
+    → held_at (without_reference w q objects_held) v path ≡ cond (bytes_eq w v && bytes_eq q path) None
+    (held_at objects_held v path)
 held_after_lost v path w q objects_held =
-    find-where_key view_path_cmp (λ view_path. not (is_view_path view_path (w, q))) (v, path) (λ view_path same. sym (ap (λ at. not (is_view_path at (w, q))) (tied_view_path v path view_path same))) objects_held
+    find-where_key view_path_cmp (λ view_path. not (is_view_path view_path (w, q))) (
+      v,
+      path,
+    ) (λ view_path same. sym (ap (λ at. not (is_view_path at (w, q))) (tied_view_path v path view_path same)))
+    objects_held
     ∙ turned (bytes_eq v w && bytes_eq path q) (held_at objects_held v path)
-    ∙ ap₂ (λ one two. cond (one && two) None (held_at objects_held v path)) (nat_list_eq_equiv.symm v w) (nat_list_eq_equiv.symm path q)
+    ∙ ap₂ (λ one two. cond (one && two) None (held_at objects_held v path)) (nat_list_eq_equiv.symm v w)
+    (nat_list_eq_equiv.symm path q)
 
 -- what a row does to what a view holds at a path
 abbrev pub held_effect : List ℕ → List ℕ → Deeds ℕ
@@ -102,16 +129,22 @@ by_lost : (is : Bool) (before : Option ℕ) → cond is None before ≡ value_af
 by_lost true before = refl
 by_lost false before = refl
 
-held_step : (older : Base) (v path : List ℕ) (deed : Deed) → held_at (references (holdings_after older deed (holdings older))) v path ≡ value_after (held_effect v path older deed) (held_at (objects_held older) v path)
-held_step older v path (deeds.Rmview w) = held_after_gone v path w (objects_held older) ∙ by_gone (bytes_eq w v) (held_at (objects_held older) v path)
+held_step : (older : Base) (v path : List ℕ) (deed : Deed) → held_at (references (holdings_after older deed (holdings older))) v
+    path ≡ value_after (held_effect v path older deed) (held_at (objects_held older) v path)
+held_step older v path (deeds.Rmview w) = held_after_gone v path w (objects_held older)
+    ∙ by_gone (bytes_eq w v) (held_at (objects_held older) v path)
 held_step older v path (deeds.Publish w targets script entries outputs) =
-    held_after_won v path w (size older) targets (objects_held older) ∙ by_won (bytes_eq w v && is_target path targets) (size older) (held_at (objects_held older) v path)
+    held_after_won v path w (size older) targets (objects_held older) ∙ by_won (bytes_eq w v && is_target path targets)
+    (size older) (held_at (objects_held older) v path)
 held_step older v path (deeds.Wink w id) =
-    held_after_won v path w id (targets_of older id) (objects_held older) ∙ by_won (bytes_eq w v && is_target path (targets_of older id)) id (held_at (objects_held older) v path)
-held_step older v path (deeds.Drop w q) = held_after_lost v path w q (objects_held older) ∙ by_lost (bytes_eq w v && bytes_eq q path) (held_at (objects_held older) v path)
+    held_after_won v path w id (targets_of older id) (objects_held older)
+    ∙ by_won (bytes_eq w v && is_target path (targets_of older id)) id (held_at (objects_held older) v path)
+held_step older v path (deeds.Drop w q) = held_after_lost v path w q (objects_held older)
+    ∙ by_lost (bytes_eq w v && bytes_eq q path) (held_at (objects_held older) v path)
 held_step older v path deed = refl
 
--- What a view holds at a path is what the last row left that bears on it.
+-- What a view holds at a path is what the last row left that affects it.
 pub held_by_last : (b : Base) (v path : List ℕ) → held_at (objects_held b) v path ≡ last_of (held_effect v path) b
 held_by_last [] v path = refl
-held_by_last (row ∷ older) v path = held_step older v path row.deed ∙ ap (value_after (held_effect v path older row.deed)) (held_by_last older v path)
+held_by_last (row ∷ older) v path = held_step older v path row.deed ∙ ap (value_after (held_effect v path older row.deed))
+    (held_by_last older v path)

@@ -1,5 +1,6 @@
 -- What inputs list that are joined to others: of each element the greater version.
-use Rattle.std.proofs.Common.{◌≡◌, refl, ap, sym, ◌∙◌, ℕ, Bool, true, false, cond, ◌==◌, max, Option, Some, None, List, [], ◌∷◌, arith}
+use Rattle.std.proofs.Common.{◌≡◌, refl, ap, sym, ◌∙◌, ℕ, Bool, true, false, cond, ◌==◌, max, Option, Some, None, List, [], ◌∷◌}
+use Rattle.std.proofs.Common.{arith}
 use Rattle.std.proofs.lemmas.Bool.Decides.{nat_tests, Decides-eqb}
 use Rattle.std.proofs.lemmas.Cmp.{nat_cmp_total}
 use Rattle.std.proofs.lemmas.Map.{lookup-none}
@@ -15,7 +16,8 @@ use Rattle.std.specs.declared.cmp.Ordering.{Ordering}
 use Rattle.std.specs.declared.cmp.Ordering.TheVariants.{Less, Equal, Greater}
 use Rattle.cc_names.specs.declared.changes.VersionId.{VersionId}
 use Rattle.cc_names.specs.declared.rows.ReadOf.{ReadOf}
-use Rattle.base_model.specs.Closures.{Listing, Input, Inputs, closure, greater_of, is_publish, joined_inputs, listing_of, input_cmp, inputs_of, inputs_of_entry, version_listed, with_version_at}
+use Rattle.base_model.specs.Closures.{Listing, Input, Inputs, closure, greater_of, is_publish, joined_inputs, listing_of}
+use Rattle.base_model.specs.Closures.{input_cmp, inputs_of, inputs_of_entry, version_listed, with_version_at}
 use Rattle.base_model.specs.Rows.{Base, only_where}
 use Rattle.base_model.proofs.Covered.{Keyed, closure_keyed, entries_keyed, entry_keyed, one_input, put_keyed}
 use Rattle.base_model.proofs.Tables.{find_after_put}
@@ -52,28 +54,32 @@ version_at e row (Some version_id) = only_where (e == version_id.element) (Some 
 abbrev pub own_version : Base → ℕ → ℕ → Option ℕ
 own_version b e row = version_at e row (version_listed b row)
 
-by_element : (old : ℕ → Option ℕ) (e row element : ℕ) (t : Bool) → (e == element) ≡ t → cond t (Some (greater_of row (old element))) (old e) ≡ greater (only_where t (Some row)) (old e)
+by_element : (old : ℕ → Option ℕ) (e row element : ℕ) (t : Bool) → (e == element) ≡ t
+    → cond t (Some (greater_of row (old element))) (old e) ≡ greater (only_where t (Some row)) (old e)
 by_element old e row element true same =
     let number : e ≡ element = (Decides-eqb e element).0 same in
     ap (λ n. Some (greater_of row (old n))) (sym number)
 by_element old e row element false same = refl
 
 -- versions with one more, as a map has them
-pub one_put_in : (old : ℕ → Option ℕ) (e row element : ℕ) → cond (is_eq (nat_cmp element e)) (Some (greater_of row (old element))) (old e) ≡ greater (only_where (e == element) (Some row)) (old e)
+pub one_put_in : (old : ℕ → Option ℕ) (e row element : ℕ) → cond (is_eq (nat_cmp element e)) (Some (greater_of row (old element)))
+    (old e) ≡ greater (only_where (e == element) (Some row)) (old e)
 one_put_in old e row element =
     let flipped : (element == e) ≡ (e == element) = grind (arith, nat_tests) in
     ap (λ t. cond t (Some (greater_of row (old element))) (old e)) (unsigned_tied element e ∙ flipped)
     ∙ by_element old e row element (e == element) refl
 
 -- a listing with one version more
-with_one : (e row : ℕ) (version_id : Option VersionId) (listing : Listing) → find nat_cmp e (with_version_at row version_id listing) ≡ greater (version_at e row version_id) (find nat_cmp e listing)
+with_one : (e row : ℕ) (version_id : Option VersionId) (listing : Listing)
+    → find nat_cmp e (with_version_at row version_id listing) ≡ greater (version_at e row version_id) (find nat_cmp e listing)
 with_one e row None listing = refl
 with_one e row (Some version_id) listing =
     find_after_put e version_id.element (greater_of row (find nat_cmp version_id.element listing)) listing
     ∙ by_element (λ n. find nat_cmp n listing) e row version_id.element (e == version_id.element) refl
 
 -- one input more
-pub one_more : (b : Base) (e : ℕ) (input : Input × ℕ) (inputs : Inputs) → find nat_cmp e (listing_of b (input ∷ inputs)) ≡ greater (own_version b e input.1) (find nat_cmp e (listing_of b inputs))
+pub one_more : (b : Base) (e : ℕ) (input : Input × ℕ) (inputs : Inputs)
+    → find nat_cmp e (listing_of b (input ∷ inputs)) ≡ greater (own_version b e input.1) (find nat_cmp e (listing_of b inputs))
 one_more b e input inputs = with_one e input.1 (version_listed b input.1) (listing_of b inputs)
 
 pub one_alone : (b : Base) (e : ℕ) (input : Input × ℕ) → find nat_cmp e (listing_of b (input ∷ [])) ≡ own_version b e input.1
@@ -81,13 +87,17 @@ one_alone b e input = one_more b e input [] ∙ greater_none (own_version b e in
 
 -- one input put in its place, each under its own row
 one_put : (b : Base) (e : ℕ) (s : Input) (row : ℕ) (inputs : Inputs) → row ≡ s.1 → Keyed inputs →
-    find nat_cmp e (listing_of b (put input_cmp s row inputs)) ≡ greater (own_version b e row) (find nat_cmp e (listing_of b inputs))
+    find nat_cmp e (listing_of b (put input_cmp s row inputs)) ≡ greater (own_version b e row)
+    (find nat_cmp e (listing_of b inputs))
 one_put b e s row [] own keyed = one_more b e (s, row) []
 one_put b e s row (input ∷ inputs) own keyed = by (input_cmp s input.0) refl (one_put b e s row inputs own keyed.1)
   where
     by : (o : Ordering) → input_cmp s input.0 ≡ o →
-        find nat_cmp e (listing_of b (put input_cmp s row inputs)) ≡ greater (own_version b e row) (find nat_cmp e (listing_of b inputs)) →
-        find nat_cmp e (listing_of b (by_order o ((s, row) ∷ input ∷ inputs) ((input.0, row) ∷ inputs) (input ∷ put input_cmp s row inputs))) ≡ greater (own_version b e row) (find nat_cmp e (listing_of b (input ∷ inputs)))
+        find nat_cmp e (listing_of b (put input_cmp s row inputs)) ≡ greater (own_version b e row)
+        (find nat_cmp e (listing_of b inputs)) →
+        find nat_cmp e (listing_of b (by_order o ((s, row) ∷ input ∷ inputs) ((input.0, row) ∷ inputs)
+        (input ∷ put input_cmp s row inputs))) ≡ greater (own_version b e row)
+        (find nat_cmp e (listing_of b (input ∷ inputs)))
     by Less place before = one_more b e (s, row) (input ∷ inputs)
     by Equal place before =
         let same : input.1 ≡ row = keyed.0 ∙ sym (one_input s input.0 (ap is_eq place)).row ∙ sym own in
@@ -103,7 +113,8 @@ one_put b e s row (input ∷ inputs) own keyed = by (input_cmp s input.0) refl (
 
 -- Inputs that are joined to others list of each element the greater version of both.
 pub both_list : (b : Base) (e : ℕ) (one others : Inputs) → Keyed one → Keyed others →
-    find nat_cmp e (listing_of b (joined_inputs one others)) ≡ greater (find nat_cmp e (listing_of b one)) (find nat_cmp e (listing_of b others))
+    find nat_cmp e (listing_of b (joined_inputs one others)) ≡ greater (find nat_cmp e (listing_of b one))
+    (find nat_cmp e (listing_of b others))
 both_list b e [] others own keyed = refl
 both_list b e (input ∷ one) others own keyed =
     both_list b e one (put input_cmp input.0 input.1 others) own.1 (put_keyed input.0 input.1 others own.0 keyed)
@@ -113,11 +124,14 @@ both_list b e (input ∷ one) others own keyed =
     ∙ ap (λ first. greater first (find nat_cmp e (listing_of b others))) (sym (one_more b e input one))
 
 -- what the first entry of a record stands for, and the others
-pub first_entry : (b : Base) (e : ℕ) (entry : ReadOf) (entries : List ReadOf) → find nat_cmp e (listing_of b (inputs_of b (closure b) (entry ∷ entries))) ≡
-    greater (find nat_cmp e (listing_of b (inputs_of_entry (is_publish b entry.row) (closure b) entry))) (find nat_cmp e (listing_of b (inputs_of b (closure b) entries)))
+pub first_entry : (b : Base) (e : ℕ) (entry : ReadOf) (entries : List ReadOf)
+    → find nat_cmp e (listing_of b (inputs_of b (closure b) (entry ∷ entries))) ≡
+    greater (find nat_cmp e (listing_of b (inputs_of_entry (is_publish b entry.row) (closure b) entry)))
+    (find nat_cmp e (listing_of b (inputs_of b (closure b) entries)))
 first_entry b e entry entries =
     both_list b e (inputs_of_entry (is_publish b entry.row) (closure b) entry) (inputs_of b (closure b) entries)
-    (entry_keyed (is_publish b entry.row) (closure b) entry (closure_keyed b)) (entries_keyed b (closure b) entries (closure_keyed b))
+    (entry_keyed (is_publish b entry.row) (closure b) entry (closure_keyed b))
+    (entries_keyed b (closure b) entries (closure_keyed b))
 
 -- one entry more is put among versions: with what the others stand for they are still all
 pub entry_put : (b : Base) (e : ℕ) (entry : ReadOf) (entries : List ReadOf) (old new all : Option ℕ) →
@@ -127,28 +141,37 @@ pub entry_put : (b : Base) (e : ℕ) (entry : ReadOf) (entries : List ReadOf) (o
 entry_put b e entry entries old new all put before =
     let own = find nat_cmp e (listing_of b (inputs_of_entry (is_publish b entry.row) (closure b) entry)) in
     let others = find nat_cmp e (listing_of b (inputs_of b (closure b) entries)) in
-    ap (greater others) put ∙ greater_swap others own old ∙ sym (greater_join own others old) ∙ ap (λ a. greater a old) (sym (first_entry b e entry entries)) ∙ before
+    ap (greater others) put ∙ greater_swap others own old ∙ sym (greater_join own others old)
+    ∙ ap (λ a. greater a old) (sym (first_entry b e entry entries)) ∙ before
 
 -- one version more is put among versions: with the others they are still all
-pub version_put : (e : ℕ) (one : ℕ × ℕ) (others : List (ℕ × ℕ)) (old new all : Option ℕ) → new ≡ greater (only_where (e == one.0) (Some one.1)) old →
+pub version_put : (e : ℕ) (one : ℕ × ℕ) (others : List (ℕ × ℕ)) (old new all : Option ℕ)
+    → new ≡ greater (only_where (e == one.0) (Some one.1)) old →
     greater (greatest_in e (one ∷ others)) old ≡ all → greater (greatest_in e others) new ≡ all
 version_put e one others old new all put before =
     let own = only_where (e == one.0) (Some one.1) in
-    ap (greater (greatest_in e others)) put ∙ greater_swap (greatest_in e others) own old ∙ sym (greater_join own (greatest_in e others) old) ∙ before
+    ap (greater (greatest_in e others)) put ∙ greater_swap (greatest_in e others) own old
+    ∙ sym (greater_join own (greatest_in e others) old) ∙ before
 
 -- the greatest version of an element in a map is the one that stands there
-greatest_sorted : (e : ℕ) (entries : List (ℕ × ℕ)) → IsStrictlySortedBy nat_cmp (keys_of entries) → greatest_in e entries ≡ lookup (is_at (nat_cmp e)) entries
+greatest_sorted : (e : ℕ) (entries : List (ℕ × ℕ)) → IsStrictlySortedBy nat_cmp (keys_of entries)
+    → greatest_in e entries ≡ lookup (is_at (nat_cmp e)) entries
 greatest_sorted e [] sorted = refl
-greatest_sorted e (one ∷ others) sorted = by (e == one.0) refl (greatest_sorted e others (sorted_tail nat_cmp one.0 (keys_of others) sorted))
+greatest_sorted e (one ∷ others) sorted = by (e == one.0) refl (greatest_sorted e others
+    (sorted_tail nat_cmp one.0 (keys_of others) sorted))
   where
     by : (t : Bool) → (e == one.0) ≡ t → greatest_in e others ≡ lookup (is_at (nat_cmp e)) others →
-        greater (only_where t (Some one.1)) (greatest_in e others) ≡ cond (is_eq (nat_cmp e one.0)) (Some one.1) (lookup (is_at (nat_cmp e)) others)
+        greater (only_where t (Some one.1)) (greatest_in e others) ≡ cond (is_eq (nat_cmp e one.0)) (Some one.1)
+        (lookup (is_at (nat_cmp e)) others)
     by true same rest =
         let tied : eq_by_cmp nat_cmp e one.0 ≡ true = unsigned_tied e one.0 ∙ same in
         let none : lookup (is_at (nat_cmp e)) others ≡ None =
-        lookup-none (is_at (nat_cmp e)) others (none_past_head (eq_by_cmp_equiv nat_cmp_total) e one others (IsDistinct-from_sorted nat_cmp (keys_of (one ∷ others)) sorted) tied) in
+        lookup-none (is_at (nat_cmp e)) others (none_past_head (eq_by_cmp_equiv nat_cmp_total) e one others
+        (IsDistinct-from_sorted nat_cmp (keys_of (one ∷ others)) sorted) tied) in
         ap (greater (Some one.1)) (rest ∙ none) ∙ sym (ap (λ t. cond t (Some one.1) (lookup (is_at (nat_cmp e)) others)) tied)
-    by false apart rest = rest ∙ sym (ap (λ t. cond t (Some one.1) (lookup (is_at (nat_cmp e)) others)) (unsigned_tied e one.0 ∙ apart))
+    by false apart rest = rest ∙ sym (ap (λ t. cond t (Some one.1) (lookup (is_at (nat_cmp e)) others)) (unsigned_tied e one.0
+        ∙ apart))
 
-pub greatest_is : (e : ℕ) (versions : BTreeMap ℕ ℕ) → IsOrdered nat_cmp versions → greatest_in e versions.entries ≡ get nat_cmp versions e
+pub greatest_is : (e : ℕ) (versions : BTreeMap ℕ ℕ) → IsOrdered nat_cmp versions
+    → greatest_in e versions.entries ≡ get nat_cmp versions e
 greatest_is e versions ordered = greatest_sorted e versions.entries ordered

@@ -1,5 +1,6 @@
 -- What the record of an object lists stays when rows are added, and is kept as one row more is.
-use Rattle.std.proofs.Common.{◌≡◌, refl, ap, sym, subst, ◌∙◌, ℕ, zero, suc, ◌<◌, ◌≤◌, Bool, true, false, cond, ◌==◌, nat_lt, Option, Some, None, List, [], ◌∷◌, arith}
+use Rattle.std.proofs.Common.{◌≡◌, refl, ap, sym, subst, ◌∙◌, ℕ, zero, suc, ◌<◌, ◌≤◌, Bool, true, false, cond, ◌==◌, nat_lt}
+use Rattle.std.proofs.Common.{Option, Some, None, List, [], ◌∷◌, arith}
 use Rattle.std.proofs.lemmas.Bool.Decides.{nat_tests, Decides-eqb}
 use Rattle.std.specs.Bool.{⊤}
 use Rattle.std.specs.BTreeMap.{BTreeMap}
@@ -10,12 +11,14 @@ use Rattle.std.specs.Prelude.{find as find_in, option_and_then, option_map}
 use Rattle.std.specs.declared.cmp.Ordering.{Ordering}
 use Rattle.std.specs.declared.cmp.Ordering.TheVariants.{Less, Equal, Greater}
 use Rattle.cc_names.specs.Formed.{Plain}
-use Rattle.cc_names.specs.Versions.{Version, branch_of_change, change_at, element_by, element_of_branch, version_id, version_id_of, row_of_change, versions_on}
+use Rattle.cc_names.specs.Versions.{Version, branch_of_change, change_at, element_by, element_of_branch, version_id}
+use Rattle.cc_names.specs.Versions.{version_id_of, row_of_change, versions_on}
 use Rattle.cc_names.specs.declared.changes.VersionId.{VersionId}
 use Rattle.cc_names.specs.declared.changes.TreeChange.{TreeChange}
 use Rattle.cc_names.specs.declared.rows.ReadOf.{ReadOf}
 use Rattle.base_model.specs.Changes.{tree}
-use Rattle.base_model.specs.Closures.{Input, Inputs, closure, entries_of_deed, is_publish, joined_inputs, listing, listing_of, input_cmp, inputs_of, inputs_of_entry, version_listed, with_version_at}
+use Rattle.base_model.specs.Closures.{Input, Inputs, closure, entries_of_deed, is_publish, joined_inputs, listing, listing_of}
+use Rattle.base_model.specs.Closures.{input_cmp, inputs_of, inputs_of_entry, version_listed, with_version_at}
 use Rattle.base_model.specs.Conditions.{is_entry}
 use Rattle.base_model.specs.Fits.{deed_fits, is_base}
 use Rattle.base_model.specs.Rows.{Base, first_rows, size}
@@ -25,7 +28,7 @@ use Rattle.base_model.proofs.TreesStay.{Adds, Nothing, One, adds_row}
 use Rattle.base_model.proofs.VersionsStay.{apart_below, find_older}
 use Rattle.base_model.proofs.EntriesBelow.{entries_fit, entry_below}
 use Rattle.version_tree.proofs.FirstRows.{found_on}
-use Rattle.base_rows.specs.Listings.{AreListings, HasListing, Versions, listing_made, version_in, versions_of, with_listing}
+use Rattle.base_rows.specs.Listings.{AreListings, HasListing, Versions, listing_made, version_in, versions_of_map, with_listing}
 
 -- the version that a row made with its change, and where a version stands
 abbrev made_by : List TreeChange → ℕ → TreeChange → Option Version
@@ -35,25 +38,31 @@ abbrev stands : List TreeChange → Version → Option VersionId
 stands changes v = option_map (version_id_of v) (element_of_branch changes v.branch)
 
 -- a branch below a change has the element that it had before
-stands_before : (n : ℕ) (change : TreeChange) (before : List TreeChange) (v : Version) → row_of_change change ≡ n → v.branch < n → stands (change ∷ before) v ≡ stands before v
+stands_before : (n : ℕ) (change : TreeChange) (before : List TreeChange) (v : Version) → row_of_change change ≡ n → v.branch < n
+    → stands (change ∷ before) v ≡ stands before v
 stands_before n change before v number low =
-    ap (λ o. option_map (version_id_of v) (option_and_then element_by o)) (older_change change before v.branch (apart_below (row_of_change change) n v.branch number low))
+    ap (λ o. option_map (version_id_of v) (option_and_then element_by o))
+    (older_change change before v.branch (apart_below (row_of_change change) n v.branch number low))
 
-found_before : (n : ℕ) (change : TreeChange) (before : List TreeChange) (branch : ℕ) (r : ℕ) (o : Option Version) → row_of_change change ≡ n → branch < n → find_in (λ v. v.row == r) (versions_on before branch) ≡ o →
+found_before : (n : ℕ) (change : TreeChange) (before : List TreeChange) (branch : ℕ) (r : ℕ) (o : Option Version)
+    → row_of_change change ≡ n → branch < n → find_in (λ v. v.row == r) (versions_on before branch) ≡ o →
     option_and_then (stands (change ∷ before)) o ≡ option_and_then (stands before) o
 found_before n change before branch r None number low is = refl
 found_before n change before branch r (Some v) number low is =
     stands_before n change before v number (subst (λ k. k < n) (sym (found_on before branch (λ v. v.row == r) v is)) low)
 
 -- one change more by a row behind that of a version leaves it its id
-placed_before : (n : ℕ) (change : TreeChange) (before : List TreeChange) (r : ℕ) → row_of_change change ≡ n → Within n before → r < n → version_id (change ∷ before) r ≡ version_id before r
+placed_before : (n : ℕ) (change : TreeChange) (before : List TreeChange) (r : ℕ) → row_of_change change ≡ n → Within n before
+    → r < n → version_id (change ∷ before) r ≡ version_id before r
 placed_before n change before r number within low =
     let apart : (row_of_change change == r) ≡ false = apart_below (row_of_change change) n r number low in
-    ap (λ o. option_and_then (stands (change ∷ before)) (option_and_then (made_by (change ∷ before) r) o)) (older_change change before r apart)
+    ap (λ o. option_and_then (stands (change ∷ before)) (option_and_then (made_by (change ∷ before) r) o))
+    (older_change change before r apart)
     ∙ by apart (change_at before r) refl
   where
     by : (row_of_change change == r) ≡ false → (o : Option TreeChange) → change_at before r ≡ o →
-        option_and_then (stands (change ∷ before)) (option_and_then (made_by (change ∷ before) r) o) ≡ option_and_then (stands before) (option_and_then (made_by before r) o)
+        option_and_then (stands (change ∷ before)) (option_and_then (made_by (change ∷ before) r) o)
+        ≡ option_and_then (stands before) (option_and_then (made_by before r) o)
     by apart None is = refl
     by apart (Some c) is =
         ap (option_and_then (stands (change ∷ before))) (find_older change before r (branch_of_change c) apart)
@@ -65,7 +74,8 @@ version_id_before row b r low = by (adds_row b row.moment row.deed (tree b))
   where
     by : {after : List TreeChange} → Adds (size b) (tree b) after → version_id after r ≡ version_id (tree b) r
     by (Nothing same) = ap (λ changes. version_id changes r) same
-    by (One change number same) = ap (λ changes. version_id changes r) same ∙ placed_before (size b) change (tree b) r number (within b) low
+    by (One change number same) = ap (λ changes. version_id changes r) same
+        ∙ placed_before (size b) change (tree b) r number (within b) low
 
 version_before : (row : Plain) (b : Base) (r : ℕ) → r < size b → version_listed (row ∷ b) r ≡ version_listed b r
 version_before row b zero low = refl
@@ -76,15 +86,19 @@ pub version_id_of_first : (b : Base) (t r : ℕ) → r < t → version_id (tree 
 version_id_of_first [] t r low = refl
 version_id_of_first (row ∷ older) t r low = by (nat_lt (size older) t) refl (version_id_of_first older t r low)
   where
-    by : (is : Bool) → nat_lt (size older) t ≡ is → version_id (tree (first_rows t older)) r ≡ version_id (tree older) r → version_id (tree (elim is as (λ x. Base) [ true ↦ row ∷ older | false ↦ first_rows t older ])) r ≡ version_id (tree (row ∷ older)) r
+    by : (is : Bool) → nat_lt (size older) t ≡ is → version_id (tree (first_rows t older)) r ≡ version_id (tree older) r
+        → version_id (tree (elim is as (λ x. Base) [ true ↦ row ∷ older | false ↦ first_rows t older ])) r
+        ≡ version_id (tree (row ∷ older)) r
     by true is before = refl
-    by false is before = let below : r < size older = grind (arith, nat_tests) in before ∙ sym (version_id_before row older r below)
+    by false is before = let below : r < size older = grind (arith, nat_tests) in before
+        ∙ sym (version_id_before row older r below)
 
 -- a row that is not there made no version
 pub no_version_id : (b : Base) (r : ℕ) → size b ≤ r → version_id (tree b) r ≡ None
 no_version_id b r past = by (change_at (tree b) r) refl
   where
-    by : (o : Option TreeChange) → change_at (tree b) r ≡ o → option_and_then (stands (tree b)) (option_and_then (made_by (tree b) r) o) ≡ None
+    by : (o : Option TreeChange) → change_at (tree b) r ≡ o → option_and_then (stands (tree b))
+        (option_and_then (made_by (tree b) r) o) ≡ None
     by None is = refl
     by (Some c) is = let low = (within b).numbers r c is in absurd (omega arith)
 
@@ -97,57 +111,83 @@ below_more : (n : ℕ) (inputs : Inputs) → AreBelow n inputs → AreBelow (suc
 below_more n [] h = tt
 below_more n (input ∷ inputs) h = let low = h.0 in (omega arith, below_more n inputs h.1)
 
-put_below : (n : ℕ) (s : Input) (row : ℕ) (inputs : Inputs) → row < n → AreBelow n inputs → AreBelow n (put input_cmp s row inputs)
+put_below : (n : ℕ) (s : Input) (row : ℕ) (inputs : Inputs) → row < n → AreBelow n inputs
+    → AreBelow n (put input_cmp s row inputs)
 put_below n s row [] low h = (low, tt)
 put_below n s row (input ∷ inputs) low h = by (input_cmp s input.0) (put_below n s row inputs low h.1)
   where
-    by : (o : Ordering) → AreBelow n (put input_cmp s row inputs) → AreBelow n (by_order o ((s, row) ∷ input ∷ inputs) ((input.0, row) ∷ inputs) (input ∷ put input_cmp s row inputs))
+    by : (o : Ordering) → AreBelow n (put input_cmp s row inputs) → AreBelow n
+        (by_order o ((s, row) ∷ input ∷ inputs) ((input.0, row) ∷ inputs) (input ∷ put input_cmp s row inputs))
     by Less rest = (low, h)
     by Equal rest = (low, h.1)
     by Greater rest = (h.0, rest)
 
 joined_below : (n : ℕ) (one others : Inputs) → AreBelow n one → AreBelow n others → AreBelow n (joined_inputs one others)
 joined_below n [] others h g = g
-joined_below n (input ∷ one) others h g = joined_below n one (put input_cmp input.0 input.1 others) h.1 (put_below n input.0 input.1 others h.0 g)
+joined_below n (input ∷ one) others h g = joined_below n one (put input_cmp input.0 input.1 others) h.1
+    (put_below n input.0 input.1 others h.0 g)
 
-entry_inputs_below : (b : Base) (t : Bool) (of_object : ℕ → Inputs) (entry : ReadOf) → is_entry b entry ≡ true → ((id : ℕ) → AreBelow (size b) (of_object id)) → AreBelow (size b) (inputs_of_entry t of_object entry)
+entry_inputs_below : (b : Base) (t : Bool) (of_object : ℕ → Inputs) (entry : ReadOf) → is_entry b entry ≡ true
+    → ((id : ℕ) → AreBelow (size b) (of_object id)) → AreBelow (size b) (inputs_of_entry t of_object entry)
 entry_inputs_below b true of_object entry fit h = h entry.row
 entry_inputs_below b false of_object entry fit h = (entry_below b entry fit, tt)
 
-inputs_below : (b : Base) (of_object : ℕ → Inputs) (entries : List ReadOf) → list_all (is_entry b) entries ≡ true → ((id : ℕ) → AreBelow (size b) (of_object id)) → AreBelow (size b) (inputs_of b of_object entries)
+inputs_below : (b : Base) (of_object : ℕ → Inputs) (entries : List ReadOf) → list_all (is_entry b) entries ≡ true
+    → ((id : ℕ) → AreBelow (size b) (of_object id)) → AreBelow (size b) (inputs_of b of_object entries)
 inputs_below b of_object [] fit h = tt
 inputs_below b of_object (entry ∷ entries) fit h =
     joined_below (size b) (inputs_of_entry (is_publish b entry.row) of_object entry) (inputs_of b of_object entries)
-    (entry_inputs_below b (is_publish b entry.row) of_object entry (and_first (is_entry b entry) (list_all (is_entry b) entries) fit) h)
+    (entry_inputs_below b (is_publish b entry.row) of_object entry (and_first (is_entry b entry) (list_all (is_entry b) entries)
+    fit) h)
     (inputs_below b of_object entries (and_second (is_entry b entry) (list_all (is_entry b) entries) fit) h)
 
 closure_below : (b : Base) (id : ℕ) → is_base b ≡ true → AreBelow (size b) (closure b id)
 closure_below [] id base = tt
-closure_below (row ∷ older) id base = below_more (size older) (closure (row ∷ older) id) (by (size older == id) (λ other. closure_below older other (rows_below row older base)))
+closure_below (row ∷ older) id base = below_more (size older) (closure (row ∷ older) id)
+    (by (size older == id) (λ other. closure_below older other (rows_below row older base)))
   where
-    by : (t : Bool) → ((other : ℕ) → AreBelow (size older) (closure older other)) → AreBelow (size older) (elim t as (λ x. Inputs) [ true ↦ inputs_of older (closure older) (entries_of_deed (Some row.deed)) | false ↦ closure older id ])
-    by true before = inputs_below older (closure older) (entries_of_deed (Some row.deed)) (entries_fit older row.deed (row_fits row older base)) before
+    by : (t : Bool) → ((other : ℕ) → AreBelow (size older) (closure older other))
+        → AreBelow (size older) (elim t as (λ x. Inputs) [
+          | true ↦ inputs_of older (closure older)
+              (entries_of_deed (Some row.deed))
+          | false ↦ closure older id
+        ])
+    by true before = inputs_below older (closure older) (entries_of_deed (Some row.deed))
+        (entries_fit older row.deed (row_fits row older base)) before
     by false before = before id
 
 -- rows below a row list what they listed before
-listing_before : (row : Plain) (b : Base) (inputs : Inputs) → AreBelow (size b) inputs → listing_of (row ∷ b) inputs ≡ listing_of b inputs
+listing_before : (row : Plain) (b : Base) (inputs : Inputs) → AreBelow (size b) inputs
+    → listing_of (row ∷ b) inputs ≡ listing_of b inputs
 listing_before row b [] h = refl
 listing_before row b (input ∷ inputs) h =
     ap (λ version_id. with_version_at input.1 version_id (listing_of (row ∷ b) inputs)) (version_before row b input.1 h.0)
     ∙ ap (with_version_at input.1 (version_listed b input.1)) (listing_before row b inputs h.1)
 
 -- what the record of an older object lists
-older_listing : (row : Plain) (older : Base) (id : ℕ) → is_base older ≡ true → (size older == id) ≡ false → listing (row ∷ older) id ≡ listing older id
+older_listing : (row : Plain) (older : Base) (id : ℕ) → is_base older ≡ true → (size older == id) ≡ false
+    → listing (row ∷ older) id ≡ listing older id
 older_listing row older id base apart =
-    ap (λ is. listing_of (row ∷ older) (elim is as (λ x. Inputs) [ true ↦ inputs_of older (closure older) (entries_of_deed (Some row.deed)) | false ↦ closure older id ])) apart
+    ap (λ is. listing_of (row ∷ older) (elim is as (λ x. Inputs) [
+      | true ↦
+          inputs_of older (closure older) (entries_of_deed (Some row.deed))
+      | false ↦ closure older id
+    ])) apart
     ∙ listing_before row older (closure older id) (closure_below older id base)
 
 -- what the record of the newest object lists
-newest_listing : (row : Plain) (older : Base) → is_base older ≡ true → deed_fits older row.deed ≡ true → listing (row ∷ older) (size older) ≡ listing_made older row.deed
+newest_listing : (row : Plain) (older : Base) → is_base older ≡ true → deed_fits older row.deed ≡ true
+    → listing (row ∷ older) (size older) ≡ listing_made older row.deed
 newest_listing row older base fit =
-    ap (λ is. listing_of (row ∷ older) (elim is as (λ x. Inputs) [ true ↦ inputs_of older (closure older) (entries_of_deed (Some row.deed)) | false ↦ closure older (size older) ])) ((Decides-eqb (size older) (size older)).1 refl)
+    ap (λ is. listing_of (row ∷ older) (elim is as (λ x. Inputs) [
+      | true ↦
+          inputs_of older (closure older) (entries_of_deed (Some row.deed))
+      | false ↦ closure older (size older)
+    ]))
+    ((Decides-eqb (size older) (size older)).1 refl)
     ∙ listing_before row older (inputs_of older (closure older) (entries_of_deed (Some row.deed)))
-    (inputs_below older (closure older) (entries_of_deed (Some row.deed)) (entries_fit older row.deed fit) (λ id. closure_below older id base))
+    (inputs_below older (closure older) (entries_of_deed (Some row.deed)) (entries_fit older row.deed fit)
+    (λ id. closure_below older id base))
 
 -- the record of a row that is not there lists nothing
 pub no_listing : (b : Base) (id : ℕ) → size b ≤ id → listing b id ≡ []
@@ -158,28 +198,38 @@ no_listing b id past = ap (listing_of b) (none b past)
     none (row ∷ older) past =
         let apart : (size older == id) ≡ false = grind (arith, nat_tests) in
         let below : size older ≤ id = omega arith in
-        ap (λ is. elim is as (λ x. Inputs) [ true ↦ inputs_of older (closure older) (entries_of_deed (Some row.deed)) | false ↦ closure older id ]) apart ∙ none older below
+        ap (λ is. elim is as (λ x. Inputs) [
+          | true ↦ inputs_of older (closure older) (entries_of_deed (Some row.deed))
+          | false ↦
+              closure older id
+        ]) apart ∙ none older below
 
 -- The record of one of the first rows lists there what it lists among all.
 pub listing_of_first : (b : Base) (t id : ℕ) → is_base b ≡ true → id < t → listing (first_rows t b) id ≡ listing b id
 listing_of_first [] t id base low = refl
-listing_of_first (row ∷ older) t id base low = by (nat_lt (size older) t) refl (listing_of_first older t id (rows_below row older base) low)
+listing_of_first (row ∷ older) t id base low = by (nat_lt (size older) t) refl
+    (listing_of_first older t id (rows_below row older base) low)
   where
-    by : (is : Bool) → nat_lt (size older) t ≡ is → listing (first_rows t older) id ≡ listing older id → listing (elim is as (λ x. Base) [ true ↦ row ∷ older | false ↦ first_rows t older ]) id ≡ listing (row ∷ older) id
+    by : (is : Bool) → nat_lt (size older) t ≡ is → listing (first_rows t older) id ≡ listing older id
+        → listing (elim is as (λ x. Base) [ true ↦ row ∷ older | false ↦ first_rows t older ]) id ≡ listing (row ∷ older) id
     by true is before = refl
     by false is before =
         let apart : (size older == id) ≡ false = grind (arith, nat_tests) in
         before ∙ sym (older_listing row older id (rows_below row older base) apart)
 
-newest_at : (row : Plain) (older : Base) (id e : ℕ) → is_base older ≡ true → deed_fits older row.deed ≡ true → size older ≡ id → find nat_cmp e (listing_made older row.deed) ≡ find nat_cmp e (listing (row ∷ older) id)
-newest_at row older id e base fit number = ap (find nat_cmp e) (sym (newest_listing row older base fit) ∙ ap (listing (row ∷ older)) number)
+newest_at : (row : Plain) (older : Base) (id e : ℕ) → is_base older ≡ true → deed_fits older row.deed ≡ true → size older ≡ id
+    → find nat_cmp e (listing_made older row.deed) ≡ find nat_cmp e (listing (row ∷ older) id)
+newest_at row older id e base fit number = ap (find nat_cmp e) (sym (newest_listing row older base fit)
+    ∙ ap (listing (row ∷ older)) number)
 
 -- With what the record of a new row lists, each object of the longer base has its own.
-pub listings_more : (kept : ℕ → Option Versions) (made : Option Versions) (row : Plain) (older : Base) → is_base older ≡ true → deed_fits older row.deed ≡ true → AreListings kept older → HasListing made (listing_made older row.deed) →
+pub listings_more : (kept : ℕ → Option Versions) (made : Option Versions) (row : Plain) (older : Base) → is_base older ≡ true
+    → deed_fits older row.deed ≡ true → AreListings kept older → HasListing made (listing_made older row.deed) →
     AreListings (with_listing (size older) made kept) (row ∷ older)
 listings_more kept made row older base fit before own id e = by made own (size older == id) refl
   where
-    by : (made : Option Versions) → HasListing made (listing_made older row.deed) → (is : Bool) → (size older == id) ≡ is → version_in e (with_listing (size older) made kept id) ≡ find nat_cmp e (listing (row ∷ older) id)
+    by : (made : Option Versions) → HasListing made (listing_made older row.deed) → (is : Bool) → (size older == id) ≡ is
+        → version_in e (with_listing (size older) made kept id) ≡ find nat_cmp e (listing (row ∷ older) id)
     by None own true same =
         let number : size older ≡ id = (Decides-eqb (size older) id).0 same in
         let past : size older ≤ id = omega arith in
@@ -199,9 +249,15 @@ listings_more kept made row older base fit before own id e = by made own (size o
         ∙ ap (find nat_cmp e) (sym (older_listing row older id base apart))
 
 -- as a map keeps them
-pub stored_with : (object : ℕ) (map : BTreeMap ℕ ℕ) (before : ℕ → Option (BTreeMap ℕ ℕ)) (q : ℕ) → versions_of (cond (object == q) (Some map) (before q)) ≡ with_listing object (Some map.entries) (λ id. versions_of (before id)) q
+pub stored_with : (object : ℕ) (map : BTreeMap ℕ ℕ) (before : ℕ → Option (BTreeMap ℕ ℕ)) (q : ℕ)
+    → versions_of_map (cond (object == q) (Some map) (before q)) ≡ with_listing object (Some map.entries)
+    (λ id. versions_of_map (before id)) q
 stored_with object map before q = by (object == q)
   where
-    by : (is : Bool) → versions_of (cond is (Some map) (before q)) ≡ elim is as (λ x. Option Versions) [ true ↦ Some map.entries | false ↦ versions_of (before q) ]
+    by : (is : Bool) → versions_of_map (cond is (Some map) (before q)) ≡ elim is as (λ x. Option Versions) [
+      | true ↦
+          Some map.entries
+      | false ↦ versions_of_map (before q)
+    ]
     by true = refl
     by false = refl

@@ -1,7 +1,9 @@
 -- The first rows of a base: which part of the list of rows they are, how many, and that they are a base too.
-use Rattle.std.proofs.Common.{◌≡◌, ℕ, suc, ◌-◌, ◌<◌, ◌≤◌, Bool, true, false, ◌&&◌, nat_lt, min, [], ◌∷◌, ◌++◌, length, reverse, take, refl, ap, sym, ◌∙◌, arith}
+use Rattle.std.proofs.Common.{◌≡◌, ℕ, suc, ◌-◌, ◌<◌, ◌≤◌, Bool, true, false, ◌&&◌, nat_lt, min, [], ◌∷◌, ◌++◌, length, reverse}
+use Rattle.std.proofs.Common.{take, refl, ap, sym, ◌∙◌, arith}
 use Rattle.std.proofs.lemmas.Bool.Decides.{nat_tests}
-use Rattle.std.proofs.lemmas.List.{length-reverse, reverse-append, reverse-reverse, take_all, take-append-le, length-append, length-take, length-take-le, take-take}
+use Rattle.std.proofs.lemmas.List.{length-reverse, reverse-append, reverse-reverse, take_all, take-append-le, length-append}
+use Rattle.std.proofs.lemmas.List.{length-take, length-take-le, take-take}
 use Rattle.cc_names.specs.Formed.{Plain}
 use Rattle.base_model.specs.Rows.{Base, size, first_rows}
 use Rattle.base_model.specs.Fits.{deed_fits, fits, is_base, row_limit}
@@ -19,10 +21,17 @@ reverse_more row older = reverse-append (row ∷ []) older
 first_of_newest : (b : Base) (t : ℕ) → first_rows t b ≡ reverse (take (t - 1) (reverse b))
 first_of_newest [] t = sym (ap reverse (take_all (t - 1) [] (omega arith)))
 first_of_newest (row ∷ older) t =
-    elim (nat_lt (size older) t) as (λ within. nat_lt (size older) t ≡ within → elim within [ true ↦ row ∷ older | false ↦ first_rows t older ] ≡ reverse (take (t - 1) (reverse older ++ row ∷ []))) [
+    elim (nat_lt (size older) t) as (λ within. nat_lt (size older) t ≡ within
+    → elim within [ true ↦ row ∷ older | false ↦ first_rows t older ] ≡ reverse (take (t - 1) (reverse older ++ row ∷ []))) [
       | true ↦ λ e.
-          let long : length (reverse older ++ row ∷ []) ≤ t - 1 = grind (arith, nat_tests, length-append (reverse older) (row ∷ []), length-reverse older) in
-          sym (ap reverse (take_all (t - 1) (reverse older ++ row ∷ []) long) ∙ reverse-append (reverse older) (row ∷ []) ∙ ap (λ rows. row ∷ rows) (reverse-reverse older))
+          let long : length (reverse older ++ row ∷ []) ≤ t - 1 = grind (
+            arith,
+            nat_tests,
+            length-append (reverse older) (row ∷ []),
+            length-reverse older,
+          ) in
+          sym (ap reverse (take_all (t - 1) (reverse older ++ row ∷ []) long) ∙ reverse-append (reverse older) (row ∷ [])
+          ∙ ap (λ rows. row ∷ rows) (reverse-reverse older))
       | false ↦ λ e.
           let short : t - 1 ≤ length (reverse older) = grind (arith, nat_tests, length-reverse older) in
           first_of_newest older t ∙ sym (ap reverse (take-append-le (t - 1) (reverse older) (row ∷ []) short))
@@ -33,7 +42,8 @@ first_of_newest (row ∷ older) t =
 pub first_of_slice : (rows : Base) (count : ℕ) → reverse (take count rows) ≡ first_rows (suc count) (reverse rows)
 first_of_slice rows count =
     let less : suc count - 1 ≡ count = omega arith in
-    sym (first_of_newest (reverse rows) (suc count) ∙ ap (λ all. reverse (take (suc count - 1) all)) (reverse-reverse rows) ∙ ap (λ n. reverse (take n rows)) less)
+    sym (first_of_newest (reverse rows) (suc count) ∙ ap (λ all. reverse (take (suc count - 1) all)) (reverse-reverse rows)
+    ∙ ap (λ n. reverse (take n rows)) less)
 
 -- how many the first rows are
 pub size_of_first : (b : Base) (count : ℕ) → count ≤ length b → size (first_rows (suc count) b) ≡ suc count
@@ -47,12 +57,16 @@ size_of_first b count within =
 pub fitting_first : (t : ℕ) (b : Base) → is_base b ≡ true → is_base (first_rows t b) ≡ true
 fitting_first t [] fitting = fitting
 fitting_first t (row ∷ older) fitting =
-    elim (nat_lt (size older) t) as (λ within. is_base (elim within as (λ _. Base) [ true ↦ row ∷ older | false ↦ first_rows t older ]) ≡ true) [
+    elim (nat_lt (size older) t) as (λ within. is_base (elim within as (λ _. Base) [
+      | true ↦ row ∷ older
+      | false ↦
+          first_rows t older
+    ]) ≡ true) [
       | true ↦ fitting
       | false ↦ fitting_first t older (both (fits older row.deed) (is_base older) fitting).1
     ]
 
--- all rows are a front
+-- all rows are a prefix
 pub all_prefix : (b : Base) → is_base b ≡ true → IsBasePrefix (length b) b
 all_prefix b fitting = record { within = omega arith; fitting = fitting_first (suc (length b)) b fitting }
 
@@ -69,7 +83,7 @@ take_of_take m n rows =
           take-take m n rows few ∙ ap (λ k. take k rows) (sym some)
     ] refl
 
--- the first rows of a front
+-- the first rows of a prefix
 pub first_of_prefix : (b : Base) (t count : ℕ) → first_rows (suc (min (t - 1) count)) b ≡ first_rows t (first_rows (suc count) b)
 first_of_prefix b t count =
     let prefix : (n : ℕ) → first_rows (suc n) b ≡ reverse (take n (reverse b)) = λ n.
@@ -80,7 +94,7 @@ first_of_prefix b t count =
     ∙ ap (λ rows. reverse (take (t - 1) rows)) (sym (reverse-reverse (take count (reverse b))) ∙ ap reverse (sym (prefix count)))
     ∙ sym (first_of_newest (first_rows (suc count) b) t)
 
--- fewer rows are a front too
+-- fewer rows are a prefix too
 pub shorter_prefix : (b : Base) (count cut : ℕ) → is_base b ≡ true → count ≤ length b → cut ≤ count → IsBasePrefix cut b
 shorter_prefix b count cut fitting within less = record { within = omega arith; fitting = fitting_first (suc cut) b fitting }
 
@@ -88,5 +102,6 @@ shorter_prefix b count cut fitting within less = record { within = omega arith; 
 pub base_short : (b : Base) → is_base b ≡ true → length b < row_limit
 base_short [] fitting = omega arith
 base_short (row ∷ older) fitting =
-    let below = both (nat_lt (size older) row_limit) (deed_fits older row.deed) (both (fits older row.deed) (is_base older) fitting).0 in
+    let below = both (nat_lt (size older) row_limit) (deed_fits older row.deed)
+    (both (fits older row.deed) (is_base older) fitting).0 in
     grind (arith, nat_tests, below.0)

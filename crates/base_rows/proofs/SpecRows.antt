@@ -1,5 +1,6 @@
 -- A view's config spec, by the row that gave it.
-use Rattle.std.proofs.Common.{◌≡◌, ℕ, suc, ◌<◌, ◌==◌, true, false, Option, Some, None, IfSome, List, [], ◌∷◌, bytes_eq, refl, ap, sym, ◌∙◌, arith}
+use Rattle.std.proofs.Common.{◌≡◌, ℕ, suc, ◌<◌, ◌==◌, true, false, Option, Some, None, IfSome, List, [], ◌∷◌, bytes_eq, refl, ap}
+use Rattle.std.proofs.Common.{sym, ◌∙◌, arith}
 use Rattle.std.specs.Prelude.{option_and_then}
 use Rattle.std.proofs.lemmas.Bool.Decides.{nat_tests, Decides-eqb}
 use Rattle.cc_names.specs.Last.{Keeps, Ends, Sets, only_if, value_after}
@@ -18,14 +19,16 @@ abbrev pub spec_at : Base → ℕ → Option (List ℕ)
 spec_at b n = option_and_then spec_made (deed_at b n)
 
 here : (row : Plain) (older : Base) → deed_at (row ∷ older) (size older) ≡ Some row.deed
-here row older = ap (λ is. deed_of (elim is [ true ↦ Some row | false ↦ row_at older (size older) ])) ((Decides-eqb (size older) (size older)).1 refl)
+here row older = ap (λ is. deed_of (elim is [ true ↦ Some row | false ↦ row_at older (size older) ]))
+    ((Decides-eqb (size older) (size older)).1 refl)
 
 there : (row : Plain) (older : Base) (n : ℕ) → n < size older → deed_at (row ∷ older) n ≡ deed_at older n
 there row older n below =
     let apart : (size older == n) ≡ false = grind (arith, nat_tests) in
     ap (λ is. deed_of (elim is [ true ↦ Some row | false ↦ row_at older n ])) apart
 
-older_spec : (row : Plain) (older : Base) (n : Option ℕ) → IfSome n (λ m. m < size older) → option_and_then (spec_at older) n ≡ option_and_then (spec_at (row ∷ older)) n
+older_spec : (row : Plain) (older : Base) (n : Option ℕ) → IfSome n (λ m. m < size older)
+    → option_and_then (spec_at older) n ≡ option_and_then (spec_at (row ∷ older)) n
 older_spec row older None below = refl
 older_spec row older (Some n) below = ap (option_and_then spec_made) (sym (there row older n below))
 
@@ -36,13 +39,20 @@ weaker (Some m) n h = omega arith
 just_below : (n : ℕ) → n < suc n
 just_below n = omega arith
 
-below_step : (v : List ℕ) (older : Base) (deed : Deed) (row : Option ℕ) → IfSome row (λ m. m < size older) → IfSome (value_after (spec_row_effect v older deed) row) (λ m. m < suc (size older))
+below_step : (v : List ℕ) (older : Base) (deed : Deed) (row : Option ℕ) → IfSome row (λ m. m < size older)
+    → IfSome (value_after (spec_row_effect v older deed) row) (λ m. m < suc (size older))
 below_step v older (deeds.Mkview w) row h =
-    elim (bytes_eq w v) as (λ is. IfSome (value_after (or_else (only_if is (Sets (size older))) Keeps) row) (λ m. m < suc (size older))) [ true ↦ just_below (size older) | false ↦ weaker row (size older) h ]
+    elim (bytes_eq w v) as (λ is. IfSome (value_after (or_else (only_if is (Sets (size older))) Keeps) row)
+    (λ m. m < suc (size older))) [ true ↦ just_below (size older) | false ↦ weaker row (size older) h ]
 below_step v older (deeds.Rmview w) row h =
-    elim (bytes_eq w v) as (λ is. IfSome (value_after (or_else (only_if {A = ℕ} is Ends) Keeps) row) (λ m. m < suc (size older))) [ true ↦ tt | false ↦ weaker row (size older) h ]
+    elim (bytes_eq w v) as (λ is. IfSome (value_after (or_else (only_if {A = ℕ} is Ends) Keeps) row)
+    (λ m. m < suc (size older))) [ true ↦ tt | false ↦ weaker row (size older) h ]
 below_step v older (deeds.Setcs w text) row h =
-    elim (bytes_eq w v) as (λ is. IfSome (value_after (only_if is (Sets (size older))) row) (λ m. m < suc (size older))) [ true ↦ just_below (size older) | false ↦ weaker row (size older) h ]
+    elim (bytes_eq w v) as (λ is. IfSome (value_after (only_if is (Sets (size older))) row) (λ m. m < suc (size older))) [
+      | true ↦
+          just_below (size older)
+      | false ↦ weaker row (size older) h
+    ]
 below_step v older deed row h = weaker row (size older) h
 
 -- the row by which a view has its spec lies in the base
@@ -50,19 +60,24 @@ row_below : (v : List ℕ) (b : Base) → IfSome (last_of (spec_row_effect v) b)
 row_below v [] = tt
 row_below v (row ∷ older) = below_step v older row.deed (last_of (spec_row_effect v) older) (row_below v older)
 
-text_step : (v : List ℕ) (older : Base) (deed : Deed) (before : Option (List ℕ)) (row : Option ℕ) (at : ℕ → Option (List ℕ)) → at (size older) ≡ spec_made deed → before ≡ option_and_then at row
+text_step : (v : List ℕ) (older : Base) (deed : Deed) (before : Option (List ℕ)) (row : Option ℕ) (at : ℕ → Option (List ℕ))
+    → at (size older) ≡ spec_made deed → before ≡ option_and_then at row
     → value_after (spec_effect v deed) before ≡ option_and_then at (value_after (spec_row_effect v older deed) row)
 text_step v older (deeds.Mkview w) before row at now h =
-    elim (bytes_eq w v) as (λ is. value_after (only_if is (Sets default_spec)) before ≡ option_and_then at (value_after (or_else (only_if is (Sets (size older))) Keeps) row)) [ true ↦ sym now | false ↦ h ]
+    elim (bytes_eq w v) as (λ is. value_after (only_if is (Sets default_spec)) before
+    ≡ option_and_then at (value_after (or_else (only_if is (Sets (size older))) Keeps) row)) [ true ↦ sym now | false ↦ h ]
 text_step v older (deeds.Rmview w) before row at now h =
-    elim (bytes_eq w v) as (λ is. value_after (only_if is Ends) before ≡ option_and_then at (value_after (or_else (only_if {A = ℕ} is Ends) Keeps) row)) [ true ↦ refl | false ↦ h ]
+    elim (bytes_eq w v) as (λ is. value_after (only_if is Ends) before
+    ≡ option_and_then at (value_after (or_else (only_if {A = ℕ} is Ends) Keeps) row)) [ true ↦ refl | false ↦ h ]
 text_step v older (deeds.Setcs w text) before row at now h =
-    elim (bytes_eq w v) as (λ is. value_after (only_if is (Sets text)) before ≡ option_and_then at (value_after (only_if is (Sets (size older))) row)) [ true ↦ sym now | false ↦ h ]
+    elim (bytes_eq w v) as (λ is. value_after (only_if is (Sets text)) before
+    ≡ option_and_then at (value_after (only_if is (Sets (size older))) row)) [ true ↦ sym now | false ↦ h ]
 text_step v older deed before row at now h = h
 
 -- The text of a view's config spec is that of the row by which the view has it.
 pub text_by_row : (b : Base) (v : List ℕ) → spec_text b v ≡ option_and_then (spec_at b) (last_of (spec_row_effect v) b)
 text_by_row [] v = refl
 text_by_row (row ∷ older) v =
-    text_step v older row.deed (spec_text older v) (last_of (spec_row_effect v) older) (spec_at (row ∷ older)) (ap (option_and_then spec_made) (here row older))
+    text_step v older row.deed (spec_text older v) (last_of (spec_row_effect v) older) (spec_at (row ∷ older))
+    (ap (option_and_then spec_made) (here row older))
     (text_by_row older v ∙ older_spec row older (last_of (spec_row_effect v) older) (row_below v older))

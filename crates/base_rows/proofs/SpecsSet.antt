@@ -1,5 +1,6 @@
 -- The rules that a row gave to its view, found by the row.
-use Rattle.std.proofs.Common.{◌≡◌, ℕ, suc, ◌<◌, ◌≤◌, ◌==◌, Bool, true, false, Option, Some, None, Result, Ok, Err, List, [], ◌∷◌, map, nat_lt, refl, ap, sym, ◌∙◌, arith}
+use Rattle.std.proofs.Common.{◌≡◌, ℕ, suc, ◌<◌, ◌≤◌, ◌==◌, Bool, true, false, Option, Some, None, Result, Ok, Err, List, [], ◌∷◌}
+use Rattle.std.proofs.Common.{map, nat_lt, refl, ap, sym, ◌∙◌, arith}
 use Rattle.std.specs.Prelude.{length}
 use Rattle.std.specs.Option.{option_and_then}
 use Rattle.std.proofs.lemmas.Bool.Decides.{nat_tests, Decides-eqb}
@@ -15,7 +16,8 @@ use Rattle.base_model.specs.Seen.{rules_read, rules_of_spec, rules}
 use Rattle.base_rows.specs.Effects.{spec_row_effect}
 use Rattle.base_rows.specs.LookUps.{last_of}
 use Rattle.base_rows.specs.Made.{spec_made}
-use Rattle.base_rows.specs.SetSpecs.{if_read, parsed_rules, rules_set, rules_set_if_short, with_spec, specs_set, or_no_rules, row_of_parsed, rules_at}
+use Rattle.base_rows.specs.SetSpecs.{if_read, parsed_rules, rules_set, rules_set_if_short, with_spec, specs_set, or_no_rules}
+use Rattle.base_rows.specs.SetSpecs.{row_of_parsed, rules_at}
 use Rattle.base_rows.specs.declared.view_specs.Parsed.{Parsed}
 use Rattle.base_rows.proofs.SpecRows.{spec_at, text_by_row}
 
@@ -34,7 +36,8 @@ above_next : (n : ℕ) (rows : List ℕ) → IsAbove n rows → IsAbove (suc n) 
 above_next n [] above = tt
 above_next n (row ∷ rows) above = (omega (arith, above.0), above_next n rows above.1)
 
-above_more : (n : ℕ) (rules : Option (List Rule)) (specs : List Parsed) → IsAbove n (rows_of_specs specs) → IsAbove (suc n) (rows_of_specs (with_spec n rules specs))
+above_more : (n : ℕ) (rules : Option (List Rule)) (specs : List Parsed) → IsAbove n (rows_of_specs specs)
+    → IsAbove (suc n) (rows_of_specs (with_spec n rules specs))
 above_more n None specs above = above_next n (rows_of_specs specs) above
 above_more n (Some rules) specs above = (omega arith, above_next n (rows_of_specs specs) above)
 
@@ -42,7 +45,8 @@ specs_below : (b : Base) → IsAbove (size b) (rows_of_specs (specs_set b))
 specs_below [] = tt
 specs_below (row ∷ older) = above_more (size older) (rules_set row.deed) (specs_set older) (specs_below older)
 
-fall_more : (n : ℕ) (rules : Option (List Rule)) (specs : List Parsed) → IsAbove n (rows_of_specs specs) → Falls (rows_of_specs specs) → Falls (rows_of_specs (with_spec n rules specs))
+fall_more : (n : ℕ) (rules : Option (List Rule)) (specs : List Parsed) → IsAbove n (rows_of_specs specs)
+    → Falls (rows_of_specs specs) → Falls (rows_of_specs (with_spec n rules specs))
 fall_more n None specs above fall = fall
 fall_more n (Some rules) specs above fall = (above, fall)
 
@@ -58,13 +62,15 @@ none_above n (one ∷ specs) above =
     let apart : (one.row == n) ≡ false = grind (arith, nat_tests) in
     rw apart (none_above n specs above.1)
 
-at_head : (n : ℕ) (rules : Option (List Rule)) (specs : List Parsed) → IsAbove n (rows_of_specs specs) → rules_at n (with_spec n rules specs) ≡ rules
+at_head : (n : ℕ) (rules : Option (List Rule)) (specs : List Parsed) → IsAbove n (rows_of_specs specs)
+    → rules_at n (with_spec n rules specs) ≡ rules
 at_head n None specs above = none_above n specs above
 at_head n (Some rules) specs above =
     let same : (n == n) ≡ true = (Decides-eqb n n).1 refl in
     rw same refl
 
-behind_head : (m n : ℕ) (rules : Option (List Rule)) (specs : List Parsed) → (m == n) ≡ false → rules_at n (with_spec m rules specs) ≡ rules_at n specs
+behind_head : (m n : ℕ) (rules : Option (List Rule)) (specs : List Parsed) → (m == n) ≡ false
+    → rules_at n (with_spec m rules specs) ≡ rules_at n specs
 behind_head m n None specs apart = refl
 behind_head m n (Some rules) specs apart = rw apart refl
 
@@ -73,7 +79,9 @@ pub rules_by_row : (b : Base) (n : ℕ) → rules_at n (specs_set b) ≡ option_
 rules_by_row [] n = refl
 rules_by_row (row ∷ older) n = by (size older == n) refl (rules_by_row older n)
   where
-    by : (is : Bool) → (size older == n) ≡ is → rules_at n (specs_set older) ≡ option_and_then rules_set (deed_at older n) → rules_at n (with_spec (size older) (rules_set row.deed) (specs_set older)) ≡ option_and_then rules_set (deed_of (elim is [ true ↦ Some row | false ↦ row_at older n ]))
+    by : (is : Bool) → (size older == n) ≡ is → rules_at n (specs_set older) ≡ option_and_then rules_set (deed_at older n)
+        → rules_at n (with_spec (size older) (rules_set row.deed) (specs_set older))
+        ≡ option_and_then rules_set (deed_of (elim is [ true ↦ Some row | false ↦ row_at older n ]))
     by true same below =
         let number : size older ≡ n = (Decides-eqb (size older) n).0 same in
         ap (λ m. rules_at m (with_spec (size older) (rules_set row.deed) (specs_set older))) (sym number)
@@ -104,10 +112,12 @@ deed_rules : (deed : Option Deed) → or_no_rules (option_and_then rules_set dee
 deed_rules None = refl
 deed_rules (Some deed) = read_or_none (spec_made deed)
 
-row_rules : (b : Base) (n : Option ℕ) → or_no_rules (option_and_then (λ m. option_and_then rules_set (deed_at b m)) n) ≡ rules_of_spec (option_and_then (spec_at b) n)
+row_rules : (b : Base) (n : Option ℕ) → or_no_rules (option_and_then (λ m. option_and_then rules_set (deed_at b m)) n)
+    ≡ rules_of_spec (option_and_then (spec_at b) n)
 row_rules b None = refl
 row_rules b (Some n) = deed_rules (deed_at b n)
 
 -- the rules of a view are those that the row gave by which it has its config spec
-pub view_rules : (b : Base) (v : List ℕ) → or_no_rules (option_and_then (λ m. option_and_then rules_set (deed_at b m)) (last_of (spec_row_effect v) b)) ≡ rules b v
+pub view_rules : (b : Base) (v : List ℕ) → or_no_rules (option_and_then (λ m. option_and_then rules_set (deed_at b m))
+    (last_of (spec_row_effect v) b)) ≡ rules b v
 view_rules b v = row_rules b (last_of (spec_row_effect v) b) ∙ ap rules_of_spec (sym (text_by_row b v))

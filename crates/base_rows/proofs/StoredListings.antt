@@ -23,22 +23,29 @@ found_same : (e : ℕ) (versions : Versions) → lookup (is_at (nat_cmp e)) vers
 found_same e [] = refl
 found_same e (one ∷ others) = ap (cond (is_eq (nat_cmp e one.0)) (Some one.1)) (found_same e others)
 
-all_below : (e : ℕ) (versions : Versions) → AllByRecursion (λ y. nat_cmp e y ≡ Less) (keys_of versions) → T (below_all nat_cmp e versions)
+all_below : (e : ℕ) (versions : Versions) → AllByRecursion (λ y. nat_cmp e y ≡ Less) (keys_of versions)
+    → T (below_all nat_cmp e versions)
 all_below e [] h = tt
-all_below e (one ∷ others) h = both (is_lt (nat_cmp e one.0)) (below_all nat_cmp e others) (subst T (sym (ap is_lt h.0)) tt) (all_below e others h.1)
+all_below e (one ∷ others) h = both (is_lt (nat_cmp e one.0)) (below_all nat_cmp e others) (subst T (sym (ap is_lt h.0)) tt)
+    (all_below e others h.1)
 
 -- keys that ascend are in order
 ascend : (versions : Versions) → IsStrictlySortedBy nat_cmp (keys_of versions) → T (is_sorted nat_cmp versions)
 unfolding IsStrictlySortedBy
 ascend [] h = tt
-ascend (one ∷ others) h = both (below_all nat_cmp one.0 others) (is_sorted nat_cmp others) (all_below one.0 others h.0) (ascend others h.1)
+ascend (one ∷ others) h = both (below_all nat_cmp one.0 others) (is_sorted nat_cmp others) (all_below one.0 others h.0)
+    (ascend others h.1)
 
-same_in_order : (versions : Versions) (b : Base) (id : ℕ) → T (is_sorted nat_cmp versions) → ((e : ℕ) → find nat_cmp e versions ≡ find nat_cmp e (listing b id)) → versions ≡ listing b id
-same_in_order versions b id sorted same = same_entries nat_cmp nat_cmp_total tied versions (listing b id) sorted (in_order b (closure b id)) same
+same_in_order : (versions : Versions) (b : Base) (id : ℕ) → T (is_sorted nat_cmp versions)
+    → ((e : ℕ) → find nat_cmp e versions ≡ find nat_cmp e (listing b id)) → versions ≡ listing b id
+same_in_order versions b id sorted same = same_entries nat_cmp nat_cmp_total tied versions (listing b id) sorted
+    (in_order b (closure b id)) same
 
 -- what is kept of an object is what its record lists
-pub stored_listing : (versions : Versions) (b : Base) (id : ℕ) → IsStrictlySortedBy nat_cmp (keys_of versions) → HasListing (Some versions) (listing b id) → versions ≡ listing b id
-stored_listing versions b id ordered has = same_in_order versions b id (ascend versions ordered) (λ e. sym (found_same e versions) ∙ has e)
+pub stored_listing : (versions : Versions) (b : Base) (id : ℕ) → IsStrictlySortedBy nat_cmp (keys_of versions)
+    → HasListing (Some versions) (listing b id) → versions ≡ listing b id
+stored_listing versions b id ordered has = same_in_order versions b id (ascend versions ordered) (λ e. sym (found_same e versions)
+    ∙ has e)
 
 -- where nothing is kept of an object, its record lists nothing
 pub nothing_listed : (b : Base) (id : ℕ) → HasListing None (listing b id) → [] ≡ listing b id

@@ -1,5 +1,6 @@
 -- What rows change of directories: which names in which checkout and, once that is checked in, on which branch.
-use Rattle.std.specs.Prelude.{ℕ, Bool, true, false, ◌&&◌, ◌||◌, ◌++◌, nat_lt, Option, Some, None, option_and_then, List, [], ◌∷◌, bytes_eq}
+use Rattle.std.specs.Prelude.{ℕ, Bool, true, false, ◌&&◌, ◌||◌, ◌++◌, nat_lt, Option, Some, None, option_and_then, List, [], ◌∷◌}
+use Rattle.std.specs.Prelude.{bytes_eq}
 use Rattle.cc_names.specs.Last.{Sets, only_if, last}
 use Rattle.cc_names.specs.Versions.{is_number, put_if}
 use Rattle.cc_names.specs.declared.rows.Deed.{Deed}
@@ -27,7 +28,8 @@ abbrev pub newest_checkout_row : Base → List ℕ → ℕ → Option ℕ
 newest_checkout_row b v d = last (λ older row. only_if (begins (edit_of v d (size older) row.deed)) (Sets (size older))) b
 
 abbrev pub newest_change_row : Base → List ℕ → ℕ → List ℕ → Option ℕ
-newest_change_row b v d name = last (λ older row. only_if (changes name (edit_of v d (size older) row.deed)) (Sets (size older))) b
+newest_change_row b v d name = last (λ older row. only_if (changes name (edit_of v d (size older) row.deed)) (Sets (size older)))
+    b
 
 -- the branch on which a deed makes the next version
 abbrev pub checked_in_on : Base → Deed → Option ℕ
@@ -41,7 +43,8 @@ is_since began last_changed = false
 
 -- whether a deed makes a version of the branch from a checkout in which the name was changed
 abbrev pub alters : ℕ → List ℕ → Base → Deed → Bool
-alters branch name older (deeds.Checkin v d) = is_number branch (checked_in_on older (deeds.Checkin v d)) && is_since (newest_checkout_row older v d) (newest_change_row older v d name)
+alters branch name older (deeds.Checkin v d) = is_number branch (checked_in_on older (deeds.Checkin v d))
+    && is_since (newest_checkout_row older v d) (newest_change_row older v d name)
 alters branch name older deed = false
 
 -- the row that began the checkout in which a deed changes names

@@ -43,7 +43,8 @@ file_effect v path older deed = Keeps
 
 -- an object is held at its targets, until another one is or it is dropped
 abbrev pub object_effect : List ℕ → List ℕ → Deeds ℕ
-object_effect v path older (deeds.Publish w targets script entries outputs) = only_if (bytes_eq w v && is_target path targets) (Sets (size older))
+object_effect v path older (deeds.Publish w targets script entries outputs) =
+    only_if (bytes_eq w v && is_target path targets) (Sets (size older))
 object_effect v path older (deeds.Wink w id) = only_if (bytes_eq w v && is_target path (targets_of older id)) (Sets id)
 object_effect v path older (deeds.Drop w q) = only_if (bytes_eq w v && bytes_eq q path) Ends
 object_effect v path older deed = Keeps

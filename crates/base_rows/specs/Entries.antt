@@ -1,4 +1,4 @@
--- A name in a catalog, told by the newest row that bears on it: what rows do to the catalog of a view's checkout of a directory.
+-- A name in a catalog, given by the newest row that affects it: what rows do to the catalog of a view's checkout of a directory.
 use Rattle.std.specs.Prelude.{ℕ, List}
 use Rattle.cc_names.specs.Last.{Sets, only_if}
 use Rattle.base_model.specs.Catalogs.{Edit, Same, BeginsEmpty, BeginsAs, Adds, Removes, Renames, edit_of}

@@ -5,7 +5,7 @@ use Rattle.std.specs.HashMap.{get, spare}
 use Rattle.base_model.specs.Changes.{labels, tree}
 use Rattle.base_model.specs.Fits.{is_base}
 use Rattle.base_rows.specs.Labelling.{AreLabels}
-use Rattle.base_rows.specs.Listings.{AreListings, versions_of}
+use Rattle.base_rows.specs.Listings.{AreListings, versions_of_map}
 use Rattle.base_rows.specs.Marked.{IsMarked}
 use Rattle.base_rows.specs.SeenFiles.{AreSeenByViews}
 use Rattle.base_rows.specs.SetSpecs.{specs_set}
@@ -16,7 +16,8 @@ use Rattle.base_rows.specs.declared.bases.Rows.TheInside.{Inside}
 abbrev pub shown_of : Inside → Shown
 shown_of inside = record {
   base = reverse inside.rows.items;
-  room = min (vec_capacity inside.rows - vec_len inside.rows) (min (vec_capacity inside.links - vec_len inside.links) (spare inside.newest));
+  room = min (vec_capacity inside.rows - vec_len inside.rows) (min (vec_capacity inside.links - vec_len inside.links)
+      (spare inside.newest));
   trees = inside.tree;
   labels = inside.labels;
   spec_room = vec_capacity inside.specs - vec_len inside.specs;
@@ -33,5 +34,5 @@ pub record IsIndexed (inside : Inside) : Type 0 where
   pub trees : inside.tree.changes ≡ tree (reverse inside.rows.items)
   pub labelled : AreLabels inside.labels.changes (labels (reverse inside.rows.items))
   pub specs : reverse inside.specs.items ≡ specs_set (reverse inside.rows.items)
-  pub listed : AreListings (λ id. versions_of (get nat_eq inside.listings id)) (reverse inside.rows.items)
+  pub listed : AreListings (λ id. versions_of_map (get nat_eq inside.listings id)) (reverse inside.rows.items)
   pub seen : AreSeenByViews (reverse inside.rows.items) inside.seen

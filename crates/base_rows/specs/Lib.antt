@@ -1,5 +1,3 @@
-pub mod AffectedSubjects
-pub mod AffectedByChanges
 pub mod Changed
 pub mod Effects
 pub mod Entries
@@ -9,13 +7,14 @@ pub mod Growing
 pub mod Histories
 pub mod Indexed
 pub mod Labelling
+-- proofs of the laws that impls of LookUp name, which a source may cite from specs alone
+pub mod Laws
 pub mod Lifetimes
 pub mod Listings
 pub mod LookUps
 pub mod Made
 pub mod MarkSteps
 pub mod Marked
-pub mod AffectedByNames
 pub mod NumberKeys
 pub mod Order
 pub mod Pool

@@ -13,9 +13,9 @@ abbrev pub Versions : Type 0
 Versions = List (ℕ × ℕ)
 
 -- those of a map, where there is one
-abbrev pub versions_of : Option (BTreeMap ℕ ℕ) → Option Versions
-versions_of None = None
-versions_of (Some map) = Some map.entries
+abbrev pub versions_of_map : Option (BTreeMap ℕ ℕ) → Option Versions
+versions_of_map None = None
+versions_of_map (Some map) = Some map.entries
 
 -- the greater of two versions, where there are any
 abbrev pub greater : Option ℕ → Option ℕ → Option ℕ

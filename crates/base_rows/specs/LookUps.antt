@@ -8,7 +8,7 @@ use Rattle.base_rows.specs.Subjects.{Subject, affects}
 use Rattle.base_rows.specs.declared.look_ups.Does.{Does}
 use Rattle.base_rows.specs.declared.look_ups.Does.TheVariants as does
 
--- what a row does to a thing, told by the rows below it and by its deed
+-- what a row does to a thing, given by the rows below it and by its deed
 abbrev pub Deeds : Type 0 → Type 0
 Deeds A = Base → Deed → Effect A
 
@@ -49,7 +49,7 @@ left_by (Some row) = row.1
 abbrev pub last_of : {A : Type 0} → Deeds A → Base → Option A
 last_of effect b = last (λ older row. effect older row.deed) b
 
--- No row does anything to a thing that does not bear on its subject.
+-- No row does anything to a thing that does not affect its subject.
 abbrev pub ActsBySubject : {A : Type 0} → Subject → Deeds A → Type 0
 ActsBySubject subject effect = (older : Base) (deed : Deed) → affects subject older deed ≡ false → effect older deed ≡ Keeps
 

@@ -1,5 +1,6 @@
--- The marks that rows leave for the keys of what they bear on: links, each of which names the next older one of its key.
-use Rattle.std.specs.Prelude.{◌≡◌, ℕ, ◌<◌, ◌≤◌, ◌==◌, ◌++◌, Bool, true, false, nat_lt, Option, Some, None, List, [], ◌∷◌, length, reverse, IfSome}
+-- The marks that rows leave for the keys of what they affect: links, each of which names the next older one of its key.
+use Rattle.std.specs.Prelude.{◌≡◌, ℕ, ◌<◌, ◌≤◌, ◌==◌, ◌++◌, Bool, true, false, nat_lt, Option, Some, None, List, [], ◌∷◌, length}
+use Rattle.std.specs.Prelude.{reverse, IfSome}
 use Rattle.std.specs.declared.random_state.RandomState.{RandomState}
 use Rattle.cc_names.specs.Versions.{put_if}
 use Rattle.base_model.specs.Rows.{Base, size}
@@ -14,7 +15,11 @@ is_place (Some p) place = p == place
 -- The rows along the links from a place on. The links stand newest first, and places are counted from the oldest.
 abbrev pub rows_from : List Link → Option ℕ → List ℕ
 rows_from [] next = []
-rows_from (link ∷ older) next = elim (is_place next (length older)) [ true ↦ link.row ∷ rows_from older link.older | false ↦ rows_from older next ]
+rows_from (link ∷ older) next = elim (is_place next (length older)) [
+  | true ↦ link.row ∷ rows_from older link.older
+  | false ↦
+      rows_from older next
+]
 
 -- some rows are the last ones of others
 pub record IsEnd (rows all : List ℕ) : Type 0 where
@@ -44,7 +49,7 @@ abbrev pub AreAtMost : ℕ → List ℕ → Type 0
 AreAtMost n [] = Unit {0}
 AreAtMost n (m ∷ rows) = (m ≤ n) × AreAtMost n rows
 
--- none of these rows is newer than the one in front of it
+-- none of these rows is newer than the one before it
 abbrev pub Sink : List ℕ → Type 0
 Sink [] = Unit {0}
 Sink (n ∷ rows) = AreAtMost n rows × Sink rows
@@ -68,10 +73,11 @@ abbrev pub with_marks : ℕ → ℕ → List ℕ → List ℕ → List ℕ
 with_marks row key [] rows = rows
 with_marks row key (k ∷ keys) rows = with_marks row key keys (put_if (k == key) row rows)
 
--- the rows of a base that bear on something of this key
+-- the rows of a base that affect something of this key
 abbrev pub marked_rows : RandomState → ℕ → Base → List ℕ
 marked_rows hashing key [] = []
-marked_rows hashing key (row ∷ older) = with_marks (size older) key (keys_of hashing older row.deed) (marked_rows hashing key older)
+marked_rows hashing key (row ∷ older) = with_marks (size older) key (keys_of hashing older row.deed)
+    (marked_rows hashing key older)
 
 -- the links are the marks of a base's rows
 pub record IsMarked (hashing : RandomState) (links : List Link) (heads : ℕ → Option ℕ) (b : Base) : Type 0 where

@@ -5,7 +5,7 @@ use Rattle.cc_names.specs.declared.rows.Deed.{Deed}
 use Rattle.base_model.specs.Changes.{tree}
 use Rattle.base_model.specs.Rows.{Base, size}
 use Rattle.base_rows.specs.Growing.{IsRooted, change_of, tree_change}
-use Rattle.base_rows.specs.Listings.{HasListing, listing_made, versions_of}
+use Rattle.base_rows.specs.Listings.{HasListing, listing_made, versions_of_map}
 use Rattle.base_rows.specs.SetSpecs.{rules_set_if_short}
 use Rattle.base_rows.specs.Subjects.{keys_of}
 use Rattle.base_rows.specs.declared.prepared.Prepared.{Prepared}
@@ -17,4 +17,4 @@ pub record IsPrepared (prepared : Prepared) (hashing : RandomState) (b : Base) (
   pub change : (moment : ℕ) → change_of (size b) moment prepared.growth ≡ tree_change b moment deed
   pub rooted : IsRooted (tree b) prepared.growth
   pub rules : prepared.rules ≡ rules_set_if_short deed
-  pub listing : HasListing (versions_of prepared.listing) (listing_made b deed)
+  pub listing : HasListing (versions_of_map prepared.listing) (listing_made b deed)

@@ -1,4 +1,4 @@
--- What rows bear on. Each deed says once which subjects it bears on; the rows that bear on a subject say what has become of it.
+-- What rows affect. Each deed says once which subjects it affects; the rows that affect a subject say what has become of it.
 -- Marks, and all that is looked up by them, rest on this alone.
 use Rattle.std.specs.Prelude.{ℕ, Bool, true, false, ◌&&◌, ◌==◌, Option, Some, None, List, [], ◌∷◌, ◌++◌, map, bytes_eq}
 use Rattle.std.specs.List.{list_any}
@@ -20,9 +20,11 @@ use Rattle.base_rows.specs.declared.subjects.Subject.TheVariants as codes
 -- A view's life, its config spec, and all that it takes out; a view's private file at a path, and the object that it holds
 -- there; a view's checkout of an element, and the texts that it saves there; a name in a directory; the reserved checkouts on a
 -- branch; the type of a name; an object, its winks, and the objects of a list of targets; a merge of two versions of an element,
--- and the merges into a version; what is done to an element and to its labels; the branches that leave a version, and the branches
+-- and the merges into a version; what is done to an element and to its labels; the branches that leave a version, and the
+-- branches
 -- of an element that have a name; what a view puts or comes to hold, at whatever paths; the names that are given in a directory;
--- the names that are changed in the checkout that a row began; and the versions of a branch that are made from a checkout in which
+-- the names that are changed in the checkout that a row began; and the versions of a branch that are made from a checkout in
+-- which
 -- a name was changed.
 pub data Subject : Type 0 where
   Life : List ℕ → Subject
@@ -64,7 +66,8 @@ checkout_subjects n branch (deeds.Save v e text) = Saved v e ∷ []
 checkout_subjects n branch (deeds.Checkin v e) = Out v e ∷ History e ∷ []
 checkout_subjects n branch (deeds.Uncheckout v e) = Out v e ∷ []
 checkout_subjects n branch (deeds.Rmname v directory name) = NameIn directory name ∷ []
-checkout_subjects n branch (deeds.Mv v directory from_name to_name) = NameIn directory from_name ∷ NameIn directory to_name ∷ Given directory ∷ []
+checkout_subjects n branch (deeds.Mv v directory from_name to_name) = NameIn directory from_name ∷ NameIn directory to_name
+    ∷ Given directory ∷ []
 checkout_subjects n branch deed = []
 
 -- what becomes of objects by a deed that makes row n, where the object that it names has these targets and its checkout reserves
@@ -120,9 +123,10 @@ altered_subjects (Some branch) names = map (Altered branch) names
 -- what the next row changes of catalogs
 abbrev pub catalog_subjects : Base → Deed → List Subject
 catalog_subjects older deed =
-    changing_subjects (changing older deed) ++ altered_subjects (checked_in_on older deed) (names_by older (checked_in_rows older deed))
+    changing_subjects (changing older deed) ++ altered_subjects (checked_in_on older deed)
+    (names_by older (checked_in_rows older deed))
 
--- what it bears on else
+-- what it affects else
 abbrev pub plain_subjects : Base → Deed → List Subject
 plain_subjects older deed = subjects (size older) (named_targets older deed) (reserved_branch older deed) deed
 
@@ -131,32 +135,32 @@ abbrev pub affected_subjects : Base → Deed → List Subject
 affected_subjects older deed = catalog_subjects older deed ++ plain_subjects older deed
 
 -- whether two subjects are one
-abbrev pub is_same : Subject → Subject → Bool
-is_same (Life v) (Life w) = bytes_eq w v
-is_same (Spec v) (Spec w) = bytes_eq w v
-is_same (AllCheckedOut v) (AllCheckedOut w) = bytes_eq w v
-is_same (File v path) (File w q) = bytes_eq w v && bytes_eq q path
-is_same (Object v path) (Object w q) = bytes_eq w v && bytes_eq q path
-is_same (Out v e) (Out w f) = bytes_eq w v && (f == e)
-is_same (Saved v e) (Saved w f) = bytes_eq w v && (f == e)
-is_same (NameIn directory name) (NameIn other one) = (other == directory) && bytes_eq one name
-is_same (Reserved branch) (Reserved other) = branch == other
-is_same (Named name) (Named other) = bytes_eq other name
-is_same (Living id) (Living other) = other == id
-is_same (Winked id) (Winked other) = other == id
-is_same (Pool targets) (Pool others) = are_same_paths others targets
-is_same (Merge e tail head) (Merge f one two) = (f == e) && (one == tail) && (two == head)
-is_same (Merged head) (Merged other) = other == head
-is_same (History e) (History f) = f == e
-is_same (Leaving version) (Leaving other) = other == version
-is_same (BranchNamed e name) (BranchNamed f own) = (e == f) && bytes_eq name own
-is_same (Owned v) (Owned w) = bytes_eq w v
-is_same (Given directory) (Given other) = other == directory
-is_same (Changing began) (Changing other) = began == other
-is_same (Altered branch name) (Altered other one) = (other == branch) && bytes_eq one name
-is_same one two = false
+abbrev pub is_same_subject : Subject → Subject → Bool
+is_same_subject (Life v) (Life w) = bytes_eq w v
+is_same_subject (Spec v) (Spec w) = bytes_eq w v
+is_same_subject (AllCheckedOut v) (AllCheckedOut w) = bytes_eq w v
+is_same_subject (File v path) (File w q) = bytes_eq w v && bytes_eq q path
+is_same_subject (Object v path) (Object w q) = bytes_eq w v && bytes_eq q path
+is_same_subject (Out v e) (Out w f) = bytes_eq w v && (f == e)
+is_same_subject (Saved v e) (Saved w f) = bytes_eq w v && (f == e)
+is_same_subject (NameIn directory name) (NameIn other one) = (other == directory) && bytes_eq one name
+is_same_subject (Reserved branch) (Reserved other) = branch == other
+is_same_subject (Named name) (Named other) = bytes_eq other name
+is_same_subject (Living id) (Living other) = other == id
+is_same_subject (Winked id) (Winked other) = other == id
+is_same_subject (Pool targets) (Pool others) = are_same_paths others targets
+is_same_subject (Merge e tail head) (Merge f one two) = (f == e) && (one == tail) && (two == head)
+is_same_subject (Merged head) (Merged other) = other == head
+is_same_subject (History e) (History f) = f == e
+is_same_subject (Leaving version) (Leaving other) = other == version
+is_same_subject (BranchNamed e name) (BranchNamed f own) = (e == f) && bytes_eq name own
+is_same_subject (Owned v) (Owned w) = bytes_eq w v
+is_same_subject (Given directory) (Given other) = other == directory
+is_same_subject (Changing began) (Changing other) = began == other
+is_same_subject (Altered branch name) (Altered other one) = (other == branch) && bytes_eq one name
+is_same_subject one two = false
 
--- The key by which the marks of a subject are found. Subjects that share one are told apart by the rows.
+-- The key by which the marks of a subject are found. Subjects that share one are distinguished by the rows.
 abbrev pub key : RandomState → Subject → ℕ
 key hashing (Life v) = key_of hashing 0 v
 key hashing (Spec v) = key_of hashing 1 v
@@ -181,11 +185,11 @@ key hashing (Given directory) = key_by hashing 18 (directory ∷ [])
 key hashing (Changing began) = key_by hashing 20 (began ∷ [])
 key hashing (Altered branch name) = key_with hashing 21 branch name
 
--- whether the next row bears on a subject
+-- whether the next row affects a subject
 abbrev pub affects : Subject → Base → Deed → Bool
-affects (Changing began) older deed = list_any (is_same (Changing began)) (catalog_subjects older deed)
-affects (Altered branch name) older deed = list_any (is_same (Altered branch name)) (catalog_subjects older deed)
-affects subject older deed = list_any (is_same subject) (plain_subjects older deed)
+affects (Changing began) older deed = list_any (is_same_subject (Changing began)) (catalog_subjects older deed)
+affects (Altered branch name) older deed = list_any (is_same_subject (Altered branch name)) (catalog_subjects older deed)
+affects subject older deed = list_any (is_same_subject subject) (plain_subjects older deed)
 
 -- the keys of the subjects on which the next row bears
 abbrev pub keys_of : RandomState → Base → Deed → List ℕ

@@ -7,7 +7,8 @@ use Rattle.base_rows.specs.LookUps.{Deeds, Update, update_by_row}
 -- the numbers of the rows that do something
 abbrev pub updating_rows : {A : Type 0} → Deeds A → Base → List ℕ
 updating_rows effect [] = []
-updating_rows effect (row ∷ older) = put_if (is_some (update_by_row (size older) (effect older row.deed))) (size older) (updating_rows effect older)
+updating_rows effect (row ∷ older) = put_if (is_some (update_by_row (size older) (effect older row.deed))) (size older)
+    (updating_rows effect older)
 
 -- those of these numbers that lie below a bound and below all that come before them, and whose rows do something
 abbrev pub updating_rows_below : {A : Type 0} → (ℕ → Option (Update A)) → ℕ → List ℕ → List ℕ

@@ -1,4 +1,4 @@
-//! The rows of a base, with the marks by which those that bear on a subject are found, with the trees of versions, with the
+//! The rows of a base, with the marks by which those that affect a subject are found, with the trees of versions, with the
 //! labels, with the config specs and with what the records of objects list.
 
 ghost use Rattle.std.specs.Prelude.{◌≡◌, ◌≤◌, ◌∷◌, [], ℕ, List, length, true, IfOk, IfSome, OnOk};
@@ -10,7 +10,7 @@ ghost use Rattle.base_model.specs.Closures.{listing};
 ghost use Rattle.base_model.specs.Rows.{deed_at, first_rows, row_at, size};
 ghost use Rattle.base_model.specs.Seen.{file_at};
 ghost use Rattle.base_model.specs.Fits.{fits, is_base, row_limit};
-ghost use Rattle.base_rows.specs.Listings.{HasListing, versions_of};
+ghost use Rattle.base_rows.specs.Listings.{HasListing, versions_of_map};
 ghost use Rattle.base_rows.specs.LookUps.{last_of, newest, oldest};
 ghost use Rattle.base_rows.specs.Order.{oldest_first};
 ghost use Rattle.base_rows.specs.Preparing.{IsPrepared};
@@ -42,7 +42,7 @@ use std::hash::RandomState;
 use std::marker::Model;
 use version_tree::Tree;
 
-/// A base, what bears on what, the trees of versions, the labels, the config specs, and what the records of objects list.
+/// A base, what affects what, the trees of versions, the labels, the config specs, and what the records of objects list.
 /// Contracts see the base as the model has it, its newest row first, and the room. That it is a base is part of the type.
 #[derive(Drop)]
 pub struct Rows {
@@ -104,7 +104,8 @@ impl Rows {
         self.hashing
     }
 
-    /// Makes room for one more row of this deed, for which this is at hand. Takes for each label that it changes on an element the
+    /// Makes room for one more row of this deed, for which this is at hand. Takes for each label that it changes on an element
+    /// the
     /// time to find the label there and, where it is new there, to copy its name, and time logarithmic in the branches; a list
     /// that is full is doubled, in time linear in it.
     pub fn reserve(&mut self, deed: &Deed, prepared: &Prepared) -> Result<(), NoMemory>
@@ -122,7 +123,8 @@ impl Rows {
         Ok(())
     }
 
-    /// Adds a row that fits and is made ready. Takes time linear in its keys, for each label that it changes on an element the time
+    /// Adds a row that fits and is made ready. Takes time linear in its keys, for each label that it changes on an element the
+    /// time
     /// to find the label there, and time logarithmic in the branches; no memory.
     pub fn push(&mut self, row: Row, prepared: Prepared)
         requires fits { fits self.old.base row.deed ≡ true }
@@ -290,7 +292,7 @@ impl<'a> FirstRows<'a> {
 
     /// What the record of an object lists, where it is one of these rows. Takes constant time.
     pub(crate) fn listing(&self, object: u64) -> Option<&'a Versions>
-        ensures { HasListing (versions_of (option_copied result)) (listing self.now object) }
+        ensures { HasListing (versions_of_map (option_copied result)) (listing self.now object) }
     {
         if self.size() <= object {
             return None;

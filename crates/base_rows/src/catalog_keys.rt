@@ -44,7 +44,7 @@ fn names_at<'a>(rows: &FirstRows<'a>, number: u64) -> (Option<&'a Name>, Option<
 }
 
 /// Adds the key of a name on a branch, where there is one.
-fn push_name(
+fn push_name_key(
     hashing: RandomState,
     keys: &mut Vec<u64>,
     branch: u64,
@@ -64,7 +64,7 @@ fn push_name(
 }
 
 /// Adds the keys of the names that a row changes, on a branch.
-fn push_names(
+fn push_name_keys(
     hashing: RandomState,
     keys: &mut Vec<u64>,
     branch: u64,
@@ -78,8 +78,8 @@ fn push_names(
         (map (model.Altered branch) (changed.names_of_deed (deed_at rows.now number)))) }
 {
     let (first, second) = names_at(rows, number);
-    push_name(hashing, keys, branch, first)?;
-    push_name(hashing, keys, branch, second)
+    push_name_key(hashing, keys, branch, first)?;
+    push_name_key(hashing, keys, branch, second)
 }
 
 /// Adds the keys of the names that some rows change, on a branch.
@@ -97,7 +97,7 @@ fn push_altered(
         (map (model.Altered branch) (changed.names_by rows.now numbers.now))) }
 {
     for number in numbers {
-        push_names(hashing, keys, branch, rows, *number)?;
+        push_name_keys(hashing, keys, branch, rows, *number)?;
     }
     Ok(())
 }
@@ -123,7 +123,7 @@ fn changing_key(hashing: RandomState, began: Option<u64>) -> Option<u64>
 }
 
 /// Adds the keys of the names that a version of a branch alters, where there is one.
-fn push_version(
+fn push_version_keys(
     alloc: Global,
     hashing: RandomState,
     keys: &mut Vec<u64>,
@@ -160,7 +160,7 @@ pub(crate) fn catalog_keys(
 {
     let mut keys = Vec::new(alloc);
     push_if(&mut keys, changing_key(hashing, changing(rows, deed)))?;
-    push_version(
+    push_version_keys(
         alloc,
         hashing,
         &mut keys,

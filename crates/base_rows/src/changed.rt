@@ -114,7 +114,7 @@ struct ChangingIn {
 impl LookUp for ChangingIn {
     type Item = u64;
 
-    ghost use Rattle.base_rows.specs.AffectedByChanges.{changing_affects, changing_effect};
+    ghost use Rattle.base_rows.specs.Laws.AffectedByChanges.{changing_affects, changing_effect};
     ghost use Rattle.base_rows.specs.Subjects as subjects;
 
     ghost effect = { λ it. changing_effect it.began };
@@ -145,7 +145,7 @@ pub struct AlteredOn<'a> {
 impl LookUp for AlteredOn<'_> {
     type Item = u64;
 
-    ghost use Rattle.base_rows.specs.AffectedByChanges.{altered_affects, altered_effect};
+    ghost use Rattle.base_rows.specs.Laws.AffectedByChanges.{altered_affects, altered_effect};
     ghost use Rattle.base_rows.specs.Subjects as subjects;
 
     ghost effect = { λ it. altered_effect it.branch it.name.now };

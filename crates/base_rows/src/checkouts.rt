@@ -145,7 +145,7 @@ struct TakenOf<'a> {
 impl LookUp for TakenOf<'_> {
     type Item = Checkout;
 
-    ghost use Rattle.base_rows.specs.AffectedSubjects.{checkout_affects};
+    ghost use Rattle.base_rows.specs.Laws.AffectedSubjects.{checkout_affects};
     ghost use Rattle.base_rows.specs.Effects.{checkout_effect};
     ghost use Rattle.base_rows.specs.Subjects as subjects;
 
@@ -184,7 +184,7 @@ struct SavedOf<'a> {
 impl LookUp for SavedOf<'_> {
     type Item = u64;
 
-    ghost use Rattle.base_rows.specs.AffectedSubjects.{saved_affects};
+    ghost use Rattle.base_rows.specs.Laws.AffectedSubjects.{saved_affects};
     ghost use Rattle.base_rows.specs.Effects.{saved_effect};
     ghost use Rattle.base_rows.specs.Subjects as subjects;
 
@@ -224,7 +224,7 @@ pub fn has_out(rows: &FirstRows<'_>, view: &Name, element: u64) -> bool
 }
 
 /// The row of a checkout in place of it.
-fn with_row(update_by_row: Option<(u64, Option<Checkout>)>) -> Option<(u64, Option<u64>)>
+fn row_of_update(update_by_row: Option<(u64, Option<Checkout>)>) -> Option<(u64, Option<u64>)>
     ensures { result ≡ option_map (map_update row_of_stored) update_by_row }
 {
     match update_by_row {
@@ -239,7 +239,7 @@ fn with_row(update_by_row: Option<(u64, Option<Checkout>)>) -> Option<(u64, Opti
 pub fn making(rows: &FirstRows<'_>, view: &Name, element: u64) -> Option<u64>
     ensures { result ≡ making rows.now view.now element }
 {
-    let taken = with_row(rows.newest(&TakenOf { view, element }));
+    let taken = row_of_update(rows.newest(&TakenOf { view, element }));
     let saved = rows.newest(&SavedOf { view, element });
     in_life(rows, view, later(taken, saved))
 }

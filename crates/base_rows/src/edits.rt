@@ -161,7 +161,7 @@ pub struct BegunOf<'a> {
 impl LookUp for BegunOf<'_> {
     type Item = u64;
 
-    ghost use Rattle.base_rows.specs.AffectedByNames.{begun_affects};
+    ghost use Rattle.base_rows.specs.Laws.AffectedByNames.{begun_affects};
     ghost use Rattle.base_rows.specs.Entries.{begun_effect};
     ghost use Rattle.base_rows.specs.Subjects as subjects;
 
@@ -195,7 +195,7 @@ pub struct ChangedOf<'a> {
 impl LookUp for ChangedOf<'_> {
     type Item = u64;
 
-    ghost use Rattle.base_rows.specs.AffectedByNames.{changed_affects};
+    ghost use Rattle.base_rows.specs.Laws.AffectedByNames.{changed_affects};
     ghost use Rattle.base_rows.specs.Entries.{changed_effect};
     ghost use Rattle.base_rows.specs.Subjects as subjects;
 

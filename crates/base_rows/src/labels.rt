@@ -6,7 +6,7 @@ ghost use Rattle.std.specs.Ordering.{nat_cmp};
 ghost use Rattle.cc_names.specs.Falling.{IsAbove};
 ghost use Rattle.cc_names.specs.Formed.{IsDeedFormed, element_of};
 ghost use Rattle.cc_names.specs.Labels.{holder};
-ghost use Rattle.label_book.specs.Marks.{KeepsAll, rows_of_pair};
+ghost use Rattle.label_book.specs.Marks.{KeepsMarks, rows_of_pair};
 ghost use Rattle.base_model.specs.Changes.{all_placed, labels, labels_after};
 ghost use Rattle.base_model.specs.Conditions.{has_label};
 ghost use Rattle.base_rows.specs.Labelling.{AreLabels, AreReady, HasLabelRoom};
@@ -25,7 +25,7 @@ fn reserve_all(
     label: &Name,
     placed: &[Placed],
 ) -> Result<(), NoMemory>
-    ensures kept { KeepsAll book.old book.new }
+    ensures kept { KeepsMarks book.old book.new }
     ensures ready { OnOk result (AreReady book.new label.now placed.now) }
 {
     for one in placed {
@@ -36,7 +36,7 @@ fn reserve_all(
 
 /// Makes room for the changes of labels that a row of this deed makes. Takes for each of them the time of `Book::reserve`.
 pub(crate) fn reserve_labels(alloc: Global, book: &mut Book, deed: &Deed) -> Result<(), NoMemory>
-    ensures kept { KeepsAll book.old book.new }
+    ensures kept { KeepsMarks book.old book.new }
     ensures room { OnOk result (HasLabelRoom book.new deed.now) }
 {
     match deed {

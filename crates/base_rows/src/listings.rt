@@ -9,9 +9,9 @@ ghost use Rattle.std.specs.List.Sorted.{IsStrictlySortedBy};
 ghost use Rattle.std.specs.Ordering.{nat_cmp};
 ghost use Rattle.cc_names.specs.Formed.{IsListOf, IsPlaced, element_of};
 ghost use Rattle.base_model.specs.Changes.{targets_of};
-ghost use Rattle.base_model.specs.Closures.{closure, greater_of, is_among, is_publish, recorded_version, listing_of, inputs_of, inputs_of_entry, as_placed, placed_by};
+ghost use Rattle.base_model.specs.Closures.{closure, greater_of, is_path_among, is_publish, recorded_version, listing_of, inputs_of, inputs_of_entry, as_placed, placed_by};
 ghost use Rattle.base_model.specs.Rows.{only_where};
-ghost use Rattle.base_rows.specs.Listings.{HasListing, greater, listing_made, versions_of, with_listing};
+ghost use Rattle.base_rows.specs.Listings.{HasListing, greater, listing_made, versions_of_map, with_listing};
 
 use crate::bases::{FirstRows, row_at};
 use crate::objects::targets_of;
@@ -35,7 +35,7 @@ fn greater_of(version: u64, other: Option<u64>) -> u64
 }
 
 /// Puts a version of an element among versions, of which the greatest counts. Takes time logarithmic in them.
-fn put(versions: &mut Versions, element: u64, version: u64) -> Result<(), NoMemory>
+fn put_greatest(versions: &mut Versions, element: u64, version: u64) -> Result<(), NoMemory>
     ensures { OnOk result
         ((e : ℕ) → get nat_cmp versions.new e
         ≡ greater (only_where (e == element) (Some version)) (get nat_cmp versions.old e)) }
@@ -52,7 +52,7 @@ fn put_all(versions: &mut Versions, more: &Versions) -> Result<(), NoMemory>
         ≡ greater (get nat_cmp more.now e) (get nat_cmp versions.old e)) }
 {
     for (element, version) in more {
-        put(versions, *element, *version)?;
+        put_greatest(versions, *element, *version)?;
     }
     Ok(())
 }
@@ -74,7 +74,7 @@ fn put_version(
     }
     match rows.version_id(entry.row) {
         None => Ok(()),
-        Some(version_id) => put(versions, version_id.element, entry.row),
+        Some(version_id) => put_greatest(versions, version_id.element, entry.row),
     }
 }
 
@@ -90,7 +90,11 @@ pub fn is_publish(rows: &FirstRows<'_>, row: u64) -> bool
 
 /// Puts among versions what an entry of a record stands for: what the record of the object lists that the entry names, else the
 /// version that its row made. Takes time linear in what that record lists, times logarithmic in the versions.
-fn put_entry(rows: &FirstRows<'_>, versions: &mut Versions, entry: &ReadOf) -> Result<(), NoMemory>
+fn put_entry_version(
+    rows: &FirstRows<'_>,
+    versions: &mut Versions,
+    entry: &ReadOf,
+) -> Result<(), NoMemory>
     ensures { OnOk result
         ((e : ℕ) → get nat_cmp versions.new e
         ≡ greater (find nat_cmp e (listing_of rows.now
@@ -114,7 +118,7 @@ fn listing_of(alloc: Global, rows: &FirstRows<'_>, entries: &[ReadOf]) -> Result
 {
     let mut versions = BTreeMap::new(alloc);
     for entry in entries {
-        put_entry(rows, &mut versions, entry)?;
+        put_entry_version(rows, &mut versions, entry)?;
     }
     Ok(versions)
 }
@@ -127,7 +131,7 @@ pub(crate) fn listing_made(
     deed: &Deed,
 ) -> Result<Option<Versions>, NoMemory>
     ensures { IfOk result
-        (λ versions. HasListing (versions_of versions) (listing_made rows.now deed.now)) }
+        (λ versions. HasListing (versions_of_map versions) (listing_made rows.now deed.now)) }
 {
     match deed {
         Deed::Publish { entries, .. } => { Ok(Some(listing_of(alloc, rows, entries.as_slice())?)) }
@@ -142,9 +146,9 @@ pub(crate) fn keep_listing(
     versions: Option<Versions>,
 )
     requires room { 0 < spare listings.old }
-    ensures { (q : ℕ) → versions_of (hashed.get nat_eq listings.new q)
-        ≡ with_listing object (versions_of versions)
-        (λ id. versions_of (hashed.get nat_eq listings.old id)) q }
+    ensures { (q : ℕ) → versions_of_map (hashed.get nat_eq listings.new q)
+        ≡ with_listing object (versions_of_map versions)
+        (λ id. versions_of_map (hashed.get nat_eq listings.old id)) q }
 {
     match versions {
         None => {}
@@ -157,7 +161,7 @@ pub(crate) fn keep_listing(
 
 /// Whether an object has this target. Takes time linear in its targets.
 fn has_target(rows: &FirstRows<'_>, object: u64, target: &Path) -> bool
-    ensures { result ≡ is_among target.now (targets_of rows.now object) }
+    ensures { result ≡ is_path_among target.now (targets_of rows.now object) }
 {
     targets_of(rows, object)
         .iter()

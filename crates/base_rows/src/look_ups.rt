@@ -1,4 +1,4 @@
-//! What is looked up by the rows that bear on it: the newest row that does something to a thing tells what has become of it.
+//! What is looked up by the rows that affect it: the newest row that does something to a thing tells what has become of it.
 
 ghost use Rattle.std.specs.Prelude.{◌≡◌};
 ghost use Rattle.std.specs.Option.{option_or};
@@ -71,7 +71,7 @@ pub fn later<T: Copy>(
     }
 }
 
-/// A thing that is looked up. Each row that does something to it bears on its subject.
+/// A thing that is looked up. Each row that does something to it affects its subject.
 pub trait LookUp {
     type Item: Copy;
 

@@ -1,16 +1,16 @@
-//! The marks that rows leave for the keys of what they bear on: links, each of which names the next older one of its key, and one
+//! The marks that rows leave for the keys of what they affect: links, each of which names the next older one of its key, and one
 //! further back.
 
 ghost use Rattle.std.specs.Prelude.{◌≡◌, ◌+◌, ◌-◌, ◌<◌, ◌≤◌, OnOk, nat_eq, length, vec_len, vec_capacity};
 ghost use Rattle.std.specs.HashMap.{get, spare};
-ghost use Rattle.base_rows.specs.MarkSteps.{Marks, MarksAll};
+ghost use Rattle.base_rows.specs.MarkSteps.{MarksRow, MarksAll};
 ghost use Rattle.base_rows.specs.Marked.{IsChained};
 
 use crate::skips::link_to;
 use cc_names::memory::NoMemory;
 use std::collections::HashMap;
 
-/// A row that bears on something with a key, the place of the next older one of the key, that of one to which it skips, and how
+/// A row that affects something with a key, the place of the next older one of the key, that of one to which it skips, and how
 /// many older ones there are.
 #[derive(Clone, Copy)]
 pub(crate) struct Link {
@@ -41,7 +41,7 @@ fn mark(links: &mut Vec<Link>, newest: &mut HashMap<u64, usize>, row: u64, key: 
     requires links { vec_len links.old < vec_capacity links.old }
     requires newest { 0 < spare newest.old }
     requires chained { IsChained links.old.items (get nat_eq newest.old) }
-    ensures marks { Marks row key links.old.items (get nat_eq newest.old) links.new.items
+    ensures marks { MarksRow row key links.old.items (get nat_eq newest.old) links.new.items
         (get nat_eq newest.new) }
     ensures len { vec_len links.new ≡ vec_len links.old + 1 }
     ensures capacity { vec_capacity links.old ≤ vec_capacity links.new }

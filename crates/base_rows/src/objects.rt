@@ -50,7 +50,7 @@ struct GoneOf<'a> {
 impl LookUp for GoneOf<'_> {
     type Item = u64;
 
-    ghost use Rattle.base_rows.specs.AffectedSubjects.{gone_affects};
+    ghost use Rattle.base_rows.specs.Laws.AffectedSubjects.{gone_affects};
     ghost use Rattle.base_rows.specs.Effects.{gone_effect};
     ghost use Rattle.base_rows.specs.Subjects as model;
 
@@ -82,7 +82,7 @@ struct ObjectOf<'a> {
 impl LookUp for ObjectOf<'_> {
     type Item = u64;
 
-    ghost use Rattle.base_rows.specs.AffectedSubjects.{object_affects};
+    ghost use Rattle.base_rows.specs.Laws.AffectedSubjects.{object_affects};
     ghost use Rattle.base_rows.specs.Effects.{object_effect};
     ghost use Rattle.base_rows.specs.Subjects as model;
 
@@ -123,7 +123,7 @@ struct LivingOf {
 impl LookUp for LivingOf {
     type Item = u64;
 
-    ghost use Rattle.base_rows.specs.AffectedSubjects.{living_affects};
+    ghost use Rattle.base_rows.specs.Laws.AffectedSubjects.{living_affects};
     ghost use Rattle.base_rows.specs.Effects.{living_effect};
     ghost use Rattle.base_rows.specs.Subjects as model;
 
@@ -173,7 +173,8 @@ pub fn held_object(rows: &FirstRows<'_>, view: &Name, path: &Path) -> Option<u64
     within(last_gone(rows, view), rows.newest(&ObjectOf { view, path }))
 }
 
-/// Whether the view holds the object at each of these paths. Takes the time of `held_object` for each path, as far as the first where
+/// Whether the view holds the object at each of these paths. Takes the time of `held_object` for each path, as far as the first
+/// where
 /// it doesn't.
 fn is_held_at_each(rows: &FirstRows<'_>, view: &Name, paths: &[Path], object: u64) -> bool
     ensures { result ≡ held_at_each rows.now view.now paths.now object }
@@ -183,7 +184,8 @@ fn is_held_at_each(rows: &FirstRows<'_>, view: &Name, paths: &[Path], object: u6
         .all(|path| held_object(rows, view, path) == Some(object))
 }
 
-/// The object that the view holds at each of these paths, where it is one and there are paths. Takes the time of `held_object` for
+/// The object that the view holds at each of these paths, where it is one and there are paths. Takes the time of `held_object`
+/// for
 /// each path, as far as the first where the view holds another object or none.
 pub fn held_at_all(rows: &FirstRows<'_>, view: &Name, paths: &[Path]) -> Option<u64>
     ensures { result ≡ held_at_all rows.now view.now paths.now }

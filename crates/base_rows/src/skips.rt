@@ -112,7 +112,7 @@ fn onward(links: &[Link], place: usize, link: Link, bound: u64) -> Option<usize>
     }
 }
 
-/// The place of the first link from a place on whose row lies below a bound, where none is newer than the one in front of it.
+/// The place of the first link from a place on whose row lies below a bound, where none is newer than the one before it.
 /// Takes time logarithmic in the links of the key.
 pub(crate) fn first_below(links: &[Link], start: Option<usize>, bound: u64) -> Option<usize>
     requires linked { AreLinked (newest_first links.now) }

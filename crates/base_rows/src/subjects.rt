@@ -1,4 +1,4 @@
-//! What rows bear on, and the keys by which the rows are found.
+//! What rows affect, and the keys by which the rows are found.
 
 ghost use Rattle.std.specs.Prelude.{◌≡◌, ◌+◌, ◌<◌, ◌≤◌, ◌^◌, ◌∷◌, [], IfSome, map, option_map};
 ghost use Rattle.std.specs.List.{slice_get};
@@ -115,7 +115,7 @@ fn reserved_at<'a>(branch: Option<u64>, index: usize) -> Option<Subject<'a>>
     }
 }
 
-/// What a checkout of an element by a view bears on.
+/// What a checkout of an element by a view affects.
 fn taken_at<'a>(
     view: &'a Name,
     element: u64,
@@ -135,7 +135,7 @@ fn taken_at<'a>(
     }
 }
 
-/// What the making of an element in a directory bears on.
+/// What the making of an element in a directory affects.
 fn element_at<'a>(
     view: &'a Name,
     number: u64,
@@ -161,7 +161,7 @@ fn element_at<'a>(
     }
 }
 
-/// What the making of a branch of an element by a view bears on, where it leaves a version and has a name.
+/// What the making of a branch of an element by a view affects, where it leaves a version and has a name.
 fn branch_at<'a>(
     view: &'a Name,
     element: u64,

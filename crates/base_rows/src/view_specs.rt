@@ -32,7 +32,7 @@ struct SetOf<'a> {
 impl LookUp for SetOf<'_> {
     type Item = u64;
 
-    ghost use Rattle.base_rows.specs.AffectedSubjects.{set_affects};
+    ghost use Rattle.base_rows.specs.Laws.AffectedSubjects.{set_affects};
     ghost use Rattle.base_rows.specs.Effects.{set_effect};
     ghost use Rattle.base_rows.specs.Subjects as model;
 

@@ -40,7 +40,7 @@ pub(crate) struct LifeOf<'a> {
 impl LookUp for LifeOf<'_> {
     type Item = u64;
 
-    ghost use Rattle.base_rows.specs.AffectedSubjects.{life_affects};
+    ghost use Rattle.base_rows.specs.Laws.AffectedSubjects.{life_affects};
     ghost use Rattle.base_rows.specs.Effects.{life_effect};
     ghost use Rattle.base_rows.specs.Subjects as model;
 
@@ -72,7 +72,7 @@ struct EndOf<'a> {
 impl LookUp for EndOf<'_> {
     type Item = u64;
 
-    ghost use Rattle.base_rows.specs.AffectedSubjects.{end_affects};
+    ghost use Rattle.base_rows.specs.Laws.AffectedSubjects.{end_affects};
     ghost use Rattle.base_rows.specs.Effects.{end_effect};
     ghost use Rattle.base_rows.specs.Subjects as model;
 
@@ -105,7 +105,7 @@ struct FileOf<'a> {
 impl LookUp for FileOf<'_> {
     type Item = u64;
 
-    ghost use Rattle.base_rows.specs.AffectedSubjects.{file_affects};
+    ghost use Rattle.base_rows.specs.Laws.AffectedSubjects.{file_affects};
     ghost use Rattle.base_rows.specs.Effects.{file_effect};
     ghost use Rattle.base_rows.specs.Subjects as model;
 
@@ -148,7 +148,7 @@ fn last_end(rows: &FirstRows<'_>, view: &Name) -> Option<u64>
     Some(number)
 }
 
-/// What is told of a thing of the view, unless the view's life began or ended behind it. Takes the time of `newest` where
+/// What is known of a thing of the view, unless the view's life began or ended behind it. Takes the time of `newest` where
 /// anything is told, else none.
 pub(crate) fn in_life<T: Copy>(
     rows: &FirstRows<'_>,

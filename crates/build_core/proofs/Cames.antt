@@ -1,5 +1,6 @@
 -- What units have come to, in the slots that the program keeps.
-use Rattle.std.proofs.Common.{◌≡◌, ℕ, zero, suc, ◌+◌, ◌<◌, ◌≤◌, Option, Some, None, List, [], ◌∷◌, ◌++◌, length, get_or, refl, ap, sym, ◌∙◌, arith}
+use Rattle.std.proofs.Common.{◌≡◌, ℕ, zero, suc, ◌+◌, ◌<◌, ◌≤◌, Option, Some, None, List, [], ◌∷◌, ◌++◌, length, get_or, refl}
+use Rattle.std.proofs.Common.{ap, sym, ◌∙◌, arith}
 use Rattle.std.proofs.Math.ListN.{set}
 use Rattle.std.proofs.lemmas.List.{map-set, length-map}
 use Rattle.std.specs.Option.{option_map}
@@ -11,7 +12,8 @@ use Rattle.build_core.specs.Slots.{numbered_slots, held_in}
 use Rattle.build_core.specs.declared.active.Came.{Came}
 use Rattle.build_core.proofs.SlotLaws.{find_numbered, put_numbered}
 
-held_in_read : {A : Type 0} (slots : List (Option A)) (n : ℕ) (slot : Option A) → n < length slots → slot ≡ get_or slots n slot → held_in slots n ≡ slot
+held_in_read : {A : Type 0} (slots : List (Option A)) (n : ℕ) (slot : Option A) → n < length slots → slot ≡ get_or slots n slot
+    → held_in slots n ≡ slot
 held_in_read [] n slot h e = absurd (omega arith)
 held_in_read (x ∷ slots) zero slot h e = sym e
 held_in_read (x ∷ slots) (suc n) slot h e = held_in_read slots n slot (omega arith) e
@@ -59,8 +61,11 @@ pub empty_more : (slots : List (Option Came)) → comes_of slots ≡ [] → come
 empty_more slots e = ap (numbered_slots 0) (cames_more slots) ∙ one_empty 0 (cames_of slots) ∙ e
 
 -- a build in which what the units have come to is changed, behind equal builds
-pub with_comes : (inside self : model.Build) (comes : List (ℕ × model.Came)) (n : ℕ) (came : model.Came) → comes ≡ put nat_cmp n came inside.comes → inside ≡ self →
-    (let before : model.Build = record inside { comes = comes } in before) ≡ (let after : model.Build = record self { comes = put nat_cmp n came self.comes } in after)
+pub with_comes : (inside self : model.Build) (comes : List (ℕ × model.Came)) (n : ℕ) (came : model.Came)
+    → comes ≡ put nat_cmp n came inside.comes → inside ≡ self →
+    (let before : model.Build = record inside { comes = comes } in before)
+    ≡ (let after : model.Build = record self { comes = put nat_cmp n came self.comes } in after)
 with_comes inside self comes n came e same =
     ap (λ (table : List (ℕ × model.Came)). let build : model.Build = record inside { comes = table } in build) e
-    ∙ ap (λ (build : model.Build). let after : model.Build = record build { comes = put nat_cmp n came build.comes } in after) same
+    ∙ ap (λ (build : model.Build). let after : model.Build = record build { comes = put nat_cmp n came build.comes } in
+    after) same

@@ -1,5 +1,6 @@
 -- The walk back over the units that a unit needs.
-use Rattle.std.proofs.Common.{◌≡◌, ℕ, suc, ◌+◌, ◌<◌, Bool, true, false, List, [], ◌∷◌, ◌++◌, length, take, get_or, ap, sym, ◌∙◌, arith, add-one}
+use Rattle.std.proofs.Common.{◌≡◌, ℕ, suc, ◌+◌, ◌<◌, Bool, true, false, List, [], ◌∷◌, ◌++◌, length, take, get_or, ap, sym, ◌∙◌}
+use Rattle.std.proofs.Common.{arith, add-one}
 use Rattle.std.proofs.Math.Seq.{take-suc}
 use Rattle.std.proofs.lemmas.List.{length-take-le}
 use Rattle.std.specs.List.{list_any}
@@ -8,7 +9,7 @@ use Rattle.cc_names.specs.declared.units.Unit.{Unit}
 use Rattle.base_model.specs.Rows.{only_where}
 use Rattle.legal_history.specs.Builds.Active.{Build, came_to, object_of}
 use Rattle.legal_history.specs.Builds.Choices.{Member, unit_of_member, members_from, members_before, object_among}
-use Rattle.base_model.specs.Closures.{is_among}
+use Rattle.base_model.specs.Closures.{is_path_among}
 use Rattle.legal_history.specs.Builds.Serials.{needed_units, makes}
 use Rattle.build_core.specs.VisibleObjects.{object_before}
 
@@ -47,22 +48,33 @@ makes_any unit paths = list_any (λ path. makes path unit) paths
 step_past : (paths : List (List ℕ)) (a : Member) (earlier : List Member) → makes_any a.unit paths ≡ false →
     needed_units unit_of_member paths (a ∷ earlier) ≡ needed_units unit_of_member paths earlier
 step_past paths a earlier e =
-    ap (λ (b : Bool). elim b as (λ _. List Member) [ true ↦ a ∷ needed_units unit_of_member (paths ++ a.unit.prerequisites) earlier | false ↦ needed_units unit_of_member paths earlier ]) e
+    ap (λ (b : Bool). elim b as (λ _. List Member) [
+      | true ↦ a ∷ needed_units unit_of_member (paths ++ a.unit.prerequisites)
+          earlier
+      | false ↦ needed_units unit_of_member paths earlier
+    ]) e
 
 step_taken : (paths : List (List ℕ)) (a : Member) (earlier : List Member) → makes_any a.unit paths ≡ true →
     needed_units unit_of_member paths (a ∷ earlier) ≡ a ∷ needed_units unit_of_member (paths ++ a.unit.prerequisites) earlier
 step_taken paths a earlier e =
-    ap (λ (b : Bool). elim b as (λ _. List Member) [ true ↦ a ∷ needed_units unit_of_member (paths ++ a.unit.prerequisites) earlier | false ↦ needed_units unit_of_member paths earlier ]) e
+    ap (λ (b : Bool). elim b as (λ _. List Member) [
+      | true ↦ a ∷ needed_units unit_of_member (paths ++ a.unit.prerequisites)
+          earlier
+      | false ↦ needed_units unit_of_member paths earlier
+    ]) e
 
-pub passed : (build : Build) (paths : List (List ℕ)) (n : ℕ) (path : List ℕ) (unit : Unit) → n < length build.units → unit ≡ get_or build.units n unit →
+pub passed : (build : Build) (paths : List (List ℕ)) (n : ℕ) (path : List ℕ) (unit : Unit) → n < length build.units
+    → unit ≡ get_or build.units n unit →
     makes_any unit paths ≡ false → object_before build paths (n + 1) path ≡ object_before build paths n path
 passed build paths n path unit h at e =
     ap (λ members. object_among path (needed_units unit_of_member paths members)) (before build n unit h at)
     ∙ ap (object_among path) (step_past paths (member build n unit) (members_before build n) e)
 
-pub taken : (build : Build) (paths : List (List ℕ)) (n : ℕ) (path : List ℕ) (unit : Unit) → n < length build.units → unit ≡ get_or build.units n unit →
+pub taken : (build : Build) (paths : List (List ℕ)) (n : ℕ) (path : List ℕ) (unit : Unit) → n < length build.units
+    → unit ≡ get_or build.units n unit →
     makes_any unit paths ≡ true →
-    object_before build paths (n + 1) path ≡ option_or (only_where (is_among path unit.targets) (object_of (came_to build n))) (object_before build (paths ++ unit.prerequisites) n path)
+    object_before build paths (n + 1) path ≡ option_or (only_where (is_path_among path unit.targets)
+    (object_of (came_to build n))) (object_before build (paths ++ unit.prerequisites) n path)
 taken build paths n path unit h at e =
     ap (λ members. object_among path (needed_units unit_of_member paths members)) (before build n unit h at)
     ∙ ap (object_among path) (step_taken paths (member build n unit) (members_before build n) e)

@@ -25,15 +25,19 @@ all_of_three false b c = refl
 
 -- a record matches where its deed publishes an object of the targets that agrees
 pub matched : (b : Base) (build : Build) (n : ℕ) (unit : Unit) (deed : Deed) →
-    record_matches unit.targets (script_text unit.script) (visible b build n unit) (Some deed) ≡ publishes unit.targets (agrees_with b build n unit) deed
+    record_matches unit.targets (script_text unit.script) (visible b build n unit) (Some deed)
+    ≡ publishes unit.targets (agrees_with b build n unit) deed
 matched b build n unit (deeds.Publish v made text reads outputs) =
-    all_of_three (are_same_paths made unit.targets) (bytes_eq text (script_text unit.script)) (list_all (entry_agrees (visible b build n unit)) reads)
+    all_of_three (are_same_paths made unit.targets) (bytes_eq text (script_text unit.script))
+    (list_all (entry_agrees (visible b build n unit)) reads)
 matched b build n unit deed = refl
 
 newest_row : (row : Plain) (older : Base) → row_at (row ∷ older) (size older) ≡ Some row
-newest_row row older = ap (λ is. elim is as (λ _. Option Plain) [ true ↦ Some row | false ↦ row_at older (size older) ]) ((Decides-eqb (size older) (size older)).1 refl)
+newest_row row older = ap (λ is. elim is as (λ _. Option Plain) [ true ↦ Some row | false ↦ row_at older (size older) ])
+    ((Decides-eqb (size older) (size older)).1 refl)
 
-by_test : (n : ℕ) (is there : Bool) (one two : Option ℕ) → is ≡ there → one ≡ two → elim is as (λ _. Option ℕ) [ true ↦ Some n | false ↦ one ] ≡ elim there as (λ _. Option ℕ) [ true ↦ Some n | false ↦ two ]
+by_test : (n : ℕ) (is there : Bool) (one two : Option ℕ) → is ≡ there → one ≡ two
+    → elim is as (λ _. Option ℕ) [ true ↦ Some n | false ↦ one ] ≡ elim there as (λ _. Option ℕ) [ true ↦ Some n | false ↦ two ]
 by_test n true true one two e h = refl
 by_test n false false one two e h = h
 by_test n is there one two e h = absurd (cc)
@@ -45,10 +49,12 @@ among b build n unit (row ∷ older) same =
     let here : deed_at b (size older) ≡ Some row.deed = ap deed_of (same (size older) (omega arith) ∙ newest_row row older) in
     let test : matches b build n unit (size older) ≡ publishes unit.targets (agrees_with b build n unit) row.deed =
     ap (record_matches unit.targets (script_text unit.script) (visible b build n unit)) here ∙ matched b build n unit row.deed in
-    by_test (size older) (is_some (live_row b (size older)) && matches b build n unit (size older)) (is_some (live_row b (size older)) && publishes unit.targets (agrees_with b build n unit) row.deed)
+    by_test (size older) (is_some (live_row b (size older)) && matches b build n unit (size older))
+    (is_some (live_row b (size older)) && publishes unit.targets (agrees_with b build n unit) row.deed)
     (newest_match b build n unit older) (newest_passing b unit.targets (agrees_with b build n unit) older)
     (ap (λ is. is_some (live_row b (size older)) && is) test)
     (among b build n unit older (λ m below. same m (omega arith) ∙ row_stays row older m below))
 
-pub newest_matched : (b : Base) (build : Build) (n : ℕ) (unit : Unit) → newest_match b build n unit b ≡ newest_object b unit.targets (agrees_with b build n unit)
+pub newest_matched : (b : Base) (build : Build) (n : ℕ) (unit : Unit) → newest_match b build n unit b
+    ≡ newest_object b unit.targets (agrees_with b build n unit)
 newest_matched b build n unit = among b build n unit b (λ m below. refl)

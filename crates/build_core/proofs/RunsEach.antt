@@ -3,7 +3,8 @@ use Rattle.std.proofs.Common.{◌≡◌, ℕ, zero, suc, subst, Some, List, [], 
 use Rattle.std.specs.List.{AllByRecursion}
 
 -- of each of two lists behind each other, and so of each of either
-pub each_of_both : {A : Type 0} (P : A → Type 0) (xs ys : List A) → AllByRecursion P xs → AllByRecursion P ys → AllByRecursion P (xs ++ ys)
+pub each_of_both : {A : Type 0} (P : A → Type 0) (xs ys : List A) → AllByRecursion P xs → AllByRecursion P ys
+    → AllByRecursion P (xs ++ ys)
 each_of_both P [] ys one two = two
 each_of_both P (x ∷ xs) ys one two = (one.0, each_of_both P xs ys one.1 two)
 

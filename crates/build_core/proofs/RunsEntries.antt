@@ -1,5 +1,6 @@
 -- The entries of a record of reads have the form of a row's: in order of their paths, each path once.
-use Rattle.std.proofs.Common.{◌≡◌, refl, ap, ℕ, suc, ◌<◌, ◌≤◌, ◌^◌, Bool, true, false, ◌&&◌, T, Option, Some, None, List, [], ◌∷◌, length, map, arith}
+use Rattle.std.proofs.Common.{◌≡◌, refl, ap, ℕ, suc, ◌<◌, ◌≤◌, ◌^◌, Bool, true, false, ◌&&◌, T, Option, Some, None, List, []}
+use Rattle.std.proofs.Common.{◌∷◌, length, map, arith}
 use Rattle.std.specs.Cmp.Lexicographic.{slice_cmp, nat_list_cmp_total}
 use Rattle.std.specs.FinMap.Entries.{put, by_order, below_all, is_sorted, is_sorted-put}
 use Rattle.std.specs.List.{AllByRecursion}
@@ -14,22 +15,26 @@ use Rattle.legal_history.specs.Builds.Choices.{entry_row, in_order, as_entry, en
 abbrev IsPair : List ℕ × ℕ → Type 0
 IsPair pair = IsBelowRoot pair.0 × IsLong pair.1
 
-put_pairs : (path : List ℕ) (row : ℕ) (pairs : List (List ℕ × ℕ)) → IsBelowRoot path → IsLong row → AllByRecursion IsPair pairs → AllByRecursion IsPair (put (slice_cmp nat_cmp) path row pairs)
+put_pairs : (path : List ℕ) (row : ℕ) (pairs : List (List ℕ × ℕ)) → IsBelowRoot path → IsLong row → AllByRecursion IsPair pairs
+    → AllByRecursion IsPair (put (slice_cmp nat_cmp) path row pairs)
 put_pairs path row [] below long h = ((below, long), tt)
 put_pairs path row (pair ∷ pairs) below long h = by (slice_cmp nat_cmp path pair.0) (put_pairs path row pairs below long h.1)
   where
     by : (o : Ordering) → AllByRecursion IsPair (put (slice_cmp nat_cmp) path row pairs) →
-        AllByRecursion IsPair (by_order o ((path, row) ∷ pair ∷ pairs) ((pair.0, row) ∷ pairs) (pair ∷ put (slice_cmp nat_cmp) path row pairs))
+        AllByRecursion IsPair (by_order o ((path, row) ∷ pair ∷ pairs) ((pair.0, row) ∷ pairs)
+        (pair ∷ put (slice_cmp nat_cmp) path row pairs))
     by Less rest = ((below, long), h)
     by Equal rest = ((h.0.0, long), h.1)
     by Greater rest = (h.0, rest)
 
-put_few : (path : List ℕ) (row : ℕ) (pairs : List (List ℕ × ℕ)) → length (put (slice_cmp nat_cmp) path row pairs) ≤ suc (length pairs)
+put_few : (path : List ℕ) (row : ℕ) (pairs : List (List ℕ × ℕ)) → length (put (slice_cmp nat_cmp) path row pairs)
+    ≤ suc (length pairs)
 put_few path row [] = omega arith
 put_few path row (pair ∷ pairs) = by (slice_cmp nat_cmp path pair.0) (put_few path row pairs)
   where
     by : (o : Ordering) → length (put (slice_cmp nat_cmp) path row pairs) ≤ suc (length pairs) →
-        length (by_order o ((path, row) ∷ pair ∷ pairs) ((pair.0, row) ∷ pairs) (pair ∷ put (slice_cmp nat_cmp) path row pairs)) ≤ suc (suc (length pairs))
+        length (by_order o ((path, row) ∷ pair ∷ pairs) ((pair.0, row) ∷ pairs) (pair ∷ put (slice_cmp nat_cmp) path row pairs))
+        ≤ suc (suc (length pairs))
     by Less rest = omega arith
     by Equal rest = omega arith
     by Greater rest = omega arith
@@ -38,10 +43,12 @@ row_long : (o : Option ℕ) → ((row : ℕ) → o ≡ Some row → IsLong row) 
 row_long None long = omega arith
 row_long (Some row) long = long row refl
 
-ordered_pairs : (rows : List ℕ → Option ℕ) (reads : List (List ℕ)) → ((path : List ℕ) (row : ℕ) → rows path ≡ Some row → IsLong row) → AllByRecursion IsBelowRoot reads → AllByRecursion IsPair (in_order rows reads)
+ordered_pairs : (rows : List ℕ → Option ℕ) (reads : List (List ℕ)) → ((path : List ℕ) (row : ℕ) → rows path ≡ Some row
+    → IsLong row) → AllByRecursion IsBelowRoot reads → AllByRecursion IsPair (in_order rows reads)
 ordered_pairs rows [] long below = tt
 ordered_pairs rows (path ∷ reads) long below =
-    put_pairs path (entry_row (rows path)) (in_order rows reads) below.0 (row_long (rows path) (long path)) (ordered_pairs rows reads long below.1)
+    put_pairs path (entry_row (rows path)) (in_order rows reads) below.0 (row_long (rows path) (long path))
+    (ordered_pairs rows reads long below.1)
 
 ordered_few : (rows : List ℕ → Option ℕ) (reads : List (List ℕ)) → length (in_order rows reads) ≤ length reads
 ordered_few rows [] = omega arith
@@ -51,7 +58,8 @@ ordered_few rows (path ∷ reads) =
 
 ordered_sorted : (rows : List ℕ → Option ℕ) (reads : List (List ℕ)) → T (is_sorted (slice_cmp nat_cmp) (in_order rows reads))
 ordered_sorted rows [] = tt
-ordered_sorted rows (path ∷ reads) = is_sorted-put (slice_cmp nat_cmp) nat_list_cmp_total path (entry_row (rows path)) (in_order rows reads) (ordered_sorted rows reads)
+ordered_sorted rows (path ∷ reads) = is_sorted-put (slice_cmp nat_cmp) nat_list_cmp_total path (entry_row (rows path))
+    (in_order rows reads) (ordered_sorted rows reads)
 
 -- pairs as entries
 mapped_each : (pairs : List (List ℕ × ℕ)) → AllByRecursion IsPair pairs → AllByRecursion IsEntry (map as_entry pairs)
@@ -78,7 +86,8 @@ mapped_below path (pair ∷ pairs) h =
     let parts = and_parts (is_lt (slice_cmp nat_cmp path pair.0)) (below_all (slice_cmp nat_cmp) path pairs) h in
     (less (slice_cmp nat_cmp path pair.0) parts.0, mapped_below path pairs parts.1)
 
-mapped_sorted : (pairs : List (List ℕ × ℕ)) → T (is_sorted (slice_cmp nat_cmp) pairs) → IsStrictlySortedBy (slice_cmp nat_cmp) (map path_of_entry (map as_entry pairs))
+mapped_sorted : (pairs : List (List ℕ × ℕ)) → T (is_sorted (slice_cmp nat_cmp) pairs)
+    → IsStrictlySortedBy (slice_cmp nat_cmp) (map path_of_entry (map as_entry pairs))
 unfolding IsStrictlySortedBy
 mapped_sorted [] h = tt
 mapped_sorted (pair ∷ pairs) h =
@@ -86,7 +95,8 @@ mapped_sorted (pair ∷ pairs) h =
     (mapped_below pair.0 pairs parts.0, mapped_sorted pairs parts.1)
 
 -- The entries of reads below the root, whose rows are numbers of eight bytes, are formed.
-pub entries_formed : (rows : List ℕ → Option ℕ) (reads : List (List ℕ)) → ((path : List ℕ) (row : ℕ) → rows path ≡ Some row → IsLong row) → AllByRecursion IsBelowRoot reads → length reads < 2 ^ 32 →
+pub entries_formed : (rows : List ℕ → Option ℕ) (reads : List (List ℕ))
+    → ((path : List ℕ) (row : ℕ) → rows path ≡ Some row → IsLong row) → AllByRecursion IsBelowRoot reads → length reads < 2 ^ 32 →
     AreEntries (entries rows reads)
 entries_formed rows reads long below few = (
   (

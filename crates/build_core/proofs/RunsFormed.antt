@@ -28,16 +28,19 @@ texts_seen b build n unit path = text_of_row b path (visible b build n unit path
 rootless : (b : Base) (build : Build) (n : ℕ) (unit : Unit) → HasObjects b build → texts_seen b build n unit root ≡ None
 rootless b build n unit h = ap (text_of_row b root) (nothing_at_root b build n unit h)
 
-reads_formed : (b : Base) (build : Build) (n : ℕ) (unit : Unit) (outputs : List (List ℕ)) → is_base b ≡ true → CanPublish b build unit → (here b build n unit).result ≡ Ok outputs →
+reads_formed : (b : Base) (build : Build) (n : ℕ) (unit : Unit) (outputs : List (List ℕ)) → is_base b ≡ true
+    → CanPublish b build unit → (here b build n unit).result ≡ Ok outputs →
     AreEntries (entries (visible b build n unit) (here b build n unit).reads)
 reads_formed b build n unit outputs base h ran =
     entries_formed (visible b build n unit) (here b build n unit).reads
-    (λ path row is. let low = seen_is_below b build n unit path row (first_are_base b build.rows base) h.objects is in let room = base_has_room b base in omega arith)
+    (λ path row is. let low = seen_is_below b build n unit path row (first_are_base b build.rows base) h.objects is in
+    let room = base_has_room b base in omega arith)
     are.each
     (let few = are.few in let short = h.script in omega arith)
   where
     are : AreReads (length (script_text unit.script) + 100000) (here b build n unit).reads
-    are = reads_below (script_text unit.script) unit.targets (texts_seen b build n unit) outputs (rootless b build n unit h.objects) ran
+    are = reads_below (script_text unit.script) unit.targets (texts_seen b build n unit) outputs
+        (rootless b build n unit h.objects) ran
 
 outputs_formed : (targets outputs : List (List ℕ)) → AreTargets targets → AreOutputs targets outputs → IsListOf IsText outputs
 outputs_formed targets outputs are h = (
@@ -46,21 +49,26 @@ outputs_formed targets outputs are h = (
 )
 
 -- The deed of a unit's run that succeeds is formed.
-pub publish_is_formed : (b : Base) (build : Build) (n : ℕ) (unit : Unit) (outputs : List (List ℕ)) → is_base b ≡ true → CanPublish b build unit → (here b build n unit).result ≡ Ok outputs →
-    IsDeedFormed (deeds.Publish build.view unit.targets (script_text unit.script) (entries (visible b build n unit) (here b build n unit).reads) outputs)
+pub publish_is_formed : (b : Base) (build : Build) (n : ℕ) (unit : Unit) (outputs : List (List ℕ)) → is_base b ≡ true
+    → CanPublish b build unit → (here b build n unit).result ≡ Ok outputs →
+    IsDeedFormed (deeds.Publish build.view unit.targets (script_text unit.script)
+    (entries (visible b build n unit) (here b build n unit).reads) outputs)
 publish_is_formed b build n unit outputs base h ran =
-    let are = outputs_short (script_text unit.script) unit.targets (texts_seen b build n unit) outputs (rootless b build n unit h.objects) ran in (
+    let are = outputs_short (script_text unit.script) unit.targets (texts_seen b build n unit) outputs
+    (rootless b build n unit h.objects) ran in (
       (h.view, h.targets, (let short = h.script in omega arith), reads_formed b build n unit outputs base h ran, are.many),
       outputs_formed unit.targets outputs h.targets are,
     )
 
 -- So is the deed that a unit would publish.
-pub published_is_formed : (b : Base) (build : Build) (n : ℕ) (unit : Unit) (deed : Deed) → is_base b ≡ true → CanPublish b build unit → publish_of b build n unit ≡ Some deed → IsDeedFormed deed
+pub published_is_formed : (b : Base) (build : Build) (n : ℕ) (unit : Unit) (deed : Deed) → is_base b ≡ true
+    → CanPublish b build unit → publish_of b build n unit ≡ Some deed → IsDeedFormed deed
 published_is_formed b build n unit deed base h is = by (here b build n unit).result refl is
   where
     by : (r : Result (List (List ℕ)) ScriptFault) → (here b build n unit).result ≡ r →
         publish_by build unit (entries (visible b build n unit) (here b build n unit).reads) r ≡ Some deed → IsDeedFormed deed
     by (Err fault) ran is = absurd (cc)
     by (Ok outputs) ran is =
-        let same : deeds.Publish build.view unit.targets (script_text unit.script) (entries (visible b build n unit) (here b build n unit).reads) outputs ≡ deed = cc in
+        let same : deeds.Publish build.view unit.targets (script_text unit.script)
+        (entries (visible b build n unit) (here b build n unit).reads) outputs ≡ deed = cc in
         subst IsDeedFormed same (publish_is_formed b build n unit outputs base h ran)

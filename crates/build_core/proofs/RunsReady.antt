@@ -28,7 +28,8 @@ base_has_room (row ∷ older) h =
     omega arith
 
 -- A consistent build of formed units has objects of the base alone.
-pub consistent_objects : (b : Base) (build : Build) → AllByRecursion IsUnitFormed build.units → IsConsistent b build → HasObjects b build
+pub consistent_objects : (b : Base) (build : Build) → AllByRecursion IsUnitFormed build.units → IsConsistent b build
+    → HasObjects b build
 consistent_objects b build units h = record {
   rootless = λ m unit is. makes_no_root unit (each_at IsUnitFormed build.units m unit units is).0;
   below = λ m unit id is own. (h.objects m unit id is own).below;
@@ -41,7 +42,8 @@ short_text TooLong h = omega arith
 short_text (Lines text) h = h
 
 -- Its units may publish.
-pub can_publish : (b : Base) (build : Build) (n : ℕ) (unit : Unit) → IsName build.view → AllByRecursion IsUnitFormed build.units → IsConsistent b build → unit_at build n ≡ Some unit → CanPublish b build unit
+pub can_publish : (b : Base) (build : Build) (n : ℕ) (unit : Unit) → IsName build.view → AllByRecursion IsUnitFormed build.units
+    → IsConsistent b build → unit_at build n ≡ Some unit → CanPublish b build unit
 can_publish b build n unit view units h is = record {
   view = view;
   targets = (each_at IsUnitFormed build.units n unit units is).0;

@@ -16,7 +16,8 @@ each_formed [] h = tt
 each_formed (unit ∷ made) h = ((h.0.targets, h.0.script), each_formed made h.1)
 
 -- The units of a build are formed.
-pub units_formed : (files : Files) (file : Option (List ℕ)) (macros : List Macro) (goals : List (List ℕ)) (made : List Unit) → units files file macros goals ≡ Ok made → AllByRecursion IsUnitFormed made
+pub units_formed : (files : Files) (file : Option (List ℕ)) (macros : List Macro) (goals : List (List ℕ)) (made : List Unit)
+    → units files file macros goals ≡ Ok made → AllByRecursion IsUnitFormed made
 units_formed files file macros goals made h =
     let of = of_formed files file macros goals made h in
     each_formed made (laws.units_formed of.make goals (λ path. is_some (files path)) made of.formed of.graph)

@@ -1,8 +1,9 @@
 -- A line has no more words than bytes, and the lines of a text no more bytes than the text.
-use Rattle.std.proofs.Common.{◌≡◌, refl, ap, ◌∙◌, ℕ, suc, ◌+◌, ◌==◌, ◌≤◌, Bool, true, false, cond, List, [], ◌∷◌, length, if◌then◌else◌, arith, length-append}
+use Rattle.std.proofs.Common.{◌≡◌, refl, ap, ◌∙◌, ℕ, suc, ◌+◌, ◌==◌, ◌≤◌, Bool, true, false, cond, List, [], ◌∷◌, length}
+use Rattle.std.proofs.Common.{if◌then◌else◌, arith, length-append}
 use Rattle.std.specs.List.{flat_map, slice_split, onto_first}
 use Rattle.cc_names.specs.Cuts.{is_blank}
-use Rattle.script_grammar.specs.Words.{is_alike, is_arrow, before_runs, runs, arrows, words_of_run, words, without_at}
+use Rattle.script_grammar.specs.Words.{is_alike, is_arrow_byte, before_runs, runs, arrows, words_of_run, words, without_at}
 
 -- how many bytes some texts have in all
 abbrev pub total : List (List ℕ) → ℕ
@@ -14,7 +15,8 @@ before_total : (b : ℕ) (found : List (List ℕ)) → total (before_runs b foun
 before_total b [] = omega arith
 before_total b ([] ∷ others) = omega arith
 before_total b ((c ∷ run) ∷ others) =
-    elim (is_alike b c) as (λ (t : Bool). total (if t then (b ∷ c ∷ run) ∷ others else (b ∷ []) ∷ (c ∷ run) ∷ others) ≡ suc (total ((c ∷ run) ∷ others)))
+    elim (is_alike b c) as (λ (t : Bool). total (if t then (b ∷ c ∷ run) ∷ others else (b ∷ []) ∷ (c ∷ run) ∷ others)
+    ≡ suc (total ((c ∷ run) ∷ others)))
     [ true ↦ omega arith | false ↦ omega arith ]
 
 runs_total : (line : List ℕ) → total (runs line) ≡ length line
@@ -29,9 +31,11 @@ arrows_few (a ∷ b ∷ more) = let rest = arrows_few more in omega arith
 run_few : (run : List ℕ) → length (words_of_run run) ≤ length run
 run_few [] = omega arith
 run_few (b ∷ run) =
-    elim (is_blank b) as (λ (t : Bool). length (if t then [] else if is_arrow b then arrows (b ∷ run) else (b ∷ run) ∷ []) ≤ suc (length run)) [
+    elim (is_blank b) as (λ (t : Bool). length (if t then [] else if is_arrow_byte b then arrows (b ∷ run) else (b ∷ run) ∷ [])
+    ≤ suc (length run)) [
       | true ↦ omega arith
-      | false ↦ elim (is_arrow b) as (λ (t : Bool). length (if t then arrows (b ∷ run) else (b ∷ run) ∷ []) ≤ suc (length run))
+      | false ↦ elim (is_arrow_byte b) as (λ (t : Bool). length (if t then arrows (b ∷ run) else (b ∷ run) ∷ [])
+          ≤ suc (length run))
           [ true ↦ arrows_few (b ∷ run) | false ↦ omega arith ]
     ]
 
@@ -49,9 +53,14 @@ pub without_at_few : (line : List ℕ) → length (without_at line) ≤ length l
 without_at_few [] = omega arith
 without_at_few (b ∷ line) =
     let rest = without_at_few line in
-    elim (is_blank b) as (λ (t : Bool). length (if t then without_at line else if b == 64 then line else b ∷ line) ≤ suc (length line)) [
+    elim (is_blank b) as (λ (t : Bool). length (if t then without_at line else if b == 64 then line else b ∷ line)
+    ≤ suc (length line)) [
       | true ↦ omega arith
-      | false ↦ elim (b == 64) as (λ (t : Bool). length (if t then line else b ∷ line) ≤ suc (length line)) [ true ↦ omega arith | false ↦ omega arith ]
+      | false ↦ elim (b == 64) as (λ (t : Bool). length (if t then line else b ∷ line) ≤ suc (length line)) [
+        | true ↦
+            omega arith
+        | false ↦ omega arith
+      ]
     ]
 
 -- the parts of a text
@@ -63,5 +72,6 @@ pub split_total : (test : ℕ → Bool) (text : List ℕ) → total (slice_split
 split_total test [] = omega arith
 split_total test (b ∷ text) =
     let rest = split_total test text in
-    elim (test b) as (λ (t : Bool). total (cond t ([] ∷ slice_split test text) (onto_first b (slice_split test text))) ≤ suc (length text))
+    elim (test b) as (λ (t : Bool). total (cond t ([] ∷ slice_split test text) (onto_first b (slice_split test text)))
+    ≤ suc (length text))
     [ true ↦ omega arith | false ↦ omega (arith, onto_total b (slice_split test text)) ]

@@ -1,5 +1,6 @@
 -- Look-ups and changes of a table by number, in its slots: the number n has slot i, where the first is numbered k.
-use Rattle.std.proofs.Common.{◌≡◌, ℕ, zero, suc, ◌+◌, ◌<◌, true, false, not, ◌==◌, Option, Some, None, List, [], ◌∷◌, length, refl, ap, ◌∙◌, arith}
+use Rattle.std.proofs.Common.{◌≡◌, ℕ, zero, suc, ◌+◌, ◌<◌, true, false, not, ◌==◌, Option, Some, None, List, [], ◌∷◌, length}
+use Rattle.std.proofs.Common.{refl, ap, ◌∙◌, arith}
 use Rattle.std.proofs.Math.ListN.{set}
 use Rattle.std.proofs.lemmas.Bool.Decides.{nat_tests}
 use Rattle.std.specs.Ordering.{nat_cmp}
@@ -32,7 +33,8 @@ find_below n k (None ∷ slots) h = find_below n (k + 1) slots (omega arith)
 find_below n k (Some a ∷ slots) h = rw (less n k h) (find_below n (k + 1) slots (omega arith))
 
 -- what is found at a number is what its slot holds
-pub find_numbered : {A : Type 0} (n k i : ℕ) (slots : List (Option A)) → n ≡ k + i → find nat_cmp n (numbered_slots k slots) ≡ held_in slots i
+pub find_numbered : {A : Type 0} (n k i : ℕ) (slots : List (Option A)) → n ≡ k + i
+    → find nat_cmp n (numbered_slots k slots) ≡ held_in slots i
 find_numbered n k i [] e = refl
 find_numbered n k zero (None ∷ slots) e = find_below n (k + 1) slots (omega arith)
 find_numbered n k zero (Some a ∷ slots) e = rw (equal n k (omega arith)) refl
@@ -40,7 +42,8 @@ find_numbered n k (suc i) (None ∷ slots) e = find_numbered n (k + 1) i slots (
 find_numbered n k (suc i) (Some a ∷ slots) e = rw (greater n k (omega arith)) (find_numbered n (k + 1) i slots (omega arith))
 
 -- what is put below the first number stands before the others
-put_below : {A : Type 0} (n k : ℕ) (a : A) (slots : List (Option A)) → n < k → put nat_cmp n a (numbered_slots k slots) ≡ (n, a) ∷ numbered_slots k slots
+put_below : {A : Type 0} (n k : ℕ) (a : A) (slots : List (Option A)) → n < k
+    → put nat_cmp n a (numbered_slots k slots) ≡ (n, a) ∷ numbered_slots k slots
 put_below n k a [] h = refl
 put_below n k a (None ∷ slots) h = put_below n (k + 1) a slots (omega arith)
 put_below n k a (Some b ∷ slots) h = rw (less n k h) refl
@@ -58,7 +61,8 @@ put_numbered n k (suc i) a (Some b ∷ slots) e h =
     rw (greater n k (omega arith)) (ap (λ rest. (k, b) ∷ rest) (put_numbered n (k + 1) i a slots (omega arith) (omega arith)))
 
 -- what is taken away below the first number was not there
-without_below : {A : Type 0} (n k : ℕ) (slots : List (Option A)) → n < k → where_key nat_cmp (λ key. not (key == n)) (numbered_slots k slots) ≡ numbered_slots k slots
+without_below : {A : Type 0} (n k : ℕ) (slots : List (Option A)) → n < k
+    → where_key nat_cmp (λ key. not (key == n)) (numbered_slots k slots) ≡ numbered_slots k slots
 without_below n k [] h = refl
 without_below n k (None ∷ slots) h = without_below n (k + 1) slots (omega arith)
 without_below n k (Some b ∷ slots) h =

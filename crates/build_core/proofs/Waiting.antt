@@ -19,11 +19,13 @@ over_unit : (build : Build) (place : Option ℕ) → awaited_unit build place �
 over_unit build None e = refl
 over_unit build (Some n) e = over_here (is_outcome (came_to build n)) n e
 
-pub awaits_none : (build : Build) (paths : List (List ℕ)) → first_awaited build paths ≡ None → list_all (λ path. is_over build (unit_with build path)) paths ≡ true
+pub awaits_none : (build : Build) (paths : List (List ℕ)) → first_awaited build paths ≡ None
+    → list_all (λ path. is_over build (unit_with build path)) paths ≡ true
 awaits_none build [] e = refl
 awaits_none build (path ∷ paths) e =
     let parts = both_none (awaited_unit build (unit_with build path)) (first_awaited build paths) e in
-    ap (λ here. here && list_all (λ path. is_over build (unit_with build path)) paths) (over_unit build (unit_with build path) parts.0)
+    ap (λ here. here && list_all (λ path. is_over build (unit_with build path)) paths)
+    (over_unit build (unit_with build path) parts.0)
     ∙ awaits_none build paths parts.1
 
 and_false : (b : Bool) → (b && false) ≡ false
@@ -34,9 +36,12 @@ same_path : (one other : List ℕ) → Some one ≡ Some other → one ≡ other
 same_path one other e = cc
 
 -- where the unit of one path has no outcome, not all have
-pub one_is_not_over : (build : Build) (paths : List (List ℕ)) (i : ℕ) (path : List ℕ) → slice_get paths i ≡ Some path → is_over build (unit_with build path) ≡ false → list_all (λ path. is_over build (unit_with build path)) paths ≡ false
+pub one_is_not_over : (build : Build) (paths : List (List ℕ)) (i : ℕ) (path : List ℕ) → slice_get paths i ≡ Some path
+    → is_over build (unit_with build path) ≡ false → list_all (λ path. is_over build (unit_with build path)) paths ≡ false
 one_is_not_over build [] i path at over = absurd (cc)
 one_is_not_over build (one ∷ rest) zero path at over =
-    ap (λ here. here && list_all (λ path. is_over build (unit_with build path)) rest) (ap (λ path. is_over build (unit_with build path)) (same_path one path at) ∙ over)
+    ap (λ here. here && list_all (λ path. is_over build (unit_with build path)) rest)
+    (ap (λ path. is_over build (unit_with build path)) (same_path one path at) ∙ over)
 one_is_not_over build (one ∷ rest) (suc i) path at over =
-    ap (λ later. is_over build (unit_with build one) && later) (one_is_not_over build rest i path at over) ∙ and_false (is_over build (unit_with build one))
+    ap (λ later. is_over build (unit_with build one) && later) (one_is_not_over build rest i path at over)
+    ∙ and_false (is_over build (unit_with build one))

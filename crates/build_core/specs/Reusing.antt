@@ -28,4 +28,5 @@ object_chosen (Other id) = Some id
 abbrev pub IsChosen : Base → Build → ℕ → Unit → Chosen → Type 0
 IsChosen b build n unit Nothing = reusable b build n unit ≡ None
 IsChosen b build n unit (Held id) = (reusable b build n unit ≡ Some id) × (held_at_all b build.view unit.targets ≡ Some id)
-IsChosen b build n unit (Other id) = (reusable b build n unit ≡ Some id) × (is_number id (held_at_all b build.view unit.targets) ≡ false)
+IsChosen b build n unit (Other id) = (reusable b build n unit ≡ Some id)
+    × (is_number id (held_at_all b build.view unit.targets) ≡ false)

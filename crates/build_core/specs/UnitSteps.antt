@@ -12,7 +12,7 @@ use Rattle.legal_history.specs.Builds.Active.{Build, came_to, is_outcome, unit_a
 use Rattle.legal_history.specs.Builds.Fresh.{script_text}
 use Rattle.base_model.specs.Objects.{held_at_all}
 use Rattle.legal_history.specs.Builds.Reuse.{reusable}
-use Rattle.legal_history.specs.Builds.Turns.{early_in, is_ready}
+use Rattle.legal_history.specs.Builds.Turns.{early_in, is_unit_ready}
 use Rattle.build_core.specs.declared.steps.UnitStep.{UnitStep}
 use Rattle.build_core.specs.declared.steps.UnitStep.TheVariants as next
 
@@ -38,37 +38,38 @@ pub record Awaits (build : Build) (unit : Unit) (m : ℕ) : Type 0 where
   pub waits : is_outcome (came_to build m) ≡ false
 
 -- the unit ends without a run, where its build's reference rows are these
-pub record EndsEarly (rows : Base) (build : Build) (unit : Unit) (end : UnitEnd) : Type 0 where
-  pub ready : is_ready build unit ≡ true
+pub record UnitEndsEarly (rows : Base) (build : Build) (unit : Unit) (end : UnitEnd) : Type 0 where
+  pub ready : is_unit_ready build unit ≡ true
   pub ends : early_in rows build unit ≡ Some end
 
 -- nothing ends the unit without a run
-pub record IsOpen (rows : Base) (build : Build) (unit : Unit) : Type 0 where
-  pub ready : is_ready build unit ≡ true
+pub record IsUnitOpen (rows : Base) (build : Build) (unit : Unit) : Type 0 where
+  pub ready : is_unit_ready build unit ≡ true
   pub runs : early_in rows build unit ≡ None
 
 -- unit n is open, and the object that it may reuse is the one that its build's view holds at every target
-pub record Keeps (b : Base) (build : Build) (n : ℕ) (unit : Unit) (id : ℕ) : Type 0 where
-  pub open_unit : IsOpen (first_rows build.rows b) build unit
+pub record UnitKeeps (b : Base) (build : Build) (n : ℕ) (unit : Unit) (id : ℕ) : Type 0 where
+  pub open_unit : IsUnitOpen (first_rows build.rows b) build unit
   pub chosen : reusable b build n unit ≡ Some id
   pub holds : held_at_all b build.view unit.targets ≡ Some id
 
 -- unit n is open, and its build's view does not hold the object that it may reuse at every target
-pub record Winks (b : Base) (build : Build) (n : ℕ) (unit : Unit) (id : ℕ) : Type 0 where
-  pub open_unit : IsOpen (first_rows build.rows b) build unit
+pub record UnitWinks (b : Base) (build : Build) (n : ℕ) (unit : Unit) (id : ℕ) : Type 0 where
+  pub open_unit : IsUnitOpen (first_rows build.rows b) build unit
   pub chosen : reusable b build n unit ≡ Some id
   pub lacks : is_number id (held_at_all b build.view unit.targets) ≡ false
 
 -- unit n is open, and may reuse no object
 pub record IsToRun (b : Base) (build : Build) (n : ℕ) (unit : Unit) : Type 0 where
-  pub open_unit : IsOpen (first_rows build.rows b) build unit
+  pub open_unit : IsUnitOpen (first_rows build.rows b) build unit
   pub nothing : reusable b build n unit ≡ None
 
 -- unit n is to run, and its script was read
-pub record Starts (b : Base) (build : Build) (n : ℕ) (unit : Unit) (script : List Line) (targets : List (List ℕ)) : Type 0 where
-  pub to_run : IsToRun b build n unit
-  pub script_is : script_of (script_text unit.script) ≡ Ok script
-  pub targets_are : targets ≡ unit.targets
+pub record UnitStarts (b : Base) (build : Build) (n : ℕ) (unit : Unit) (script : List Line) (targets : List (List ℕ)) : Type 0
+  where
+    pub to_run : IsToRun b build n unit
+    pub script_is : script_of (script_text unit.script) ≡ Ok script
+    pub targets_are : targets ≡ unit.targets
 
 -- unit n is to run, and its script cannot be read
 pub record IsUnreadable (b : Base) (build : Build) (n : ℕ) (unit : Unit) (fault : ScriptFault) : Type 0 where
@@ -76,23 +77,23 @@ pub record IsUnreadable (b : Base) (build : Build) (n : ℕ) (unit : Unit) (faul
   pub fault_is : script_of (script_text unit.script) ≡ Err fault
 
 -- what comes next for unit n, which has no outcome
-abbrev pub IsNext : Base → Build → ℕ → Unit → UnitStep → Type 0
-IsNext b build n unit next.Concluded = ⊥
-IsNext b build n unit (next.NotReady m) = Awaits build unit m
-IsNext b build n unit (next.EndEarly end) = EndsEarly (first_rows build.rows b) build unit end
-IsNext b build n unit (next.Keep id) = Keeps b build n unit id
-IsNext b build n unit (next.Wink id) = Winks b build n unit id
-IsNext b build n unit (next.Start script targets) = Starts b build n unit script targets
-IsNext b build n unit (next.Unreadable fault) = IsUnreadable b build n unit fault
+abbrev pub IsNextOfUnit : Base → Build → ℕ → Unit → UnitStep → Type 0
+IsNextOfUnit b build n unit next.Concluded = ⊥
+IsNextOfUnit b build n unit (next.NotReady m) = Awaits build unit m
+IsNextOfUnit b build n unit (next.EndEarly end) = UnitEndsEarly (first_rows build.rows b) build unit end
+IsNextOfUnit b build n unit (next.Keep id) = UnitKeeps b build n unit id
+IsNextOfUnit b build n unit (next.Wink id) = UnitWinks b build n unit id
+IsNextOfUnit b build n unit (next.Start script targets) = UnitStarts b build n unit script targets
+IsNextOfUnit b build n unit (next.Unreadable fault) = IsUnreadable b build n unit fault
 
 -- unit n has no outcome, and this comes next for it
-pub record Waits (b : Base) (build : Build) (n : ℕ) (step : UnitStep) : Type 0 where
+pub record UnitWaits (b : Base) (build : Build) (n : ℕ) (step : UnitStep) : Type 0 where
   pub unit : Unit
   pub is_unit : unit_at build n ≡ Some unit
   pub waits : is_outcome (came_to build n) ≡ false
-  pub next : IsNext b build n unit step
+  pub next : IsNextOfUnit b build n unit step
 
 -- What comes next for unit n of a build: nothing where it has its outcome.
-abbrev pub IsStep : Base → Build → ℕ → UnitStep → Type 0
-IsStep b build n next.Concluded = is_outcome (came_to build n) ≡ true
-IsStep b build n step = Waits b build n step
+abbrev pub IsUnitStep : Base → Build → ℕ → UnitStep → Type 0
+IsUnitStep b build n next.Concluded = is_outcome (came_to build n) ≡ true
+IsUnitStep b build n step = UnitWaits b build n step

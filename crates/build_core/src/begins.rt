@@ -97,7 +97,7 @@ fn refusal_of_room(taken: u64, units: u64) -> Option<Refusal>
 }
 
 /// The units with which a build in a view begins, or its first refusal.
-fn units_of_build(
+fn units_to_begin(
     alloc: Global,
     hashing: RandomState,
     rows: &FirstRows<'_>,
@@ -146,7 +146,7 @@ pub fn plan_build(
     ensures formed { IfOk result (λ build. IsBuildFormed build) }
     ensures room { IfOk result (λ build. occasion.taken + length build.units ≤ row_limit) }
 {
-    let graph = units_of_build(
+    let graph = units_to_begin(
         alloc,
         hashing,
         rows,

@@ -126,7 +126,7 @@ fn no_directory(
     }
 }
 
-fn first_target(alloc: Global, targets: &[Path]) -> Result<Path, NoMemory>
+fn copy_first_target(alloc: Global, targets: &[Path]) -> Result<Path, NoMemory>
     ensures { IfOk result (λ target. target ≡ first_target targets.now) }
 {
     match targets {
@@ -141,7 +141,7 @@ fn no_script(alloc: Global, unit: &Unit) -> Result<Option<UnitEnd>, NoMemory>
     match &unit.script {
         UnitScript::Bare => Ok(Some(UnitEnd::Bare)),
         UnitScript::TooLong => {
-            let target = first_target(alloc, unit.targets.as_slice())?;
+            let target = copy_first_target(alloc, unit.targets.as_slice())?;
             Ok(Some(UnitEnd::Failed(UnitFault::ScriptTooLong(target))))
         }
         UnitScript::Lines(_) => Ok(None),

@@ -6,7 +6,7 @@ ghost use Rattle.base_model.specs.Rows.{first_rows};
 ghost use Rattle.base_model.specs.Seen.{file_at};
 ghost use Rattle.legal_history.specs.Builds.Active.{unit_at};
 ghost use Rattle.legal_history.specs.Builds.Choices.{visible};
-ghost use Rattle.clearmake.specs.FoundTexts.{IsFetched, standing_at, standing_of, stands};
+ghost use Rattle.clearmake.specs.FoundTexts.{IsFetched, standing_at, found_standing, stands_for_unit};
 ghost use Rattle.build_core.specs.VisibleObjects.{object_marked, AreNeeds};
 
 use crate::active::ActiveBuild;
@@ -65,7 +65,7 @@ pub(crate) fn visible(
 
 /// What a row made at the path.
 fn text_found(alloc: Global, rows: &FirstRows<'_>, row: u64, path: &Path) -> Got
-    ensures { IsFetched result (standing_of rows.now path.now row) }
+    ensures { IsFetched result (found_standing rows.now path.now row) }
 {
     let Some(bytes) = text_of(rows, row, path) else {
         return Got::Absent;
@@ -90,7 +90,7 @@ fn fetch(
     requires needs { AreNeeds build.now unit closure.now }
     ensures { (it : units.Unit)
         → unit_at build.now unit ≡ Some it
-        → IsFetched result (stands rows.now build.now unit it path.now) }
+        → IsFetched result (stands_for_unit rows.now build.now unit it path.now) }
 {
     match visible(rows, build, unit, closure, path) {
         Some(row) => text_found(alloc, rows, row, path),

@@ -2,7 +2,8 @@
 //!
 //! What it is for: `plan_build` decides a clearmake: which units its build has, over the files of its view, or why it is
 //! refused. An `ActiveBuild` keeps what its units have come to; `step` says what comes next for a unit, `fetch_for_unit` what
-//! its script finds at a path, `reusable` which object it may reuse in place of a run, and `released_units` which units can be driven
+//! its script finds at a path, `reusable` which object it may reuse in place of a run, and `released_units` which units can be
+//! driven
 //! once it has its outcome. `publish_row` makes the row of what a run gave, `wink_row` that by which the view winks an object
 //! in, and `reply_of` says what a build that has ended is replied.
 //!

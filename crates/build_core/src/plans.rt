@@ -5,7 +5,7 @@ ghost use Rattle.cc_names.specs.Answers.{Gives};
 ghost use Rattle.cc_names.specs.Paths.{path_of};
 ghost use Rattle.make_grammar.specs.Grammar.{makefile_of};
 ghost use Rattle.make_grammar.specs.Graphs.{graph_of, units, units_at, units_of};
-ghost use Rattle.make_grammar.specs.Units.{main_file, refusal_of, unless_refused};
+ghost use Rattle.make_grammar.specs.Units.{main_file, refusal_of, units_unless_refused};
 
 use cc_names::commands::Macro;
 use cc_names::memory::{NoMemory, Or};
@@ -79,7 +79,7 @@ fn graph_of<X: Texts>(
     goals: &[Path],
 ) -> Result<Graph, Or<Refusal>>
     ensures { Gives result
-        (unless_refused (graph_of make.now goals.now (λ path. is_some (X.texts texts.now path)))) }
+        (units_unless_refused (graph_of make.now goals.now (λ path. is_some (X.texts texts.now path)))) }
 {
     match Graph::of(alloc, hashing, make, goals, &Files { texts }) {
         Ok(graph) => Ok(graph),

@@ -46,7 +46,7 @@ fn rows_read(
 }
 
 /// The record of reads.
-fn entries_of(alloc: Global, found: BTreeMap<Path, u64>) -> Result<List<ReadOf>, NoMemory>
+fn record_of_reads(alloc: Global, found: BTreeMap<Path, u64>) -> Result<List<ReadOf>, NoMemory>
     ensures { IfOk result (λ entries. entries ≡ map as_entry found.entries) }
 {
     let entries = found
@@ -83,7 +83,7 @@ pub fn publish_row(
 {
     rows.size();
     let found = rows_read(alloc, rows, build, unit, reads)?;
-    let entries = entries_of(alloc, found)?;
+    let entries = record_of_reads(alloc, found)?;
     let unit = &build.units()[unit as usize];
     let deed = Deed::Publish {
         view: build.view().copy(alloc)?,

@@ -1,7 +1,7 @@
 //! The reply of a build that has ended: its units with objects at each of their targets, the others at their first.
 
 ghost use Rattle.std.specs.Prelude.{◌≡◌, ◌++◌, ◌<◌, ◌^◌, [], true, Some, length, option_copied, IfOk, OnOk};
-ghost use Rattle.legal_history.specs.Builds.Replied.{digest_at, is_of_tag, is_own, word_of_object, word_of_end, word_of_came, reported_targets, line_before, lines_of, lines_from, reply_of};
+ghost use Rattle.legal_history.specs.Builds.Replied.{digest_at, is_of_tag, is_own, word_of_object, word_of_end, word_of_came, reported_targets, line_before, unit_lines_of, lines_from, reply_of};
 ghost use Rattle.legal_history.specs.Builds.Active.{came_to, Given};
 ghost use Rattle.base_model.specs.Texts.{text};
 
@@ -100,7 +100,7 @@ fn word_of(
 }
 
 /// Puts the line of a unit at one of its targets behind others, if the unit has its outcome.
-fn push_line(
+fn push_unit_line(
     alloc: Global,
     rows: &FirstRows<'_>,
     build: &ActiveBuild,
@@ -133,12 +133,12 @@ fn push_lines(
     ensures { OnOk result
         (lines.new.items
         ≡ lines.old.items
-        ++ lines_of (λ path. word_of_came rows.now build.now path (came_to build.now unit))
+        ++ unit_lines_of (λ path. word_of_came rows.now build.now path (came_to build.now unit))
         targets.now) }
 {
     let mut rest = targets;
     while let Some((path, more)) = rest.split_first() {
-        push_line(alloc, rows, build, unit, path, lines)?;
+        push_unit_line(alloc, rows, build, unit, path, lines)?;
         rest = more;
     }
     Ok(())

@@ -7,7 +7,7 @@ ghost use Rattle.base_model.specs.Rows.{Base, first_rows};
 ghost use Rattle.legal_history.specs.Builds.Active.{Build, came_to, is_outcome, unit_at};
 ghost use Rattle.legal_history.specs.Builds.Fresh.{script_text};
 ghost use Rattle.legal_history.specs.Builds.Turns.{early_in};
-ghost use Rattle.build_core.specs.UnitSteps.{first_awaited, IsNext, IsOpen, IsStep, IsToRun};
+ghost use Rattle.build_core.specs.UnitSteps.{first_awaited, IsNextOfUnit, IsUnitOpen, IsUnitStep, IsToRun};
 
 use crate::active::ActiveBuild;
 use crate::ends::early;
@@ -84,7 +84,7 @@ fn read_script(alloc: Global, unit: &Unit) -> Result<Script, Or<ScriptFault>>
 fn start(alloc: Global, unit: &Unit) -> Result<UnitStep, NoMemory>
     ensures { (b : Base) (build : Build) (n : ℕ)
         → IsToRun b build n unit.now
-        → IfOk result (λ step. IsNext b build n unit.now step) }
+        → IfOk result (λ step. IsNextOfUnit b build n unit.now step) }
 {
     match read_script(alloc, unit) {
         Ok(script) => {
@@ -105,8 +105,8 @@ fn reuse_or_start(
     unit: &Unit,
 ) -> Result<UnitStep, NoMemory>
     requires unit { unit_at build.now number ≡ Some unit.now }
-    requires open_unit { IsOpen (first_rows build.now.rows rows.now) build.now unit.now }
-    ensures { IfOk result (λ step. IsNext rows.now build.now number unit.now step) }
+    requires open_unit { IsUnitOpen (first_rows build.now.rows rows.now) build.now unit.now }
+    ensures { IfOk result (λ step. IsNextOfUnit rows.now build.now number unit.now step) }
 {
     match choose(alloc, rows, build, number)? {
         Chosen::Held(id) => Ok(UnitStep::Keep(id)),
@@ -141,7 +141,7 @@ fn next(
 ) -> Result<UnitStep, NoMemory>
     requires unit { unit_at build.now number ≡ Some unit.now }
     requires few { length build.now.units < 2 ^ 32 }
-    ensures { IfOk result (λ step. IsNext rows.now build.now number unit.now step) }
+    ensures { IfOk result (λ step. IsNextOfUnit rows.now build.now number unit.now step) }
 {
     if let Some(other) = first_awaited(build, unit.prerequisites.as_slice()) {
         return Ok(UnitStep::NotReady(other));
@@ -166,7 +166,7 @@ pub fn step(
 ) -> Result<UnitStep, NoMemory>
     requires unit { unit < length build.now.units }
     requires few { length build.now.units < 2 ^ 32 }
-    ensures { IfOk result (λ step. IsStep rows.now build.now unit step) }
+    ensures { IfOk result (λ step. IsUnitStep rows.now build.now unit step) }
 {
     if build.has_outcome(unit) {
         return Ok(UnitStep::Concluded);

@@ -4,7 +4,8 @@ use Rattle.cc_names.specs.Files.{Files}
 use Rattle.cc_names.specs.declared.refusals.ScriptFault.{ScriptFault}
 use Rattle.cc_names.specs.declared.refusals.ScriptFault.TheVariants.{IncludeDepth}
 use Rattle.script_grammar.specs.Forms.{whole, first_lines, with_replaced, digest_line, linked_text}
-use Rattle.script_grammar.specs.Run.{Asking, Done, and_then, unless_fault, Output, Made, Found, Preprocessing, included_text, preprocessed_text, depth_limit, output_limit, probe_limit}
+use Rattle.script_grammar.specs.Run.{Asking, Done, and_then, unless_fault, Output, Made, Found, Preprocessing, included_text}
+use Rattle.script_grammar.specs.Run.{preprocessed_text, depth_limit, output_limit, probe_limit}
 use Rattle.build_script.specs.declared.forms.Form.{Form}
 use Rattle.build_script.specs.declared.forms.Form.TheVariants as forms
 
@@ -17,13 +18,14 @@ form_of forms.DigestLine path = digest_line
 form_of forms.Listed path = linked_text path
 
 -- an output by its parts
-abbrev pub output_at : List ℕ → ℕ → Output
-output_at path before = record { path = path; before = before }
+abbrev pub output_by_parts : List ℕ → ℕ → Output
+output_by_parts path before = record { path = path; before = before }
 
 -- `pp` goes on with the rests of the texts that it is inside of, the innermost first
 abbrev pub resumed_making : Preprocessing → List (List ℕ) → Made → Asking (Result Made ScriptFault)
 resumed_making pp [] made = Done (Ok made)
-resumed_making pp (rest ∷ below) made = and_then (preprocessed_text (depth_limit - length below) pp rest made) (unless_fault (resumed_making pp below))
+resumed_making pp (rest ∷ below) made = and_then (preprocessed_text (depth_limit - length below) pp rest made)
+    (unless_fault (resumed_making pp below))
 
 -- how much a `pp` may do at most: probes, bytes and texts to end
 abbrev pub left_of : Output → Made → ℕ → ℕ
@@ -39,8 +41,8 @@ abbrev pub preprocessing : Files → List (List ℕ) → Output → Preprocessin
 preprocessing own directories output = record { own = own; directories = directories; output = output }
 
 -- so many bytes made with so many probes, by their parts
-abbrev pub made_with : List ℕ → ℕ → Made
-made_with bytes probes = record { bytes = bytes; probes = probes }
+abbrev pub made_by_parts : List ℕ → ℕ → Made
+made_by_parts bytes probes = record { bytes = bytes; probes = probes }
 
 -- a text that was found with so many probes made by then, by its parts
 abbrev pub found_with : ℕ → List ℕ → Found

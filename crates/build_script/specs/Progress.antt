@@ -7,8 +7,8 @@ use Rattle.script_grammar.specs.Run.{State}
 use Rattle.build_script.specs.declared.progress.Progress.{Progress}
 
 -- a run by the code's record of it
-abbrev pub state_of : Progress → State
-state_of progress = record { own = own_of progress.written; probes = progress.probes }
+abbrev pub run_state : Progress → State
+run_state progress = record { own = own_of progress.written; probes = progress.probes }
 
 -- the same paths are among these as among those
 pub record HoldsEach (paths targets : List (List ℕ)) : Type 0 where

@@ -45,7 +45,7 @@ pub(crate) fn include_of(alloc: Global, line: &[u8]) -> Result<Option<Path>, NoM
     quoted_path(alloc, &line[INCLUDE_START.len()..])
 }
 
-/// A path under a directory, or nothing where it would be longer than a path may be: that is told by the lengths alone.
+/// A path under a directory, or nothing where it would be longer than a path may be: that is given by the lengths alone.
 #[tactic(auto, using(crate::proofs::IncludeLemmas::under_too_long))]
 pub(crate) fn under(alloc: Global, path: &Path, directory: &Path) -> Result<Option<Path>, NoMemory>
     ensures { IfOk result (λ place. place ≡ under path.now directory.now) }

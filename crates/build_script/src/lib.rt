@@ -7,7 +7,8 @@
 //! it; a run gives the outputs or the first fault that the definition of a run gives, and lists each path that it asked
 //! the files for, once, in the order of first asking.
 //!
-//! What it stands on: `script_grammar` for the definitions; `cc_names` for paths, texts and faults, and for newlines and blanks; `indexmap` for reads in the
+//! What it stands on: `script_grammar` for the definitions; `cc_names` for paths, texts and faults, and for newlines and blanks;
+//! `indexmap` for reads in the
 //! order of first asking, `sha2` and `hex` for digests, `memchr` for bytes that are looked for.
 #![tactic(auto)]
 

@@ -1,7 +1,7 @@
 //! What the lines of a script say.
 
 ghost use Rattle.std.specs.Prelude.{◌≡◌, ◌+◌, ◌≤◌, ◌^◌, IfOk, length, map, reverse};
-ghost use Rattle.script_grammar.specs.Lines.{path_in, paths_of, cat_of, link_of, directory_of, directories_of, preprocess_of, preprocess_of_reversed, only_path, substitute_of, head_by, head_of, digest_of, work_of, appends_of, makes, fail_of, line_of_reversed, line_of};
+ghost use Rattle.script_grammar.specs.Lines.{path_in, paths_of, cat_of, link_of, include_directory, directories_of, preprocess_of, preprocess_of_reversed, only_path, substitute_of, head_by, head_of, digest_work, work_of, appends_of, makes, fail_of, line_of_reversed, script_line_of};
 
 use crate::words::{without_at, words};
 use cc_names::lists::List;
@@ -80,7 +80,7 @@ fn read_only_path(alloc: Global, words: &[&[u8]]) -> Result<Option<Path>, NoMemo
 
 /// The directory of a pair of `-I` and a path, where the words are such a pair.
 fn read_pair(alloc: Global, words: &[&[u8]]) -> Result<Option<Path>, NoMemory>
-    ensures { IfOk result (λ path. path ≡ directory_of (map (λ word. word.now) words.now)) }
+    ensures { IfOk result (λ path. path ≡ include_directory (map (λ word. word.now) words.now)) }
 {
     match words.split_first() {
         Some((flag, behind)) if *flag == b"-I".as_slice() => read_only_path(alloc, behind),
@@ -155,7 +155,7 @@ fn read_head(alloc: Global, words: &[&[u8]]) -> Result<Option<Work>, NoMemory>
 
 /// The work of `sha`, which takes a path.
 fn read_digest(alloc: Global, words: &[&[u8]]) -> Result<Option<Work>, NoMemory>
-    ensures { IfOk result (λ work. work ≡ digest_of (map (λ word. word.now) words.now)) }
+    ensures { IfOk result (λ work. work ≡ digest_work (map (λ word. word.now) words.now)) }
 {
     Ok(read_only_path(alloc, words)?.map(Work::Digest))
 }
@@ -187,7 +187,7 @@ fn read_work(alloc: Global, words: &[&[u8]]) -> Result<Option<Work>, NoMemory>
 }
 
 /// Whether an arrow appends or replaces, and nothing for any other word.
-fn read_arrow(word: &[u8]) -> Option<bool>
+fn read_arrow_word(word: &[u8]) -> Option<bool>
     ensures { result ≡ appends_of word.now }
 {
     match word {
@@ -198,7 +198,7 @@ fn read_arrow(word: &[u8]) -> Option<bool>
 }
 
 /// A line of a work, an arrow and an output, where each of them can be read.
-fn read_parts(
+fn read_line_parts(
     alloc: Global,
     before: &[&[u8]],
     arrow: &[u8],
@@ -213,7 +213,7 @@ fn read_parts(
     let Some(work) = read_work(alloc, before)? else {
         return Ok(None);
     };
-    let Some(appends) = read_arrow(arrow) else {
+    let Some(appends) = read_arrow_word(arrow) else {
         return Ok(None);
     };
     let Some(output) = read_path(alloc, output)? else {
@@ -244,14 +244,18 @@ fn read_words(alloc: Global, number: u32, words: &[&[u8]]) -> Result<Option<Line
     let Some((arrow, before)) = words.split_last() else {
         return Ok(fail_of(number, output));
     };
-    read_parts(alloc, before, arrow, output)
+    read_line_parts(alloc, before, arrow, output)
 }
 
 /// The line of this number of a script, or nothing where its words are outside the language. Takes time linear in its
 /// bytes.
-pub(crate) fn read_line(alloc: Global, number: u64, bytes: &[u8]) -> Result<Option<Line>, NoMemory>
+pub(crate) fn read_script_line(
+    alloc: Global,
+    number: u64,
+    bytes: &[u8],
+) -> Result<Option<Line>, NoMemory>
     requires { number + length bytes.now ≤ 2 ^ 32 }
-    ensures { IfOk result (λ line. line ≡ line_of number bytes.now) }
+    ensures { IfOk result (λ line. line ≡ script_line_of number bytes.now) }
 {
     if bytes.is_empty() {
         return Ok(Some(Line::Empty));

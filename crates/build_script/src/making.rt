@@ -2,10 +2,10 @@
 
 ghost use Rattle.std.specs.Prelude.{◌≡◌, ◌+◌, ◌++◌, ◌∷◌, [], ℕ, List, Ok, IfOk, OnOk, length, map, nat_lt};
 ghost use Rattle.std.specs.List.{flat_map, join_with_byte};
-ghost use Rattle.script_grammar.specs.Run.{Done, Asks, TextOf, and_then, see, present, text_at, with_read, with_output, with_part, with_parts, parts_of, output_limit};
+ghost use Rattle.script_grammar.specs.Run.{Done, Asks, TextOf, and_then, see, present, needed_text, with_read, with_output, with_part, with_parts, parts_of, output_limit};
 ghost use Rattle.script_grammar.specs.Forms.{with_replaced};
-ghost use Rattle.build_script.specs.Making.{form_of, made_with, output_at};
-ghost use Rattle.script_grammar.specs.Parts.{Performed, Gave, gives, own_of};
+ghost use Rattle.build_script.specs.Making.{form_of, made_by_parts, output_by_parts};
+ghost use Rattle.script_grammar.specs.Parts.{Performed, PartGave, gives, own_of};
 ghost use Rattle.build_script.specs.MadeOf.{made_of};
 
 use crate::files::{Files, GivenUp, Got};
@@ -40,7 +40,7 @@ pub(crate) struct Made {
 impl Made {
     /// Nothing made yet, and so many probes.
     pub(crate) fn begin(alloc: Global, probes: u32) -> Made
-        ensures { made_of result ≡ made_with [] probes }
+        ensures { made_of result ≡ made_by_parts [] probes }
     {
         Made {
             bytes: Vec::new(alloc),
@@ -113,7 +113,7 @@ pub(crate) fn see<F: Files>(
 
 /// The text, unless it is absent.
 fn present(alloc: Global, path: &Path, found: Option<Text>) -> Result<Text, Halt>
-    ensures { Gave (present path.now found) (λ text. text) result }
+    ensures { PartGave (present path.now found) (λ text. text) result }
 {
     match found {
         Some(text) => Ok(text),
@@ -122,14 +122,14 @@ fn present(alloc: Global, path: &Path, found: Option<Text>) -> Result<Text, Halt
 }
 
 /// The text at a path, which has to be there.
-pub(crate) fn text_at<F: Files>(
+pub(crate) fn needed_text<F: Files>(
     making: Making<'_>,
     reads: &mut IndexSet<Path, RandomState>,
     files: &mut F,
     path: &Path,
 ) -> Result<Text, Halt>
     ensures { Performed F.stands F.broken F.follows reads.old.keys
-        (text_at (own_of making.entry.written.now) path.now) (gives (λ text. text)) result
+        (needed_text (own_of making.entry.written.now) path.now) (gives (λ text. text)) result
         reads.new.keys files.old files.new }
 {
     let found = see(making, reads, files, path)?;
@@ -145,8 +145,8 @@ fn is_too_big(before: usize, fresh: usize, more: usize) -> bool
 
 /// More bytes behind what the line has made, within the limit.
 pub(crate) fn say(making: Making<'_>, made: &mut Made, more: &[u8]) -> Result<(), Halt>
-    ensures { Gave
-        (with_output (output_at making.entry.path.now making.entry.before) more.now (made_of made.old))
+    ensures { PartGave
+        (with_output (output_by_parts making.entry.path.now making.entry.before) more.now (made_of made.old))
         (λ _. made_of made.new) result }
 {
     if is_too_big(making.before, made.bytes.len(), more.len()) {
@@ -166,8 +166,8 @@ fn say_replaced(
     to: &[u8],
     text: &[u8],
 ) -> Result<(), Halt>
-    ensures { Gave
-        (with_output (output_at making.entry.path.now making.entry.before)
+    ensures { PartGave
+        (with_output (output_by_parts making.entry.path.now making.entry.before)
         (with_replaced from.now to.now text.now) (made_of made.old)) (λ _. made_of made.new) result }
 {
     if from.is_empty() {
@@ -191,8 +191,8 @@ fn say_as(
     path: &Path,
     text: &[u8],
 ) -> Result<(), Halt>
-    ensures { Gave
-        (with_output (output_at making.entry.path.now making.entry.before)
+    ensures { PartGave
+        (with_output (output_by_parts making.entry.path.now making.entry.before)
         (form_of form.entry path.now text.now) (made_of made.old)) (λ _. made_of made.new)
         result }
 {
@@ -222,11 +222,11 @@ fn pour<F: Files>(
 ) -> Result<(), Halt>
     ensures { Performed F.stands F.broken F.follows reads.old.keys
         (with_part (own_of making.entry.written.now)
-        (output_at making.entry.path.now making.entry.before)
+        (output_by_parts making.entry.path.now making.entry.before)
         (TextOf (form_of form.entry path.now) path.now) (made_of made.old))
         (gives (λ _. made_of made.new)) result reads.new.keys files.old files.new }
 {
-    let text = text_at(making, reads, files, path)?;
+    let text = needed_text(making, reads, files, path)?;
     say_as(making, made, form, path, text.as_bytes())
 }
 
@@ -241,7 +241,7 @@ fn pour_all<F: Files>(
 ) -> Result<(), Halt>
     ensures { Performed F.stands F.broken F.follows reads.old.keys
         (with_parts (own_of making.entry.written.now)
-        (output_at making.entry.path.now making.entry.before)
+        (output_by_parts making.entry.path.now making.entry.before)
         (map (λ path. TextOf (form_of form.entry path) path) paths.now) (made_of made.old))
         (gives (λ _. made_of made.new)) result reads.new.keys files.old files.new }
 {
@@ -267,7 +267,7 @@ fn line_after_word(alloc: Global, first: &Text, others: &[Text]) -> Result<Vec<u
 
 /// The words with one space between, and a newline.
 #[tactic(auto, using(crate::proofs::RunLemmas::joined_by_spaces))]
-fn line_of_words(alloc: Global, words: &[Text]) -> Result<Vec<u8>, NoMemory>
+fn join_words(alloc: Global, words: &[Text]) -> Result<Vec<u8>, NoMemory>
     ensures { IfOk result (λ bytes. bytes.items ≡ join_with_byte 32 words.now ++ 10 ∷ []) }
 {
     match words.split_first() {
@@ -278,12 +278,12 @@ fn line_of_words(alloc: Global, words: &[Text]) -> Result<Vec<u8>, NoMemory>
 
 /// The words with one space between, and a newline.
 fn echo(making: Making<'_>, made: &mut Made, words: &[Text]) -> Result<(), Halt>
-    ensures { Gave
-        (with_output (output_at making.entry.path.now making.entry.before)
+    ensures { PartGave
+        (with_output (output_by_parts making.entry.path.now making.entry.before)
         (join_with_byte 32 words.now ++ 10 ∷ []) (made_of made.old)) (λ _. made_of made.new)
         result }
 {
-    let bytes = line_of_words(making.alloc, words)?;
+    let bytes = join_words(making.alloc, words)?;
     say(making, made, bytes.as_slice())
 }
 
@@ -297,7 +297,7 @@ pub(crate) fn make<F: Files>(
 ) -> Result<(), Halt>
     ensures { Performed F.stands F.broken F.follows reads.old.keys
         (with_parts (own_of making.entry.written.now)
-        (output_at making.entry.path.now making.entry.before) (parts_of work.now)
+        (output_by_parts making.entry.path.now making.entry.before) (parts_of work.now)
         (made_of made.old)) (gives (λ _. made_of made.new)) result reads.new.keys files.old
         files.new }
 {

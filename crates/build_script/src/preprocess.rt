@@ -5,15 +5,15 @@ ghost use Rattle.script_grammar.specs.Run.{Preprocessed, probe_of, found_or, pre
 ghost use Rattle.std.specs.List.{filter_map};
 ghost use Rattle.cc_names.specs.declared.refusals.ScriptFault.TheVariants.{Absent};
 ghost use Rattle.script_grammar.specs.Includes.{probes_of, under};
-ghost use Rattle.build_script.specs.Making.{output_at, resumed_making, left_of, includes, preprocessing, made_with, found_with};
+ghost use Rattle.build_script.specs.Making.{output_by_parts, resumed_making, left_of, includes, preprocessing, made_by_parts, found_with};
 ghost use Rattle.build_script.specs.OpenTexts.{rest_of, rests_of};
-ghost use Rattle.script_grammar.specs.Parts.{Performed, Gave, gives, own_of};
+ghost use Rattle.script_grammar.specs.Parts.{Performed, PartGave, gives, own_of};
 ghost use Rattle.build_script.specs.MadeOf.{made_of};
 
 use crate::files::Files;
 use crate::forms::split_first_line;
 use crate::includes::{include_of, under};
-use crate::making::{Made, Making, say, see, text_at};
+use crate::making::{Made, Making, needed_text, say, see};
 use crate::open_texts::OpenText;
 use cc_names::memory::NoMemory;
 use cc_names::paths::Path;
@@ -57,7 +57,7 @@ fn probe<F: Files>(
 
 /// The fault that nothing stands at a path.
 fn absent(alloc: Global, path: &Path) -> Halt
-    ensures { (probes : ℕ) → Gave (Err (Absent path.now)) (found_with probes) (Err result) }
+    ensures { (probes : ℕ) → PartGave (Err (Absent path.now)) (found_with probes) (Err result) }
 {
     match path.copy(alloc) {
         Ok(path) => Halt::Fault(ScriptFault::Absent(path)),
@@ -117,7 +117,7 @@ fn find_under<F: Files>(
 }
 
 /// The text of an included path: at itself, else under the first directory where it stands.
-fn find<F: Files>(
+fn find_included<F: Files>(
     making: Making<'_>,
     reads: &mut IndexSet<Path, RandomState>,
     files: &mut F,
@@ -155,13 +155,13 @@ fn include<F: Files>(
         → Performed F.stands F.broken F.follows reads.old.keys
         (includes (depth_limit - inside)
         (preprocessing (own_of making.entry.written.now) directories.now
-        (output_at making.entry.path.now making.entry.before)) path.now
-        (made_with bytes probes.old))
+        (output_by_parts making.entry.path.now making.entry.before)) path.now
+        (made_by_parts bytes probes.old))
         (λ text.
         preprocessed_text (depth_limit - (inside + 1))
         (preprocessing (own_of making.entry.written.now) directories.now
-        (output_at making.entry.path.now making.entry.before)) text
-        (made_with bytes probes.new)) result reads.new.keys files.old files.new }
+        (output_by_parts making.entry.path.now making.entry.before)) text
+        (made_by_parts bytes probes.new)) result reads.new.keys files.old files.new }
     ensures counted { OnOk result (probes.old < probes.new) }
     ensures within { OnOk result (probes.new ≤ 100000) }
     ensures inside { OnOk result (inside < 32) }
@@ -170,7 +170,7 @@ fn include<F: Files>(
         let path = path.copy(making.alloc)?;
         return Err(Halt::Fault(ScriptFault::IncludeDepth(path)));
     }
-    find(making, reads, files, probes, directories, path)
+    find_included(making, reads, files, probes, directories, path)
 }
 
 /// Puts a text back behind the others.
@@ -206,17 +206,17 @@ fn step<F: Files>(
     ensures went { Performed F.stands F.broken F.follows reads.old.keys
         (resumed_making
         (preprocessing (own_of making.entry.written.now) directories.now
-        (output_at making.entry.path.now making.entry.before))
+        (output_by_parts making.entry.path.now making.entry.before))
         (rest_of innermost ∷ rests_of inside.old.items) (made_of made.old))
         (λ _.
         resumed_making
         (preprocessing (own_of making.entry.written.now) directories.now
-        (output_at making.entry.path.now making.entry.before)) (rests_of inside.new.items)
+        (output_by_parts making.entry.path.now making.entry.before)) (rests_of inside.new.items)
         (made_of made.new)) result reads.new.keys files.old files.new }
     ensures shrinks { OnOk result
-        (left_of (output_at making.entry.path.now making.entry.before) (made_of made.new)
+        (left_of (output_by_parts making.entry.path.now making.entry.before) (made_of made.new)
         (length inside.new.items)
-        < left_of (output_at making.entry.path.now making.entry.before) (made_of made.old)
+        < left_of (output_by_parts making.entry.path.now making.entry.before) (made_of made.old)
         (length inside.old.items + 1)) }
 {
     let Some((line, _)) = split_first_line(innermost.rest()) else {
@@ -242,7 +242,7 @@ fn step<F: Files>(
 }
 
 /// A text with each include line replaced.
-fn expand<F: Files>(
+fn replace_includes<F: Files>(
     making: Making<'_>,
     reads: &mut IndexSet<Path, RandomState>,
     files: &mut F,
@@ -253,7 +253,7 @@ fn expand<F: Files>(
     ensures { Performed F.stands F.broken F.follows reads.old.keys
         (preprocessed_text depth_limit
         (preprocessing (own_of making.entry.written.now) directories.now
-        (output_at making.entry.path.now making.entry.before)) text (made_of made.old))
+        (output_by_parts making.entry.path.now making.entry.before)) text (made_of made.old))
         (gives (λ _. made_of made.new)) result reads.new.keys files.old files.new }
 {
     let mut inside = Vec::new(making.alloc);
@@ -284,10 +284,10 @@ pub(crate) fn preprocess<F: Files>(
 ) -> Result<(), Halt>
     ensures { Performed F.stands F.broken F.follows reads.old.keys
         (with_part (own_of making.entry.written.now)
-        (output_at making.entry.path.now making.entry.before)
+        (output_by_parts making.entry.path.now making.entry.before)
         (Preprocessed directories.now path.now) (made_of made.old))
         (gives (λ _. made_of made.new)) result reads.new.keys files.old files.new }
 {
-    let text = text_at(making, reads, files, path)?;
-    expand(making, reads, files, made, directories, text)
+    let text = needed_text(making, reads, files, path)?;
+    replace_includes(making, reads, files, made, directories, text)
 }

@@ -3,9 +3,9 @@
 ghost use Rattle.std.specs.Prelude.{◌≡◌, ◌++◌, [], ℕ, List, Ok, IfOk, OnOk, length};
 ghost use Rattle.std.specs.List.{list_any};
 ghost use Rattle.std.specs.Str.{bytes_eq};
-ghost use Rattle.script_grammar.specs.Run.{output_start, wrote, write_output, after_line, outputs_of, nothing_written};
-ghost use Rattle.script_grammar.specs.Parts.{Performed, Gave, gives, own_of};
-ghost use Rattle.build_script.specs.Progress.{state_of};
+ghost use Rattle.script_grammar.specs.Run.{output_start, wrote, write_output, after_line, target_outputs, nothing_written};
+ghost use Rattle.script_grammar.specs.Parts.{Performed, PartGave, gives, own_of};
+ghost use Rattle.build_script.specs.Progress.{run_state};
 
 use crate::files::Files;
 use crate::making::{Made, Making, Outputs, make};
@@ -66,7 +66,7 @@ pub(crate) struct Progress {
 impl Progress {
     /// Nothing written and nothing asked for.
     pub(crate) fn begin(alloc: Global, hashing: RandomState) -> Progress
-        ensures state { state_of result ≡ nothing_written }
+        ensures state { run_state result ≡ nothing_written }
         ensures reads { result.reads.keys ≡ [] }
     {
         Progress {
@@ -86,8 +86,8 @@ impl Progress {
         path: &Path,
     ) -> Result<(), Halt>
         ensures { Performed F.stands F.broken F.follows self.old.reads.keys
-            (write_output (state_of self.old) work.now appends path.now)
-            (gives (λ _. state_of self.new)) result self.new.reads.keys files.old files.new }
+            (write_output (run_state self.old) work.now appends path.now)
+            (gives (λ _. run_state self.new)) result self.new.reads.keys files.old files.new }
     {
         let making = Making {
             alloc,
@@ -111,8 +111,8 @@ impl Progress {
         line: &Line,
     ) -> Result<(), Halt>
         ensures { Performed F.stands F.broken F.follows self.old.reads.keys
-            (after_line targets.now.keys (state_of self.old) line.now)
-            (gives (λ _. state_of self.new)) result self.new.reads.keys files.old files.new }
+            (after_line targets.now.keys (run_state self.old) line.now)
+            (gives (λ _. run_state self.new)) result self.new.reads.keys files.old files.new }
     {
         match line {
             Line::Empty => Ok(()),
@@ -137,7 +137,7 @@ pub(crate) fn outputs(
     written: &Outputs,
     targets: &[Path],
 ) -> Result<List<Text>, Halt>
-    ensures { Gave (outputs_of targets.now (own_of written.now)) (λ outputs. outputs) result }
+    ensures { PartGave (target_outputs targets.now (own_of written.now)) (λ outputs. outputs) result }
 {
     let mut outputs = Vec::new(alloc);
     for target in targets {

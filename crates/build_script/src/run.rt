@@ -4,7 +4,7 @@ ghost use Rattle.std.specs.Prelude.{◌≡◌, ℕ, List, IfOk, IfErr};
 ghost use Rattle.script_grammar.specs.Run.{after_lines, run_from, run_of_lines, carried_out};
 ghost use Rattle.script_grammar.specs.Standings.{Stays, texts};
 ghost use Rattle.script_grammar.specs.Parts.{Performed, gives};
-ghost use Rattle.build_script.specs.Progress.{state_of, HoldsEach};
+ghost use Rattle.build_script.specs.Progress.{run_state, HoldsEach};
 ghost use Rattle.build_script.specs.Ended.{ran_of, IsGivenUp};
 
 use crate::files::{Files, GivenUp};
@@ -46,8 +46,8 @@ fn run_lines<F: Files>(
     lines: &[Line],
 ) -> Result<(), Halt>
     ensures { Performed F.stands F.broken F.follows progress.old.reads.keys
-        (after_lines targets.now.keys lines.now (state_of progress.old))
-        (gives (λ _. state_of progress.new)) result progress.new.reads.keys files.old files.new }
+        (after_lines targets.now.keys lines.now (run_state progress.old))
+        (gives (λ _. run_state progress.new)) result progress.new.reads.keys files.old files.new }
 {
     for line in lines {
         progress.carry_out(alloc, files, targets, line)?;
@@ -65,7 +65,7 @@ fn run_whole<F: Files>(
     lines: &[Line],
 ) -> Result<List<Text>, Halt>
     ensures { Performed F.stands F.broken F.follows progress.old.reads.keys
-        (run_from targets.now lines.now (state_of progress.old)) (gives (λ outputs. outputs)) result
+        (run_from targets.now lines.now (run_state progress.old)) (gives (λ outputs. outputs)) result
         progress.new.reads.keys files.old files.new }
 {
     let set = set_of(alloc, hashing, targets)?;

@@ -6,7 +6,7 @@ ghost use Rattle.cc_names.specs.Answers.{Gives};
 ghost use Rattle.cc_names.specs.Cuts.{is_newline};
 ghost use Rattle.script_grammar.specs.Lines.{pieces, size_of, script_of};
 
-use crate::lines::read_line;
+use crate::lines::read_script_line;
 use cc_names::cuts::first_newline;
 use cc_names::memory::Or;
 use cc_names::refusals::ScriptFault;
@@ -54,7 +54,7 @@ impl Script {
         while let Some(text) = rest {
             let (bytes, behind) = split_line(text);
             number += 1;
-            let Some(line) = read_line(alloc, number, bytes)? else {
+            let Some(line) = read_script_line(alloc, number, bytes)? else {
                 return Err(Or::Is(ScriptFault::BadLine(number as u32)));
             };
             lines.push(line)?;

@@ -1,13 +1,13 @@
 //! The words of a line.
 
 ghost use Rattle.std.specs.Prelude.{◌≡◌, ◌+◌, ◌++◌, IfOk, OnOk, map};
-ghost use Rattle.script_grammar.specs.Words.{is_arrow, is_alike, arrows, words_of_run, words, without_at};
+ghost use Rattle.script_grammar.specs.Words.{is_arrow_byte, is_alike, arrows, words_of_run, words, without_at};
 
 use cc_names::cuts::is_blank;
 use std::alloc::{AllocError, Global};
 
-fn is_arrow(byte: u8) -> bool
-    ensures { result ≡ is_arrow byte }
+fn is_arrow_byte(byte: u8) -> bool
+    ensures { result ≡ is_arrow_byte byte }
 {
     byte == b'>'
 }
@@ -15,7 +15,7 @@ fn is_arrow(byte: u8) -> bool
 fn is_alike(one: u8, other: u8) -> bool
     ensures { result ≡ is_alike one other }
 {
-    is_blank(one) == is_blank(other) && is_arrow(one) == is_arrow(other)
+    is_blank(one) == is_blank(other) && is_arrow_byte(one) == is_arrow_byte(other)
 }
 
 /// A line past its first blanks, without the `@` that may stand there.
@@ -50,7 +50,7 @@ fn push_words<'a>(found: &mut Vec<&'a [u8]>, run: &'a [u8]) -> Result<(), AllocE
         ≡ map (λ word. word.now) found.old.items ++ words_of_run run.now) }
 {
     match run.first() {
-        Some(byte) if is_arrow(*byte) => push_arrows(found, run),
+        Some(byte) if is_arrow_byte(*byte) => push_arrows(found, run),
         Some(byte) if !is_blank(*byte) => {
             found.push(run)?;
             Ok(())

@@ -35,7 +35,7 @@ fn with_newlines(alloc: Global, words: &str) -> Result<String, NoMemory> {
     Ok(text)
 }
 
-// What a case of the table writes, with the script and the text that stand in front of the `=>`.
+// What a case of the table writes, with the script and the text that stand before the `=>`.
 fn written_by(alloc: Global, hashing: RandomState, case: &str) -> Result<String, Fail> {
     let (text, script) = case.split_once(" | ").unwrap_or((case, ""));
     let text = with_newlines(alloc, text)?;

@@ -83,7 +83,8 @@ label = (fix, lit< tt, lit< tt)
 unlabel : IsDeedFormed (deeds.Unlabel (codes "fix") 4)
 unlabel = (fix, lit< tt)
 
-publish : IsDeedFormed (deeds.Publish (codes "v") (codes "in" ∷ codes "lib/out" ∷ []) (codes "fail") (record { path = codes "in"; row = 3 } ∷ record { path = codes "lib/out"; row = 0 } ∷ []) (codes "hi" ∷ [] ∷ []))
+publish : IsDeedFormed (deeds.Publish (codes "v") (codes "in" ∷ codes "lib/out" ∷ []) (codes "fail")
+    (record { path = codes "in"; row = 3 } ∷ record { path = codes "lib/out"; row = 0 } ∷ []) (codes "hi" ∷ [] ∷ []))
 publish = ((v, targets, lit< tt, entries, refl), (lit< tt, (lit< tt, (lit< tt, tt))))
 
 wink : IsDeedFormed (deeds.Wink (codes "v") 9)
@@ -96,23 +97,33 @@ scrub : IsDeedFormed (deeds.Scrub (4 ∷ 9 ∷ []))
 unfolding IsStrictlySortedBy
 scrub = ((lit< tt, (lit< tt, (lit< tt, tt))), (λ e. cc), ((refl, tt), (tt, tt)))
 
-labels : IsDeedFormed (deeds.Labels (codes "fix") (record { element = 4; version = 9 } ∷ record { element = 5; version = 5 } ∷ []))
+labels : IsDeedFormed (deeds.Labels (codes "fix") (record { element = 4; version = 9 } ∷ record { element = 5; version = 5 }
+    ∷ []))
 unfolding IsStrictlySortedBy
 labels = (fix, (lit< tt, ((lit< tt, lit< tt), ((lit< tt, lit< tt), tt))), (λ e. cc), ((refl, tt), (tt, tt)))
 
 arrow : IsDeedFormed (deeds.Arrow 4 9 12)
 arrow = (lit< tt, lit< tt, lit< tt)
 
-publish_at : IsDeedFormed (deeds.PublishAt (codes "v") (codes "in" ∷ codes "lib/out" ∷ []) [] [] (Here (codes "hi") ∷ There (record { place = 0; length = 4096 }) ∷ []))
+publish_at : IsDeedFormed (deeds.PublishAt (codes "v") (codes "in" ∷ codes "lib/out" ∷ []) [] []
+    (Here (codes "hi") ∷ There (record { place = 0; length = 4096 }) ∷ []))
 unfolding IsStrictlySortedBy
 publish_at =
     ((v, targets, lit< tt, ((lit< tt, tt), tt), refl), (lit< tt, (lit< tt, ((lit< tt, lit≤ tt, lit< tt), tt))), refl)
 
 -- a row: the first tag may be 0, and the last moment is the end of the year 9999
-row : IsFormed (record { tag = record { phase = 0; lane = 1; command = 4294967295 }; moment = 253402300799; deed = deeds.Mkview (codes "v") })
+row : IsFormed (record {
+  tag = record { phase = 0; lane = 1; command = 4294967295 };
+  moment = 253402300799;
+  deed = deeds.Mkview (codes "v");
+})
 row = record { tag = (lit< tt, lit< tt, lit< tt); moment = lit≤ tt; deed = v }
 
-no_later_moment : IsFormed (record { tag = record { phase = 1; lane = 1; command = 1 }; moment = 253402300800; deed = deeds.Mkview (codes "v") }) → ⊥
+no_later_moment : IsFormed (record {
+  tag = record { phase = 1; lane = 1; command = 1 };
+  moment = 253402300800;
+  deed = deeds.Mkview (codes "v");
+}) → ⊥
 no_later_moment h = let late = h.moment in omega arith
 
 no_empty_view : IsDeedFormed (deeds.Mkview []) → ⊥
@@ -145,5 +156,6 @@ no_entry_out_of_order h = let order : slice_cmp nat_cmp (codes "b") (codes "a") 
 no_extent_missing : IsDeedFormed (deeds.PublishAt (codes "v") (codes "in" ∷ []) [] [] (Here (codes "hi") ∷ [])) → ⊥
 no_extent_missing h = let there : false ≡ true = h.2 in cc
 
-no_long_extent : IsDeedFormed (deeds.PublishAt (codes "v") (codes "in" ∷ []) [] [] (There (record { place = 0; length = 1048577 }) ∷ [])) → ⊥
+no_long_extent : IsDeedFormed (deeds.PublishAt (codes "v") (codes "in" ∷ []) [] [] (There (record { place = 0; length = 1048577 })
+    ∷ [])) → ⊥
 no_long_extent h = let long : 1048577 ≤ 1048576 = h.1.1.0.1 in omega arith

@@ -1,17 +1,19 @@
 -- A path and its names give each other back.
-use Rattle.std.proofs.Common.{◌≡◌, ℕ, ◌+◌, ◌<◌, ◌≤◌, Bool, true, false, Option, Some, None, List, [], ◌∷◌, length, refl, ap, ap₂, ◌∙◌, subst, arith}
+use Rattle.std.proofs.Common.{◌≡◌, ℕ, ◌+◌, ◌<◌, ◌≤◌, Bool, true, false, Option, Some, None, List, [], ◌∷◌, length, refl, ap, ap₂}
+use Rattle.std.proofs.Common.{◌∙◌, subst, arith}
 use borrow.Author.Tests.{eqb-true, ltb-true, ltb-false}
 use Rattle.std.specs.Prelude.{not, nat_lt, if◌then◌else◌}
 use Rattle.std.specs.List.{All, AllByRecursion, position, slice_split, join_with_byte}
 use Rattle.std.proofs.lemmas.List.Splits.{slice_split_none, slice_split_at}
 use Rattle.cc_names.specs.declared.names.NameFault.{NameFault}
 use Rattle.cc_names.specs.declared.names.NameFault.TheVariants.{Empty, BadByte, TooLong}
-use Rattle.cc_names.specs.Names.{is_name_byte, begins_wrong, fault_of_bytes, fault_at, name_fault, IsName}
+use Rattle.cc_names.specs.Names.{is_name_byte, begins_no_name, fault_of_bytes, fault_at, name_fault, IsName}
 use Rattle.cc_names.specs.Paths.{is_slash, root, is_root, fault_or, first_fault, IsPath}
 use Rattle.cc_names.proofs.Splits.{each-fails}
 
 -- what it takes that a name has no fault
-no_fault-parts : (wrong : Bool) (bad : Option ℕ) (place len : ℕ) → (if wrong then Some (BadByte place) else fault_of_bytes bad place len) ≡ None → (wrong ≡ false) × (bad ≡ None) × (nat_lt 255 len ≡ false)
+no_fault-parts : (wrong : Bool) (bad : Option ℕ) (place len : ℕ) → (if wrong then Some (BadByte place) else fault_of_bytes bad
+    place len) ≡ None → (wrong ≡ false) × (bad ≡ None) × (nat_lt 255 len ≡ false)
 no_fault-parts true bad place len h = cc
 no_fault-parts false (Some i) place len h = cc
 no_fault-parts false None place len h = (refl, refl, is_short (nat_lt 255 len) len h)
@@ -20,7 +22,9 @@ no_fault-parts false None place len h = (refl, refl, is_short (nat_lt 255 len) l
     is_short true n h = cc
     is_short false n h = refl
 
-no_fault-anywhere : (wrong : Bool) (bad : Option ℕ) (len place other : ℕ) → (if wrong then Some (BadByte place) else fault_of_bytes bad place len) ≡ None → (if wrong then Some (BadByte other) else fault_of_bytes bad other len) ≡ None
+no_fault-anywhere : (wrong : Bool) (bad : Option ℕ) (len place other : ℕ)
+    → (if wrong then Some (BadByte place) else fault_of_bytes bad place len) ≡ None
+    → (if wrong then Some (BadByte other) else fault_of_bytes bad other len) ≡ None
 no_fault-anywhere true bad len place other h = cc
 no_fault-anywhere false (Some i) len place other h = cc
 no_fault-anywhere false None len place other h = h
@@ -28,12 +32,12 @@ no_fault-anywhere false None len place other h = h
 name-of_no_fault : (place : ℕ) (name : List ℕ) → fault_at place name ≡ None → name_fault name ≡ None
 name-of_no_fault place [] h = cc
 name-of_no_fault place (b ∷ bs) h =
-    no_fault-anywhere (begins_wrong (b ∷ bs)) (position (λ x. not (is_name_byte x)) (b ∷ bs)) (length (b ∷ bs)) place 0 h
+    no_fault-anywhere (begins_no_name (b ∷ bs)) (position (λ x. not (is_name_byte x)) (b ∷ bs)) (length (b ∷ bs)) place 0 h
 
 no_fault-of_name : (place : ℕ) (name : List ℕ) → name_fault name ≡ None → fault_at place name ≡ None
 no_fault-of_name place [] h = cc
 no_fault-of_name place (b ∷ bs) h =
-    no_fault-anywhere (begins_wrong (b ∷ bs)) (position (λ x. not (is_name_byte x)) (b ∷ bs)) (length (b ∷ bs)) 0 place h
+    no_fault-anywhere (begins_no_name (b ∷ bs)) (position (λ x. not (is_name_byte x)) (b ∷ bs)) (length (b ∷ bs)) 0 place h
 
 name_byte-no_slash : (b : ℕ) (slash : Bool) → is_slash b ≡ slash → not (is_name_byte b) ≡ false → slash ≡ false
 name_byte-no_slash b false e h = refl
@@ -44,11 +48,13 @@ name_byte-no_slash b true e h =
 pub name-no_slash : (name : List ℕ) → IsName name → All (λ b. is_slash b ≡ false) name
 name-no_slash [] h k d m = absurd (omega arith)
 name-no_slash (b ∷ bs) h k d m =
-    let parts = no_fault-parts (begins_wrong (b ∷ bs)) (position (λ x. not (is_name_byte x)) (b ∷ bs)) 0 (length (b ∷ bs)) h.no_fault in
+    let parts = no_fault-parts (begins_no_name (b ∷ bs)) (position (λ x. not (is_name_byte x)) (b ∷ bs)) 0 (length (b ∷ bs))
+    h.no_fault in
     name_byte-no_slash _ _ refl (each-fails (λ x. not (is_name_byte x)) (b ∷ bs) parts.1 k d m)
 
 -- names joined are cut into the same names
-pub slice_split-join : (name : List ℕ) (names : List (List ℕ)) → AllByRecursion IsName (name ∷ names) → slice_split is_slash (join_with_byte 47 (name ∷ names)) ≡ name ∷ names
+pub slice_split-join : (name : List ℕ) (names : List (List ℕ)) → AllByRecursion IsName (name ∷ names)
+    → slice_split is_slash (join_with_byte 47 (name ∷ names)) ≡ name ∷ names
 slice_split-join name [] h = slice_split_none is_slash name (name-no_slash name h.0)
 slice_split-join name (next ∷ names) h =
     slice_split_at is_slash name 47 _ (name-no_slash name h.0) refl ∙ ap (λ l. name ∷ l) (slice_split-join next names h.1)
@@ -70,16 +76,20 @@ first_fault-none place [] h = refl
 first_fault-none place (name ∷ names) h =
     ap₂ fault_or (no_fault-of_name place name h.0.no_fault) (first_fault-none (place + length name + 1) names h.1)
 
-path_fault-parts : (long rooted : Bool) (len : ℕ) (fault : Option NameFault) → (if long then Some (TooLong len) else (if rooted then None else fault)) ≡ None → rooted ≡ false → (long ≡ false) × (fault ≡ None)
+path_fault-parts : (long rooted : Bool) (len : ℕ) (fault : Option NameFault)
+    → (if long then Some (TooLong len) else (if rooted then None else fault)) ≡ None → rooted ≡ false → (long ≡ false)
+    × (fault ≡ None)
 path_fault-parts true rooted len fault h e = cc
 path_fault-parts false true len fault h e = cc
 path_fault-parts false false len fault h e = (refl, h)
 
-path_fault-short : (long rooted : Bool) (len : ℕ) (fault : Option NameFault) → (if long then Some (TooLong len) else (if rooted then None else fault)) ≡ None → long ≡ false
+path_fault-short : (long rooted : Bool) (len : ℕ) (fault : Option NameFault)
+    → (if long then Some (TooLong len) else (if rooted then None else fault)) ≡ None → long ≡ false
 path_fault-short true rooted len fault h = cc
 path_fault-short false rooted len fault h = refl
 
-path_fault-none : (long rooted : Bool) (len : ℕ) (fault : Option NameFault) → long ≡ false → fault ≡ None → (if long then Some (TooLong len) else (if rooted then None else fault)) ≡ None
+path_fault-none : (long rooted : Bool) (len : ℕ) (fault : Option NameFault) → long ≡ false → fault ≡ None
+    → (if long then Some (TooLong len) else (if rooted then None else fault)) ≡ None
 path_fault-none true rooted len fault short none = cc
 path_fault-none false true len fault short none = refl
 path_fault-none false false len fault short none = none
@@ -87,12 +97,14 @@ path_fault-none false false len fault short none = none
 -- a path below the root is cut into names
 pub path-names : (path : List ℕ) → IsPath path → is_root path ≡ false → AllByRecursion IsName (slice_split is_slash path)
 path-names [] h below = let wrong : Some Empty ≡ None = h.no_fault in cc
-path-names (b ∷ bs) h below = first_fault-names 0 _ (path_fault-parts (nat_lt 1024 (length (b ∷ bs))) (is_root (b ∷ bs)) _ _ h.no_fault below).1
+path-names (b ∷ bs) h below = first_fault-names 0 _ (path_fault-parts (nat_lt 1024 (length (b ∷ bs))) (is_root (b ∷ bs)) _ _
+    h.no_fault below).1
 
 -- a path has at most 1,024 bytes
 pub path-short : (path : List ℕ) → IsPath path → length path ≤ 1024
 path-short [] h = omega arith
-path-short (b ∷ bs) h = ltb-false 1024 (length (b ∷ bs)) (path_fault-short (nat_lt 1024 (length (b ∷ bs))) (is_root (b ∷ bs)) _ _ h.no_fault)
+path-short (b ∷ bs) h = ltb-false 1024 (length (b ∷ bs)) (path_fault-short (nat_lt 1024 (length (b ∷ bs))) (is_root (b ∷ bs)) _ _
+    h.no_fault)
 
 pub lt-true : (a b : ℕ) (test : Bool) → nat_lt a b ≡ test → a < b → test ≡ true
 lt-true a b true e h = refl
@@ -102,7 +114,8 @@ lt-true a b false e h = absurd (omega (arith, ltb-false a b e))
 pub name-short : (name : List ℕ) → IsName name → length name ≤ 255
 name-short [] h = omega arith
 name-short (b ∷ bs) h =
-    ltb-false 255 (length (b ∷ bs)) (no_fault-parts (begins_wrong (b ∷ bs)) (position (λ x. not (is_name_byte x)) (b ∷ bs)) 0 (length (b ∷ bs)) h.no_fault).2
+    ltb-false 255 (length (b ∷ bs)) (no_fault-parts (begins_no_name (b ∷ bs)) (position (λ x. not (is_name_byte x)) (b ∷ bs)) 0
+    (length (b ∷ bs)) h.no_fault).2
 
 pub lt-false : (a b : ℕ) (test : Bool) → nat_lt a b ≡ test → b ≤ a → test ≡ false
 lt-false a b false e h = refl
@@ -113,7 +126,8 @@ pub path-of_names : (path : List ℕ) → AllByRecursion IsName (slice_split is_
 path-of_names [] h short = let wrong : Some Empty ≡ None = h.0.no_fault in cc
 path-of_names (b ∷ bs) h short =
     record {
-      no_fault = path_fault-none (nat_lt 1024 (length (b ∷ bs))) (is_root (b ∷ bs)) _ _ (lt-false 1024 (length (b ∷ bs)) _ refl short) (first_fault-none 0 _ h);
+      no_fault = path_fault-none (nat_lt 1024 (length (b ∷ bs))) (is_root (b ∷ bs)) _ _
+          (lt-false 1024 (length (b ∷ bs)) _ refl short) (first_fault-none 0 _ h);
     }
 
 -- the root is one path alone
@@ -129,4 +143,5 @@ not_root-of_names path h = by_test (is_root path) refl
     by_test : (test : Bool) → is_root path ≡ test → test ≡ false
     by_test false e = refl
     by_test true e =
-        let wrong : Some (BadByte 0) ≡ None = (subst (λ p. AllByRecursion IsName (slice_split is_slash p)) (is_root-root path e) h).0.no_fault in cc
+        let wrong : Some (BadByte 0) ≡ None = (subst (λ p. AllByRecursion IsName (slice_split is_slash p)) (is_root-root path e)
+        h).0.no_fault in cc

@@ -1,5 +1,6 @@
 -- Lists that are cut at each element that passes a test.
-use Rattle.std.proofs.Common.{◌≡◌, ℕ, ◌+◌, ◌<◌, Bool, true, false, cond, Some, None, List, [], ◌∷◌, ◌++◌, length, take, drop, refl, ap, ◌∙◌, subst, arith}
+use Rattle.std.proofs.Common.{◌≡◌, ℕ, ◌+◌, ◌<◌, Bool, true, false, cond, Some, None, List, [], ◌∷◌, ◌++◌, length, take, drop}
+use Rattle.std.proofs.Common.{refl, ap, ◌∙◌, subst, arith}
 use borrow.Author.Tests.{ltb-true, ltb-false}
 use Rattle.std.specs.Prelude.{nat_lt}
 use Rattle.std.specs.List.{All, position, position_or_len, slice_split, onto_first}
@@ -15,7 +16,8 @@ None-given true n h = cc
 None-given false n h = refl
 
 -- where the first element that passes stands at a place, the first part ends there
-pub slice_split-at : {X : Type 0} (p : X → Bool) (d : X) (xs : List X) (i : ℕ) → position p xs ≡ Some i → slice_split p xs ≡ take i xs ∷ slice_split p (drop (i + 1) xs)
+pub slice_split-at : {X : Type 0} (p : X → Bool) (d : X) (xs : List X) (i : ℕ) → position p xs ≡ Some i
+    → slice_split p xs ≡ take i xs ∷ slice_split p (drop (i + 1) xs)
 slice_split-at p d xs i h =
     let found = Some-given (nat_lt (position_or_len p xs) (length xs)) (position_or_len p xs) i h in
     subst (λ n. slice_split p xs ≡ take n xs ∷ slice_split p (drop (n + 1) xs)) found.1
@@ -33,14 +35,17 @@ each-fails p xs h k d m =
     let long = ltb-false (position_or_len p xs) (length xs) (None-given _ _ h) in
     fails_before_first p xs k d (omega arith)
 
-split-onto_first : {X : Type 0} (b : Bool) (x : X) (ends : List (List X)) (l : List (List X)) → 0 < length l → cond b ([] ∷ (l ++ ends)) (onto_first x (l ++ ends)) ≡ cond b ([] ∷ l) (onto_first x l) ++ ends
+split-onto_first : {X : Type 0} (b : Bool) (x : X) (ends : List (List X)) (l : List (List X)) → 0 < length l
+    → cond b ([] ∷ (l ++ ends)) (onto_first x (l ++ ends)) ≡ cond b ([] ∷ l) (onto_first x l) ++ ends
 split-onto_first true x ends l h = refl
 split-onto_first false x ends [] h = absurd (omega arith)
 split-onto_first false x ends (part ∷ parts) h = refl
 
 -- the last part begins behind the last element that passes
-pub slice_split-last : {X : Type 0} (p : X → Bool) (xs : List X) (y : X) (ys : List X) → p y ≡ true → All (λ x. p x ≡ false) ys → slice_split p (xs ++ y ∷ ys) ≡ slice_split p xs ++ (ys ∷ [])
-slice_split-last p [] y ys passes h = slice_split_at p [] y ys (λ k d m. absurd (omega arith)) passes ∙ ap (λ l. [] ∷ l) (slice_split_none p ys h)
+pub slice_split-last : {X : Type 0} (p : X → Bool) (xs : List X) (y : X) (ys : List X) → p y ≡ true → All (λ x. p x ≡ false) ys
+    → slice_split p (xs ++ y ∷ ys) ≡ slice_split p xs ++ (ys ∷ [])
+slice_split-last p [] y ys passes h = slice_split_at p [] y ys (λ k d m. absurd (omega arith)) passes
+    ∙ ap (λ l. [] ∷ l) (slice_split_none p ys h)
 slice_split-last p (x ∷ xs) y ys passes h =
     ap (λ l. cond (p x) ([] ∷ l) (onto_first x l)) (slice_split-last p xs y ys passes h)
     ∙ split-onto_first (p x) x (ys ∷ []) (slice_split p xs) (omega (arith, length-slice_split p xs))

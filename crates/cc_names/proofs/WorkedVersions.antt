@@ -1,7 +1,8 @@
 -- Worked trees of versions, checked by computation.
 use Rattle.std.proofs.Common.{◌≡◌, Some, None, List, [], ◌∷◌, refl}
 use Rattle.std.specs.Prelude.{codes, map}
-use Rattle.cc_names.specs.Versions.{of_first_rows, versions_on, versions_of, row_of_version, version_id, latest, version_of_number, kind_of}
+use Rattle.cc_names.specs.Versions.{of_first_rows, versions_on, versions_of, row_of_version, version_id, latest}
+use Rattle.cc_names.specs.Versions.{version_of_number, kind_of}
 use Rattle.cc_names.specs.Branches.{origin_of, name_of_branch, branch_named, branch_behind, names_of_branch}
 use Rattle.cc_names.specs.declared.rows.Kind.TheVariants.{File, Directory}
 use Rattle.cc_names.specs.declared.changes.TreeChange.{TreeChange}
@@ -75,7 +76,8 @@ not_of_another = refl
 behind_main : (branch_behind branched 6 (codes "fix" ∷ []) ≡ Some 19) × (branch_behind branched 6 [] ≡ Some 6)
 behind_main = (refl, refl)
 
-names_and_origins : (name_of_branch branched 19 ≡ Some (codes "fix")) × (origin_of branched 19 ≡ Some 8) × (origin_of branched 6 ≡ None)
+names_and_origins : (name_of_branch branched 19 ≡ Some (codes "fix")) × (origin_of branched 19 ≡ Some 8)
+    × (origin_of branched 6 ≡ None)
 names_and_origins = (refl, refl, refl)
 
 names_behind_main : (names_of_branch branched 19 ≡ codes "fix" ∷ []) × (names_of_branch branched 6 ≡ [])

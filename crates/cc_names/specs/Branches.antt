@@ -1,5 +1,6 @@
 -- The branches of an element beside `main`: their names and where they leave.
-use Rattle.std.specs.Prelude.{ℕ, Bool, true, false, ◌==◌, ◌&&◌, Option, Some, None, option_map, option_and_then, List, [], ◌∷◌, ◌++◌, find, if◌then◌else◌}
+use Rattle.std.specs.Prelude.{ℕ, Bool, true, false, ◌==◌, ◌&&◌, Option, Some, None, option_map, option_and_then, List, [], ◌∷◌}
+use Rattle.std.specs.Prelude.{◌++◌, find, if◌then◌else◌}
 use Rattle.std.specs.Option.{option_map_or}
 use Rattle.std.specs.Str.{bytes_eq}
 use Rattle.cc_names.specs.Versions.{row_of_change, branch_of_change, change_at, is_number}
@@ -49,21 +50,23 @@ if_above changes b below = if is_number b (branch_above changes below) then Some
 abbrev pub branch_from : List TreeChange → ℕ → ℕ → List (List ℕ) → Option ℕ
 branch_from changes e b [] = Some b
 branch_from changes e b (name ∷ names) =
-    option_and_then (λ next. branch_from changes e next names) (option_and_then (if_above changes b) (branch_named changes e name))
+    option_and_then (λ next. branch_from changes e next names) (option_and_then (if_above changes b)
+    (branch_named changes e name))
 
 -- the element's branch whose names behind `main` are these; no names lead to `main` itself
 abbrev pub branch_behind : List TreeChange → ℕ → List (List ℕ) → Option ℕ
 branch_behind changes e names = branch_from changes e e names
 
 -- the names of a branch made by a change, given the names of older branches
-abbrev pub names_by : (ℕ → List (List ℕ)) → List TreeChange → TreeChange → List (List ℕ)
-names_by names older (BranchMade row moment element origin name) = option_map_or names (branch_of_version older origin) [] ++ name ∷ []
-names_by names older _ = []
+abbrev pub branch_names_by : (ℕ → List (List ℕ)) → List TreeChange → TreeChange → List (List ℕ)
+branch_names_by names older (BranchMade row moment element origin name) =
+    option_map_or names (branch_of_version older origin) [] ++ name ∷ []
+branch_names_by names older _ = []
 
 -- the names behind `main` that lead to a branch
 abbrev pub names_of_branch : List TreeChange → ℕ → List (List ℕ)
 names_of_branch [] b = []
 names_of_branch (change ∷ older) b = elim (row_of_change change == b) [
-  | true ↦ names_by (names_of_branch older) older change
+  | true ↦ branch_names_by (names_of_branch older) older change
   | false ↦ names_of_branch older b
 ]

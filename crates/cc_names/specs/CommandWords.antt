@@ -60,5 +60,5 @@ abbrev pub lane_words : Lane → LaneWords
 lane_words lane = record { name = lane.name; words = map word_of lane.commands }
 
 -- a phase by the words of its lanes' commands
-abbrev pub words_of : Phase → PhaseWords
-words_of phase = record { lanes = map lane_words phase.lanes }
+abbrev pub words_of_command : Phase → PhaseWords
+words_of_command phase = record { lanes = map lane_words phase.lanes }

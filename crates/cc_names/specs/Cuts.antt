@@ -40,7 +40,7 @@ abbrev pub before : List ℕ → Option ℕ → List ℕ
 before bytes (Some place) = take place bytes
 before bytes None = bytes
 
--- what stands behind a place, or nothing
+-- what follows a place, or nothing
 abbrev pub behind : List ℕ → Option ℕ → List ℕ
 behind bytes (Some place) = drop (place + 1) bytes
 behind bytes None = []

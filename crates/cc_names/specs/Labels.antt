@@ -1,4 +1,4 @@
--- Which version a label stands on, told by the list of changes of labels, the newest first.
+-- Which version a label stands on, given by the list of changes of labels, the newest first.
 use Rattle.std.specs.Prelude.{ℕ, ◌==◌, ◌&&◌, nat_lt, Option, List, filter}
 use Rattle.std.specs.Str.{bytes_eq}
 use Rattle.cc_names.specs.Last.{Effect, Ends, Sets, only_if, last}

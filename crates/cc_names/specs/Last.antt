@@ -1,4 +1,4 @@
--- The last change that bears on a thing, with no later one: what it set, and nothing where it ended the thing.
+-- The last change that affects a thing, with no later one: what it set, and nothing where it ended the thing.
 use Rattle.std.specs.Prelude.{Bool, true, false, Option, Some, None, List, [], ◌∷◌}
 
 -- what one change does to a thing that is there or not
@@ -18,8 +18,8 @@ value_after Keeps before = before
 value_after Ends before = None
 value_after (Sets a) before = Some a
 
--- What the last change that bears on a thing set, and nothing where that change ended it. The list has the newest
--- change first; the effect of a change is told by it and by the older ones.
+-- What the last change that affects a thing set, and nothing where that change ended it. The list has the newest
+-- change first; the effect of a change is given by it and by the older ones.
 abbrev pub last : {X A : Type 0} → (List X → X → Effect A) → List X → Option A
 last effect [] = None
 last effect (x ∷ older) = value_after (effect older x) (last effect older)

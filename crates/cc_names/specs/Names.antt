@@ -1,5 +1,6 @@
 -- What a name is, and the first fault, from the left, of bytes that are none.
-use Rattle.std.specs.Prelude.{◌≡◌, ℕ, ◌+◌, Bool, false, ◌&&◌, ◌||◌, ◌==◌, not, nat_lt, nat_le, Option, Some, None, Result, Ok, Err, List, [], ◌∷◌, length, slice_get, if◌then◌else◌}
+use Rattle.std.specs.Prelude.{◌≡◌, ℕ, ◌+◌, Bool, false, ◌&&◌, ◌||◌, ◌==◌, not, nat_lt, nat_le, Option, Some, None, Result, Ok}
+use Rattle.std.specs.Prelude.{Err, List, [], ◌∷◌, length, slice_get, if◌then◌else◌}
 use Rattle.std.specs.List.{list_all, position}
 use Rattle.cc_names.specs.declared.names.NameFault.{NameFault}
 use Rattle.cc_names.specs.declared.names.NameFault.TheVariants.{Empty, BadByte, TooLong}
@@ -20,8 +21,8 @@ is_dash None = false
 is_dash (Some b) = b == 45
 
 -- whether bytes begin as no name does: the first is `-`, or all are dots, or there are none
-abbrev pub begins_wrong : List ℕ → Bool
-begins_wrong name = is_dash (slice_get name 0) || list_all is_dot name
+abbrev pub begins_no_name : List ℕ → Bool
+begins_no_name name = is_dash (slice_get name 0) || list_all is_dot name
 
 -- the fault by the first bad byte, if there is one, and else by the length
 abbrev pub fault_of_bytes : Option ℕ → ℕ → ℕ → Option NameFault
@@ -31,7 +32,7 @@ fault_of_bytes None place len = if nat_lt 255 len then Some (TooLong len) else N
 -- the fault of the name that begins at this place of a text
 abbrev pub fault_at : ℕ → List ℕ → Option NameFault
 fault_at place name =
-    if begins_wrong name then Some (BadByte place)
+    if begins_no_name name then Some (BadByte place)
     else fault_of_bytes (position (λ b. not (is_name_byte b)) name) place (length name)
 
 -- the fault of a name that stands alone

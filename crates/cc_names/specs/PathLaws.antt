@@ -13,4 +13,5 @@ JoinHasParts =
 abbrev pub PartsJoin : Type 0
 PartsJoin =
     (path : List ℕ) → IsPath path → is_root path ≡ false
-    → (directory : List ℕ) × (name : List ℕ) × (parent_of path ≡ Some directory) × (last_of path ≡ Some name) × (join_of directory name ≡ Ok path)
+    → (directory : List ℕ) × (name : List ℕ) × (parent_of path ≡ Some directory) × (last_of path ≡ Some name)
+    × (join_of directory name ≡ Ok path)

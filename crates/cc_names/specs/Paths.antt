@@ -1,5 +1,6 @@
 -- What a path is: the root, or names joined by `/`; and the first fault, from the left, of bytes that are none.
-use Rattle.std.specs.Prelude.{◌≡◌, ℕ, ◌+◌, Bool, false, ◌==◌, nat_lt, Option, Some, None, Result, Ok, Err, List, [], ◌∷◌, ◌++◌, length, take, if◌then◌else◌}
+use Rattle.std.specs.Prelude.{◌≡◌, ℕ, ◌+◌, Bool, false, ◌==◌, nat_lt, Option, Some, None, Result, Ok, Err, List, [], ◌∷◌, ◌++◌}
+use Rattle.std.specs.Prelude.{length, take, if◌then◌else◌}
 use Rattle.std.specs.List.{slice_split, join_with_byte, last_or}
 use Rattle.cc_names.specs.Names.{fault_at, unless_fault}
 use Rattle.cc_names.specs.declared.names.NameFault.{NameFault}

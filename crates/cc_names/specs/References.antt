@@ -17,11 +17,11 @@ abbrev pub view_path_cmp : ViewPath → ViewPath → Ordering
 view_path_cmp = then_cmp (on (λ view_path. view_path.0) (slice_cmp nat_cmp)) (on (λ view_path. view_path.1) (slice_cmp nat_cmp))
 
 -- the object held at each path of a view, in their order
-abbrev pub Held : Type 0
-Held = List (ViewPath × ℕ)
+abbrev pub ReferencesByPath : Type 0
+ReferencesByPath = List (ViewPath × ℕ)
 
 -- the view holds the object at each target, in place of what it held there
-abbrev pub won : List ℕ → ℕ → List (List ℕ) → Held → Held
+abbrev pub won : List ℕ → ℕ → List (List ℕ) → ReferencesByPath → ReferencesByPath
 won v id [] held = held
 won v id (target ∷ targets) held = won v id targets (put view_path_cmp (v, target) id held)
 
@@ -30,34 +30,34 @@ abbrev pub is_view_path : ViewPath → ViewPath → Bool
 is_view_path one two = bytes_eq one.0 two.0 && bytes_eq one.1 two.1
 
 -- the view holds nothing at the path any more
-abbrev pub without_reference : List ℕ → List ℕ → Held → Held
+abbrev pub without_reference : List ℕ → List ℕ → ReferencesByPath → ReferencesByPath
 without_reference v path held = where_key view_path_cmp (λ view_path. not (is_view_path view_path (v, path))) held
 
 -- the view holds nothing any more
-abbrev pub view_gone : List ℕ → Held → Held
+abbrev pub view_gone : List ℕ → ReferencesByPath → ReferencesByPath
 view_gone v held = where_key view_path_cmp (λ view_path. not (bytes_eq view_path.0 v)) held
 
 -- the references after one change
-abbrev pub held_after : ReferenceChange → Held → Held
+abbrev pub held_after : ReferenceChange → ReferencesByPath → ReferencesByPath
 held_after (Won v targets id) held = won v id targets held
 held_after (Lost v path) held = without_reference v path held
 held_after (ViewGone v) held = view_gone v held
 
 -- the references that changes leave
-abbrev pub references : List ReferenceChange → Held
+abbrev pub references : List ReferenceChange → ReferencesByPath
 references [] = []
 references (change ∷ older) = held_after change (references older)
 
 -- the object that the view holds at the path
-abbrev pub held_at : Held → List ℕ → List ℕ → Option ℕ
+abbrev pub held_at : ReferencesByPath → List ℕ → List ℕ → Option ℕ
 held_at held v path = find view_path_cmp (v, path) held
 
 -- whether some view holds the object
-abbrev pub is_held : Held → ℕ → Bool
+abbrev pub is_held : ReferencesByPath → ℕ → Bool
 is_held held id = list_any (λ entry. entry.1 == id) held
 
 -- whether the view holds the object somewhere
-abbrev pub is_held_by : Held → List ℕ → ℕ → Bool
+abbrev pub is_held_by : ReferencesByPath → List ℕ → ℕ → Bool
 is_held_by held v id = list_any (λ entry. bytes_eq entry.0.0 v && (entry.1 == id)) held
 
 -- one where the test holds
@@ -66,6 +66,6 @@ one_where true = 1
 one_where false = 0
 
 -- how many views hold the object
-abbrev pub count : Held → ℕ → ℕ
+abbrev pub count : ReferencesByPath → ℕ → ℕ
 count [] id = 0
 count (entry ∷ held) id = one_where ((entry.1 == id) && not (is_held_by held entry.0.0 id)) + count held id

@@ -1,6 +1,7 @@
--- The trees of versions of all elements, told by the list of their changes, the newest first. An element and its branch
+-- The trees of versions of all elements, given by the list of their changes, the newest first. An element and its branch
 -- `main` are named by the row that made the element, any other branch and every version by its own row.
-use Rattle.std.specs.Prelude.{ℕ, Bool, true, false, ◌==◌, nat_lt, Option, Some, None, option_map, option_and_then, List, [], ◌∷◌, length, filter, find}
+use Rattle.std.specs.Prelude.{ℕ, Bool, true, false, ◌==◌, nat_lt, Option, Some, None, option_map, option_and_then, List, [], ◌∷◌}
+use Rattle.std.specs.Prelude.{length, filter, find}
 use Rattle.cc_names.specs.declared.rows.Kind.{Kind}
 use Rattle.cc_names.specs.declared.changes.VersionId.{VersionId}
 use Rattle.cc_names.specs.declared.changes.TreeChange.{TreeChange}
@@ -40,8 +41,8 @@ pub record Version : Type 0 where
   pub number : ℕ
 
 -- the version that a change made, where the branch had so many before
-abbrev pub version_made : TreeChange → ℕ → Version
-version_made change number = record {
+abbrev pub version_of_change : TreeChange → ℕ → Version
+version_of_change change number = record {
   row = row_of_change change;
   moment = moment_of_change change;
   branch = branch_of_change change;
@@ -57,7 +58,7 @@ put_if false a rest = rest
 abbrev pub versions_on : List TreeChange → ℕ → List Version
 versions_on [] b = []
 versions_on (change ∷ older) b =
-    put_if (branch_of_change change == b) (version_made change (length (versions_on older b))) (versions_on older b)
+    put_if (branch_of_change change == b) (version_of_change change (length (versions_on older b))) (versions_on older b)
 
 -- the element that a row made with its branch `main`, or made a branch of
 abbrev pub element_by : TreeChange → Option ℕ
@@ -79,7 +80,7 @@ abbrev pub versions_of : List TreeChange → ℕ → List Version
 versions_of [] e = []
 versions_of (change ∷ older) e =
     put_if (is_number e (element_of_branch (change ∷ older) (branch_of_change change)))
-    (version_made change (length (versions_on older (branch_of_change change))))
+    (version_of_change change (length (versions_on older (branch_of_change change))))
     (versions_of older e)
 
 -- the row that made a version

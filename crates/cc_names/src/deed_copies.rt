@@ -12,7 +12,7 @@ use crate::rows::{Deed, Kind, Out, Placed, ReadOf, Stored};
 use crate::texts::Text;
 use std::alloc::Global;
 
-fn setcs(alloc: Global, view: &Name, text: &Text) -> Result<Deed, NoMemory>
+fn copy_setcs(alloc: Global, view: &Name, text: &Text) -> Result<Deed, NoMemory>
     ensures { IfOk result (λ deed. deed ≡ deeds.Setcs view.now text.now) }
 {
     Ok(Deed::Setcs {
@@ -21,7 +21,7 @@ fn setcs(alloc: Global, view: &Name, text: &Text) -> Result<Deed, NoMemory>
     })
 }
 
-fn mkelem(
+fn copy_mkelem(
     alloc: Global,
     view: &Name,
     directory: u64,
@@ -59,7 +59,7 @@ fn branch(
     })
 }
 
-fn save(alloc: Global, view: &Name, element: u64, text: &Text) -> Result<Deed, NoMemory>
+fn copy_save(alloc: Global, view: &Name, element: u64, text: &Text) -> Result<Deed, NoMemory>
     ensures { IfOk result (λ deed. deed ≡ deeds.Save view.now element text.now) }
 {
     Ok(Deed::Save {
@@ -69,7 +69,7 @@ fn save(alloc: Global, view: &Name, element: u64, text: &Text) -> Result<Deed, N
     })
 }
 
-fn rmname(alloc: Global, view: &Name, directory: u64, name: &Name) -> Result<Deed, NoMemory>
+fn copy_rmname(alloc: Global, view: &Name, directory: u64, name: &Name) -> Result<Deed, NoMemory>
     ensures { IfOk result (λ deed. deed ≡ deeds.Rmname view.now directory name.now) }
 {
     Ok(Deed::Rmname {
@@ -79,7 +79,7 @@ fn rmname(alloc: Global, view: &Name, directory: u64, name: &Name) -> Result<Dee
     })
 }
 
-fn mv(
+fn copy_mv(
     alloc: Global,
     view: &Name,
     directory: u64,
@@ -96,7 +96,7 @@ fn mv(
     })
 }
 
-fn put(alloc: Global, view: &Name, path: &Path, text: &Text) -> Result<Deed, NoMemory>
+fn copy_put(alloc: Global, view: &Name, path: &Path, text: &Text) -> Result<Deed, NoMemory>
     ensures { IfOk result (λ deed. deed ≡ deeds.Put view.now path.now text.now) }
 {
     Ok(Deed::Put {
@@ -106,7 +106,7 @@ fn put(alloc: Global, view: &Name, path: &Path, text: &Text) -> Result<Deed, NoM
     })
 }
 
-fn rm(alloc: Global, view: &Name, path: &Path) -> Result<Deed, NoMemory>
+fn copy_rm(alloc: Global, view: &Name, path: &Path) -> Result<Deed, NoMemory>
     ensures { IfOk result (λ deed. deed ≡ deeds.Rm view.now path.now) }
 {
     Ok(Deed::Rm {
@@ -144,7 +144,7 @@ fn drop_reference(alloc: Global, view: &Name, path: &Path) -> Result<Deed, NoMem
     })
 }
 
-fn labels(alloc: Global, label: &Name, placed: &List<Placed>) -> Result<Deed, NoMemory>
+fn copy_labels(alloc: Global, label: &Name, placed: &List<Placed>) -> Result<Deed, NoMemory>
     ensures { IfOk result (λ deed. deed ≡ deeds.Labels label.now placed.now) }
 {
     Ok(Deed::Labels {
@@ -182,14 +182,14 @@ impl Copied for Deed {
             Deed::Rmview { view } => Ok(Deed::Rmview {
                 view: view.copy(alloc)?,
             }),
-            Deed::Setcs { view, text } => setcs(alloc, view, text),
+            Deed::Setcs { view, text } => copy_setcs(alloc, view, text),
             Deed::Mkelem {
                 view,
                 directory,
                 name,
                 kind,
                 out,
-            } => mkelem(alloc, view, *directory, name, *kind, *out),
+            } => copy_mkelem(alloc, view, *directory, name, *kind, *out),
             Deed::Checkout {
                 view,
                 element,
@@ -212,7 +212,7 @@ impl Copied for Deed {
                 view,
                 element,
                 text,
-            } => save(alloc, view, *element, text),
+            } => copy_save(alloc, view, *element, text),
             Deed::Checkin { view, element } => Ok(Deed::Checkin {
                 view: view.copy(alloc)?,
                 element: *element,
@@ -225,15 +225,15 @@ impl Copied for Deed {
                 view,
                 directory,
                 name,
-            } => rmname(alloc, view, *directory, name),
+            } => copy_rmname(alloc, view, *directory, name),
             Deed::Mv {
                 view,
                 directory,
                 from_name,
                 to_name,
-            } => mv(alloc, view, *directory, from_name, to_name),
-            Deed::Put { view, path, text } => put(alloc, view, path, text),
-            Deed::Rm { view, path } => rm(alloc, view, path),
+            } => copy_mv(alloc, view, *directory, from_name, to_name),
+            Deed::Put { view, path, text } => copy_put(alloc, view, path, text),
+            Deed::Rm { view, path } => copy_rm(alloc, view, path),
             Deed::Mktype { kind, name } => Ok(Deed::Mktype {
                 kind: *kind,
                 name: name.copy(alloc)?,
@@ -266,7 +266,7 @@ impl Copied for Deed {
             Deed::Scrub { objects } => Ok(Deed::Scrub {
                 objects: objects.copy(alloc)?,
             }),
-            Deed::Labels { label, placed } => labels(alloc, label, placed),
+            Deed::Labels { label, placed } => copy_labels(alloc, label, placed),
             Deed::Arrow {
                 element,
                 tail,

@@ -8,7 +8,7 @@ use crate::names::Name;
 use crate::paths::Path;
 use std::hash::{BuildHasher, Hasher, RandomState};
 
-/// The key of a number and a name: a hash, so things that share a key are told apart by their names. Takes time linear in
+/// The key of a number and a name: a hash, so things that share a key are distinguished by their names. Takes time linear in
 /// the name.
 pub fn key_of(hashing: RandomState, number: u64, name: &Name) -> u64
     ensures { result ≡ key_of hashing number name.now }

@@ -5,7 +5,7 @@ ghost use Rattle.std.specs.List.{list_all, position};
 ghost use Rattle.cc_names.specs.Answers.{Gives};
 ghost use Rattle.cc_names.specs.Formed.{begins_with_letter};
 ghost use Rattle.cc_names.specs.TypeNames.{type_name_of};
-ghost use Rattle.cc_names.specs.Names.{is_name_byte, is_dash, is_dot, begins_wrong, fault_of_bytes, fault_at, name_fault, name_of, IsName};
+ghost use Rattle.cc_names.specs.Names.{is_name_byte, is_dash, is_dot, begins_no_name, fault_of_bytes, fault_at, name_fault, name_of, IsName};
 
 use crate::memory::{NoMemory, Or};
 use std::alloc::Global;
@@ -55,7 +55,7 @@ impl Name {
     pub fn read(alloc: Global, bytes: &[u8]) -> Result<Name, Or<NameFault>>
         ensures { Gives result (name_of bytes.now) }
     {
-        if let Some(fault) = fault_of(bytes) {
+        if let Some(fault) = fault_of_name(bytes) {
             return Err(Or::Is(fault));
         }
         Ok(Name::of(alloc, bytes)?)
@@ -117,8 +117,8 @@ fn first_bad_byte(name: &[u8]) -> Option<usize>
     name.iter().position(|byte| !is_name_byte(*byte))
 }
 
-fn begins_wrong(name: &[u8]) -> bool
-    ensures { result ≡ begins_wrong name.now }
+fn begins_no_name(name: &[u8]) -> bool
+    ensures { result ≡ begins_no_name name.now }
 {
     begins_with_dash(name) || is_all_dots(name)
 }
@@ -139,13 +139,13 @@ pub fn fault_at(place: u64, name: &[u8]) -> Option<NameFault>
     requires { place + length name.now < 2 ^ 64 }
     ensures { result ≡ fault_at place name.now }
 {
-    if begins_wrong(name) {
+    if begins_no_name(name) {
         return Some(NameFault::BadByte(place));
     }
     fault_of_bytes(first_bad_byte(name), place, name.len())
 }
 
-fn fault_of(bytes: &[u8]) -> Option<NameFault>
+fn fault_of_name(bytes: &[u8]) -> Option<NameFault>
     ensures { result ≡ name_fault bytes.now }
 {
     if bytes.is_empty() {

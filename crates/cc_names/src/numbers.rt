@@ -5,7 +5,7 @@ ghost use Rattle.std.specs.Char.{is_ascii_digit};
 ghost use Rattle.std.specs.List.{list_all};
 ghost use Rattle.std.specs.Fmt.{decimal};
 ghost use Rattle.std.specs.Str.Parse.{digits_value};
-ghost use Rattle.cc_names.specs.Numbers.{begins_wrong, below_limit, number_of};
+ghost use Rattle.cc_names.specs.Numbers.{begins_no_number, below_limit, number_of};
 
 use crate::memory::NoMemory;
 use std::alloc::Global;
@@ -16,8 +16,8 @@ fn are_digits(bytes: &[u8]) -> bool
     bytes.iter().all(|byte| byte.is_ascii_digit())
 }
 
-fn begins_wrong(digits: &[u8]) -> bool
-    ensures { result ≡ begins_wrong digits.now }
+fn begins_no_number(digits: &[u8]) -> bool
+    ensures { result ≡ begins_no_number digits.now }
 {
     match digits {
         [] => true,
@@ -43,7 +43,7 @@ fn value(digits: &[u8]) -> Option<u64>
 pub fn number(bytes: &[u8]) -> Option<u64>
     ensures { result ≡ number_of bytes.now }
 {
-    if !are_digits(bytes) || begins_wrong(bytes) {
+    if !are_digits(bytes) || begins_no_number(bytes) {
         return None;
     }
     value(bytes)

@@ -99,7 +99,7 @@ impl Path {
     pub fn read(alloc: Global, bytes: &[u8]) -> Result<Path, Or<NameFault>>
         ensures { Gives result (path_of bytes.now) }
     {
-        if let Some(fault) = fault_of(bytes) {
+        if let Some(fault) = fault_of_path(bytes) {
             return Err(Or::Is(fault));
         }
         Ok(Path::of(alloc, bytes)?)
@@ -250,7 +250,7 @@ fn first_fault(bytes: &[u8]) -> Option<NameFault>
     fault_at(place, rest)
 }
 
-fn fault_of(bytes: &[u8]) -> Option<NameFault>
+fn fault_of_path(bytes: &[u8]) -> Option<NameFault>
     ensures { result ≡ path_fault bytes.now }
 {
     if bytes.is_empty() {

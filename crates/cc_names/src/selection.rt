@@ -17,7 +17,7 @@ pub enum Segment {
     OneName(Text),
 }
 
-/// Which paths a rule of a config spec bears on.
+/// Which paths a rule of a config spec affects.
 #[derive(Drop)]
 pub struct Pattern {
     /// Whether a leading `/` ties it to the root. One without it may begin at any name of a path.

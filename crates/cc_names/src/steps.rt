@@ -29,7 +29,7 @@ pub struct Counts {
     pub faults: u64,
 }
 
-/// One step as the program keeps it: rows and phases are told by their numbers.
+/// One step as the program keeps it: rows and phases are given by their numbers.
 #[derive(Drop)]
 pub enum Step {
     /// The base was opened with this many rows, row 0 included.
@@ -91,7 +91,7 @@ pub enum Step {
 /// One step as contracts see it in a story: with the rows and the phase themselves.
 #[derive(Drop)]
 pub enum StoryStep {
-    /// The opened rows, from row 1 on; the disk's counts as it was handed in; and whether it tells its content.
+    /// The opened rows, from row 1 on; the disk's counts as it was handed in; and whether it models its content.
     Opened {
         rows: List<Row>,
         counts: Counts,

@@ -6,11 +6,11 @@ use Rattle.cc_names.specs.Counts.{raised_count}
 use Rattle.cc_outside.specs.declared.sources.ReadFault.{ReadFault}
 use Rattle.cc_outside.specs.declared.sinks.WriteFault.{WriteFault}
 
--- told bytes grow by a front of this piece, which may be empty
+-- known bytes grow by a prefix of this piece, which may be empty
 abbrev pub AppendsPrefix : Option (List ℕ) → Option (List ℕ) → List ℕ → Type 0
 AppendsPrefix old new piece = (count : ℕ) × (count ≤ length piece) × Appends old new (take count piece)
 
--- told bytes grow by what was taken of a piece; after a fault, by some front of it
+-- known bytes grow by what was taken of a piece; after a fault, by some prefix of it
 abbrev pub WriteTakes : {E : Type 0} → Option (List ℕ) → Option (List ℕ) → Result ℕ E → List ℕ → Type 0
 WriteTakes old new (Ok count) piece = Appends old new (take count piece)
 WriteTakes old new (Err fault) piece = AppendsPrefix old new piece
@@ -58,7 +58,7 @@ abbrev pub basin_after : Basin → List ℕ → Result ℕ WriteFault → Basin
 basin_after basin piece (Ok count) = record basin { held = basin.held ++ take count piece; calls = raised_count basin.calls 1 }
 basin_after basin piece (Err fault) = record basin { calls = raised_count basin.calls 1; faults = raised_count basin.faults 1 }
 
--- what is known of a source that tells no content: how many bytes it gave, and how many calls failed
+-- what is known of a source that shows contracts no content: how many bytes it gave, and how many calls failed
 pub record Flow : Type 0 where
   pub given : ℕ
   pub faults : ℕ

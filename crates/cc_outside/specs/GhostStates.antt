@@ -1,21 +1,21 @@
--- What is known of sources, sinks and clocks: their bytes or moments, where these are told, and their counts.
+-- What is known of sources, sinks and clocks: their bytes or moments, where contracts know these, and their counts.
 use Rattle.std.specs.Prelude.{◌≡◌, ℕ, Option, List, IfSome}
 use Rattle.std.specs.Io.KnownBytes.{Consumes}
 use Rattle.cc_names.specs.Counts.{raised_count, RoseAbove}
 use Rattle.cc_outside.specs.Moments.{moment_at}
 
--- a source: the bytes that are still to come, where they are told; how many were given, and how many calls failed
+-- a source: the bytes that are still to come, where contracts know them; how many were given, and how many calls failed
 pub record SourceState : Type 0 where
   pub left : Option (List ℕ)
   pub given : ℕ
   pub faults : ℕ
 
--- a sink: the bytes that it holds, where they are told, and how many calls failed
+-- a sink: the bytes that it holds, where contracts know them, and how many calls failed
 pub record SinkState : Type 0 where
   pub held : Option (List ℕ)
   pub faults : ℕ
 
--- a clock: the moments that its readings tell, the last of them again and again, where they are told; and how many
+-- a clock: the moments that its readings tell, the last of them again and again, where contracts know them; and how many
 -- readings were made
 pub record ClockState : Type 0 where
   pub modeled : Option (List ℕ)
@@ -29,7 +29,7 @@ Gave before after count = after.given ≡ raised_count before.given count
 abbrev pub GaveAbove : ℕ → SourceState → SourceState → Type 0
 GaveAbove limit before after = RoseAbove limit before.given after.given
 
--- told bytes of a source begin with a text, and the rest is still to come
+-- known bytes of a source begin with a text, and the rest is still to come
 abbrev pub Lost : SourceState → SourceState → List ℕ → Type 0
 Lost before after text = Consumes before.left after.left text
 

@@ -6,7 +6,7 @@ ghost use Rattle.cc_outside.specs.GhostStates.{ClockState, Tells};
 
 /// Tells moments, in seconds since 1970. It cannot fail.
 pub trait Clock {
-    // The moments that its readings tell, where they are told, and how many readings were made so far.
+    // The moments that its readings tell, where contracts know them, and how many readings were made so far.
     ghost ghost_state: { Self → ClockState };
 
     /// The moment now.

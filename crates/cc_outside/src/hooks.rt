@@ -2,7 +2,7 @@
 
 use cc_names::paths::Path;
 
-/// What runs of scripts ask before and after, outside the lock of a base. A lane is told by its number, counted from 1, and
+/// What runs of scripts ask before and after, outside the lock of a base. A lane is given by its number, counted from 1, and
 /// a unit of its build by the unit's first target. The calls have no answer and change nothing that a run gives.
 pub trait Hook {
     /// A script is about to be run.
@@ -15,7 +15,7 @@ pub trait Hook {
     fn read(&self, lane: u32, unit: &Path, path: &Path);
 }
 
-/// A gate that does nothing.
+/// A hook that does nothing.
 #[derive(Drop)]
 pub struct OpenHook;
 

@@ -1,12 +1,12 @@
 //! The outside of the program: where its bytes come from, where they go, and the clock.
 //!
-//! What it is for: the traits `Source`, `Sink` and `Clock`, each with a sight that says what a source has left, what a sink
+//! What it is for: the traits `Source`, `Sink` and `Clock`, each with ghost state that says what a source has left, what a sink
 //! holds or what a clock tells, and how many calls failed or were made; a double in memory of each, for tests; an adapter
 //! of each over the standard library; the two calls that move a whole text, `read_whole` and `write_whole`; and the trait
-//! `Hook`, which runs of scripts ask before and after, with the gate that does nothing.
+//! `Hook`, which runs of scripts ask before and after, with the hook that does nothing.
 //!
 //! What it promises: each double and each adapter is proved against its trait. A fault is answered only where the
-//! count of faults rose. The adapters tell no content: what a file or a terminal gives is known only as it comes.
+//! count of faults rose. The adapters show contracts no content: what a file or a terminal gives is known only as it comes.
 //!
 //! What it stands on: `cc_names` and the standard library.
 #![tactic(auto)]

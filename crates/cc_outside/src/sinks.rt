@@ -22,10 +22,10 @@ impl std::error::Error for WriteFault {}
 
 /// Where bytes go.
 pub trait Sink {
-    // The bytes that it holds, where they are told, and how many calls failed so far.
+    // The bytes that it holds, where contracts know them, and how many calls failed so far.
     ghost ghost_state: { Self → SinkState };
 
-    /// Takes bytes from the front of a piece and answers how many: at least one, where there are any.
+    /// Takes bytes from the start of a piece and answers how many: at least one, where there are any.
     fn write(&mut self, piece: &[u8]) -> Result<usize, WriteFault>
         ensures within { IfOk result (λ count. count ≤ length piece.now) }
         ensures some { IfOk result (λ count. 0 < length piece.now → 0 < count) }

@@ -25,7 +25,7 @@ impl std::error::Error for ReadFault {}
 
 /// Where bytes come from.
 pub trait Source {
-    // The bytes that are still to come, where they are told; how many were given, and how many calls failed so far.
+    // The bytes that are still to come, where contracts know them; how many were given, and how many calls failed so far.
     ghost ghost_state: { Self → SourceState };
 
     /// Gives the next bytes, at most as many as there is room for, and answers how many. No bytes, where there is

@@ -129,7 +129,7 @@ pub(crate) struct LookingDisk<D: Disk> {
 }
 
 /// The disk over the files of a base: FILE and FILE.objects. It opens nothing yet.
-fn files_of(rt: &HostRuntime, file: &str) -> io::Result<FileDisk<HostRuntime>> {
+fn base_files(rt: &HostRuntime, file: &str) -> io::Result<FileDisk<HostRuntime>> {
     let journal = String::from_str(rt.alloc(), file)?;
     let objects = format!(in rt.alloc(); "{file}.objects")?;
     Ok(FileDisk::new(rt.clone()?, journal, objects))
@@ -140,8 +140,8 @@ impl LookingDisk<FileDisk<HostRuntime>> {
         rt: HostRuntime,
         file: &str,
     ) -> io::Result<LookingDisk<FileDisk<HostRuntime>>> {
-        let disk = files_of(&rt, file)?;
-        let looks = Some(files_of(&rt, file)?);
+        let disk = base_files(&rt, file)?;
+        let looks = Some(base_files(&rt, file)?);
         let file = String::from_str(rt.alloc(), file)?;
         Ok(LookingDisk {
             rt,

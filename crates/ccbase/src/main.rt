@@ -5,7 +5,7 @@
 //!
 //! What it promises: it adds nothing to `session_run::run_words` but the streams of the process, its clock, its threads, its two
 //! files, the help and the version, and lines on standard error: what of FILE is no base, and why a session was not carried out.
-//! The gate round scripts is open.
+//! The hook round scripts is open.
 //!
 //! What it stands on: `session_run`, `disk_model` and `vob_journal` for the files, `cc_outside` for the streams and the clock,
 //! and `cc_names` for words.
@@ -96,7 +96,7 @@ fn texts_of(alloc: Global, words: &[String]) -> Result<Vec<Text>, NoMemory> {
 }
 
 /// What is wrong with a line of a session, for its writer.
-fn fault_of(cause: SessionCause) -> &'static str {
+fn fault_words(cause: SessionCause) -> &'static str {
     match cause {
         SessionCause::NoPhase => "there is no line 'phase' above it",
         SessionCause::NoLane => "there is no line 'lane NAME' above it in this phase",
@@ -122,7 +122,7 @@ fn tell_cause(
         Status::BadSession(error) => eprintln!(rt;
             "ccbase: standard input: line {}: {}",
             error.line,
-            fault_of(error.cause)
+            fault_words(error.cause)
         ),
         Status::Damaged(row) => eprintln!(rt;
             "ccbase: {file}: row {row} is damaged: nothing was run, and nothing is changed"

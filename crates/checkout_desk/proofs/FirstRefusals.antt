@@ -15,7 +15,8 @@ refused_first (Is refusal) (Some other ∷ tests) more is = is
 refused_first (Is refusal) (None ∷ tests) more is = refused_first (Is refusal) tests more is
 
 -- where some tests are passed, the refusal is that of those behind them
-pub passed_first : (tests more : List (Option Refusal)) → first_refusal tests ≡ None → first_refusal (tests ++ more) ≡ first_refusal more
+pub passed_first : (tests more : List (Option Refusal)) → first_refusal tests ≡ None
+    → first_refusal (tests ++ more) ≡ first_refusal more
 passed_first [] more is = refl
 passed_first (Some other ∷ tests) more is = absurd (cc is)
 passed_first (None ∷ tests) more is = passed_first tests more is

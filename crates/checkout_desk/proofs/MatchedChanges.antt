@@ -15,18 +15,24 @@ use Rattle.checkout_desk.specs.Deciding.{Decides, DecidesIfAny, Sees, with_row}
 -- an answer is what is decided of a change on an occasion, in every scene that has these rows
 abbrev IsDecided : Base → Occasion → Result (Option Plain) (Or Refusal) → Change → Type 0
 IsDecided rows on answer change =
-    (scene : Scene) → Sees scene rows on.moment (view_of change) on.busy on.taken → DecidesIfAny on.tag on.moment answer (change_decision scene change)
+    (scene : Scene) → Sees scene rows on.moment (view_of change) on.busy on.taken
+    → DecidesIfAny on.tag on.moment answer (change_decision scene change)
 
 -- where nothing may be found for a row
-pub matched : (rows : Base) (on : Occasion) (answer : Result (Option Plain) (Or Refusal)) (change form : Change) → change ≡ form → IsDecided rows on answer form → IsDecided rows on answer change
+pub matched : (rows : Base) (on : Occasion) (answer : Result (Option Plain) (Or Refusal)) (change form : Change) → change ≡ form
+    → IsDecided rows on answer form → IsDecided rows on answer change
 matched rows on answer change form is decided = subst (IsDecided rows on answer) (sym is) decided
 
-any : (tag : Tag) (moment : _) (answer : Result Plain (Or Refusal)) (decision : Result Decision Refusal) → Decides tag moment answer decision → DecidesIfAny tag moment (with_row answer) decision
+any : (tag : Tag) (moment : _) (answer : Result Plain (Or Refusal)) (decision : Result Decision Refusal)
+    → Decides tag moment answer decision → DecidesIfAny tag moment (with_row answer) decision
 any tag moment (Ok row) decision decided = decided
 any tag moment (Err refusal) decision decided = decided
 
 -- where there is always a row
-pub matched_made : (rows : Base) (on : Occasion) (answer : Result Plain (Or Refusal)) (result : Result (Option Plain) (Or Refusal)) (change form : Change) → change ≡ form → result ≡ with_row answer
-    → ((scene : Scene) → Sees scene rows on.moment (view_of form) on.busy on.taken → Decides on.tag on.moment answer (change_decision scene form)) → IsDecided rows on result change
+pub matched_made : (rows : Base) (on : Occasion) (answer : Result Plain (Or Refusal))
+    (result : Result (Option Plain) (Or Refusal)) (change form : Change) → change ≡ form → result ≡ with_row answer
+    → ((scene : Scene) → Sees scene rows on.moment (view_of form) on.busy on.taken
+    → Decides on.tag on.moment answer (change_decision scene form)) → IsDecided rows on result change
 matched_made rows on answer result change form is made_is decided =
-    matched rows on result change form is (subst (λ answers. IsDecided rows on answers form) (sym made_is) (λ scene sees. any on.tag on.moment answer (change_decision scene form) (decided scene sees)))
+    matched rows on result change form is (subst (λ answers. IsDecided rows on answers form) (sym made_is)
+    (λ scene sees. any on.tag on.moment answer (change_decision scene form) (decided scene sees)))

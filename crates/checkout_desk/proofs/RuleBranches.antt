@@ -1,5 +1,6 @@
 -- The branches that rules make have the names of types, as they were read.
-use Rattle.std.proofs.Common.{◌≡◌, ℕ, ◌+◌, Bool, true, false, ◌&&◌, cond, Option, Some, None, Result, Ok, Err, List, [], ◌∷◌, refl, codes, ◌==◌}
+use Rattle.std.proofs.Common.{◌≡◌, ℕ, ◌+◌, Bool, true, false, ◌&&◌, cond, Option, Some, None, Result, Ok, Err, List, [], ◌∷◌}
+use Rattle.std.proofs.Common.{refl, codes, ◌==◌}
 use Rattle.std.specs.Prelude.{IfOk, IfSome, is_ok, option_map, find, slice_get}
 use Rattle.std.specs.Option.{ok_or}
 use Rattle.std.specs.List.{AllByRecursion}
@@ -13,7 +14,9 @@ use Rattle.cc_names.specs.declared.refusals.SpecCause.TheVariants.{BadType}
 use Rattle.cc_names.specs.declared.refusals.SpecError.{SpecError}
 use Rattle.cc_names.specs.declared.selection.Picked.{Picked}
 use Rattle.cc_names.specs.declared.selection.Rule.{Rule}
-use Rattle.base_model.specs.ConfigSpecs.Lines.{◌>>=◌, Options, line_of_words, element_line, object_line, time_line, end_line, with_options, rule_of, options_from, no_options, before_of, moment_of_word, is_comment}
+use Rattle.base_model.specs.ConfigSpecs.Lines.{◌>>=◌, Options, line_of_words, element_line, object_line, time_line, end_line}
+use Rattle.base_model.specs.ConfigSpecs.Lines.{with_options, rule_of, options_from, no_options, before_of, moment_of_word}
+use Rattle.base_model.specs.ConfigSpecs.Lines.{is_comment}
 use Rattle.base_model.specs.ConfigSpecs.Patterns.{pattern_of}
 use Rattle.base_model.specs.ConfigSpecs.Selectors.{branch_type_of, selector_of}
 use Rattle.base_model.specs.ConfigSpecs.Specs.{rules_from, rules_of, with_line, before_rules}
@@ -58,13 +61,16 @@ refuses : (cause : SpecCause) → Keeps with_line (Err cause)
 refuses cause = λ line blocks behind all. tt
 
 -- steps of reading, of which the last keeps them named
-then_named : {A B : Type 0} (does : Does B) → ((cause : SpecCause) → Keeps does (Err cause)) → (r : Result A SpecCause) (f : A → Result B SpecCause)
+then_named : {A B : Type 0} (does : Does B) → ((cause : SpecCause) → Keeps does (Err cause))
+    → (r : Result A SpecCause) (f : A → Result B SpecCause)
     → ((a : A) → Keeps does (f a)) → Keeps does (r >>= f)
 then_named does none (Ok a) f all = all a
 then_named does none (Err cause) f all = none cause
 
-branch_then : {B : Type 0} (does : Does B) → ((cause : SpecCause) → Keeps does (Err cause)) → (r : Result (Option (List ℕ)) SpecCause)
-    (f : Option (List ℕ) → Result B SpecCause) → IfOk r IsBranchNamed → ((branch : Option (List ℕ)) → IsBranchNamed branch → Keeps does (f branch))
+branch_then : {B : Type 0} (does : Does B) → ((cause : SpecCause) → Keeps does (Err cause))
+    → (r : Result (Option (List ℕ)) SpecCause)
+    (f : Option (List ℕ) → Result B SpecCause) → IfOk r IsBranchNamed → ((branch : Option (List ℕ)) → IsBranchNamed branch
+    → Keeps does (f branch))
     → Keeps does (r >>= f)
 branch_then does none (Ok branch) f named all = all branch named
 branch_then does none (Err cause) f named all = none cause
@@ -73,22 +79,27 @@ either : (test : Bool) (one other : _) → Keeps with_line one → Keeps with_li
 either true one other a b = a
 either false one other a b = b
 
-before_named : (rule : Rule) (more : Result (List Rule) SpecError) → IsNamed rule → IfOk more AreNamed → IfOk (before_rules rule more) AreNamed
+before_named : (rule : Rule) (more : Result (List Rule) SpecError) → IsNamed rule → IfOk more AreNamed
+    → IfOk (before_rules rule more) AreNamed
 before_named rule (Ok rules) named all = (named, all)
 before_named rule (Err error) named all = tt
 
 rule_named : (line : ℕ) (block : Option ℕ) (pattern : List ℕ) (of_object : Bool) (selector : List ℕ) (options : Options)
     → Keeps with_line (rule_of line block pattern of_object selector options)
 rule_named line block pattern of_object selector options =
-    then_named with_line refuses (pattern_of pattern) _ (λ segments. then_named with_line refuses (selector_of of_object selector) _ (λ version.
-    then_named with_line refuses (before_of options.time block) _ (λ before. branch_then with_line refuses (branch_type_of options.mkbranch) _ (branch_named options.mkbranch) (λ branch named. λ at blocks behind all. before_named _ (behind blocks) named (all blocks)))))
+    then_named with_line refuses (pattern_of pattern) _ (λ segments. then_named with_line refuses (selector_of of_object selector)
+    _ (λ version.
+    then_named with_line refuses (before_of options.time block) _ (λ before. branch_then with_line refuses
+    (branch_type_of options.mkbranch) _ (branch_named options.mkbranch)
+    (λ branch named. λ at blocks behind all. before_named _ (behind blocks) named (all blocks)))))
 
 options_named : (line : ℕ) (block : Option ℕ) (pattern : List ℕ) (of_object : Bool) (selector : List ℕ) (options : Option Options)
     → Keeps with_line (with_options line block pattern of_object selector options)
 options_named line block pattern of_object selector None = λ at blocks behind all. tt
 options_named line block pattern of_object selector (Some options) = rule_named line block pattern of_object selector options
 
-object_named : (line : ℕ) (block : Option ℕ) (pattern : List ℕ) (words : List (List ℕ)) → Keeps with_line (object_line line block pattern words)
+object_named : (line : ℕ) (block : Option ℕ) (pattern : List ℕ) (words : List (List ℕ))
+    → Keeps with_line (object_line line block pattern words)
 object_named line block pattern [] = λ at blocks behind all. tt
 object_named line block pattern (object ∷ words) = options_named line block pattern true object (options_from words no_options)
 
@@ -101,7 +112,8 @@ element_named line block (pattern ∷ selector ∷ words) =
 
 time_named : (words : List (List ℕ)) → Keeps with_line (time_line words)
 time_named [] = λ at blocks behind all. tt
-time_named (date ∷ []) = then_named with_line refuses (moment_of_word date) _ (λ moment. λ at blocks behind all. all (moment ∷ blocks))
+time_named (date ∷ []) = then_named with_line refuses (moment_of_word date) _
+    (λ moment. λ at blocks behind all. all (moment ∷ blocks))
 time_named (date ∷ next ∷ words) = λ at blocks behind all. tt
 
 -- `end time` leaves the innermost block
@@ -118,8 +130,10 @@ end_named (word ∷ next ∷ words) = λ at blocks behind all. tt
 line_named : (line : ℕ) (block : Option ℕ) (words : List (List ℕ)) → Keeps with_line (line_of_words line block words)
 line_named line block [] = λ at blocks behind all. all blocks
 line_named line block (word ∷ words) =
-    either (is_comment word) _ _ (λ at blocks behind all. all blocks) (either (bytes_eq word (codes "element")) _ _ (element_named line block words)
-    (either (bytes_eq word (codes "time")) _ _ (time_named words) (either (bytes_eq word (codes "end")) _ _ (end_named words) (λ at blocks behind all. tt))))
+    either (is_comment word) _ _ (λ at blocks behind all. all blocks) (either (bytes_eq word (codes "element")) _ _
+    (element_named line block words)
+    (either (bytes_eq word (codes "time")) _ _ (time_named words) (either (bytes_eq word (codes "end")) _ _ (end_named words)
+    (λ at blocks behind all. tt))))
 
 lines_named : (lines : List (List ℕ)) (line : ℕ) (blocks : List ℕ) → IfOk (rules_from lines line blocks) AreNamed
 lines_named [] line blocks = tt
@@ -134,7 +148,8 @@ spec_named : (text : Option (List ℕ)) → AreNamed (rules_of_spec text)
 spec_named None = tt
 spec_named (Some text) = read_named (rules_of text) (lines_named (lines_of text) 1 [])
 
-by_test : (is : Bool) (rule : Rule) (rest : Option Rule) → IsNamed rule → IsBranchNamed (branch_by rest) → IsBranchNamed (branch_by (cond is (Some rule) rest))
+by_test : (is : Bool) (rule : Rule) (rest : Option Rule) → IsNamed rule → IsBranchNamed (branch_by rest)
+    → IsBranchNamed (branch_by (cond is (Some rule) rest))
 by_test true rule rest named others = named
 by_test false rule rest named others = others
 

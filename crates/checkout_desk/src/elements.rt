@@ -18,7 +18,7 @@ use cc_names::rows::{Deed, Kind, Row};
 use std::alloc::Global;
 use view_lookup::FirstRows;
 
-/// The row of `mkelem V P` or `mkdir V P` in a directory that the view has out, or its first refusal.
+/// The row of `mkelem V P` or `mkdir V P` in a directory that the view has checked out, or its first refusal.
 fn mkelem_in(
     alloc: Global,
     rows: &FirstRows<'_>,

@@ -35,7 +35,7 @@ fn named_out(rows: &FirstRows<'_>, view: &Name, directory: u64, name: &Name) -> 
     checked_out(rows, view, element)
 }
 
-/// The row of `rmname V P` in a directory that the view has out, or its first refusal.
+/// The row of `rmname V P` in a directory that the view has checked out, or its first refusal.
 fn rmname_in(
     alloc: Global,
     rows: &FirstRows<'_>,
@@ -91,7 +91,7 @@ fn renamed_path(alloc: Global, path: &Path, name: &Name) -> Result<Path, NoMemor
     }
 }
 
-/// The tests of a new name in a directory that the view has out, with that of its room. Answers the name that it has.
+/// The tests of a new name in a directory that the view has checked out, with that of its room. Answers the name that it has.
 fn mv_tests(
     alloc: Global,
     rows: &FirstRows<'_>,
@@ -117,7 +117,7 @@ fn mv_tests(
     Ok(from)
 }
 
-/// The row of `mv V P NAME` in a directory that the view has out, or its first refusal.
+/// The row of `mv V P NAME` in a directory that the view has checked out, or its first refusal.
 fn mv_in(
     alloc: Global,
     rows: &FirstRows<'_>,

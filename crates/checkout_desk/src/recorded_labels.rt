@@ -153,7 +153,8 @@ fn find_object_in(
 }
 
 /// The row of `mklabel V [-replace] -config P L`, with each version that the record of the view's object lists; none where it
-/// lists nothing; or its first refusal. Takes the time of `held_object`, for each entry of the records on which the object rests that of
+/// lists nothing; or its first refusal. Takes the time of `held_object`, for each entry of the records on which the object rests
+/// that of
 /// `version_id_of`, each record once, and for each version that the record lists that of `holder`.
 pub fn mklabel_config(
     alloc: Global,

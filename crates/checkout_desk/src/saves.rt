@@ -41,7 +41,8 @@ fn saves_element(
     needs_out(alloc, path, checked_out(rows, view, element))
 }
 
-/// What stands at the path may be saved: a private file always, a file element that the view has out, and a new private file
+/// What stands at the path may be saved: a private file always, a file element that the view has checked out, and a new private
+/// file
 /// where the view holds no object.
 fn saves_at(
     alloc: Global,

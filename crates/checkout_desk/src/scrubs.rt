@@ -27,7 +27,7 @@ fn is_as_old(published: u64, moment: u64, age: u64) -> bool
 }
 
 /// Whether a row of this deed publishes an object.
-fn publishes(deed: &Deed) -> bool
+fn publishes_object(deed: &Deed) -> bool
     ensures { result ≡ is_publish_deed (Some deed.now) }
 {
     matches!(deed, Deed::Publish { .. })
@@ -38,7 +38,7 @@ fn is_old_object(moment: u64, age: u64, row: &Row) -> bool
     ensures { result
         ≡ (is_publish_deed (Some row.now.deed) && nat_le (row.now.moment + age) moment) }
 {
-    publishes(row.deed()) && is_as_old(row.moment(), moment, age)
+    publishes_object(row.deed()) && is_as_old(row.moment(), moment, age)
 }
 
 /// Whether a row publishes an object that is due. Takes constant time, and where it publishes an object that is old enough the

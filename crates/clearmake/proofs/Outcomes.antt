@@ -21,20 +21,23 @@ use Rattle.legal_history.specs.Stories.States.{State}
 use Rattle.legal_history.specs.Stories.Steps.{state_of}
 use Rattle.clearmake.specs.Calls.{IsRunOfUnit, IsStarted}
 use Rattle.clearmake.specs.Outside.{RanSo}
-use Rattle.clearmake.specs.Passes.{IsPast}
-use Rattle.clearmake.specs.FoundTexts.{sees, standing_of}
+use Rattle.clearmake.specs.Passes.{IsCommandPast}
+use Rattle.clearmake.specs.FoundTexts.{sees, found_standing}
 use Rattle.clearmake.proofs.Later.{stands_so}
 
-with_row : (row : ℕ) (found : Option (List ℕ)) → option_map text_of (option_map (λ bytes. let standing : Standing = record { row = row; text = bytes } in standing) found) ≡ found
+with_row : (row : ℕ) (found : Option (List ℕ)) → option_map text_of (option_map
+    (λ bytes. let standing : Standing = record { row = row; text = bytes } in standing) found) ≡ found
 with_row row None = refl
 with_row row (Some bytes) = refl
 
-of_row : (b : Base) (path : List ℕ) (row : Option ℕ) → option_map text_of (option_and_then (standing_of b path) row) ≡ text_of_row b path row
+of_row : (b : Base) (path : List ℕ) (row : Option ℕ) → option_map text_of (option_and_then (found_standing b path) row)
+    ≡ text_of_row b path row
 of_row b path None = refl
 of_row b path (Some row) = with_row row (text b row path)
 
 -- a run on what a started unit sees is the unit's run
-pub run_is : (s : State) (lane n : ℕ) (script : List Line) (targets : List (List ℕ)) (ran : Ran) → IsStarted s lane n script targets →
+pub run_is : (s : State) (lane n : ℕ) (script : List Line) (targets : List (List ℕ)) (ran : Ran)
+    → IsStarted s lane n script targets →
     ran ≡ carried_out (texts (sees s lane n)) (run_of_lines targets script) → IsRunOfUnit s lane n ran
 run_is s lane n script targets ran h e = record {
   build = h.has.build;
@@ -46,11 +49,14 @@ run_is s lane n script targets ran h e = record {
 }
   where
     seen : (path : List ℕ) → texts (sees s lane n) path ≡ text_of_row s.base path (visible s.base h.has.build n h.has.unit path)
-    seen path = ap (option_map text_of) (stands_so s lane n h.has.build h.has.unit path h.has.active h.has.is_unit) ∙ of_row s.base path (visible s.base h.has.build n h.has.unit path)
+    seen path = ap (option_map text_of) (stands_so s lane n h.has.build h.has.unit path h.has.active h.has.is_unit)
+        ∙ of_row s.base path (visible s.base h.has.build n h.has.unit path)
 
-pub ran_so : (result : Result Ended (Or GivenUp)) (s : State) (tag : Tag) (n broken : ℕ) (script : List Line) (targets : List (List ℕ)) (story : List StoryStep) → IsStarted s tag.lane n script targets →
-    IfOk result (λ ended. ran_of ended ≡ carried_out (texts (sees s tag.lane n)) (run_of_lines targets script)) → IfErr result (λ cause. IsGivenUp cause 0 broken) →
-    (0 < broken → IsPast (state_of story) tag) → RanSo result s tag n story
+pub ran_so : (result : Result Ended (Or GivenUp)) (s : State) (tag : Tag) (n broken : ℕ) (script : List Line)
+    (targets : List (List ℕ)) (story : List StoryStep) → IsStarted s tag.lane n script targets →
+    IfOk result (λ ended. ran_of ended ≡ carried_out (texts (sees s tag.lane n)) (run_of_lines targets script))
+    → IfErr result (λ cause. IsGivenUp cause 0 broken) →
+    (0 < broken → IsCommandPast (state_of story) tag) → RanSo result s tag n story
 ran_so (Ok ended) s tag n broken script targets story h ran given past = run_is s tag.lane n script targets (ran_of ended) h ran
 ran_so (Err NoMemory) s tag n broken script targets story h ran given past = tt
 ran_so (Err (Is Broken)) s tag n broken script targets story h ran given past =

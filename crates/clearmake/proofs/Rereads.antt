@@ -11,28 +11,34 @@ use Rattle.legal_history.specs.Stories.Steps.{state_of}
 use Rattle.turn_lock.proofs.Prefixes.{begins_on}
 use Rattle.turn_lock.specs.PassState.{LockId, PassState}
 use Rattle.clearmake.specs.Calls.{WasStarted}
-use Rattle.clearmake.specs.Outside.{Follows, IsRead, IsReading, Reading}
-use Rattle.clearmake.specs.Passes.{Builds, IsPast, Knows}
+use Rattle.clearmake.specs.Outside.{Follows, ReadsStanding, IsReading, Reading}
+use Rattle.clearmake.specs.Passes.{Builds, IsCommandPast, Knows}
 use Rattle.clearmake.specs.FoundTexts.{IsFetched, sees}
 use Rattle.clearmake.proofs.Later.{past_stays, sees_same, started_stays}
 
-pub knows_on : (begun one two : List StoryStep) (tag : Tag) (count : ℕ) → Knows begun one tag count → IsPrefix one two → Knows begun two tag count
+pub knows_on : (begun one two : List StoryStep) (tag : Tag) (count : ℕ) → Knows begun one tag count → IsPrefix one two
+    → Knows begun two tag count
 knows_on begun one two tag count h p = record { begins = begins_on begun one two h.begins p; builds = h.builds }
 
-fetched : (got : Got) (now was : Option Standing) (story : List StoryStep) (tag : Tag) → now ≡ was → IsFetched got now → IsRead got was story tag
+fetched : (got : Got) (now was : Option Standing) (story : List StoryStep) (tag : Tag) → now ≡ was → IsFetched got now
+    → ReadsStanding got was story tag
 fetched (gots.Found row bytes) now was story tag same e = sym same ∙ e
 fetched gots.Absent now was story tag same e = sym same ∙ e
 fetched gots.Broken now was story tag same e = absurd e
 fetched gots.NoMemory now was story tag same e = tt
 
 -- what is fetched now is what the unit found as its run began
-pub reads_same : (start story : List StoryStep) (tag : Tag) (count n : ℕ) (path : List ℕ) (got : Got) → Builds start tag count → WasStarted (state_of start) tag.lane n → IsPrefix start story → Legal story →
-    Builds story tag count → IsFetched got (sees (state_of story) tag.lane n path) → IsRead got (sees (state_of start) tag.lane n path) story tag
+pub reads_same : (start story : List StoryStep) (tag : Tag) (count n : ℕ) (path : List ℕ) (got : Got) → Builds start tag count
+    → WasStarted (state_of start) tag.lane n → IsPrefix start story → Legal story →
+    Builds story tag count → IsFetched got (sees (state_of story) tag.lane n path)
+    → ReadsStanding got (sees (state_of start) tag.lane n path) story tag
 reads_same start story tag count n path got h started p legal still e =
-    fetched got (sees (state_of story) tag.lane n path) (sees (state_of start) tag.lane n path) story tag (sees_same start story tag n path h.next p legal still.next started) e
+    fetched got (sees (state_of story) tag.lane n path) (sees (state_of start) tag.lane n path) story tag
+    (sees_same start story tag n path h.next p legal still.next started) e
 
 -- what was started as the run began was started by now
-pub started_now : (start story : List StoryStep) (tag : Tag) (count n : ℕ) → Builds start tag count → WasStarted (state_of start) tag.lane n → IsPrefix start story → Legal story →
+pub started_now : (start story : List StoryStep) (tag : Tag) (count n : ℕ) → Builds start tag count
+    → WasStarted (state_of start) tag.lane n → IsPrefix start story → Legal story →
     Builds story tag count → WasStarted (state_of story) tag.lane n
 started_now start story tag count n h started p legal still = started_stays start story tag n h.next p legal still.next started
 
@@ -40,33 +46,48 @@ some_same : {A : Type 0} {a b : A} → Some a ≡ Some b → a ≡ b
 some_same h = cc
 
 -- a read leaves files that are read through the lock
-pub reads_on : (lock : LockId) (begun : List StoryStep) (found : Option (PassState StoryStep)) (r : Reading) (was new : PassState StoryStep) (story : List StoryStep) (broken : ℕ) → IsReading lock begun found r → found ≡ Some was →
-    new.lock ≡ lock → new.seen ≡ story → IsPrefix was.seen story → Legal story → (0 < broken → IsPast (state_of story) r.tag) →
-    IsReading lock begun (Some new) (record { pass = new; start = r.start; tag = r.tag; count = r.count; unit = r.unit; broken = broken })
+pub reads_on : (lock : LockId) (begun : List StoryStep) (found : Option (PassState StoryStep)) (r : Reading)
+    (was new : PassState StoryStep) (story : List StoryStep) (broken : ℕ) → IsReading lock begun found r → found ≡ Some was →
+    new.lock ≡ lock → new.seen ≡ story → IsPrefix was.seen story → Legal story
+    → (0 < broken → IsCommandPast (state_of story) r.tag) →
+    IsReading lock begun (Some new) (record {
+      pass = new;
+      start = r.start;
+      tag = r.tag;
+      count = r.count;
+      unit = r.unit;
+      broken = broken;
+    })
 reads_on lock begun found r was new story broken h is own seen p legal past = record {
   there = refl;
   own = own;
   knows = h.knows;
-  begins = subst (IsPrefix r.start) (sym seen) (begins_on r.start was.seen story (subst (λ (s : PassState StoryStep). IsPrefix r.start s.seen) (some_same (sym h.there ∙ is)) h.begins) p);
+  begins = subst (IsPrefix r.start) (sym seen) (begins_on r.start was.seen story
+      (subst (λ (s : PassState StoryStep). IsPrefix r.start s.seen) (some_same (sym h.there ∙ is)) h.begins) p);
   builds = h.builds;
   started = h.started;
-  past = λ some. subst (λ t. IsPast (state_of t) r.tag) (sym seen) (past some);
+  past = λ some. subst (λ t. IsCommandPast (state_of t) r.tag) (sym seen) (past some);
 }
 
 -- what was past before a read is past after it
-pub past_read : (lock : LockId) (begun : List StoryStep) (found : Option (PassState StoryStep)) (r : Reading) (was : PassState StoryStep) (story : List StoryStep) → IsReading lock begun found r → found ≡ Some was →
-    IsPrefix was.seen story → Legal story → 0 < r.broken → IsPast (state_of story) r.tag
+pub past_read : (lock : LockId) (begun : List StoryStep) (found : Option (PassState StoryStep)) (r : Reading)
+    (was : PassState StoryStep) (story : List StoryStep) → IsReading lock begun found r → found ≡ Some was →
+    IsPrefix was.seen story → Legal story → 0 < r.broken → IsCommandPast (state_of story) r.tag
 past_read lock begun found r was story h is p legal some =
-    past_stays was.seen story r.tag p legal (subst (λ (s : PassState StoryStep). IsPast (state_of s.seen) r.tag) (some_same (sym h.there ∙ is)) (h.past some))
+    past_stays was.seen story r.tag p legal (subst (λ (s : PassState StoryStep). IsCommandPast (state_of s.seen) r.tag)
+    (some_same (sym h.there ∙ is)) (h.past some))
 
 -- an answer that is Broken says that the command is past
-pub broken_past : (got : Got) (standing : Option Standing) (story : List StoryStep) (tag : Tag) → got ≡ gots.Broken → IsRead got standing story tag → IsPast (state_of story) tag
-broken_past got standing story tag is h = subst (λ g. IsRead g standing story tag) is h
+pub broken_past : (got : Got) (standing : Option Standing) (story : List StoryStep) (tag : Tag) → got ≡ gots.Broken
+    → ReadsStanding got standing story tag → IsCommandPast (state_of story) tag
+broken_past got standing story tag is h = subst (λ g. ReadsStanding g standing story tag) is h
 
 -- where a read of a run found the build over, its command is past
-pub past_at_end : (lock : LockId) (begun : List StoryStep) (found : Option (PassState StoryStep)) (r old new : Reading) (pass : PassState StoryStep) → IsReading lock begun found r → found ≡ Some pass → r ≡ new → Follows old new →
-    0 < new.broken → IsPast (state_of pass.seen) old.tag
+pub past_at_end : (lock : LockId) (begun : List StoryStep) (found : Option (PassState StoryStep)) (r old new : Reading)
+    (pass : PassState StoryStep) → IsReading lock begun found r → found ≡ Some pass → r ≡ new → Follows old new →
+    0 < new.broken → IsCommandPast (state_of pass.seen) old.tag
 past_at_end lock begun found r old new pass h is view follows some =
     let tag : r.tag ≡ old.tag = ap (λ (n : Reading). n.tag) view ∙ follows.tag in
     let past = h.past (subst (λ (n : Reading). 0 < n.broken) (sym view) some) in
-    subst (λ t. IsPast (state_of pass.seen) t) tag (subst (λ (s : PassState StoryStep). IsPast (state_of s.seen) r.tag) (some_same (sym h.there ∙ is)) past)
+    subst (λ t. IsCommandPast (state_of pass.seen) t) tag (subst (λ (s : PassState StoryStep). IsCommandPast (state_of s.seen)
+    r.tag) (some_same (sym h.there ∙ is)) past)

@@ -6,7 +6,7 @@ use Rattle.cc_names.specs.declared.memory.NoMemory.{NoMemory}
 use Rattle.cc_names.specs.declared.rows.Tag.{Tag}
 use Rattle.cc_names.specs.declared.steps.StoryStep.{StoryStep}
 use Rattle.legal_history.specs.Stories.Steps.{state_of}
-use Rattle.clearmake.specs.Passes.{AreDone, Builds, IsPast}
+use Rattle.clearmake.specs.Passes.{AreDone, Builds, IsCommandPast}
 use Rattle.clearmake.specs.declared.builds.Opened.{Opened}
 use Rattle.clearmake.specs.declared.builds.Opened.TheVariants as opened
 use Rattle.clearmake.specs.declared.turns.TurnEnd.{TurnEnd}
@@ -14,18 +14,18 @@ use Rattle.clearmake.specs.declared.turns.TurnEnd.TheVariants as turn_ends
 
 -- the units of a build were driven: in this story the command is past, or they all have their outcomes; none waits
 abbrev pub IsSwept : TurnEnd → List StoryStep → Tag → ℕ → Type 0
-IsSwept turn_ends.Over story tag count = IsPast (state_of story) tag
+IsSwept turn_ends.Over story tag count = IsCommandPast (state_of story) tag
 IsSwept turn_ends.Concluded story tag count = AreDone story tag count count
 IsSwept (turn_ends.NotReady m) story tag count = ⊥
 
--- what a desk's answer says of a build that was to begin
+-- what a service's answer says of a build that was to begin
 abbrev pub opened_of : Result Begun NoMemory → Opened
 opened_of (Ok (begins.Units count)) = opened.Units count
 opened_of (Ok begins.Refused) = opened.Over
 opened_of (Err error) = opened.OutOfMemory
 
 -- a build was to begin: in this story the command is past, or it builds so many units, or memory ran out
-abbrev pub IsOpened : Opened → List StoryStep → Tag → Type 0
-IsOpened opened.Over story tag = IsPast (state_of story) tag
-IsOpened (opened.Units count) story tag = Builds story tag count
-IsOpened opened.OutOfMemory story tag = Unit {0}
+abbrev pub IsBuildOpened : Opened → List StoryStep → Tag → Type 0
+IsBuildOpened opened.Over story tag = IsCommandPast (state_of story) tag
+IsBuildOpened (opened.Units count) story tag = Builds story tag count
+IsBuildOpened opened.OutOfMemory story tag = Unit {0}

@@ -1,5 +1,6 @@
--- What the calls of a desk on a lane's build ask and leave.
-use Rattle.std.specs.Prelude.{◌≡◌, ℕ, ◌<◌, ◌^◌, ◌&&◌, ◌==◌, Bool, true, false, not, Some, Ok, is_some, List, [], length, unwrap_or, option_map, filter}
+-- What the calls of a service on a lane's build ask and leave.
+use Rattle.std.specs.Prelude.{◌≡◌, ℕ, ◌<◌, ◌^◌, ◌&&◌, ◌==◌, Bool, true, false, not, Some, Ok, is_some, List, [], length}
+use Rattle.std.specs.Prelude.{unwrap_or, option_map, filter}
 use Rattle.std.specs.List.{list_any, range_with_len}
 use Rattle.cc_names.specs.declared.occasions.Begun.{Begun}
 use Rattle.cc_names.specs.declared.occasions.Begun.TheVariants as begins
@@ -11,7 +12,7 @@ use Rattle.script_grammar.specs.declared.lines.Line.{Line}
 use Rattle.legal_history.specs.Builds.Active.{Build, build_of, came_to, is_outcome, unit_at, unit_with}
 use Rattle.legal_history.specs.Builds.Choices.{here}
 use Rattle.legal_history.specs.Builds.Fresh.{script_text}
-use Rattle.legal_history.specs.Builds.Turns.{is_complete, is_ready}
+use Rattle.legal_history.specs.Builds.Turns.{is_complete, is_unit_ready}
 use Rattle.legal_history.specs.Stories.States.{State}
 use Rattle.legal_history.specs.Stories.Steps.{state_of}
 use Rattle.clearmake.specs.Going.{GoesOn, HasOutcome, Finishes}
@@ -106,7 +107,7 @@ IsCarried old new lane n turn_ends.Over = Finishes old new lane
 abbrev pub is_released : Build → ℕ → ℕ → Bool
 is_released build n m =
     not (is_outcome (came_to build m))
-    && unwrap_or (option_map (λ unit. needs build n unit && is_ready build unit) (unit_at build m)) false
+    && unwrap_or (option_map (λ unit. needs build n unit && is_unit_ready build unit) (unit_at build m)) false
 
 -- the units that unit n of a lane's build has released, in their order
 abbrev pub released_units : State → ℕ → ℕ → List ℕ

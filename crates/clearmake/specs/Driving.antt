@@ -6,7 +6,7 @@ use Rattle.legal_history.specs.Stories.Lawful.{Legal}
 use Rattle.legal_history.specs.Stories.Steps.{state_of}
 use Rattle.clearmake.specs.Calls.{IsStarted, WaitsFor}
 use Rattle.clearmake.specs.Going.{HasOutcome}
-use Rattle.clearmake.specs.Passes.{Builds, IsPast}
+use Rattle.clearmake.specs.Passes.{Builds, IsCommandPast}
 use Rattle.clearmake.specs.declared.turns.TurnEnd.{TurnEnd}
 use Rattle.clearmake.specs.declared.turns.TurnEnd.TheVariants as turn_ends
 use Rattle.clearmake.specs.declared.turns.UnitTurn.{UnitTurn}
@@ -15,7 +15,7 @@ use Rattle.clearmake.specs.declared.turns.UnitTurn.TheVariants as turns
 -- Unit n of a build was driven: in this legal story the command is past; or the build goes on, and the unit has its outcome or
 -- waits.
 abbrev pub IsDriven : TurnEnd → List StoryStep → Tag → ℕ → ℕ → Type 0
-IsDriven turn_ends.Over story tag count n = IsPast (state_of story) tag
+IsDriven turn_ends.Over story tag count n = IsCommandPast (state_of story) tag
 IsDriven turn_ends.Concluded story tag count n = Legal story × Builds story tag count × HasOutcome (state_of story) tag.lane n
 IsDriven (turn_ends.NotReady m) story tag count n =
     Legal story × Builds story tag count × WaitsFor (state_of story) tag.lane n m

@@ -11,16 +11,16 @@ use Rattle.legal_history.specs.Builds.Choices.{visible}
 use Rattle.legal_history.specs.Stories.States.{State}
 
 -- a row with its text, where it has one at the path
-abbrev pub standing_of : Base → List ℕ → ℕ → Option Standing
-standing_of b path row = option_map (λ bytes. record { row = row; text = bytes }) (text b row path)
+abbrev pub found_standing : Base → List ℕ → ℕ → Option Standing
+found_standing b path row = option_map (λ bytes. record { row = row; text = bytes }) (text b row path)
 
 -- the row that unit n of a build sees at a path, with its text
-abbrev pub stands : Base → Build → ℕ → units.Unit → List ℕ → Option Standing
-stands b build n unit path = option_and_then (standing_of b path) (visible b build n unit path)
+abbrev pub stands_for_unit : Base → Build → ℕ → units.Unit → List ℕ → Option Standing
+stands_for_unit b build n unit path = option_and_then (found_standing b path) (visible b build n unit path)
 
 -- what unit n of a build finds at a path: the row that it sees there, where that has a text
 abbrev pub standing_at : Base → Build → ℕ → List ℕ → Option Standing
-standing_at b build n path = option_and_then (λ unit. stands b build n unit path) (unit_at build n)
+standing_at b build n path = option_and_then (λ unit. stands_for_unit b build n unit path) (unit_at build n)
 
 -- what unit n of a lane's build finds at a path
 abbrev pub sees : State → ℕ → ℕ → List ℕ → Option Standing

@@ -2,9 +2,9 @@
 use Rattle.std.specs.Prelude.{◌≡◌, ◌≤◌, ℕ, Some, List}
 use Rattle.cc_names.specs.declared.occasions.Next.TheVariants as nexts
 use Rattle.cc_names.specs.declared.steps.StoryStep.{StoryStep}
-use Rattle.legal_history.specs.Stories.Commanded.{command_of}
+use Rattle.legal_history.specs.Stories.Commanded.{next_command_of}
 use Rattle.legal_history.specs.Stories.Steps.{state_of}
-use Rattle.clearmake.specs.Nexts.{jobs_of, next_of}
+use Rattle.clearmake.specs.Nexts.{jobs_of, next_of_lane}
 use Rattle.clearmake.specs.Passes.{IsLaneDone}
 use Rattle.clearmake.specs.declared.lanes.LaneTurn.{LaneTurn}
 use Rattle.clearmake.specs.declared.lanes.LaneTurn.TheVariants as turn
@@ -14,7 +14,8 @@ use Rattle.clearmake.specs.declared.lanes.LaneTurn.TheVariants as turn
 abbrev pub IsLaneTurn : LaneTurn → List StoryStep → ℕ → ℕ → Type 0
 IsLaneTurn turn.Acted story lane number = Unit {0}
 IsLaneTurn (turn.Build tag jobs) story lane number =
-    (next_of (state_of story) lane ≡ nexts.Build tag) × (tag.lane ≡ lane) × (jobs_of (command_of (state_of story) lane) ≡ Some jobs)
+    (next_of_lane (state_of story) lane ≡ nexts.Build tag) × (tag.lane ≡ lane)
+    × (jobs_of (next_command_of (state_of story) lane) ≡ Some jobs)
     × (1 ≤ jobs) × (jobs ≤ 64)
 IsLaneTurn turn.Done story lane number = IsLaneDone story lane number
 IsLaneTurn turn.OutOfMemory story lane number = Unit {0}

@@ -15,7 +15,7 @@ use Rattle.legal_history.specs.Stories.States.{State}
 use Rattle.legal_history.specs.Stories.Steps.{state_of}
 use Rattle.turn_lock.specs.PassState.{LockId, PassState}
 use Rattle.clearmake.specs.Calls.{IsRunOfUnit, WasStarted}
-use Rattle.clearmake.specs.Passes.{Builds, IsLater, IsPast, Knows}
+use Rattle.clearmake.specs.Passes.{Builds, IsLater, IsCommandPast, Knows}
 
 -- files that are read through a lock: the pass, the story that it had seen as the run began, the build's command and its number
 -- of units, the unit that is run, and how many reads found the build over
@@ -41,7 +41,7 @@ pub record IsReading (lock : LockId) (begun : List StoryStep) (pass : Option (Pa
   pub begins : IsPrefix r.start r.pass.seen
   pub builds : Builds r.start r.tag r.count
   pub started : WasStarted (state_of r.start) r.tag.lane r.unit
-  pub past : 0 < r.broken → IsPast (state_of r.pass.seen) r.tag
+  pub past : 0 < r.broken → IsCommandPast (state_of r.pass.seen) r.tag
 
 -- reads later, of the same run
 pub record Follows (old new : Reading) : Type 0 where
@@ -52,15 +52,15 @@ pub record Follows (old new : Reading) : Type 0 where
   pub unit : new.unit ≡ old.unit
 
 -- a read's answer is what stands there, or the build's command is past in this story, or memory ran out
-abbrev pub IsRead : Got → Option Standing → List StoryStep → Tag → Type 0
-IsRead (gots.Found row bytes) standing story tag = standing ≡ Some (record { row = row; text = bytes })
-IsRead gots.Absent standing story tag = standing ≡ None
-IsRead gots.Broken standing story tag = IsPast (state_of story) tag
-IsRead gots.NoMemory standing story tag = Unit {0}
+abbrev pub ReadsStanding : Got → Option Standing → List StoryStep → Tag → Type 0
+ReadsStanding (gots.Found row bytes) standing story tag = standing ≡ Some (record { row = row; text = bytes })
+ReadsStanding gots.Absent standing story tag = standing ≡ None
+ReadsStanding gots.Broken standing story tag = IsCommandPast (state_of story) tag
+ReadsStanding gots.NoMemory standing story tag = Unit {0}
 
 -- What came of a run outside the lock: it is the run of the unit in the state as it began; or it was given up, for want of memory
 -- or since the build's command is past in this story.
 abbrev pub RanSo : Result Ended (Or GivenUp) → State → Tag → ℕ → List StoryStep → Type 0
 RanSo (Ok ended) start tag n story = IsRunOfUnit start tag.lane n (ran_of ended)
 RanSo (Err NoMemory) start tag n story = Unit {0}
-RanSo (Err (Is cause)) start tag n story = IsPast (state_of story) tag
+RanSo (Err (Is cause)) start tag n story = IsCommandPast (state_of story) tag

@@ -10,11 +10,11 @@ use Rattle.legal_history.specs.Stories.Steps.{state_of}
 use Rattle.turn_lock.specs.PassState.{PassState}
 use Rattle.clearmake.specs.Calls.{IsBuilding}
 use Rattle.clearmake.specs.Going.{HasOutcome}
-use Rattle.clearmake.specs.Nexts.{next_of}
+use Rattle.clearmake.specs.Nexts.{next_of_lane}
 
 -- the command of this tag is its lane's next, and builds so many units
 pub record Builds (story : List StoryStep) (tag : Tag) (count : ℕ) : Type 0 where
-  pub next : next_of (state_of story) tag.lane ≡ nexts.Build tag
+  pub next : next_of_lane (state_of story) tag.lane ≡ nexts.Build tag
   pub building : IsBuilding (state_of story) tag.lane count
 
 -- a story that begins with one in which the build had been found begun
@@ -23,8 +23,8 @@ pub record Knows (begun story : List StoryStep) (tag : Tag) (count : ℕ) : Type
   pub builds : Builds begun tag count
 
 -- the command of this tag is finished
-abbrev pub IsPast : State → Tag → Type 0
-IsPast s tag = (tag.phase < s.number) ⊎ ((tag.phase ≡ s.number) × (tag.command ≤ done_of s.done tag.lane))
+abbrev pub IsCommandPast : State → Tag → Type 0
+IsCommandPast s tag = (tag.phase < s.number) ⊎ ((tag.phase ≡ s.number) × (tag.command ≤ done_of s.done tag.lane))
 
 -- a later pass of the same lock, of the same weight, which has seen a longer story or the same
 pub record IsLater (old new : PassState StoryStep) : Type 0 where
@@ -38,7 +38,7 @@ AreDone seen tag count n = (m : ℕ) → m < n → Builds seen tag count × HasO
 
 -- a lane has nothing left to do
 abbrev pub HasNothingLeft : State → ℕ → Type 0
-HasNothingLeft s lane = next_of s lane ≡ nexts.Done
+HasNothingLeft s lane = next_of_lane s lane ≡ nexts.Done
 
 -- a lane has finished all of its commands of the phase of this number
 pub record IsLaneDone (seen : List StoryStep) (lane number : ℕ) : Type 0 where

@@ -1,5 +1,5 @@
 //! What a phase does before it starts threads: until a lane's turn comes to a build, this thread carries out the commands of all
-//! lanes. Others would gain nothing, since one thread at a time has the desk, and what a turn looks up would mostly have been
+//! lanes. Others would gain nothing, since one thread at a time has the service, and what a turn looks up would mostly have been
 //! written last on another processor.
 
 ghost use Rattle.std.specs.Prelude.{◌≡◌, ◌≤◌};

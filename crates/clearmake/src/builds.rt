@@ -5,9 +5,9 @@ ghost use Rattle.std.specs.Bool.{OnTrue};
 ghost use mathlib.Core.List.{IsPrefix};
 ghost use Rattle.cc_names.specs.declared.occasions.Next.TheVariants as nexts;
 ghost use Rattle.legal_history.specs.Stories.Steps.{state_of};
-ghost use Rattle.clearmake.specs.Building.{IsOpened, opened_of};
-ghost use Rattle.clearmake.specs.Nexts.{next_of};
-ghost use Rattle.clearmake.specs.Passes.{AreDone, IsLater, IsPast, Knows};
+ghost use Rattle.clearmake.specs.Building.{IsBuildOpened, opened_of};
+ghost use Rattle.clearmake.specs.Nexts.{next_of_lane};
+ghost use Rattle.clearmake.specs.Passes.{AreDone, IsLater, IsCommandPast, Knows};
 
 use crate::builders::build_units;
 use crate::contexts::{BuildContext, PhaseContext, is_next};
@@ -41,7 +41,7 @@ pub(crate) enum Opened {
     OutOfMemory,
 }
 
-/// What a desk's answer says of a build that was to begin.
+/// What a service's answer says of a build that was to begin.
 fn opened_of(begun: Result<Begun, NoMemory>) -> Opened
     ensures { result ≡ opened_of begun }
 {
@@ -52,7 +52,7 @@ fn opened_of(begun: Result<Begun, NoMemory>) -> Opened
     }
 }
 
-/// Begins the build of a command that was found to be built, in a turn at the desk.
+/// Begins the build of a command that was found to be built, in a turn at the service.
 fn begin_at<T: BuildService>(
     service: &mut T,
     alloc: Global,
@@ -60,9 +60,9 @@ fn begin_at<T: BuildService>(
     tag: Tag,
 ) -> Opened
     requires begins { IsPrefix seen.now.value.seen (T.story service.old) }
-    requires next { next_of (state_of seen.now.value.seen) tag.lane ≡ nexts.Build tag }
+    requires next { next_of_lane (state_of seen.now.value.seen) tag.lane ≡ nexts.Build tag }
     ensures begins { IsPrefix (T.story service.old) (T.story service.new) }
-    ensures opened { IsOpened result (T.story service.new) tag }
+    ensures opened { IsBuildOpened result (T.story service.new) tag }
 {
     if !is_next(service, seen, tag) {
         return Opened::Over;
@@ -78,9 +78,9 @@ fn begin_once<R: Wait, T: BuildService, G: Hook>(
     tag: Tag,
 ) -> (Pass<T>, Opened)
     requires own { pass.lock ≡ context.now.lock.now.id }
-    requires next { next_of (state_of pass.seen) tag.lane ≡ nexts.Build tag }
+    requires next { next_of_lane (state_of pass.seen) tag.lane ≡ nexts.Build tag }
     ensures pass { IsLater pass result.0 }
-    ensures opened { IsOpened result.1 result.0.seen tag }
+    ensures opened { IsBuildOpened result.1 result.0.seen tag }
 {
     let seen = Snapshot::of(&pass);
     let (held, mut service) = context.lock.take(context.rt, pass);
@@ -88,7 +88,7 @@ fn begin_once<R: Wait, T: BuildService, G: Hook>(
     (context.lock.give(held, service), opened)
 }
 
-/// Ends a build whose units all had their outcomes, in a turn at the desk. False where memory ran out.
+/// Ends a build whose units all had their outcomes, in a turn at the service. False where memory ran out.
 fn end_at<R, T: BuildService, G>(
     context: &BuildContext<'_, R, T, G>,
     service: &mut T,
@@ -100,7 +100,7 @@ fn end_at<R, T: BuildService, G>(
     requires done { AreDone seen.now.value.seen context.now.tag context.now.count
         context.now.count }
     ensures begins { IsPrefix (T.story service.old) (T.story service.new) }
-    ensures ended { OnTrue result (IsPast (state_of (T.story service.new)) context.now.tag) }
+    ensures ended { OnTrue result (IsCommandPast (state_of (T.story service.new)) context.now.tag) }
 {
     if !context.goes_on(service) {
         return true;
@@ -119,7 +119,7 @@ fn end_once<R: Wait, T: BuildService, G: Hook>(
         context.now.count }
     requires done { AreDone pass.seen context.now.tag context.now.count context.now.count }
     ensures pass { IsLater pass result.0 }
-    ensures ended { OnTrue result.1 (IsPast (state_of result.0.seen) context.now.tag) }
+    ensures ended { OnTrue result.1 (IsCommandPast (state_of result.0.seen) context.now.tag) }
 {
     let seen = Snapshot::of(&pass);
     let (held, mut service) = context.lock.take(context.rt, pass);
@@ -138,7 +138,7 @@ fn build_begun<R: Threads + Wait + Sync, T: BuildService + Send, G: Hook + Sync>
         context.now.count }
     requires jobs { jobs ≤ pass.weight }
     ensures pass { IsLater pass result.pass }
-    ensures built { OnTrue result.done (IsPast (state_of result.pass.seen) context.now.tag) }
+    ensures built { OnTrue result.done (IsCommandPast (state_of result.pass.seen) context.now.tag) }
 {
     let pass = build_units(context, pass, jobs);
     let (pass, swept) = sweep(context, pass);
@@ -155,11 +155,11 @@ fn build_begun<R: Threads + Wait + Sync, T: BuildService + Send, G: Hook + Sync>
 }
 
 /// Carries out a command that builds: its units are run by so many builders at once, in threads of their own, and each step of
-/// theirs is a turn at the desk of the lock. The pass that comes back has seen a story that begins with what the
+/// theirs is a turn at the service under the lock. The pass that comes back has seen a story that begins with what the
 /// given pass had seen; unless memory ran out, the command is finished in it: the build was refused, it ended, or the disk
 /// failed under it. Where memory runs out, a build that had begun stays active, and a later call goes on with it.
 ///
-/// The gate is asked outside the lock, before and after each run of a script and before each of its reads. Names are found
+/// The hook is asked outside the lock, before and after each run of a script and before each of its reads. Names are found
 /// by the hashing.
 pub(crate) fn build<R: Threads + Wait + Sync, T: BuildService + Send, G: Hook + Sync>(
     context: &PhaseContext<'_, R, T, G>,
@@ -168,10 +168,10 @@ pub(crate) fn build<R: Threads + Wait + Sync, T: BuildService + Send, G: Hook + 
     jobs: u32,
 ) -> Built<T>
     requires own { pass.lock ≡ context.now.lock.now.id }
-    requires next { next_of (state_of pass.seen) tag.lane ≡ nexts.Build tag }
+    requires next { next_of_lane (state_of pass.seen) tag.lane ≡ nexts.Build tag }
     requires jobs { (1 ≤ jobs) × (jobs ≤ pass.weight) }
     ensures pass { IsLater pass result.pass }
-    ensures built { OnTrue result.done (IsPast (state_of result.pass.seen) tag) }
+    ensures built { OnTrue result.done (IsCommandPast (state_of result.pass.seen) tag) }
 {
     let (pass, opened) = begin_once(context, pass, tag);
     match opened {

@@ -6,8 +6,8 @@ ghost use mathlib.Core.List.{IsPrefix};
 ghost use Rattle.cc_names.specs.declared.occasions.Next.TheVariants as nexts;
 ghost use Rattle.legal_history.specs.Stories.Lawful.{Legal};
 ghost use Rattle.legal_history.specs.Stories.Steps.{state_of};
-ghost use Rattle.clearmake.specs.Nexts.{next_of};
-ghost use Rattle.clearmake.specs.Passes.{Builds, IsPast, Knows};
+ghost use Rattle.clearmake.specs.Nexts.{next_of_lane};
+ghost use Rattle.clearmake.specs.Passes.{Builds, IsCommandPast, Knows};
 
 use crate::services::BuildService;
 use cc_names::occasions::Next;
@@ -17,7 +17,7 @@ use std::hash::RandomState;
 use std::snapshot::Snapshot;
 use turn_lock::{Pass, Storied, TurnLock};
 
-/// What the lanes of a phase share: the lock round the desk, and the gate.
+/// What the lanes of a phase share: the lock around the service, and the hook.
 #[derive(Drop)]
 pub(crate) struct PhaseContext<'a, R, T: Storied, G> {
     pub(crate) rt: &'a R,
@@ -27,7 +27,7 @@ pub(crate) struct PhaseContext<'a, R, T: Storied, G> {
     pub(crate) hook: &'a G,
 }
 
-/// What the builders of a build share: the lock round the desk, the gate, and the build, whose command is the one of this
+/// What the builders of a build share: the lock around the service, the hook, and the build, whose command is the one of this
 /// tag, with its number of units. All that is known of the build is what a pass had seen when it was found begun.
 #[derive(Drop)]
 pub(crate) struct BuildContext<'a, R, T: BuildService, G> {
@@ -45,11 +45,11 @@ pub(crate) struct BuildContext<'a, R, T: BuildService, G> {
 #[tactic(auto, using(crate::proofs::Later::is_past))]
 pub(crate) fn is_next<T: BuildService>(service: &T, seen: &Snapshot<Pass<T>>, tag: Tag) -> bool
     requires begins { IsPrefix seen.now.value.seen (T.story service.now) }
-    requires next { next_of (state_of seen.now.value.seen) tag.lane ≡ nexts.Build tag }
+    requires next { next_of_lane (state_of seen.now.value.seen) tag.lane ≡ nexts.Build tag }
     ensures legal { Legal (T.story service.now) }
     ensures next { OnTrue result
-        (next_of (state_of (T.story service.now)) tag.lane ≡ nexts.Build tag) }
-    ensures past { OnFalse result (IsPast (state_of (T.story service.now)) tag) }
+        (next_of_lane (state_of (T.story service.now)) tag.lane ≡ nexts.Build tag) }
+    ensures past { OnFalse result (IsCommandPast (state_of (T.story service.now)) tag) }
 {
     service.legal();
     service.next(tag.lane) == Next::Build(tag)
@@ -63,7 +63,7 @@ impl<R, T: BuildService, G> BuildContext<'_, R, T, G> {
             self.now.count }
         ensures legal { Legal (T.story service.now) }
         ensures on { OnTrue result (Builds (T.story service.now) self.now.tag self.now.count) }
-        ensures past { OnFalse result (IsPast (state_of (T.story service.now)) self.now.tag) }
+        ensures past { OnFalse result (IsCommandPast (state_of (T.story service.now)) self.now.tag) }
     {
         is_next(service, self.begun, self.tag)
     }

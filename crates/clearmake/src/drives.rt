@@ -1,4 +1,5 @@
-//! A unit of a build is driven to its outcome: a turn at the desk to try it, its run outside the lock, and a turn to finish it.
+//! A unit of a build is driven to its outcome: a turn at the service to try it, its run outside the lock, and a turn to finish
+//! it.
 
 ghost use Rattle.std.specs.Prelude.{◌≡◌, ◌<◌, IfOk};
 ghost use mathlib.Core.List.{IsPrefix};
@@ -23,7 +24,7 @@ use std::snapshot::Snapshot;
 use std::sync::Wait;
 use turn_lock::Pass;
 
-/// Tries a unit, in a turn at the desk.
+/// Tries a unit, in a turn at the service.
 pub(crate) fn try_at<R, T: BuildService, G>(
     context: &BuildContext<'_, R, T, G>,
     service: &mut T,
@@ -44,7 +45,7 @@ pub(crate) fn try_at<R, T: BuildService, G>(
     turn
 }
 
-/// Finishes a unit whose script was run, in a turn at the desk.
+/// Finishes a unit whose script was run, in a turn at the service.
 fn finish_at<R, T: BuildService, G>(
     context: &BuildContext<'_, R, T, G>,
     service: &mut T,

@@ -19,7 +19,7 @@ use std::thread::{Threads, join};
 use turn_lock::Pass;
 
 /// How many commands that build nothing a lane carries out in one turn at most. Where others wait, a turn costs more than a
-/// save without its syncs, and so many share that; the desk is held meanwhile, their syncs included.
+/// save without its syncs, and so many share that; the service is held meanwhile, their syncs included.
 const COMMANDS_A_TURN: u32 = 64;
 
 /// How many builders a build has at most: so many as a command may ask for.
@@ -37,7 +37,7 @@ pub(crate) enum LaneTurn {
     OutOfMemory,
 }
 
-/// Carries out a lane's next commands as long as they build nothing, up to 64 in one turn at the desk, and says why it stops:
+/// Carries out a lane's next commands as long as they build nothing, up to 64 in one turn at the service, and says why it stops:
 /// the next one builds, there is none, the turn has had its commands, or memory ran out.
 pub(crate) fn take_turn_at<T: PhaseService>(service: &mut T, alloc: Global, lane: u32) -> LaneTurn
     ensures begins { IsPrefix (T.story service.old) (T.story service.new) }
@@ -63,7 +63,7 @@ pub(crate) fn take_turn_at<T: PhaseService>(service: &mut T, alloc: Global, lane
     LaneTurn::Acted
 }
 
-/// Takes a lane's turn at the desk.
+/// Takes a lane's turn at the service.
 #[tactic(auto, using(crate::proofs::Steps::taken_grown))]
 fn take_turn<R: Wait, T: PhaseService, G: Hook>(
     context: &PhaseContext<'_, R, T, G>,

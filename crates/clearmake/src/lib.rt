@@ -10,7 +10,7 @@
 //! by the run of its own script. It is not promised that a call returns, nor that memory suffices, nor which thread does what.
 //!
 //! What it stands on: `turn_lock` for the lock, `legal_history` for stories and their laws, `build_script` and `script_grammar`
-//! for runs, `cc_outside` for the gate, `cc_names` for plain data, and `crossbeam_deque`.
+//! for runs, `cc_outside` for the hook, `cc_names` for plain data, and `crossbeam_deque`.
 #![tactic(auto)]
 
 mod before_threads;

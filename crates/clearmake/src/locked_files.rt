@@ -5,7 +5,7 @@ ghost use mathlib.Core.List.{IsPrefix};
 ghost use Rattle.legal_history.specs.Stories.Lawful.{Legal};
 ghost use Rattle.legal_history.specs.Stories.Steps.{state_of};
 ghost use Rattle.clearmake.specs.Calls.{WasStarted};
-ghost use Rattle.clearmake.specs.Outside.{IsRead};
+ghost use Rattle.clearmake.specs.Outside.{ReadsStanding};
 ghost use Rattle.clearmake.specs.Passes.{Builds, Knows};
 ghost use Rattle.clearmake.specs.FoundTexts.{sees};
 
@@ -20,7 +20,7 @@ use std::snapshot::Snapshot;
 use std::sync::Wait;
 use turn_lock::Pass;
 
-/// The files that a unit's script sees, each read in a turn of its own at the desk. Other threads take turns between the
+/// The files that a unit's script sees, each read in a turn of its own at the service. Other threads take turns between the
 /// reads; what the unit sees is the same at each.
 pub(crate) struct LockedFiles<'s, 'a, R: Wait, T: BuildService, G: Hook> {
     pub(crate) context: &'s BuildContext<'a, R, T, G>,
@@ -59,7 +59,7 @@ impl<'s, 'a, R: Wait, T: BuildService, G: Hook> Model for LockedFiles<'s, 'a, R,
         }) };
 }
 
-/// What a unit that was started finds at a path, in a turn at the desk. Broken where the build is over.
+/// What a unit that was started finds at a path, in a turn at the service. Broken where the build is over.
 #[tactic(auto, using(crate::proofs::Rereads::reads_same, crate::proofs::Rereads::started_now, crate::proofs::Rereads::knows_on))]
 fn read_at<R: Wait, T: BuildService, G: Hook>(
     context: &BuildContext<'_, R, T, G>,
@@ -74,7 +74,7 @@ fn read_at<R: Wait, T: BuildService, G: Hook>(
     requires builds { Builds start.now.value.seen context.now.tag context.now.count }
     requires started { WasStarted (state_of start.now.value.seen) context.now.tag.lane unit }
     ensures legal { Legal (T.story service.now) }
-    ensures read { IsRead result
+    ensures read { ReadsStanding result
         (sees (state_of start.now.value.seen) context.now.tag.lane unit path.now) (T.story service.now)
         context.now.tag }
 {

@@ -19,13 +19,13 @@ use turn_lock::TurnLock;
 /// The weight of the passes of a phase together: enough for 64 lanes with 64 builders each.
 const WHOLE: u64 = 65_536;
 
-/// Carries out the commands of the lanes of a desk's phase: on this thread until a lane comes to a build, then the lanes in
-/// threads of their own, where each step is a turn at the desk, and builds have builders of their own. Where memory runs out
+/// Carries out the commands of the lanes of a service's phase: on this thread until a lane comes to a build, then the lanes in
+/// threads of their own, where each step is a turn at the service, and builds have builders of their own. Where memory runs out
 /// among them, what is left is carried out once more, one lane after the other and each build by one builder.
 ///
-/// The desk comes back with a story that begins with its own. On `Ok` each lane has nothing left to do. `Err` where memory ran
+/// The service comes back with a story that begins with its own. On `Ok` each lane has nothing left to do. `Err` where memory ran
 /// out among all lanes and again for one by itself, or where there was none for the lock; a build that had begun stays active.
-/// It need not return: it waits for the threads that it starts, and these wait for one another at the desk.
+/// It need not return: it waits for the threads that it starts, and these wait for one another at the service.
 pub fn run_phase<R: Threads + Wait + Sync, C: PhaseService + Send, G: Hook + Sync>(
     rt: &R,
     alloc: Global,

@@ -22,8 +22,8 @@ use std::snapshot::Snapshot;
 use std::sync::Wait;
 use turn_lock::Pass;
 
-/// Runs the script of a unit that was started, on what the unit sees. Each read is a turn of its own at the desk, and
-/// between the reads the lock is free. The gate is told of the run, with the unit's first target, and of each read.
+/// Runs the script of a unit that was started, on what the unit sees. Each read is a turn of its own at the service, and
+/// between the reads the lock is free. The hook is told of the run, with the unit's first target, and of each read.
 ///
 /// Given up where memory runs out, and where a read finds the build over.
 pub(crate) fn run_outside<'s, R: Wait, T: BuildService, G: Hook>(

@@ -2,7 +2,7 @@
 
 use std::sync::atomic::{AtomicU64, Ordering};
 
-/// The runs of scripts of a builder. A run that asks the desk is not at its script meanwhile, and at a new one afterwards.
+/// The runs of scripts of a builder. A run that asks the service is not at its script meanwhile, and at a new one afterwards.
 #[derive(Drop)]
 pub(crate) struct ScriptRuns {
     // Odd while the builder is at a script.

@@ -3,13 +3,13 @@
 ghost use Rattle.std.specs.Prelude.{◌≡◌, ◌<◌, ◌≤◌, ℕ, Some, IfOk, OnOk, OnErr};
 ghost use Rattle.build_script.specs.Ended.{ran_of};
 ghost use Rattle.cc_names.specs.declared.occasions.Next.TheVariants as nexts;
-ghost use Rattle.legal_history.specs.Stories.Commanded.{command_of};
+ghost use Rattle.legal_history.specs.Stories.Commanded.{next_command_of};
 ghost use Rattle.legal_history.specs.Stories.Lawful.{Legal};
 ghost use Rattle.legal_history.specs.Stories.States.{next_tag};
 ghost use Rattle.legal_history.specs.Stories.Steps.{state_of};
 ghost use Rattle.clearmake.specs.Calls.{Begins, IsBuilding, IsCarried, IsOver, IsRunOfUnit, Tries, WasStarted, released_units};
 ghost use Rattle.clearmake.specs.Going.{Finishes};
-ghost use Rattle.clearmake.specs.Nexts.{jobs_of, next_of};
+ghost use Rattle.clearmake.specs.Nexts.{jobs_of, next_of_lane};
 ghost use Rattle.clearmake.specs.FoundTexts.{IsFetched, sees};
 
 use crate::turns::{TurnEnd, UnitTurn};
@@ -31,26 +31,26 @@ pub trait BuildService: Storied<Step = StoryStep> {
 
     /// What a lane has to do next.
     fn next(&self, lane: u32) -> Next
-        ensures { result ≡ next_of (state_of (Self.story self.now)) lane };
+        ensures { result ≡ next_of_lane (state_of (Self.story self.now)) lane };
 
     /// Carries out a lane's next command, which builds nothing. An `Err` changes nothing.
     fn act(&mut self, alloc: Global, lane: u32) -> Result<(), NoMemory>
-        requires { next_of (state_of (Self.story self.old)) lane ≡ nexts.Act }
+        requires { next_of_lane (state_of (Self.story self.old)) lane ≡ nexts.Act }
         ensures ok { OnOk result (Finishes (Self.story self.old) (Self.story self.new) lane) }
         ensures err { OnErr result (Self.story self.new ≡ Self.story self.old) };
 
     /// How many units at once a lane's next command, which builds, asks to have built.
     fn jobs(&self, alloc: Global, lane: u32) -> Result<u32, NoMemory>
-        requires { next_of (state_of (Self.story self.now)) lane
+        requires { next_of_lane (state_of (Self.story self.now)) lane
             ≡ nexts.Build (next_tag (state_of (Self.story self.now)) lane) }
         ensures asked { IfOk result
-            (λ jobs. jobs_of (command_of (state_of (Self.story self.now)) lane) ≡ Some jobs) }
+            (λ jobs. jobs_of (next_command_of (state_of (Self.story self.now)) lane) ≡ Some jobs) }
         ensures within { IfOk result (λ jobs. (1 ≤ jobs) × (jobs ≤ 64)) };
 
     /// Begins the build of a lane's next command and answers how many units it has, or refuses the command. A build that
     /// is active goes on. An `Err` changes nothing.
     fn begin(&mut self, alloc: Global, lane: u32) -> Result<Begun, NoMemory>
-        requires { next_of (state_of (Self.story self.old)) lane
+        requires { next_of_lane (state_of (Self.story self.old)) lane
             ≡ nexts.Build (next_tag (state_of (Self.story self.old)) lane) }
         ensures ok { IfOk result
             (λ begun. Begins (Self.story self.old) (Self.story self.new) lane begun) }
@@ -100,7 +100,7 @@ pub trait BuildService: Storied<Step = StoryStep> {
         ensures err { OnErr result (Self.story self.new ≡ Self.story self.old) };
 }
 
-/// A desk that stays in one phase, whose number its type fixes.
+/// A service that stays in one phase, whose number its type fixes.
 pub trait PhaseService: BuildService {
     ghost number: { ℕ };
 

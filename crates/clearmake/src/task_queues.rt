@@ -20,7 +20,7 @@ const TRIES: u32 = 16;
 const FIRST_SLOTS: usize = 64;
 
 /// For how many microseconds a script has to go on before a task of its builder is stolen. A task that is stolen costs the
-/// turns at a desk that another processor had at hand, so tiny ones are done sooner by the builder that has them.
+/// turns at a service that another processor had at hand, so tiny ones are done sooner by the builder that has them.
 const LONG: u64 = 100;
 
 /// For how many microseconds a builder that finds no task sleeps at first.
@@ -46,7 +46,7 @@ struct Peer {
     runs: ScriptRuns,
 }
 
-/// What the builders of a build share beside the desk: what they see of one another, and which units are claimed.
+/// What the builders of a build share beside the service: what they see of one another, and which units are claimed.
 #[derive(Drop)]
 pub(crate) struct TaskQueues {
     peers: Vec<Peer>,
@@ -147,7 +147,7 @@ impl TaskQueues {
             .is_some_and(|flag| flag.load(Ordering::SeqCst))
     }
 
-    /// Claims a unit, in the turn at the desk in which it was found concluded or its script was started: so one builder runs
+    /// Claims a unit, in the turn at the service in which it was found concluded or its script was started: so one builder runs
     /// the script, and one has what the unit releases done.
     pub(crate) fn claim(&self, unit: u32) {
         if let Some(flag) = self.claimed.get(unit as usize) {

@@ -15,7 +15,7 @@ use cc_outside::Hook;
 use std::sync::Wait;
 use turn_lock::Pass;
 
-/// The units that a unit has released, in a turn at the desk.
+/// The units that a unit has released, in a turn at the service.
 fn released_at<R, T: BuildService, G>(
     context: &BuildContext<'_, R, T, G>,
     service: &T,
@@ -79,7 +79,7 @@ fn push_released<R: Wait, T: BuildService, G: Hook>(
     pass
 }
 
-/// Tries a unit that nobody has claimed, in a turn at the desk. Whoever finds it concluded, or starts its script, claims it.
+/// Tries a unit that nobody has claimed, in a turn at the service. Whoever finds it concluded, or starts its script, claims it.
 fn try_unclaimed_at<R, T: BuildService, G>(
     context: &BuildContext<'_, R, T, G>,
     queues: &TaskQueues,

@@ -1,5 +1,6 @@
--- What a walk takes in, one version after the other.
-use Rattle.std.proofs.Common.{◌≡◌, refl, ap, ap₂, sym, ◌∙◌, ℕ, ◌+◌, Bool, true, false, cond, not, ◌&&◌, ◌||◌, ◌==◌, Some, List, [], ◌∷◌, ◌++◌, length, arith}
+-- What a walk adds, one version after the other.
+use Rattle.std.proofs.Common.{◌≡◌, refl, ap, ap₂, sym, ◌∙◌, ℕ, ◌+◌, Bool, true, false, cond, not, ◌&&◌, ◌||◌, ◌==◌, Some, List}
+use Rattle.std.proofs.Common.{[], ◌∷◌, ◌++◌, length, arith}
 use Rattle.std.proofs.lemmas.Bool.Decides.{nat_tests}
 use Rattle.std.proofs.lemmas.List.{length-append}
 use Rattle.std.proofs.lemmas.List.Folds.{list_any-append}
@@ -46,7 +47,8 @@ left_both true false false false = refl
 left_both false true seen false = refl
 left_both false false seen false = refl
 
-pub both_taken : (p q : ℕ → Bool) (one two three : Walk) → AddsVersions p one two → AddsVersions q two three → AddsVersions (λ n. p n || q n) one three
+pub both_taken : (p q : ℕ → Bool) (one two three : Walk) → AddsVersions p one two → AddsVersions q two three
+    → AddsVersions (λ n. p n || q n) one three
 both_taken p q one two three h g = record {
   seen = λ n. g.seen n ∙ ap (λ t. q n || t) (h.seen n) ∙ seen_both (p n) (q n) (is_in n one.seen.keys);
   left = λ n.
@@ -70,7 +72,8 @@ cond_or : (t u : Bool) → cond t true u ≡ (t || u)
 cond_or true u = refl
 cond_or false u = refl
 
-seen_one : (m : ℕ) (old new : List ℕ) → ((n : ℕ) → list_any (is_at (nat_cmp n)) new ≡ cond (is_at (nat_cmp m) n) true (list_any (is_at (nat_cmp n)) old)) → (n : ℕ) → is_in n new ≡ ((n == m) || is_in n old)
+seen_one : (m : ℕ) (old new : List ℕ) → ((n : ℕ) → list_any (is_at (nat_cmp n)) new
+    ≡ cond (is_at (nat_cmp m) n) true (list_any (is_at (nat_cmp n)) old)) → (n : ℕ) → is_in n new ≡ ((n == m) || is_in n old)
 seen_one m old new put n =
     sym (contains_in n new)
     ∙ put n
@@ -78,12 +81,15 @@ seen_one m old new put n =
     ∙ cond_or (n == m) (is_in n old)
 
 -- one that was new is left
-pub new_taken : (m : ℕ) (old new : Walk) → ((n : ℕ) → list_any (is_at (nat_cmp n)) new.seen.keys ≡ cond (is_at (nat_cmp m) n) true (list_any (is_at (nat_cmp n)) old.seen.keys)) →
-    list_any (is_at (nat_cmp m)) old.seen.keys ≡ false → new.left.items ≡ old.left.items ++ m ∷ [] → length new.seen.keys ≡ length old.seen.keys + 1 → IsStrictlySortedBy nat_cmp new.seen.keys →
+pub new_taken : (m : ℕ) (old new : Walk) → ((n : ℕ) → list_any (is_at (nat_cmp n)) new.seen.keys
+    ≡ cond (is_at (nat_cmp m) n) true (list_any (is_at (nat_cmp n)) old.seen.keys)) →
+    list_any (is_at (nat_cmp m)) old.seen.keys ≡ false → new.left.items ≡ old.left.items ++ m ∷ []
+    → length new.seen.keys ≡ length old.seen.keys + 1 → IsStrictlySortedBy nat_cmp new.seen.keys →
     AddsVersions (λ n. is_number n (Some m)) old new
 new_taken m old new put was left count ordered = record {
   seen = seen_one m old.seen.keys new.seen.keys put;
-  left = λ n. ap (is_in n) left ∙ list_any-append (λ k. k == n) old.left.items (m ∷ []) ∙ ap (λ t. is_in n old.left.items || t) (one n (n == m) refl);
+  left = λ n. ap (is_in n) left ∙ list_any-append (λ k. k == n) old.left.items (m ∷ [])
+      ∙ ap (λ t. is_in n old.left.items || t) (one n (n == m) refl);
   count =
       let more = ap length left ∙ length-append old.left.items (m ∷ []) in
       omega (arith, more, count);
@@ -93,6 +99,7 @@ new_taken m old new put was left count ordered = record {
     one : (n : ℕ) (t : Bool) → (n == m) ≡ t → ((m == n) || false) ≡ ((n == m) && not (is_in n old.seen.keys))
     one n true e =
         let same : n ≡ m = same_number n m e in
-        let fresh : is_in n old.seen.keys ≡ false = sym (contains_in n old.seen.keys) ∙ ap (λ k. list_any (is_at (nat_cmp k)) old.seen.keys) same ∙ was in
+        let fresh : is_in n old.seen.keys ≡ false = sym (contains_in n old.seen.keys)
+        ∙ ap (λ k. list_any (is_at (nat_cmp k)) old.seen.keys) same ∙ was in
         ap (λ t. t || false) (turned m n ∙ e) ∙ sym (ap₂ (λ (t u : Bool). t && not u) e fresh)
     one n false e = ap (λ t. t || false) (turned m n ∙ e) ∙ sym (ap (λ t. t && not (is_in n old.seen.keys)) e)

@@ -19,17 +19,21 @@ use Rattle.cleartool.specs.Owned.{was_named}
 use Rattle.cleartool.proofs.ElementsBelow.{catalog_at}
 use Rattle.cleartool.proofs.NamesGiven.{checkout_given, version_given}
 
-pub names_given : (b : Base) (v path : List ℕ) (e : ℕ) (picked : Picked) → is_base b ≡ true → at b v path ≡ Element e picked → (name : List ℕ) → is_some (element_named name (catalog_at b v path)) ≡ true → was_named e name b ≡ true
-names_given b v path e picked base sees name is = by_kind (kind_of (tree b) e) (sym (ap (λ seen. is_some (element_named name (catalog_or_none (entries_of b v seen)))) sees) ∙ is)
+pub names_given : (b : Base) (v path : List ℕ) (e : ℕ) (picked : Picked) → is_base b ≡ true → at b v path ≡ Element e picked
+    → (name : List ℕ) → is_some (element_named name (catalog_at b v path)) ≡ true → was_named e name b ≡ true
+names_given b v path e picked base sees name is = by_kind (kind_of (tree b) e)
+    (sym (ap (λ seen. is_some (element_named name (catalog_or_none (entries_of b v seen)))) sees) ∙ is)
   where
-    by_own : (own : Bool) → picked.out ≡ own → is_some (element_named name (catalog_by own (own_of b v e) (catalog_of b picked.row))) ≡ true → was_named e name b ≡ true
+    by_own : (own : Bool) → picked.out ≡ own → is_some (element_named name
+        (catalog_by own (own_of b v e) (catalog_of b picked.row))) ≡ true → was_named e name b ≡ true
     by_own true out is = checkout_given b v e name base is
     by_own false out is =
         let seen = seen_element b v (reverse (names_of path)) e picked sees in
         let pick = picked_is b v e (reverse (reverse (names_of path))) picked base seen.element seen.picks in
         version_given b e picked.row name base (pick.version out) is
 
-    by_kind : (kind : Option Kind) → is_some (element_named name (catalog_or_none (entries_by b v e picked kind))) ≡ true → was_named e name b ≡ true
+    by_kind : (kind : Option Kind) → is_some (element_named name (catalog_or_none (entries_by b v e picked kind))) ≡ true
+        → was_named e name b ≡ true
     by_kind (Some Directory) is = by_own picked.out refl is
     by_kind (Some File) is = absurd (cc)
     by_kind None is = absurd (cc)

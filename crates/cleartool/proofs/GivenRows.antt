@@ -1,12 +1,13 @@
--- The rows that give views something, and names in directories, are told by the walk along their marks.
-use Rattle.std.proofs.Common.{◌≡◌, ℕ, ◌≤◌, ◌==◌, Bool, true, false, ◌&&◌, ◌||◌, List, [], ◌∷◌, length, Some, refl, ap, ap₂, ◌∙◌, arith}
+-- The rows that give views something, and names in directories, are given by the walk along their marks.
+use Rattle.std.proofs.Common.{◌≡◌, ℕ, ◌≤◌, ◌==◌, Bool, true, false, ◌&&◌, ◌||◌, List, [], ◌∷◌, length, Some, refl, ap, ap₂, ◌∙◌}
+use Rattle.std.proofs.Common.{arith}
 use Rattle.std.specs.Prelude.{is_some, option_and_then}
 use Rattle.std.specs.List.{list_any}
 use Rattle.std.proofs.lemmas.Bool.Decides.{nat_tests}
 use Rattle.cc_names.specs.Formed.{Plain}
 use Rattle.cc_names.specs.Last.{Sets, only_if}
 use Rattle.cc_names.specs.Versions.{put_if}
-use Rattle.base_model.specs.Closures.{is_among}
+use Rattle.base_model.specs.Closures.{is_path_among}
 use Rattle.base_model.specs.Rows.{Base, size, deed_at, deed_of, row_at}
 use Rattle.base_rows.specs.Giving.{gives_in, gives_view, naming_effect, own_effect}
 use Rattle.base_rows.specs.LookUps.{update_by_row}
@@ -14,7 +15,8 @@ use Rattle.cleartool.specs.Owned.{is_given_by, is_name, name_at, name_given, pat
 use Rattle.base_rows.specs.Walks.{updating_rows}
 
 -- whether one of some numbers passes, with one more where a test holds
-pub any_put : (p : ℕ → Bool) (test : Bool) (n : ℕ) (ns : List ℕ) → list_any p (put_if test n ns) ≡ ((test && p n) || list_any p ns)
+pub any_put : (p : ℕ → Bool) (test : Bool) (n : ℕ) (ns : List ℕ) → list_any p (put_if test n ns)
+    ≡ ((test && p n) || list_any p ns)
 any_put p true n ns = refl
 any_put p false n ns = refl
 
@@ -43,18 +45,24 @@ deeds_below b row older agree = λ n low. agree n (omega (arith, low)) ∙ deed_
 pub deed_newest : (b : Base) (row : Plain) (older : Base) → AreDeeds b (row ∷ older) → deed_at b (size older) ≡ Some row.deed
 deed_newest b row older agree = agree (size older) (omega arith) ∙ deed_here row older
 
-pub paths_found : (b : Base) (v path : List ℕ) (rows : Base) → AreDeeds b rows → list_any (is_given_by b path) (updating_rows (own_effect v) rows) ≡ was_given b v path rows
+pub paths_found : (b : Base) (v path : List ℕ) (rows : Base) → AreDeeds b rows
+    → list_any (is_given_by b path) (updating_rows (own_effect v) rows) ≡ was_given b v path rows
 paths_found b v path [] agree = refl
 paths_found b v path (row ∷ older) agree =
-    any_put (is_given_by b path) (is_some (update_by_row (size older) (own_effect v older row.deed))) (size older) (updating_rows (own_effect v) older)
+    any_put (is_given_by b path) (is_some (update_by_row (size older) (own_effect v older row.deed))) (size older)
+    (updating_rows (own_effect v) older)
     ∙ ap₂ (λ (one more : Bool). one || more)
-    (ap₂ (λ (one two : Bool). one && two) (updates_where (gives_view v row.deed) (size older) (size older)) (ap (λ deed. is_among path (paths_by b deed)) (deed_newest b row older agree)))
+    (ap₂ (λ (one two : Bool). one && two) (updates_where (gives_view v row.deed) (size older) (size older))
+    (ap (λ deed. is_path_among path (paths_by b deed)) (deed_newest b row older agree)))
     (paths_found b v path older (deeds_below b row older agree))
 
-pub names_found : (b : Base) (d : ℕ) (name : List ℕ) (rows : Base) → AreDeeds b rows → list_any (λ n. is_name name (name_at b n)) (updating_rows (naming_effect d) rows) ≡ was_named d name rows
+pub names_found : (b : Base) (d : ℕ) (name : List ℕ) (rows : Base) → AreDeeds b rows
+    → list_any (λ n. is_name name (name_at b n)) (updating_rows (naming_effect d) rows) ≡ was_named d name rows
 names_found b d name [] agree = refl
 names_found b d name (row ∷ older) agree =
-    any_put (λ n. is_name name (name_at b n)) (is_some (update_by_row (size older) (naming_effect d older row.deed))) (size older) (updating_rows (naming_effect d) older)
+    any_put (λ n. is_name name (name_at b n)) (is_some (update_by_row (size older) (naming_effect d older row.deed))) (size older)
+    (updating_rows (naming_effect d) older)
     ∙ ap₂ (λ (one more : Bool). one || more)
-    (ap₂ (λ (one two : Bool). one && two) (updates_where (gives_in d row.deed) (size older) (size older)) (ap (λ deed. is_name name (option_and_then name_given deed)) (deed_newest b row older agree)))
+    (ap₂ (λ (one two : Bool). one && two) (updates_where (gives_in d row.deed) (size older) (size older))
+    (ap (λ deed. is_name name (option_and_then name_given deed)) (deed_newest b row older agree)))
     (names_found b d name older (deeds_below b row older agree))

@@ -3,7 +3,9 @@ use Rattle.std.proofs.Common.{◌≡◌, ℕ, List, [], ◌∷◌, ◌++◌, map
 use Rattle.std.proofs.lemmas.List.{map-append, reverse-append}
 
 -- with one name more behind them, that one comes first
-pub one_more : (items : List (Bor (List ℕ))) (name : Bor (List ℕ)) → reverse (map (λ (name : Bor (List ℕ)). name.now) (items ++ name ∷ [])) ≡ name.now ∷ reverse (map (λ (name : Bor (List ℕ)). name.now) items)
+pub one_more : (items : List (Bor (List ℕ))) (name : Bor (List ℕ)) → reverse
+    (map (λ (name : Bor (List ℕ)). name.now) (items ++ name ∷ [])) ≡ name.now
+    ∷ reverse (map (λ (name : Bor (List ℕ)). name.now) items)
 one_more items name =
     ap reverse (map-append (λ (name : Bor (List ℕ)). name.now) items (name ∷ []))
     ∙ reverse-append (map (λ (name : Bor (List ℕ)). name.now) items) (name.now ∷ [])

@@ -6,7 +6,7 @@ use Rattle.cc_names.specs.declared.selection.Seen.{Seen}
 use Rattle.cc_names.specs.declared.selection.Seen.TheVariants.{Element}
 use Rattle.base_model.specs.Rows.{Base}
 use Rattle.base_model.specs.Seen.{at, entries_of}
-use Rattle.legal_history.specs.Queries.DirectoryTexts.{catalog_or_none, path_in}
+use Rattle.legal_history.specs.Queries.DirectoryTexts.{catalog_or_none, path_of_entry}
 
 -- whether it is an element of which a version is selected
 abbrev pub is_element : Seen → Bool
@@ -18,7 +18,7 @@ abbrev pub lies_below : ℕ → Base → List ℕ → List ℕ → List ℕ → 
 lies_below zero b v path q = false
 lies_below (suc depth) b v path q =
     (is_element (at b v path) && bytes_eq q path)
-    || list_any (λ entry. lies_below depth b v (path_in path entry.0) q) (catalog_or_none (entries_of b v (at b v path)))
+    || list_any (λ entry. lies_below depth b v (path_of_entry path entry.0) q) (catalog_or_none (entries_of b v (at b v path)))
 
 -- the same below a path that may be too long to be seen
 abbrev pub lies_below_joined : ℕ → Base → List ℕ → Result (List ℕ) NameFault → List ℕ → Bool

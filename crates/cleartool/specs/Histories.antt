@@ -10,5 +10,5 @@ abbrev pub label_text : Base → List ℕ → ℕ → List ℕ
 label_text b label version = label ++ 32 ∷ version_name b version
 
 -- what the row of a number did to an element
-abbrev pub row_lines : Base → ℕ → ℕ → List ℕ
-row_lines b e n = option_map_or (λ row. history_line b e n row.moment row.deed) (row_at b n) []
+abbrev pub history_row_lines : Base → ℕ → ℕ → List ℕ
+history_row_lines b e n = option_map_or (λ row. history_line b e n row.moment row.deed) (row_at b n) []

@@ -26,14 +26,14 @@ abbrev pub stands_on : Base → ℕ → ℕ → List ℕ → Bool
 stands_on b e version label = is_number version (holder (labels b) label e)
 
 -- names in byte order with one more, where a test holds
-abbrev pub with_name_if : Bool → List ℕ → List (List ℕ) → List (List ℕ)
-with_name_if true name names = insert_key (slice_cmp nat_cmp) names name
-with_name_if false name names = names
+abbrev pub with_label_if : Bool → List ℕ → List (List ℕ) → List (List ℕ)
+with_label_if true name names = insert_key (slice_cmp nat_cmp) names name
+with_label_if false name names = names
 
 -- names with a label, where there is one and it stands on the version
 abbrev pub with_label : Base → ℕ → ℕ → Option (List ℕ) → List (List ℕ) → List (List ℕ)
 with_label b e version None names = names
-with_label b e version (Some label) names = with_name_if (stands_on b e version label) label names
+with_label b e version (Some label) names = with_label_if (stands_on b e version label) label names
 
 -- names with the labels that the rows of these numbers put and that stand on the version
 abbrev pub labels_among : Base → ℕ → ℕ → List ℕ → List (List ℕ) → List (List ℕ)

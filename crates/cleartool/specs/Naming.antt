@@ -16,7 +16,8 @@ names_above changes branch = option_map_or (names_of_branch changes) branch []
 -- the name of the next version of a branch, where the branch has an element
 abbrev pub name_on : List TreeChange → ℕ → Option ℕ → List ℕ
 name_on changes branch element =
-    option_map_or (λ e. behind_slashes (codes "main" ∷ names_of_branch changes branch) ++ 47 ∷ decimal (length (versions_on changes branch))) element []
+    option_map_or (λ e. behind_slashes (codes "main" ∷ names_of_branch changes branch) ++ 47
+    ∷ decimal (length (versions_on changes branch))) element []
 
 -- the name of version 0 of a new branch of this name
 abbrev pub name_of_new : List TreeChange → Option ℕ → List ℕ → List ℕ

@@ -3,7 +3,7 @@ use Rattle.std.specs.Prelude.{ℕ, Bool, false, ◌&&◌, ◌||◌, ◌==◌, Op
 use Rattle.cc_names.specs.declared.rows.Deed.{Deed}
 use Rattle.cc_names.specs.declared.rows.Deed.TheVariants as deeds
 use Rattle.base_model.specs.Changes.{targets_of}
-use Rattle.base_model.specs.Closures.{is_among}
+use Rattle.base_model.specs.Closures.{is_path_among}
 use Rattle.base_model.specs.Rows.{Base, deed_at, only_where}
 use Rattle.base_rows.specs.Effects.{holds_one}
 use Rattle.base_rows.specs.Giving.{gives_in, gives_view}
@@ -22,12 +22,13 @@ paths_by b (Some deed) = paths_given b deed
 
 -- whether the row of a number gave something at the path
 abbrev pub is_given_by : Base → List ℕ → ℕ → Bool
-is_given_by b path n = is_among path (paths_by b (deed_at b n))
+is_given_by b path n = is_path_among path (paths_by b (deed_at b n))
 
 -- whether one of some rows of a base gave the view something at the path
 abbrev pub was_given : Base → List ℕ → List ℕ → Base → Bool
 was_given b v path [] = false
-was_given b v path (row ∷ older) = (gives_view v row.deed && is_among path (paths_given b row.deed)) || was_given b v path older
+was_given b v path (row ∷ older) = (gives_view v row.deed && is_path_among path (paths_given b row.deed))
+    || was_given b v path older
 
 -- whether it is this name
 abbrev pub is_name : List ℕ → Option (List ℕ) → Bool

@@ -29,7 +29,7 @@ arrow_source deed = None
 abbrev pub arrow_source_at : Base → ℕ → Option ℕ
 arrow_source_at b n = option_and_then arrow_source (deed_at b n)
 
--- A walk takes in the versions that pass a test: each has been seen, and where it was new it is left, once, to go on from.
+-- A walk adds the versions that pass a test: each has been seen, and where it was new it is left, once, to go on from.
 pub record AddsVersions (taken : ℕ → Bool) (old new : Walk) : Type 0 where
   pub seen : (n : ℕ) → is_in n new.seen.keys ≡ (taken n || is_in n old.seen.keys)
   pub left : (n : ℕ) → is_in n new.left.items ≡ (is_in n old.left.items || (taken n && not (is_in n old.seen.keys)))

@@ -4,7 +4,7 @@ use Rattle.cc_names.specs.declared.rows.Deed.{Deed}
 use Rattle.cc_names.specs.declared.rows.Deed.TheVariants as deeds
 use Rattle.cc_names.specs.declared.rows.ReadOf.{ReadOf}
 use Rattle.base_model.specs.Rows.{Base}
-use Rattle.legal_history.specs.Queries.RecordTexts.{read_line}
+use Rattle.legal_history.specs.Queries.RecordTexts.{line_of_read}
 use Rattle.legal_history.specs.Queries.VersionNames.{line}
 
 -- the word for a row that made no version
@@ -18,9 +18,9 @@ abbrev pub target_line : List ℕ → List ℕ
 target_line target = line (codes "target " ++ target)
 
 -- the line of a line of a script
-abbrev pub script_line : List ℕ → List ℕ
-script_line text = line (codes "script " ++ text)
+abbrev pub recorded_script_line : List ℕ → List ℕ
+recorded_script_line text = line (codes "script " ++ text)
 
 -- the line of an entry
 abbrev pub entry_line : Base → ReadOf → List ℕ
-entry_line b entry = read_line b entry.path entry.row
+entry_line b entry = line_of_read b entry.path entry.row

@@ -17,8 +17,8 @@ abbrev pub behind_comma : List ℕ → List ℕ
 behind_comma word = codes ", " ++ word
 
 -- a table has the labels on the versions of the element
-abbrev pub AreLabels : {S : Type 0} → HashMap ℕ (BTreeSet (List ℕ)) S → Base → ℕ → Type 0
-AreLabels labels b e = (version : ℕ) → labels_at labels version ≡ labels_on b e version
+abbrev pub TableHasLabels : {S : Type 0} → HashMap ℕ (BTreeSet (List ℕ)) S → Base → ℕ → Type 0
+TableHasLabels labels b e = (version : ℕ) → labels_at labels version ≡ labels_on b e version
 
 -- the rows that made the versions on a branch, oldest first
 abbrev pub rows_on : Base → ℕ → List ℕ
@@ -33,7 +33,8 @@ row_lines b path e branch_lines row =
 -- the lines of a part
 abbrev pub part_lines : Base → List ℕ → ℕ → Part → List ℕ
 part_lines b path e (Branch depth branch) = branch_lines depth b path e branch
-part_lines b path e (Versions depth branch number) = concat (map (row_lines b path e (branch_lines depth b path e)) (drop number (rows_on b branch)))
+part_lines b path e (Versions depth branch number) = concat (map (row_lines b path e (branch_lines depth b path e))
+    (drop number (rows_on b branch)))
 
 -- the lines of the parts that are left, the last one first
 abbrev pub left_lines : Base → List ℕ → ℕ → List Part → List ℕ

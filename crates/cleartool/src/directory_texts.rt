@@ -6,11 +6,11 @@ ghost use Rattle.cc_names.specs.Paths.{join_of};
 ghost use Rattle.cc_names.specs.References.{held_at};
 ghost use Rattle.base_model.specs.Changes.{objects_held};
 ghost use Rattle.base_model.specs.Seen.{at};
-ghost use Rattle.legal_history.specs.Queries.DirectoryTexts.{by_rule, ls_text, path_in, picked_line};
+ghost use Rattle.legal_history.specs.Queries.DirectoryTexts.{by_rule, ls_text, path_of_entry, picked_line};
 ghost use Rattle.legal_history.specs.Queries.QueryLines.{ls};
 ghost use Rattle.legal_history.specs.Queries.VersionNames.{line};
 ghost use Rattle.cleartool.specs.Answering.{AnswersAs};
-ghost use Rattle.cleartool.specs.Listed.{FindsDirectory, SeesDirectory, line_at, line_where, object_line_where};
+ghost use Rattle.cleartool.specs.Listed.{FindsDirectory, SeesDirectory, line_at, seen_line_where, object_line_where};
 
 use crate::descriptions::origin_name;
 use crate::lines::{push_at_version, push_object};
@@ -27,7 +27,7 @@ use std::alloc::Global;
 use view_lookup::{FirstRows, at, held_object, is_directory_element, view_row};
 
 /// Adds the line of a name and words behind it.
-fn push_words(text: &mut Vec<u8>, name: &[u8], words: &[u8]) -> Result<(), NoMemory>
+fn push_name_with_words(text: &mut Vec<u8>, name: &[u8], words: &[u8]) -> Result<(), NoMemory>
     ensures { OnOk result (text.new.items ≡ text.old.items ++ line (name.now ++ words.now)) }
 {
     text.extend_from_slice(name)?;
@@ -77,7 +77,7 @@ fn push_picked(
 }
 
 /// Adds the line of a name with the object that the view holds at its path; nothing where it holds none.
-fn push_held(
+fn push_held_at_name(
     alloc: Global,
     text: &mut Vec<u8>,
     rows: &FirstRows<'_>,
@@ -110,16 +110,16 @@ fn push_seen(
     name: &[u8],
     path: &Path,
 ) -> Result<(), NoMemory>
-    ensures { path.now ≡ path_in directory.now name.now
+    ensures { path.now ≡ path_of_entry directory.now name.now
         → OnOk result
         (text.new.items
         ≡ text.old.items
-        ++ line_where rows.now view.now directory.now name.now (at rows.now view.now path.now)
+        ++ seen_line_where rows.now view.now directory.now name.now (at rows.now view.now path.now)
         (held_at (objects_held rows.now) view.now path.now)) }
 {
     match at(rows, view, path) {
         Seen::Private(_) => {
-            push_words(text, name, b" private")?;
+            push_name_with_words(text, name, b" private")?;
             Ok(())
         }
         Seen::Element(element, picked) => {
@@ -127,11 +127,11 @@ fn push_seen(
             Ok(())
         }
         Seen::Unselected(_) => {
-            push_words(text, name, b" no version selected")?;
+            push_name_with_words(text, name, b" no version selected")?;
             Ok(())
         }
         Seen::Nothing => {
-            push_held(alloc, text, rows, view, name, path)?;
+            push_held_at_name(alloc, text, rows, view, name, path)?;
             Ok(())
         }
     }

@@ -4,7 +4,7 @@ ghost use Rattle.std.specs.Prelude.{◌≡◌, ◌∷◌, [], None, IfOk};
 ghost use Rattle.base_model.specs.Seen.{at};
 ghost use Rattle.legal_history.specs.Commands.Decisions.{first_refusal};
 ghost use Rattle.legal_history.specs.Commands.Tests.{needs_no_directory};
-ghost use Rattle.legal_history.specs.Queries.QueryLines.{cat, needs_text, text_at, text_row};
+ghost use Rattle.legal_history.specs.Queries.QueryLines.{cat, needs_text, made_text_at, text_row};
 ghost use Rattle.cleartool.specs.Answering.{AnswersAs};
 
 use cc_names::memory::{NoMemory, Or};
@@ -63,8 +63,8 @@ fn text_row(rows: &FirstRows<'_>, view: &Name, path: &Path) -> Option<u64>
 }
 
 /// The text that a row made at a path; no bytes where there is none.
-pub(crate) fn text_at<'a>(rows: &FirstRows<'a>, path: &Path, row: Option<u64>) -> &'a [u8]
-    ensures { result.now ≡ text_at rows.now path.now row }
+pub(crate) fn made_text_at<'a>(rows: &FirstRows<'a>, path: &Path, row: Option<u64>) -> &'a [u8]
+    ensures { result.now ≡ made_text_at rows.now path.now row }
 {
     match row {
         None => &[],
@@ -91,6 +91,6 @@ pub fn cat(
     if let Some(refusal) = needs_text(alloc, rows, view, path)? {
         return Err(Or::Is(refusal));
     }
-    let text = text_at(rows, path, text_row(rows, view, path));
+    let text = made_text_at(rows, path, text_row(rows, view, path));
     Ok(Text::from_bytes(alloc, text)?)
 }

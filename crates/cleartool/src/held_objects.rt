@@ -4,7 +4,7 @@ ghost use Rattle.std.specs.Prelude.{◌≡◌, ◌++◌, IfOk, OnOk};
 ghost use Rattle.legal_history.specs.Queries.DirectoryTexts.{lsdo_text};
 ghost use Rattle.legal_history.specs.Queries.QueryLines.{lsdo};
 ghost use Rattle.cleartool.specs.Answering.{AnswersAs};
-ghost use Rattle.cleartool.specs.HeldObjects.{line_at};
+ghost use Rattle.cleartool.specs.HeldObjects.{held_line_at};
 
 use crate::lines::push_object;
 use crate::sets::holders::count_holders;
@@ -19,7 +19,7 @@ use std::alloc::Global;
 use view_lookup::{FirstRows, held_object, view_row};
 
 /// Adds the line of the object that the view holds at a path, with the number of views that hold it; nothing where it holds none.
-fn push_held(
+fn push_held_object(
     alloc: Global,
     text: &mut Vec<u8>,
     rows: &FirstRows<'_>,
@@ -27,7 +27,7 @@ fn push_held(
     path: &Path,
 ) -> Result<(), NoMemory>
     ensures { OnOk result
-        (text.new.items ≡ text.old.items ++ line_at rows.now view.now path.now) }
+        (text.new.items ≡ text.old.items ++ held_line_at rows.now view.now path.now) }
 {
     match held_object(rows, view, path) {
         None => Ok(()),
@@ -49,7 +49,7 @@ fn lsdo_text(alloc: Global, rows: &FirstRows<'_>, view: &Name) -> Result<Text, N
     let paths = paths_owned(alloc, rows, view)?;
     let mut text = Vec::new(alloc);
     for path in &paths {
-        push_held(alloc, &mut text, rows, view, path)?;
+        push_held_object(alloc, &mut text, rows, view, path)?;
     }
     Ok(Text::of(text))
 }

@@ -5,7 +5,7 @@ ghost use Rattle.std.specs.List.{concat};
 ghost use Rattle.legal_history.specs.Queries.HistoryTexts.{dated_line, history_line, line_where, lshistory_text, placed_lines};
 ghost use Rattle.legal_history.specs.Queries.QueryLines.{lshistory};
 ghost use Rattle.cleartool.specs.Answering.{AnswersAs};
-ghost use Rattle.cleartool.specs.Histories.{label_text, row_lines};
+ghost use Rattle.cleartool.specs.Histories.{label_text, history_row_lines};
 
 use crate::found::find_selected;
 use crate::version_names::{branch_name, version_name};
@@ -20,7 +20,7 @@ use std::alloc::Global;
 use view_lookup::{FirstRows, history_of, row_at};
 
 /// Adds a line, where it tells of the element: the date of a moment, words and a name.
-fn push_line(
+fn push_history_line(
     text: &mut Vec<u8>,
     tells: bool,
     moment: u64,
@@ -75,7 +75,7 @@ fn push_placed(
 {
     for one in placed {
         let name = label_text(alloc, rows, label, one.version)?;
-        push_line(text, one.element == element, moment, b"label ", &name)?;
+        push_history_line(text, one.element == element, moment, b"label ", &name)?;
     }
     Ok(())
 }
@@ -96,14 +96,20 @@ fn push_deed(
         ≡ text.old.items ++ history_line rows.now element number moment deed.now) }
 {
     match deed {
-        Deed::Mkelem { .. } => push_line(text, number == element, moment, b"create element", b""),
+        Deed::Mkelem { .. } => push_history_line(
+            text,
+            number == element,
+            moment,
+            b"create element",
+            b"",
+        ),
         Deed::Branch { element: of, .. } => {
             let name = branch_name(alloc, rows, number)?;
-            push_line(text, *of == element, moment, b"create branch ", &name)
+            push_history_line(text, *of == element, moment, b"create branch ", &name)
         }
         Deed::Checkin { element: of, .. } => {
             let name = version_name(alloc, rows, number)?;
-            push_line(
+            push_history_line(
                 text,
                 *of == element,
                 moment,
@@ -117,10 +123,10 @@ fn push_deed(
             version,
         } => {
             let name = label_text(alloc, rows, label, *version)?;
-            push_line(text, *of == element, moment, b"label ", &name)
+            push_history_line(text, *of == element, moment, b"label ", &name)
         }
         Deed::Unlabel { label, element: of } => {
-            push_line(text, *of == element, moment, b"unlabel ", label.as_bytes())
+            push_history_line(text, *of == element, moment, b"unlabel ", label.as_bytes())
         }
         Deed::Labels { label, placed } => {
             push_placed(alloc, text, rows, element, moment, label, placed.as_slice())
@@ -137,7 +143,7 @@ fn push_row(
     element: u64,
     number: u64,
 ) -> Result<(), NoMemory>
-    ensures { OnOk result (text.new.items ≡ text.old.items ++ row_lines rows.now element number) }
+    ensures { OnOk result (text.new.items ≡ text.old.items ++ history_row_lines rows.now element number) }
 {
     let Some(row) = row_at(rows, number) else {
         return Ok(());
@@ -155,7 +161,7 @@ fn push_rows(
 ) -> Result<(), NoMemory>
     ensures { OnOk result
         (text.new.items
-        ≡ text.old.items ++ concat (map (row_lines rows.now element) numbers.now)) }
+        ≡ text.old.items ++ concat (map (history_row_lines rows.now element) numbers.now)) }
 {
     for number in numbers {
         push_row(alloc, text, rows, element, *number)?;

@@ -2,7 +2,7 @@
 
 ghost use Rattle.std.specs.Prelude.{◌≡◌, ◌||◌, ℕ, List, IfOk, OnOk};
 ghost use Rattle.cc_names.specs.Paths.{IsPath, last_of, parent_of};
-ghost use Rattle.base_model.specs.Closures.{is_among};
+ghost use Rattle.base_model.specs.Closures.{is_path_among};
 ghost use Rattle.cleartool.specs.Owned.{is_name};
 ghost use Rattle.cleartool.specs.Listed.{HasNames, lies_in};
 
@@ -29,8 +29,8 @@ fn is_inside(alloc: Global, directory: &[u8], path: &Path) -> Result<bool, NoMem
 fn add_last(alloc: Global, names: &mut BTreeSet<Name>, path: &Path) -> Result<(), NoMemory>
     ensures { OnOk result
         ((name : List ℕ)
-        → is_among name names.new.keys
-        ≡ (is_name name (last_of path.now) || is_among name names.old.keys)) }
+        → is_path_among name names.new.keys
+        ≡ (is_name name (last_of path.now) || is_path_among name names.old.keys)) }
 {
     match path.last(alloc)? {
         None => Ok(()),
@@ -50,8 +50,8 @@ fn add_inside(
 ) -> Result<(), NoMemory>
     ensures { OnOk result
         ((name : List ℕ)
-        → is_among name names.new.keys
-        ≡ (lies_in directory.now name path.now || is_among name names.old.keys)) }
+        → is_path_among name names.new.keys
+        ≡ (lies_in directory.now name path.now || is_path_among name names.old.keys)) }
 {
     if is_inside(alloc, directory, path)? {
         add_last(alloc, names, path)?;

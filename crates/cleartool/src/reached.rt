@@ -95,7 +95,8 @@ impl Walk {
 }
 
 /// Whether one version reaches another. Walks back from the other until it comes to the one, and goes on from each version once.
-/// Takes for each of them time linear in the arrows into it, and for each version that it follows time logarithmic in the changes.
+/// Takes for each of them time linear in the arrows into it, and for each version that it follows time logarithmic in the
+/// changes.
 pub(crate) fn reaches(
     alloc: Global,
     rows: &FirstRows<'_>,

@@ -6,12 +6,12 @@ ghost use Rattle.std.specs.Cmp.Lexicographic.{slice_cmp};
 ghost use Rattle.std.specs.List.{concat};
 ghost use Rattle.std.specs.List.Sorted.{IsStrictlySortedBy};
 ghost use Rattle.std.specs.Ordering.{nat_cmp};
-ghost use Rattle.base_model.specs.Closures.{is_among};
+ghost use Rattle.base_model.specs.Closures.{is_path_among};
 ghost use Rattle.base_model.specs.Objects.{are_same_paths, row_in};
 ghost use Rattle.legal_history.specs.Queries.QueryLines.{diffcr};
 ghost use Rattle.legal_history.specs.Queries.RecordTexts.{diffcr_text, is_same_row, path_lines, side_line, side_name, unless_same};
 ghost use Rattle.cleartool.specs.Answering.{AnswersAs};
-ghost use Rattle.cleartool.specs.Differences.{is_read, row_lines};
+ghost use Rattle.cleartool.specs.Differences.{is_path_read, difference_lines};
 
 use crate::found::find_object;
 use crate::lines::push_line;
@@ -46,8 +46,8 @@ fn rows_by_path(alloc: Global, entries: &[ReadOf]) -> Result<BTreeMap<Path, u64>
 fn add_paths(alloc: Global, paths: &mut BTreeSet<Path>, entries: &[ReadOf]) -> Result<(), NoMemory>
     ensures { OnOk result
         ((path : List ℕ)
-        → is_among path paths.new.keys
-        ≡ (is_read path entries.now || is_among path paths.old.keys)) }
+        → is_path_among path paths.new.keys
+        ≡ (is_path_read path entries.now || is_path_among path paths.old.keys)) }
 {
     for entry in entries {
         paths.insert(entry.path.copy(alloc)?)?;
@@ -118,7 +118,7 @@ fn push_path(
     two: Option<u64>,
 ) -> Result<(), NoMemory>
     ensures { OnOk result
-        (text.new.items ≡ text.old.items ++ row_lines rows.now path.now one two) }
+        (text.new.items ≡ text.old.items ++ difference_lines rows.now path.now one two) }
 {
     if is_same_row(one, two) {
         return Ok(());
@@ -162,7 +162,7 @@ fn push_listed(
 fn paths_of(alloc: Global, one: &[ReadOf], two: &[ReadOf]) -> Result<BTreeSet<Path>, NoMemory>
     ensures { IfOk result
         (λ paths. (path : List ℕ)
-        → is_among path paths.keys ≡ (is_read path one.now || is_read path two.now)) }
+        → is_path_among path paths.keys ≡ (is_path_read path one.now || is_path_read path two.now)) }
 {
     let mut paths = BTreeSet::new(alloc);
     add_paths(alloc, &mut paths, two)?;
@@ -204,7 +204,8 @@ fn diffcr_text(alloc: Global, rows: &FirstRows<'_>, one: u64, two: u64) -> Resul
 }
 
 /// The text of `diffcr V P W Q`, where the records of two objects that views hold differ, or its first refusal. Takes the time of
-/// `held_object` for both, and time linear in the records, times logarithmic in them, with that of the names of the rows that differ.
+/// `held_object` for both, and time linear in the records, times logarithmic in them, with that of the names of the rows that
+/// differ.
 pub fn diffcr(
     alloc: Global,
     rows: &FirstRows<'_>,

@@ -4,9 +4,9 @@ ghost use Rattle.std.specs.Prelude.{◌≡◌, ◌++◌, IfOk, OnOk, map};
 ghost use Rattle.std.specs.List.{concat};
 ghost use Rattle.cc_names.specs.Cuts.{lines_of};
 ghost use Rattle.legal_history.specs.Queries.QueryLines.{catcr};
-ghost use Rattle.legal_history.specs.Queries.RecordTexts.{catcr_text, read_line};
+ghost use Rattle.legal_history.specs.Queries.RecordTexts.{catcr_text, line_of_read};
 ghost use Rattle.cleartool.specs.Answering.{AnswersAs};
-ghost use Rattle.cleartool.specs.Recorded.{entry_line, script_line, target_line};
+ghost use Rattle.cleartool.specs.Recorded.{entry_line, recorded_script_line, target_line};
 
 use crate::found::find_object;
 use crate::lines::push_line;
@@ -36,7 +36,7 @@ fn push_targets(text: &mut Vec<u8>, targets: &[Path]) -> Result<(), NoMemory>
 /// Adds a line for each line of a script.
 fn push_script(text: &mut Vec<u8>, script: &[u8]) -> Result<(), NoMemory>
     ensures { OnOk result
-        (text.new.items ≡ text.old.items ++ concat (map script_line (lines_of script.now))) }
+        (text.new.items ≡ text.old.items ++ concat (map recorded_script_line (lines_of script.now))) }
 {
     let mut lines = Lines::of(script);
     while let Some(line) = lines.next() {
@@ -53,7 +53,7 @@ fn push_read(
     path: &[u8],
     row: u64,
 ) -> Result<(), NoMemory>
-    ensures { OnOk result (text.new.items ≡ text.old.items ++ read_line rows.now path.now row) }
+    ensures { OnOk result (text.new.items ≡ text.old.items ++ line_of_read rows.now path.now row) }
 {
     if row == 0 {
         return push_line(text, b"absent ", path);

@@ -5,7 +5,7 @@ ghost use Rattle.legal_history.specs.Commands.Tests.{needs_no_directory};
 ghost use Rattle.legal_history.specs.Queries.QueryLines.{cat, version_seen};
 ghost use Rattle.cleartool.specs.Answering.{AnswersAs};
 
-use crate::file_texts::text_at;
+use crate::file_texts::made_text_at;
 use cc_names::commands::VersionName;
 use cc_names::memory::{NoMemory, Or};
 use cc_names::names::Name;
@@ -72,5 +72,5 @@ pub fn cat_version(
     if let Some(refusal) = needs_no_directory(alloc, rows, path, seen)? {
         return Err(Or::Is(refusal));
     }
-    Ok(Text::from_bytes(alloc, text_at(rows, path, version))?)
+    Ok(Text::from_bytes(alloc, made_text_at(rows, path, version))?)
 }

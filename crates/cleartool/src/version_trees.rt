@@ -7,7 +7,7 @@ ghost use Rattle.legal_history.specs.Queries.QueryLines.{lsvtree};
 ghost use Rattle.legal_history.specs.Queries.VersionNames.{at_version, branch_name, line, version_name};
 ghost use Rattle.cleartool.specs.LabelSets.{labels_at};
 ghost use Rattle.cleartool.specs.Answering.{AnswersAs};
-ghost use Rattle.cleartool.specs.VersionTrees.{AreLabels, left_lines, part_lines, steps_left, steps_of};
+ghost use Rattle.cleartool.specs.VersionTrees.{TableHasLabels, left_lines, part_lines, steps_left, steps_of};
 ghost use Rattle.cleartool.specs.declared.version_trees.Part.TheVariants as parts;
 
 use crate::bracketed::push_brackets;
@@ -132,7 +132,7 @@ fn tell_version(
     branch: u64,
     number: u64,
 ) -> Result<(), NoMemory>
-    ensures reported { (e : ℕ) → AreLabels labels.now rows.now e
+    ensures reported { (e : ℕ) → TableHasLabels labels.now rows.now e
         → OnOk result
         (text.new.items ++ left_lines rows.now path.now e left.new.items
         ≡ text.old.items
@@ -169,7 +169,7 @@ fn tell(
     labels: &VersionLabels,
     part: Part,
 ) -> Result<(), NoMemory>
-    ensures reported { (e : ℕ) → AreLabels labels.now rows.now e
+    ensures reported { (e : ℕ) → TableHasLabels labels.now rows.now e
         → OnOk result
         (text.new.items ++ left_lines rows.now path.now e left.new.items
         ≡ text.old.items

@@ -4,12 +4,12 @@ use Rattle.std.specs.List.{list_all}
 use Rattle.cc_names.specs.declared.rows.Extent.{Extent}
 
 -- the place directly behind an extent
-abbrev pub behind : Extent → ℕ
-behind e = e.place + e.length
+abbrev pub place_behind : Extent → ℕ
+place_behind e = e.place + e.length
 
 -- whether one of two extents ends before the other begins
 abbrev pub are_apart : Extent → Extent → Bool
-are_apart a b = nat_le (behind a) b.place || nat_le (behind b) a.place
+are_apart a b = nat_le (place_behind a) b.place || nat_le (place_behind b) a.place
 
 -- whether an extent lies apart from all that are taken
 abbrev pub is_free : List Extent → Extent → Bool
@@ -18,12 +18,12 @@ is_free taken e = list_all (are_apart e) taken
 -- the place directly behind the last extent, 0 where there is none
 abbrev pub end_of : List Extent → ℕ
 end_of [] = 0
-end_of (e ∷ more) = max (behind e) (end_of more)
+end_of (e ∷ more) = max (place_behind e) (end_of more)
 
 -- whether extents may be taken, one after the other, in a file of this size
 abbrev pub may_take : ℕ → List Extent → List Extent → Bool
 may_take size taken [] = true
-may_take size taken (e ∷ more) = nat_le (behind e) size && (is_free taken e && may_take size (e ∷ taken) more)
+may_take size taken (e ∷ more) = nat_le (place_behind e) size && (is_free taken e && may_take size (e ∷ taken) more)
 
 -- so many bytes from a place on
 abbrev pub extent_at : ℕ → ℕ → Extent

@@ -10,6 +10,8 @@ use Rattle.cc_names.specs.declared.rows.Extent.{Extent}
 -- one call that read it, no call, or one that failed
 abbrev pub Gets : {T E : Type 0} → Extent → Result T (Or E) → DiskState → DiskState → Type 0
 Gets e (Ok text) old new =
-    Both (Fetches 1 e.place e.length) old.modeled new.modeled × (new.ticks ≡ next_count old.ticks) × (new.faults ≡ old.faults) × (old.ticks < 2 ^ 64 - 1)
+    Both (Fetches 1 e.place e.length) old.modeled new.modeled × (new.ticks ≡ next_count old.ticks) × (new.faults ≡ old.faults)
+    × (old.ticks < 2 ^ 64 - 1)
 Gets e (Err NoMemory) old new = new ≡ old
-Gets e (Err (Is fault)) old new = Both Idles old.modeled new.modeled × (new.ticks ≡ next_count old.ticks) × (new.faults ≡ next_count old.faults)
+Gets e (Err (Is fault)) old new = Both Idles old.modeled new.modeled × (new.ticks ≡ next_count old.ticks)
+    × (new.faults ≡ next_count old.faults)

@@ -6,13 +6,13 @@ use Rattle.container_store.specs.Places.{HasNoLonger, FitsAt, last_behind}
 use Rattle.container_store.specs.declared.places.Walk.{Walk}
 use Rattle.container_store.specs.declared.places.Walk.TheVariants.{Found, Missed}
 
--- all holes in front of the first so many extents are shorter than this
+-- all holes before the first so many extents are shorter than this
 pub record HasShorter (taken : List Extent) (at length : ℕ) : Type 0 where
   pub longest : ℕ
   pub holes : HasNoLonger longest 0 (take at taken)
   pub shorter : longest < length
 
--- the first place where so many bytes are free, in front of this extent or behind the last
+-- the first place where so many bytes are free, before this extent or behind the last
 abbrev pub IsFirstAt : List Extent → ℕ → ℕ → Type 0
 IsFirstAt taken length at = HasShorter taken at length × FitsAt taken at (extent_at (last_behind 0 (take at taken)) length)
 

@@ -1,9 +1,9 @@
 //! The bytes of extents.
 
 ghost use Rattle.std.specs.Prelude.{◌≡◌, ◌≤◌, length, take, drop, Contains, IfOk, MatchResult};
-ghost use Rattle.disk_model.specs.Devices.{bytes_of, Writes, Tears};
+ghost use Rattle.disk_model.specs.Devices.{bytes_now, Writes, Tears};
 ghost use Rattle.disk_model.specs.DiskStates.{IfModeled, Both, Counted};
-ghost use Rattle.container_store.specs.Extents.{behind};
+ghost use Rattle.container_store.specs.Extents.{place_behind};
 ghost use Rattle.container_store.specs.Getting.{Gets};
 
 use crate::store::Store;
@@ -25,7 +25,7 @@ impl Store {
         requires taken { Contains self.now.taken extent.now }
         requires long { length bytes.now ≡ extent.now.length }
         requires within { IfModeled (O.ghost_state objects.old).modeled
-            (λ d. extent.now.place ≤ length (bytes_of 1 d)) }
+            (λ d. extent.now.place ≤ length (bytes_now 1 d)) }
         ensures modeled { MatchResult result
             (λ _.
             Both (Writes 1 extent.now.place bytes.now) (O.ghost_state objects.old).modeled
@@ -47,11 +47,11 @@ impl Store {
         extent: &Extent,
     ) -> Result<Text, Or<DiskFault>>
         requires { IfModeled (O.ghost_state objects.old).modeled
-            (λ d. behind extent.now ≤ length (bytes_of 1 d)) }
+            (λ d. place_behind extent.now ≤ length (bytes_now 1 d)) }
         ensures bytes { IfOk result
             (λ text.
             IfModeled (O.ghost_state objects.old).modeled
-            (λ d. text ≡ take extent.now.length (drop extent.now.place (bytes_of 1 d)))) }
+            (λ d. text ≡ take extent.now.length (drop extent.now.place (bytes_now 1 d)))) }
         ensures modeled { Gets extent.now result (O.ghost_state objects.old) (O.ghost_state objects.new) }
         ensures keeps { O.keeps objects.old objects.new }
     {

@@ -2,7 +2,7 @@
 
 ghost use Rattle.std.specs.Prelude.{◌≡◌, ◌≤◌, ◌<◌, ◌^◌, ◌-◌, true, false, nat_le, nat_lt, length, take, drop, is_some, IfSome};
 ghost use Rattle.std.specs.List.Sorted.{IsPartitionPoint};
-ghost use Rattle.container_store.specs.Extents.{behind, is_free, end_of};
+ghost use Rattle.container_store.specs.Extents.{place_behind, is_free, end_of};
 ghost use Rattle.container_store.specs.Places.{IsInPlace, last_behind, hole_before, FitsAt};
 ghost use Rattle.container_store.specs.Walks.{IsEndOfWalk};
 
@@ -10,13 +10,13 @@ use cc_names::rows::Extent;
 
 /// Whether an extent lies in a file of this size. Takes constant time.
 pub(crate) fn is_within(extent: Extent, size: u64) -> bool
-    ensures { result ≡ nat_le (behind extent) size }
+    ensures { result ≡ nat_le (place_behind extent) size }
 {
     extent.length <= size && extent.place <= size - extent.length
 }
 
 /// How many extents begin below a place: these are the first ones. Takes time logarithmic in the extents.
-pub(crate) fn count_below(taken: &[Extent], place: u64) -> usize
+pub(crate) fn count_extents_below(taken: &[Extent], place: u64) -> usize
     requires { IsInPlace 0 taken.now }
     ensures below { IsPartitionPoint (λ e. nat_lt e.place place ≡ true)
         (λ e. nat_lt e.place place ≡ false) taken.now result }
@@ -39,7 +39,7 @@ pub(crate) fn last_behind(taken: &[Extent], count: usize) -> u64
     last.place + last.length
 }
 
-/// The length of the hole in front of an extent, 0 where it would be one behind the last. Takes constant time.
+/// The length of the hole before an extent, 0 where it would be one behind the last. Takes constant time.
 pub(crate) fn hole_before(taken: &[Extent], at: usize) -> u64
     requires in_place { IsInPlace 0 taken.now }
     requires fits { end_of taken.now < 2 ^ 64 }
@@ -57,11 +57,11 @@ pub(crate) fn find_free(taken: &[Extent], extent: Extent) -> Option<usize>
     requires in_place { IsInPlace 0 taken.now }
     requires fits { end_of taken.now < 2 ^ 64 }
     requires some { 1 ≤ extent.length }
-    requires small { behind extent < 2 ^ 64 }
+    requires small { place_behind extent < 2 ^ 64 }
     ensures free { is_some result ≡ is_free taken.now extent }
     ensures at { IfSome result (λ at. FitsAt taken.now at extent) }
 {
-    let at = count_below(taken, extent.place);
+    let at = count_extents_below(taken, extent.place);
     if extent.place < last_behind(taken, at) {
         return None;
     }
@@ -73,7 +73,7 @@ pub(crate) fn find_free(taken: &[Extent], extent: Extent) -> Option<usize>
 
 /// Where a walk over all holes ended.
 pub(crate) enum Walk {
-    /// At the first hole that is long enough, in front of this extent.
+    /// At the first hole that is long enough, before this extent.
     Found(usize),
     /// Behind the last extent, where no hole was long enough: none is longer than this.
     Missed(u64),

@@ -2,13 +2,13 @@
 
 ghost use Rattle.std.specs.Prelude.{◌≡◌, ◌≤◌, ◌<◌, ◌+◌, ◌^◌, ◌&&◌, [], true, false, nat_le, Bool, IfOk, OnOk, IfSome, IsTrue, ◌↔◌, All, Contains, MatchBool, is_some};
 ghost use Rattle.std.specs.List.Sorted.{IsPermutation};
-ghost use Rattle.container_store.specs.Extents.{behind, is_free, end_of, may_take, IsFirstFit};
+ghost use Rattle.container_store.specs.Extents.{place_behind, is_free, end_of, may_take, IsFirstFit};
 ghost use Rattle.container_store.specs.Places.{FitsAt, IsInPlace};
 ghost use Rattle.container_store.specs.Spaces.{TakesExtent};
 ghost use Rattle.container_store.specs.Walks.{IsFirstAt};
 
 use crate::places::{
-    Walk, count_below, find_free, first_hole, hole_before, is_within, last_behind,
+    Walk, count_extents_below, find_free, first_hole, hole_before, is_within, last_behind,
 };
 use cc_names::memory::NoMemory;
 use cc_names::rows::Extent;
@@ -84,7 +84,7 @@ impl Store {
         requires some { 1 ≤ extent.length }
         requires room { 0 < self.old.room }
         ensures answer { result
-            ≡ (nat_le (behind extent) size && is_free self.old.taken extent) }
+            ≡ (nat_le (place_behind extent) size && is_free self.old.taken extent) }
         ensures taken { MatchBool result (TakesExtent extent self.old self.new)
             (self.new ≡ self.old) }
     {
@@ -122,7 +122,7 @@ impl Store {
         requires { Contains self.old.taken extent }
         ensures { TakesExtent extent self.new self.old }
     {
-        let at = count_below(self.taken.as_slice(), extent.place);
+        let at = count_extents_below(self.taken.as_slice(), extent.place);
         self.taken.remove(at);
         self.longest = self.longest.max(hole_before(self.taken.as_slice(), at));
     }
@@ -131,7 +131,7 @@ impl Store {
     pub fn is_taken(&self, extent: Extent) -> bool
         ensures { IsTrue result ↔ Contains self.now.taken extent }
     {
-        let at = count_below(self.taken.as_slice(), extent.place);
+        let at = count_extents_below(self.taken.as_slice(), extent.place);
         match self.taken.as_slice().get(at) {
             Some(found) => *found == extent,
             None => false,
@@ -163,11 +163,11 @@ impl Store {
         }
     }
 
-    // Puts an extent in front of another, where it fits.
+    // Puts an extent before another, where it fits.
     fn put_in(&mut self, at: usize, extent: Extent)
         requires fits { FitsAt self.old.taken at extent }
         requires some { 1 ≤ extent.length }
-        requires small { behind extent < 2 ^ 64 }
+        requires small { place_behind extent < 2 ^ 64 }
         requires room { 0 < self.old.room }
         ensures { TakesExtent extent self.old self.new }
     {

@@ -1,5 +1,6 @@
 -- What is known of the fields of a text where none is wrong.
-use Rattle.std.proofs.Common.{◌≡◌, ℕ, ◌+◌, ◌≤◌, Bool, true, false, not, ◌&&◌, cond, Option, Some, None, is_some, List, ◌∷◌, length, find, refl, ◌==◌, nat_le}
+use Rattle.std.proofs.Common.{◌≡◌, ℕ, ◌+◌, ◌≤◌, Bool, true, false, not, ◌&&◌, cond, Option, Some, None, is_some, List, ◌∷◌}
+use Rattle.std.proofs.Common.{length, find, refl, ◌==◌, nat_le}
 use Rattle.std.specs.Char.{is_ascii_digit}
 use Rattle.std.specs.List.{list_all}
 use Rattle.std.specs.Option.{option_map}
@@ -7,7 +8,8 @@ use Rattle.std.specs.Str.Parse.{digits_value}
 use Rattle.std.proofs.lemmas.Bool.{and_parts}
 use borrow.Author.Tests.{leb-true}
 use Rattle.date_text.specs.declared.fields.Field.{Field}
-use Rattle.date_text.specs.Dates.{piece, is_number, is_wrong, place_of, first_wrong, month_place, fields_from, day_length, unless_wrong, parts_from, date_of}
+use Rattle.date_text.specs.Dates.{piece, is_number_between, is_wrong, field_place, first_wrong, month_place, fields_from}
+use Rattle.date_text.specs.Dates.{day_length, unless_wrong_field, parts_from, date_of}
 
 -- digits of a number between two bounds
 pub record IsNumber (count low high : ℕ) (bytes : List ℕ) : Type 0 where
@@ -24,7 +26,7 @@ pub record AreRight (text : List ℕ) (n : ℕ) : Type 0 where
   pub minute : IsNumber 2 0 59 (piece text (n + 13) 2)
   pub second : IsNumber 2 0 59 (piece text (n + 16) 2)
 
-number_is : (count low high : ℕ) (bytes : List ℕ) → is_number count low high bytes ≡ true → IsNumber count low high bytes
+number_is : (count low high : ℕ) (bytes : List ℕ) → is_number_between count low high bytes ≡ true → IsNumber count low high bytes
 number_is count low high bytes h =
     let long : Bool = length bytes == count in
     let digits : Bool = list_all is_ascii_digit bytes in
@@ -36,12 +38,14 @@ number_is count low high bytes h =
     record { digits = inner.1; least = leb-true _ _ lower.1; most = leb-true _ _ upper.1 }
 
 -- the first of some fields is right, and none of the others is wrong
-first_right : (field : Field) (fields : List Field) → first_wrong (field ∷ fields) ≡ None → (field.right ≡ true) × (first_wrong fields ≡ None)
+first_right : (field : Field) (fields : List Field) → first_wrong (field ∷ fields) ≡ None → (field.right ≡ true)
+    × (first_wrong fields ≡ None)
 unfolding first_wrong
 first_right field fields h =
     right_by field.right h
   where
-    right_by : (right : Bool) → option_map place_of (cond (not right) (Some field) (find is_wrong fields)) ≡ None → (right ≡ true) × (option_map place_of (find is_wrong fields) ≡ None)
+    right_by : (right : Bool) → option_map field_place (cond (not right) (Some field) (find is_wrong fields)) ≡ None
+        → (right ≡ true) × (option_map field_place (find is_wrong fields) ≡ None)
     right_by true e = (refl, e)
     right_by false e = cc
 
@@ -68,5 +72,6 @@ are_right text day h =
     }
 
 -- a date by its steps
-pub date_of_steps : (text : List ℕ) (day : ℕ) (some : List Field) (wrong : Option ℕ) → day ≡ day_length text → some ≡ fields_from text day → wrong ≡ first_wrong some → unless_wrong wrong (parts_from text day) ≡ date_of text
+pub date_of_steps : (text : List ℕ) (day : ℕ) (some : List Field) (wrong : Option ℕ) → day ≡ day_length text
+    → some ≡ fields_from text day → wrong ≡ first_wrong some → unless_wrong_field wrong (parts_from text day) ≡ date_of text
 date_of_steps text day some wrong e f g = rw (g, f, e) refl

@@ -1,6 +1,6 @@
 -- Dates worked out by hand, by computation.
 use Rattle.std.specs.Prelude.{◌≡◌, refl, Ok, Err, codes}
-use Rattle.date_text.specs.Dates.{date_of, text_of}
+use Rattle.date_text.specs.Dates.{date_of, date_as_text}
 use Rattle.date_text.proofs.OnLiterals.{dates_on_literals}
 
 first : date_of (codes "1-Jan-1970.00:00:00") ≡ Ok 0
@@ -19,8 +19,8 @@ leap : date_of (codes "29-Feb-2100.00:00:00") ≡ Err (record { 0 = 0 })
 unfolding dates_on_literals
 leap = refl
 
-written : text_of 1700000001 ≡ codes "14-Nov-2023.22:13:21"
+written : date_as_text 1700000001 ≡ codes "14-Nov-2023.22:13:21"
 written = refl
 
-written_first : text_of 0 ≡ codes "1-Jan-1970.00:00:00"
+written_first : date_as_text 0 ≡ codes "1-Jan-1970.00:00:00"
 written_first = refl

@@ -33,10 +33,10 @@ here_or_next false length whole days next = next (days - length)
 
 -- Where the day lies that comes so many days after the beginning of a year or month. The lengths of these are given,
 -- and at most how many there are to pass.
-abbrev pub within : (ℕ → ℕ) → ℕ → ℕ → ℕ → Within
-within lengths zero whole days = record { whole = whole; days = days }
-within lengths (suc more) whole days =
-    here_or_next (nat_lt days (lengths whole)) (lengths whole) whole days (within lengths more (whole + 1))
+abbrev pub day_within : (ℕ → ℕ) → ℕ → ℕ → ℕ → Within
+day_within lengths zero whole days = record { whole = whole; days = days }
+day_within lengths (suc more) whole days =
+    here_or_next (nat_lt days (lengths whole)) (lengths whole) whole days (day_within lengths more (whole + 1))
 
 -- the days of a year, counted from 0
 abbrev pub length_of_year : ℕ → ℕ
@@ -58,9 +58,9 @@ parts_in year month second = record {
 }
 
 -- the parts, of a day of a year and a second of the day
-abbrev pub parts_of : Within → ℕ → Civil
-parts_of year second = parts_in year.whole (within (length_of_month year.whole) 11 1 year.days) second
+abbrev pub civil_parts : Within → ℕ → Civil
+civil_parts year second = parts_in year.whole (day_within (length_of_month year.whole) 11 1 year.days) second
 
 -- The parts of the moment so many seconds after the beginning of 1970: first whole years pass, then whole months.
 abbrev pub civil_of : ℕ → Civil
-civil_of moment = parts_of (within length_of_year (moment / 86400) 1970 (moment / 86400)) (moment % 86400)
+civil_of moment = civil_parts (day_within length_of_year (moment / 86400) 1970 (moment / 86400)) (moment % 86400)

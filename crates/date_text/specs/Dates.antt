@@ -1,5 +1,7 @@
 -- The text of a moment, `d-Mmm-yyyy.hh:mm:ss` in UTC, and what is wrong with a text that is none.
-use Rattle.std.specs.Prelude.{ℕ, ◌+◌, ◌-◌, ◌/◌, ◌%◌, Bool, not, ◌&&◌, ◌==◌, nat_le, nat_lt, Option, Some, None, is_some, Result, Ok, Err, pos, List, [], ◌∷◌, ◌++◌, length, take, drop, find, take_while, unwrap_or, slice_get, if◌then◌else◌, codes}
+use Rattle.std.specs.Prelude.{ℕ, ◌+◌, ◌-◌, ◌/◌, ◌%◌, Bool, not, ◌&&◌, ◌==◌, nat_le, nat_lt, Option, Some, None, is_some, Result}
+use Rattle.std.specs.Prelude.{Ok, Err, pos, List, [], ◌∷◌, ◌++◌, length, take, drop, find, take_while, unwrap_or, slice_get}
+use Rattle.std.specs.Prelude.{if◌then◌else◌, codes}
 use Rattle.std.specs.Char.{is_ascii_digit}
 use Rattle.std.specs.Str.{bytes_eq}
 use Rattle.std.specs.Str.Parse.{digits_value}
@@ -22,8 +24,8 @@ abbrev pub piece : List ℕ → ℕ → ℕ → List ℕ
 piece text place count = take count (drop place text)
 
 -- whether bytes are so many digits, of a number between two bounds
-abbrev pub is_number : ℕ → ℕ → ℕ → List ℕ → Bool
-is_number count low high bytes =
+abbrev pub is_number_between : ℕ → ℕ → ℕ → List ℕ → Bool
+is_number_between count low high bytes =
     (length bytes == count) && list_all is_ascii_digit bytes && nat_le low (digits_value 10 bytes)
     && nat_le (digits_value 10 bytes) high
 
@@ -38,7 +40,7 @@ sign_field text place sign = record { place = place; right = bytes_eq (piece tex
 -- a field that is a number of so many digits, within bounds
 abbrev pub number_field : List ℕ → ℕ → ℕ → ℕ → ℕ → Field
 number_field text place count low high =
-    record { place = place; right = is_number count low high (piece text place count) }
+    record { place = place; right = is_number_between count low high (piece text place count) }
 
 -- a field that is a month's name
 abbrev pub month_field : List ℕ → ℕ → Field
@@ -48,7 +50,7 @@ month_field text place = record { place = place; right = is_some (month_place (p
 abbrev pub end_field : List ℕ → ℕ → Field
 end_field text place = record { place = place; right = nat_le (length text) place }
 
--- the digits that the day takes: those at the front, at most two
+-- the digits that the day takes: those at the start, at most two
 abbrev pub day_length : List ℕ → ℕ
 day_length text = length (take_while is_ascii_digit (take 2 text))
 
@@ -70,12 +72,12 @@ abbrev pub is_wrong : Field → Bool
 is_wrong field = not field.right
 
 -- where a field begins
-abbrev pub place_of : Field → ℕ
-place_of field = field.place
+abbrev pub field_place : Field → ℕ
+field_place field = field.place
 
 -- where the first field begins that is wrong
 unfoldable pub first_wrong : List Field → Option ℕ
-first_wrong fields = option_map place_of (find is_wrong fields)
+first_wrong fields = option_map field_place (find is_wrong fields)
 
 -- the parts that the fields of a text name, where they are right
 abbrev pub parts_from : List ℕ → ℕ → Civil
@@ -89,20 +91,20 @@ parts_from text day =
       second = digits_value 10 (piece text (day + 16) 2);
     }
 
--- the moment of these parts, where the month has the day; else the day, which stands at the front, is wrong
+-- the moment of these parts, where the month has the day; else the day, which stands at the start, is wrong
 abbrev pub moment_of_day : Civil → Result ℕ BadDate
 moment_of_day civil =
     if nat_le civil.day (days_in_month (pos civil.year) civil.month) then Ok (moment_of civil)
     else Err (record { 0 = 0 })
 
 -- the fault at the first wrong field, and the moment where there is none
-abbrev pub unless_wrong : Option ℕ → Civil → Result ℕ BadDate
-unless_wrong (Some place) civil = Err (record { 0 = place })
-unless_wrong None civil = moment_of_day civil
+abbrev pub unless_wrong_field : Option ℕ → Civil → Result ℕ BadDate
+unless_wrong_field (Some place) civil = Err (record { 0 = place })
+unless_wrong_field None civil = moment_of_day civil
 
 -- bytes read as a date
 abbrev pub date_of : List ℕ → Result ℕ BadDate
-date_of text = unless_wrong (first_wrong (fields text)) (parts_from text (day_length text))
+date_of text = unless_wrong_field (first_wrong (fields text)) (parts_from text (day_length text))
 
 -- two digits
 abbrev pub two_digits : ℕ → List ℕ
@@ -124,5 +126,5 @@ text_of_parts civil =
     ++ 58 ∷ two_digits civil.second
 
 -- a moment written as a date
-abbrev pub text_of : ℕ → List ℕ
-text_of moment = text_of_parts (civil_of moment)
+abbrev pub date_as_text : ℕ → List ℕ
+date_as_text moment = text_of_parts (civil_of moment)

@@ -4,7 +4,7 @@ ghost use Rattle.std.specs.Prelude.{◌≡◌, ◌+◌, ◌<◌, ◌≤◌, ◌^
 ghost use Rattle.std.specs.Char.{is_ascii_digit};
 ghost use Rattle.std.specs.List.{list_all};
 ghost use Rattle.std.specs.Str.Parse.{digits_value};
-ghost use Rattle.date_text.specs.Dates.{piece, is_number, month_place, sign_field, number_field, month_field, end_field, day_length, fields_from, first_wrong};
+ghost use Rattle.date_text.specs.Dates.{piece, is_number_between, month_place, sign_field, number_field, month_field, end_field, day_length, fields_from, first_wrong};
 
 /// A field of the form: where it begins in a text, and whether what stands there is right.
 #[derive(Clone, Copy)]
@@ -53,9 +53,9 @@ pub(crate) fn value(digits: &[u8]) -> u64
     value
 }
 
-fn is_number(bytes: &[u8], count: usize, low: u64, high: u64) -> bool
+fn is_number_between(bytes: &[u8], count: usize, low: u64, high: u64) -> bool
     requires { count ≤ 4 }
-    ensures { result ≡ is_number count low high bytes.now }
+    ensures { result ≡ is_number_between count low high bytes.now }
 {
     if bytes.len() != count || !are_digits(bytes) {
         return false;
@@ -86,7 +86,7 @@ fn number_field(text: &[u8], place: usize, count: usize, low: u64, high: u64) ->
     requires { count ≤ 4 }
     ensures { result ≡ number_field text.now place count low high }
 {
-    let right = is_number(piece(text, place, count), count, low, high);
+    let right = is_number_between(piece(text, place, count), count, low, high);
     Field {
         place: place as u64,
         right,
@@ -112,7 +112,7 @@ fn end_field(text: &[u8], place: usize) -> Field
     }
 }
 
-/// How many digits the day takes: those at the front, at most two.
+/// How many digits the day takes: those at the start, at most two.
 pub(crate) fn day_length(text: &[u8]) -> usize
     ensures value { result ≡ day_length text.now }
     ensures bound { result ≤ 2 }

@@ -3,7 +3,7 @@
 ghost use Rattle.std.specs.Prelude.{◌≡◌, ◌+◌, ◌/◌, ◌%◌, ◌≤◌, ◌<◌, Ok};
 ghost use Rattle.std.specs.Int.{IsInRange};
 ghost use Rattle.date_text.specs.Civil.{IsInForm};
-ghost use Rattle.date_text.specs.Dates.{date_of, month_name, text_of, text_of_parts};
+ghost use Rattle.date_text.specs.Dates.{date_of, month_name, date_as_text, text_of_parts};
 
 use crate::civil::Civil;
 use crate::fields::MONTHS;
@@ -93,7 +93,7 @@ fn text(civil: Civil) -> DateText
 /// `read` takes it, which gives the moment back. Takes no memory.
 pub fn print(moment: u64) -> DateText
     requires { moment ≤ 253402300799 }
-    ensures text { result ≡ text_of moment }
+    ensures text { result ≡ date_as_text moment }
     ensures read_back { date_of result ≡ Ok moment }
 {
     text(Civil::of(moment))

@@ -51,7 +51,7 @@ fn days_since_1970(date: Date) -> u64
     date.to_unix_epoch_day() as u64
 }
 
-/// The moment of these parts. Where the month lacks the day, the day is wrong, which stands at the front of its text.
+/// The moment of these parts. Where the month lacks the day, the day is wrong, which stands at the start of its text.
 fn moment(civil: Civil) -> Result<u64, BadDate>
     requires { IsInForm civil }
     ensures { result ≡ moment_of_day civil }

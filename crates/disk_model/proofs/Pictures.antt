@@ -1,8 +1,9 @@
 -- How a picture of a file follows the calls.
-use Rattle.std.proofs.Common.{◌≡◌, ◌⊎◌, ◌+◌, ℕ, List, length, Result, Ok, Err, OnOk, slice_index, inl, inr, refl, sym, ◌∙◌, ap, subst, arith}
+use Rattle.std.proofs.Common.{◌≡◌, ◌⊎◌, ◌+◌, ℕ, List, length, Result, Ok, Err, OnOk, slice_index, inl, inr, refl, sym, ◌∙◌, ap}
+use Rattle.std.proofs.Common.{subst, arith}
 use Rattle.std.proofs.lemmas.Bool.{eq-eqb}
 use Rattle.disk_model.specs.Files.{File, stable, overwritten, IsTorn}
-use Rattle.disk_model.specs.Devices.{Device, Wrote, Tore, with_call, file_of, bytes_of, written_to, during, Idles, Tears}
+use Rattle.disk_model.specs.Devices.{Device, Wrote, Tore, with_call, file_of, bytes_now, written_to, during, Idles, Tears}
 use Rattle.disk_model.specs.Records.{event_of, with_traced_call}
 use Rattle.disk_model.specs.declared.calls.Call.{Call}
 use Rattle.disk_model.specs.declared.calls.Call.TheVariants as calls
@@ -26,43 +27,55 @@ written s place landed lost bytes image bytes' image' wrote torn picture =
 torn_picture : (file other : ℕ) (d : Device) (place : ℕ) (landed : List ℕ) (lost : ℕ) (bytes image bytes' image' : List ℕ)
     → other ≡ file → bytes' ≡ overwritten place landed bytes → IsTorn place (length landed + lost) image image'
     → IsPicture (file_of file d) bytes image
-    → IsPicture (during file (Tore other place (length landed + lost) (overwritten place landed (bytes_of other d))) (file_of file d)) bytes' image'
+    → IsPicture (during file (Tore other place (length landed + lost) (overwritten place landed (bytes_now other d)))
+    (file_of file d)) bytes' image'
 torn_picture file other d place landed lost bytes image bytes' image' same wrote torn picture =
-    let here : IsPicture (during file (Tore file place (length landed + lost) (overwritten place landed (bytes_of file d))) (file_of file d)) bytes' image' =
+    let here : IsPicture (during file (Tore file place (length landed + lost) (overwritten place landed (bytes_now file d)))
+    (file_of file d)) bytes' image' =
     rw (eq-eqb file file refl) (written (file_of file d) place landed lost bytes image bytes' image' wrote torn picture) in
-    subst (λ o. IsPicture (during file (Tore o place (length landed + lost) (overwritten place landed (bytes_of o d))) (file_of file d)) bytes' image')
+    subst (λ o. IsPicture (during file (Tore o place (length landed + lost) (overwritten place landed (bytes_now o d)))
+    (file_of file d)) bytes' image')
     (sym same) here
 
 -- a write of a whole piece
 written_picture : (file other : ℕ) (d : Device) (place : ℕ) (piece bytes image bytes' image' : List ℕ)
     → other ≡ file → bytes' ≡ overwritten place piece bytes → IsTorn place (length piece + 0) image image'
     → IsPicture (file_of file d) bytes image
-    → IsPicture (during file (Wrote other place (length piece) (overwritten place piece (bytes_of other d))) (file_of file d)) bytes' image'
+    → IsPicture (during file (Wrote other place (length piece) (overwritten place piece (bytes_now other d))) (file_of file d))
+    bytes' image'
 written_picture file other d place piece bytes image bytes' image' same wrote torn picture =
     let size : length piece + 0 ≡ length piece = omega arith in
-    let whole = subst (λ n. IsPicture (written_to (file_of file d) place n (overwritten place piece (bytes_of file d))) bytes' image') size
+    let whole = subst (λ n. IsPicture (written_to (file_of file d) place n (overwritten place piece (bytes_now file d))) bytes'
+    image') size
     (written (file_of file d) place piece 0 bytes image bytes' image' wrote torn picture) in
-    let here : IsPicture (during file (Wrote file place (length piece) (overwritten place piece (bytes_of file d))) (file_of file d)) bytes' image' =
+    let here : IsPicture (during file (Wrote file place (length piece) (overwritten place piece (bytes_now file d)))
+    (file_of file d)) bytes' image' =
     rw (eq-eqb file file refl) whole in
-    subst (λ o. IsPicture (during file (Wrote o place (length piece) (overwritten place piece (bytes_of o d))) (file_of file d)) bytes' image')
+    subst (λ o. IsPicture (during file (Wrote o place (length piece) (overwritten place piece (bytes_now o d))) (file_of file d))
+    bytes' image')
     (sym same) here
 
 -- the same of calls as they are recorded, where the answer is Ok
-pub picture_torn : {T E : Type 0} (r : Result T E) (call : Call) (file other place : ℕ) (landed piece : List ℕ) (lost : ℕ) (bytes image bytes' image' : List ℕ)
+pub picture_torn : {T E : Type 0} (r : Result T E) (call : Call) (file other place : ℕ) (landed piece : List ℕ) (lost : ℕ)
+    (bytes image bytes' image' : List ℕ)
     → call ≡ calls.Tear other place landed lost → piece ≡ landed → other ≡ file
     → OnOk r (bytes' ≡ overwritten place piece bytes) → OnOk r (IsTorn place (length piece + lost) image image')
-    → OnOk r ((d : Device) → IsPicture (file_of file d) bytes image → IsPicture (during file (event_of call d) (file_of file d)) bytes' image')
+    → OnOk r ((d : Device) → IsPicture (file_of file d) bytes image → IsPicture (during file (event_of call d) (file_of file d))
+    bytes' image')
 picture_torn (Ok done) call file other place landed piece lost bytes image bytes' image' is same here wrote torn = λ d picture.
     let wrote' : bytes' ≡ overwritten place landed bytes = wrote ∙ ap (λ p. overwritten place p bytes) same in
-    let torn' : IsTorn place (length landed + lost) image image' = subst (λ p. IsTorn place (length p + lost) image image') same torn in
+    let torn' : IsTorn place (length landed + lost) image image' = subst (λ p. IsTorn place (length p + lost) image image') same
+    torn in
     subst (λ c. IsPicture (during file (event_of c d) (file_of file d)) bytes' image') (sym is)
     (torn_picture file other d place landed lost bytes image bytes' image' here wrote' torn' picture)
 picture_torn (Err fault) call file other place landed piece lost bytes image bytes' image' is same here wrote torn = tt
 
-pub picture_written : {T E : Type 0} (r : Result T E) (call : Call) (file other place : ℕ) (whole piece : List ℕ) (bytes image bytes' image' : List ℕ)
+pub picture_written : {T E : Type 0} (r : Result T E) (call : Call) (file other place : ℕ) (whole piece : List ℕ)
+    (bytes image bytes' image' : List ℕ)
     → call ≡ calls.Write other place whole → piece ≡ whole → other ≡ file
     → OnOk r (bytes' ≡ overwritten place piece bytes) → OnOk r (IsTorn place (length piece + 0) image image')
-    → OnOk r ((d : Device) → IsPicture (file_of file d) bytes image → IsPicture (during file (event_of call d) (file_of file d)) bytes' image')
+    → OnOk r ((d : Device) → IsPicture (file_of file d) bytes image → IsPicture (during file (event_of call d) (file_of file d))
+    bytes' image')
 picture_written (Ok done) call file other place whole piece bytes image bytes' image' is same here wrote torn = λ d picture.
     let wrote' : bytes' ≡ overwritten place whole bytes = wrote ∙ ap (λ p. overwritten place p bytes) same in
     let torn' : IsTorn place (length whole + 0) image image' = subst (λ p. IsTorn place (length p + 0) image image') same torn in
@@ -70,21 +83,26 @@ picture_written (Ok done) call file other place whole piece bytes image bytes' i
     (written_picture file other d place whole bytes image bytes' image' here wrote' torn' picture)
 picture_written (Err fault) call file other place whole piece bytes image bytes' image' is same here wrote torn = tt
 
--- what a write that failed leaves, a front of its piece having landed
+-- what a write that failed leaves, a prefix of its piece having landed
 pub tears_prefix : (file place lost : ℕ) (piece landed : List ℕ) (d e : Device) → length landed + lost ≡ length piece
     → Idles d e ⊎ (e ≡ with_traced_call (calls.Tear file place landed lost) d) → Tears file place (length piece) d e
 tears_prefix file place lost piece landed d e size (inl idles) = inl idles
 tears_prefix file place lost piece landed d e size (inr made) =
-    let left = overwritten place landed (bytes_of file d) in
+    let left = overwritten place landed (bytes_now file d) in
     inr (
       left,
-      torn_overwritten place (length piece) landed (bytes_of file d) (omega arith),
+      torn_overwritten place (length piece) landed (bytes_now file d) (omega arith),
       subst (λ n. e ≡ with_call (Tore file place n left) d) size made,
     )
 
-pub stable_picture : (s : File) (bytes image : List ℕ) → bytes ≡ s.bytes → image ≡ s.bytes → IsPicture (stable s.bytes) bytes image
+pub stable_picture : (s : File) (bytes image : List ℕ) → bytes ≡ s.bytes → image ≡ s.bytes
+    → IsPicture (stable s.bytes) bytes image
 stable_picture s bytes image reads picked = record {
   reads = reads;
   now = record { no_shorter = omega arith; no_longer = omega arith; kept = λ i within none. refl };
-  picked = record { no_shorter = omega (arith, ap length picked); no_longer = omega (arith, ap length picked); kept = λ i within none. ap (λ xs. slice_index xs i) picked };
+  picked = record {
+    no_shorter = omega (arith, ap length picked);
+    no_longer = omega (arith, ap length picked);
+    kept = λ i within none. ap (λ xs. slice_index xs i) picked;
+  };
 }

@@ -1,9 +1,10 @@
 -- What the record of a disk in memory says of its counts.
-use Rattle.std.proofs.Common.{◌≡◌, ◌<◌, ◌≤◌, ◌+◌, ◌-◌, ◌^◌, ℕ, zero, suc, Bool, true, false, ◌==◌, Result, Ok, Err, OnOk, is_err, List, [], ◌∷◌, ◌++◌, length, fold, refl, sym, ◌∙◌, ap, subst, if◌then◌else◌, arith}
+use Rattle.std.proofs.Common.{◌≡◌, ◌<◌, ◌≤◌, ◌+◌, ◌-◌, ◌^◌, ℕ, zero, suc, Bool, true, false, ◌==◌, Result, Ok, Err, OnOk, is_err}
+use Rattle.std.proofs.Common.{List, [], ◌∷◌, ◌++◌, length, fold, refl, sym, ◌∙◌, ap, subst, if◌then◌else◌, arith}
 use Rattle.std.proofs.lemmas.List.Sums.{fold-append}
 use Rattle.disk_model.specs.Contents.{IsReplayed}
 use Rattle.disk_model.specs.Counting.{next_count}
-use Rattle.disk_model.specs.Devices.{Device, Event, Tore, Failed, new_device, with_call, bytes_of, is_failed, failures}
+use Rattle.disk_model.specs.Devices.{Device, Event, Tore, Failed, new_device, with_call, bytes_now, is_failed, failures}
 use Rattle.disk_model.specs.Files.{overwritten}
 use Rattle.disk_model.specs.Records.{failing, with_traced_calls, device_of, with_traced_call}
 use Rattle.disk_model.specs.DiskStates.{CountsFailures}
@@ -19,7 +20,8 @@ failures_most [] = omega arith
 failures_most (event ∷ earlier) = omega (arith, at_most_one (is_failed event), failures_most earlier)
 
 -- a call that failed, with its tick
-pub failed_counts : (ticks faults : ℕ) (event : Event) (d : Device) → is_failed event ≡ true → CountsFailures ticks faults d → ticks ≡ length d.calls
+pub failed_counts : (ticks faults : ℕ) (event : Event) (d : Device) → is_failed event ≡ true → CountsFailures ticks faults d
+    → ticks ≡ length d.calls
     → ticks < 2 ^ 64 - 1 → CountsFailures (ticks + 1) (next_count faults) (with_call event d)
 failed_counts ticks faults event d failed counts ticked more =
     let most = failures_most d.calls in
@@ -31,7 +33,8 @@ failed_counts ticks faults event d failed counts ticked more =
     }
 
 -- a call that is a fault and was not made
-pub unmade_counts : (ticks faults : ℕ) (d : Device) → CountsFailures ticks faults d → ticks ≡ length d.calls → 2 ^ 64 - 1 ≤ ticks → ticks < 2 ^ 64
+pub unmade_counts : (ticks faults : ℕ) (d : Device) → CountsFailures ticks faults d → ticks ≡ length d.calls → 2 ^ 64 - 1 ≤ ticks
+    → ticks < 2 ^ 64
     → CountsFailures ticks (next_count faults) d
 unmade_counts ticks faults d counts ticked end fits = record {
   each = omega (arith, counts.each, failures_most d.calls, ticked, fits);
@@ -39,15 +42,19 @@ unmade_counts ticks faults d counts ticked end fits = record {
 }
 
 -- the device of a trace with one call more, which names all calls that failed since the last
-pub recorded_more : (journal objects : List ℕ) (trace more : List TracedCall) (failed : ℕ) (traced : TracedCall) → more ≡ trace ++ traced ∷ [] → traced.failed_before ≡ failed
+pub recorded_more : (journal objects : List ℕ) (trace more : List TracedCall) (failed : ℕ) (traced : TracedCall)
+    → more ≡ trace ++ traced ∷ [] → traced.failed_before ≡ failed
     → device_of journal objects more 0 ≡ with_traced_call traced.call (device_of journal objects trace failed)
 recorded_more journal objects trace more failed traced is before =
-    ap (fold with_traced_calls (new_device journal objects)) is ∙ fold-append with_traced_calls (new_device journal objects) trace (traced ∷ [])
+    ap (fold with_traced_calls (new_device journal objects)) is ∙ fold-append with_traced_calls (new_device journal objects) trace
+    (traced ∷ [])
     ∙ ap (λ n. with_traced_call traced.call (failing n (fold with_traced_calls (new_device journal objects) trace))) before
 
 -- a call more failed and changed nothing
-pub missed_replayed : (journal objects : List ℕ) (trace : List TracedCall) (failed : ℕ) (now_journal now_objects : List ℕ) (ticks faults faults' : ℕ)
-    → IsReplayed (device_of journal objects trace failed) now_journal now_objects ticks faults → faults' ≡ next_count faults → ticks < 2 ^ 64 - 1
+pub missed_replayed : (journal objects : List ℕ) (trace : List TracedCall) (failed : ℕ) (now_journal now_objects : List ℕ)
+    (ticks faults faults' : ℕ)
+    → IsReplayed (device_of journal objects trace failed) now_journal now_objects ticks faults → faults' ≡ next_count faults
+    → ticks < 2 ^ 64 - 1
     → IsReplayed (device_of journal objects trace (failed + 1)) now_journal now_objects (ticks + 1) faults'
 missed_replayed journal objects trace failed now_journal now_objects ticks faults faults' was rose more =
     let d = device_of journal objects trace failed in
@@ -58,31 +65,42 @@ missed_replayed journal objects trace failed now_journal now_objects ticks fault
       journal_reads = was.journal_reads;
       objects_read = was.objects_read;
       a_tick_each = omega (arith, was.a_tick_each);
-      a_fault_each = subst (λ n. CountsFailures (ticks + 1) n (with_call Failed d)) (sym rose) (failed_counts ticks faults Failed d refl was.a_fault_each was.a_tick_each more);
+      a_fault_each = subst (λ n. CountsFailures (ticks + 1) n (with_call Failed d)) (sym rose)
+          (failed_counts ticks faults Failed d refl was.a_fault_each was.a_tick_each more);
       ticks_fit = omega (arith, more);
       faults_fit = omega (arith, rose);
     })
 
 -- what a torn write leaves of both files
-torn_files : (file place size : ℕ) (landed now_journal now_objects : List ℕ) (d : Device) → file ≤ 1 → now_journal ≡ bytes_of 0 d → now_objects ≡ bytes_of 1 d
-    → ((if file == 0 then overwritten place landed now_journal else now_journal) ≡ bytes_of 0 (with_call (Tore file place size (overwritten place landed (bytes_of file d))) d))
-    × ((if file == 0 then now_objects else overwritten place landed now_objects) ≡ bytes_of 1 (with_call (Tore file place size (overwritten place landed (bytes_of file d))) d))
-torn_files zero place size landed now_journal now_objects d within journal objects = (ap (overwritten place landed) journal, objects)
-torn_files (suc zero) place size landed now_journal now_objects d within journal objects = (journal, ap (overwritten place landed) objects)
+torn_files : (file place size : ℕ) (landed now_journal now_objects : List ℕ) (d : Device) → file ≤ 1 → now_journal ≡ bytes_now 0 d
+    → now_objects ≡ bytes_now 1 d
+    → ((if file == 0 then overwritten place landed now_journal else now_journal)
+    ≡ bytes_now 0 (with_call (Tore file place size (overwritten place landed (bytes_now file d))) d))
+    × ((if file == 0 then now_objects else overwritten place landed now_objects)
+    ≡ bytes_now 1 (with_call (Tore file place size (overwritten place landed (bytes_now file d))) d))
+torn_files zero place size landed now_journal now_objects d within journal objects =
+    (ap (overwritten place landed) journal, objects)
+torn_files (suc zero) place size landed now_journal now_objects d within journal objects =
+    (journal, ap (overwritten place landed) objects)
 torn_files (suc (suc n)) place size landed now_journal now_objects d within journal objects = absurd (omega (arith, within))
 
 -- a write failed
-pub torn_replayed : (journal objects : List ℕ) (trace more : List TracedCall) (traced : TracedCall) (failed : ℕ) (now_journal now_objects now_journal' now_objects' : List ℕ) (file place lost : ℕ) (landed : List ℕ) (ticks faults faults' : ℕ)
-    → IsReplayed (device_of journal objects trace failed) now_journal now_objects ticks faults → more ≡ trace ++ traced ∷ [] → traced.failed_before ≡ failed
+pub torn_replayed : (journal objects : List ℕ) (trace more : List TracedCall) (traced : TracedCall) (failed : ℕ)
+    (now_journal now_objects now_journal' now_objects' : List ℕ) (file place lost : ℕ) (landed : List ℕ)
+    (ticks faults faults' : ℕ)
+    → IsReplayed (device_of journal objects trace failed) now_journal now_objects ticks faults → more ≡ trace ++ traced ∷ []
+    → traced.failed_before ≡ failed
     → traced.call ≡ calls.Tear file place landed lost → file ≤ 1
     → now_journal' ≡ (if file == 0 then overwritten place landed now_journal else now_journal)
     → now_objects' ≡ (if file == 0 then now_objects else overwritten place landed now_objects)
     → faults' ≡ next_count faults → ticks < 2 ^ 64 - 1
     → IsReplayed (device_of journal objects more 0) now_journal' now_objects' (ticks + 1) faults'
-torn_replayed journal objects trace more traced failed now_journal now_objects now_journal' now_objects' file place lost landed ticks faults faults' was is before call within wrote other rose room =
+torn_replayed journal objects trace more traced failed now_journal now_objects now_journal' now_objects' file place lost landed
+    ticks faults faults' was is before call within wrote other rose room =
     let d = device_of journal objects trace failed in
-    let event = Tore file place (length landed + lost) (overwritten place landed (bytes_of file d)) in
-    let files = torn_files file place (length landed + lost) landed now_journal now_objects d within was.journal_reads was.objects_read in
+    let event = Tore file place (length landed + lost) (overwritten place landed (bytes_now file d)) in
+    let files = torn_files file place (length landed + lost) landed now_journal now_objects d within was.journal_reads
+    was.objects_read in
     let made : device_of journal objects more 0 ≡ with_call event d =
     recorded_more journal objects trace more failed traced is before ∙ ap (λ c. with_traced_call c d) call in
     subst (λ e. IsReplayed e now_journal' now_objects' (ticks + 1) faults') (sym made)
@@ -90,7 +108,8 @@ torn_replayed journal objects trace more traced failed now_journal now_objects n
       journal_reads = wrote ∙ files.0;
       objects_read = other ∙ files.1;
       a_tick_each = omega (arith, was.a_tick_each);
-      a_fault_each = subst (λ n. CountsFailures (ticks + 1) n (with_call event d)) (sym rose) (failed_counts ticks faults event d refl was.a_fault_each was.a_tick_each room);
+      a_fault_each = subst (λ n. CountsFailures (ticks + 1) n (with_call event d)) (sym rose)
+          (failed_counts ticks faults event d refl was.a_fault_each was.a_tick_each room);
       ticks_fit = omega (arith, room);
       faults_fit = omega (arith, rose);
     })

@@ -1,6 +1,6 @@
 -- Devices, worked out by hand.
 use Rattle.std.proofs.Common.{◌≡◌, List, [], ◌∷◌, refl}
-use Rattle.disk_model.specs.Devices.{Event, Measured, Wrote, Tore, Synced, Failed, new_device, with_call, bytes_of, failures}
+use Rattle.disk_model.specs.Devices.{Event, Measured, Wrote, Tore, Synced, Failed, new_device, with_call, bytes_now, failures}
 
 -- of these calls the second and the last failed
 calls : List Event
@@ -14,5 +14,5 @@ none_failed : failures (Synced 0 ∷ Wrote 0 0 1 (120 ∷ 98 ∷ []) ∷ Measure
 none_failed = refl
 
 -- a write that failed has left the file as it says
-torn : bytes_of 0 (with_call (Tore 0 0 2 (120 ∷ 7 ∷ [])) (new_device (97 ∷ 98 ∷ []) [])) ≡ 120 ∷ 7 ∷ []
+torn : bytes_now 0 (with_call (Tore 0 0 2 (120 ∷ 7 ∷ [])) (new_device (97 ∷ 98 ∷ []) [])) ≡ 120 ∷ 7 ∷ []
 torn = refl

@@ -1,4 +1,4 @@
--- A device of two files, told by what it held at first and by the list of its calls, and what a stop at each call leaves.
+-- A device of two files, given by what it held at first and by the list of its calls, and what a stop at each call leaves.
 use Rattle.std.specs.Prelude.{◌≡◌, ◌⊎◌, ℕ, ◌+◌, max, ◌==◌, Bool, true, false, if◌then◌else◌, List, [], ◌∷◌, length}
 use Rattle.disk_model.specs.Files.{File, stable, overwritten, IsImage, IsTorn}
 
@@ -48,49 +48,50 @@ written_to s place size left =
     record { bytes = left; least = s.least; most = max s.most (place + size); written = (place, size) ∷ s.written }
 
 -- a file after a call
-abbrev pub after : ℕ → Event → File → File
-after file (Measured other) s = s
-after file (Fetched other place size) s = s
-after file (Wrote other place size left) s = if other == file then written_to s place size left else s
-after file (Tore other place size left) s = if other == file then written_to s place size left else s
-after file (Synced other) s = if other == file then stable s.bytes else s
-after file Failed s = s
+abbrev pub file_after_call : ℕ → Event → File → File
+file_after_call file (Measured other) s = s
+file_after_call file (Fetched other place size) s = s
+file_after_call file (Wrote other place size left) s = if other == file then written_to s place size left else s
+file_after_call file (Tore other place size left) s = if other == file then written_to s place size left else s
+file_after_call file (Synced other) s = if other == file then stable s.bytes else s
+file_after_call file Failed s = s
 
 -- a file within a call: a sync under way has done nothing yet
 abbrev pub during : ℕ → Event → File → File
 during file (Measured other) s = s
 during file (Fetched other place size) s = s
-during file (Wrote other place size left) s = after file (Wrote other place size left) s
-during file (Tore other place size left) s = after file (Tore other place size left) s
+during file (Wrote other place size left) s = file_after_call file (Wrote other place size left) s
+during file (Tore other place size left) s = file_after_call file (Tore other place size left) s
 during file (Synced other) s = s
 during file Failed s = s
 
 -- a file after all of these calls
 abbrev pub file_after : ℕ → List ℕ → List Event → File
 file_after file first [] = stable first
-file_after file first (event ∷ earlier) = after file event (file_after file first earlier)
+file_after file first (event ∷ earlier) = file_after_call file event (file_after file first earlier)
 
 -- a file as it was handed in
-abbrev pub first_of : ℕ → Device → List ℕ
-first_of file d = if file == 0 then d.journal else d.objects
+abbrev pub bytes_handed_in : ℕ → Device → List ℕ
+bytes_handed_in file d = if file == 0 then d.journal else d.objects
 
 -- a file as it is now
 abbrev pub file_of : ℕ → Device → File
-file_of file d = file_after file (first_of file d) d.calls
+file_of file d = file_after file (bytes_handed_in file d) d.calls
 
 -- a file as a read gives it now
-abbrev pub bytes_of : ℕ → Device → List ℕ
-bytes_of file d = (file_of file d).bytes
+abbrev pub bytes_now : ℕ → Device → List ℕ
+bytes_now file d = (file_of file d).bytes
 
 -- whether a stop at call number k, counted from 1, among these calls may leave this of a file
 abbrev pub Stopped : ℕ → List ℕ → List Event → ℕ → List ℕ → Type 0
 Stopped file first [] k image = ⊥
 Stopped file first (event ∷ earlier) k image =
-    ((k ≡ length earlier + 1) × IsImage (during file event (file_after file first earlier)) image) ⊎ Stopped file first earlier k image
+    ((k ≡ length earlier + 1) × IsImage (during file event (file_after file first earlier)) image)
+    ⊎ Stopped file first earlier k image
 
 -- Whether a stop at call number k may leave this of a file. What stops at earlier calls leave does not change.
 abbrev pub Leaves : ℕ → Device → ℕ → List ℕ → Type 0
-Leaves file d k image = Stopped file (first_of file d) d.calls k image
+Leaves file d k image = Stopped file (bytes_handed_in file d) d.calls k image
 
 -- whether a stop after the last call may leave this of a file
 abbrev pub LeavesNow : ℕ → Device → List ℕ → Type 0
@@ -110,7 +111,7 @@ Fetches file place size d e = e ≡ with_call (Fetched file place size) d
 
 -- a piece is written over what stood at its place
 abbrev pub Writes : ℕ → ℕ → List ℕ → Device → Device → Type 0
-Writes file place piece d e = e ≡ with_call (Wrote file place (length piece) (overwritten place piece (bytes_of file d))) d
+Writes file place piece d e = e ≡ with_call (Wrote file place (length piece) (overwritten place piece (bytes_now file d))) d
 
 -- a file is synced
 abbrev pub Syncs : ℕ → Device → Device → Type 0
@@ -123,4 +124,4 @@ Idles d e = (e ≡ d) ⊎ (e ≡ with_call Failed d)
 -- what a failed write does: nothing, or it leaves the range torn
 abbrev pub Tears : ℕ → ℕ → ℕ → Device → Device → Type 0
 Tears file place size d e =
-    Idles d e ⊎ ((left : List ℕ) × IsTorn place size (bytes_of file d) left × (e ≡ with_call (Tore file place size left) d))
+    Idles d e ⊎ ((left : List ℕ) × IsTorn place size (bytes_now file d) left × (e ≡ with_call (Tore file place size left) d))

@@ -19,4 +19,5 @@ handed_in journal objects = record { modeled = Some (new_device journal objects)
 
 -- what is seen of a disk that a stop at call number k of this device left: both files as some stop there leaves them
 abbrev pub IsCrash : Device → ℕ → DiskState → Type 0
-IsCrash d k ghost_state = (journal : List ℕ) × (objects : List ℕ) × MayLeave 0 d k journal × MayLeave 1 d k objects × (ghost_state ≡ handed_in journal objects)
+IsCrash d k ghost_state = (journal : List ℕ) × (objects : List ℕ) × MayLeave 0 d k journal × MayLeave 1 d k objects
+    × (ghost_state ≡ handed_in journal objects)

@@ -1,6 +1,7 @@
 -- The device that the trace of a disk in memory stands for.
 use Rattle.std.specs.Prelude.{ℕ, zero, suc, ◌+◌, List, length, fold}
-use Rattle.disk_model.specs.Devices.{Event, Measured, Fetched, Wrote, Tore, Synced, Failed, Device, new_device, with_call, bytes_of}
+use Rattle.disk_model.specs.Devices.{Event, Measured, Fetched, Wrote, Tore, Synced, Failed, Device, new_device, with_call}
+use Rattle.disk_model.specs.Devices.{bytes_now}
 use Rattle.disk_model.specs.Files.{overwritten}
 use Rattle.disk_model.specs.declared.calls.Call.{Call}
 use Rattle.disk_model.specs.declared.calls.Call.TheVariants as calls
@@ -15,8 +16,9 @@ failing (suc n) d = with_call Failed (failing n d)
 abbrev pub event_of : Call → Device → Event
 event_of (calls.Length file) d = Measured file
 event_of (calls.Read file place size) d = Fetched file place size
-event_of (calls.Write file place piece) d = Wrote file place (length piece) (overwritten place piece (bytes_of file d))
-event_of (calls.Tear file place landed lost) d = Tore file place (length landed + lost) (overwritten place landed (bytes_of file d))
+event_of (calls.Write file place piece) d = Wrote file place (length piece) (overwritten place piece (bytes_now file d))
+event_of (calls.Tear file place landed lost) d = Tore file place (length landed + lost)
+    (overwritten place landed (bytes_now file d))
 event_of (calls.Sync file) d = Synced file
 
 -- a device on which a traced call was made

@@ -196,7 +196,8 @@ impl<R: Files<File = File> + AllocGlobal> BaseFiles<R> {
 /// file is opened once: the handle is kept as long as the disk lives, whatever fails, and all calls go through it alone. So where
 /// a file is moved away the calls go on with that file, and another that gets its name is left alone.
 ///
-/// As a file is opened its exclusive lock is taken, and held as long as the disk lives. Then it is synced. Where one of these fails,
+/// As a file is opened its exclusive lock is taken, and held as long as the disk lives. Then it is synced. Where one of these
+/// fails,
 /// as where another program has the lock, each call on the file is a fault from then on, and nothing is read or written; so is
 /// each write where the folder could not be synced. What a sync that failed in an earlier run left may be read
 /// from the system's memory without being on the disk: no call of this disk can tell. No handle is a standard descriptor, so

@@ -2,7 +2,7 @@
 
 ghost use Rattle.std.specs.Prelude.{ℕ, List, ◌≡◌, ◌≤◌, ◌<◌, ◌+◌, length, take, IfOk, OnOk, OnErr, fold};
 ghost use Rattle.disk_model.specs.Files.{overwritten, IsImage};
-ghost use Rattle.disk_model.specs.Devices.{Device, new_device, first_of, file_of, MayLeave};
+ghost use Rattle.disk_model.specs.Devices.{Device, new_device, bytes_handed_in, file_of, MayLeave};
 ghost use Rattle.disk_model.specs.Records.{device_of};
 ghost use Rattle.disk_model.specs.Picks.{IsPicture};
 
@@ -40,7 +40,7 @@ pub(crate) struct Picture {
 
 impl Picture {
     ghost use Rattle.disk_model.specs.Files.{IsTorn};
-    ghost use Rattle.disk_model.specs.Devices.{during, after};
+    ghost use Rattle.disk_model.specs.Devices.{during, file_after_call};
     ghost use Rattle.disk_model.specs.Records.{event_of};
 
     fn of(alloc: Global, first: &[u8]) -> Result<Picture, NoMemory>
@@ -134,7 +134,7 @@ impl Picture {
         ensures { OnOk result
             ((d : Device)
             → IsPicture (file_of file d) self.old.bytes.items self.old.image.items
-            → IsPicture (after file (event_of call.now d) (file_of file d)) self.new.bytes.items
+            → IsPicture (file_after_call file (event_of call.now d) (file_of file d)) self.new.bytes.items
             self.new.image.items) }
     {
         match call {
@@ -181,7 +181,7 @@ pub(crate) fn image_of(
     ensures { IfOk result
         (λ image.
         (journal objects : List ℕ) (failed : ℕ)
-        → first_of file (new_device journal objects) ≡ first.now
+        → bytes_handed_in file (new_device journal objects) ≡ first.now
         → call ≤ length (device_of journal objects trace.now failed).calls + 1
         → MayLeave file (device_of journal objects trace.now failed) call image.items) }
 {

@@ -78,14 +78,14 @@ pub struct MemoryDisk {
 
 impl MemoryDisk {
     ghost use Rattle.disk_model.specs.Files.{overwritten};
-    ghost use Rattle.disk_model.specs.Devices.{bytes_of, Idles};
+    ghost use Rattle.disk_model.specs.Devices.{bytes_now, Idles};
     ghost use Rattle.disk_model.specs.Records.{with_traced_call, ChangesNoBytes};
     ghost use Rattle.disk_model.specs.DiskStates.{Counted};
     ghost use Rattle.disk_model.specs.MemoryDisks.{modeled_device, ghost_state_of, handed_in, IsCrash};
     ghost use Rattle.disk_model.specs.declared.calls.Call.TheVariants as calls;
 
     /// A disk that holds these two files, stable, on which no call was made. A call fails where its number, counted from
-    /// 1, is in `fail`: a write then leaves the front half of its piece, any other call changes nothing.
+    /// 1, is in `fail`: a write then leaves the first half of its piece, any other call changes nothing.
     pub fn new(
         alloc: Global,
         journal: &[u8],
@@ -131,7 +131,7 @@ impl MemoryDisk {
     /// A file as it reads.
     pub fn bytes(&self, file: u8) -> &[u8]
         requires { file ≤ 1 }
-        ensures { result.now ≡ bytes_of file (modeled_device self.now) }
+        ensures { result.now ≡ bytes_now file (modeled_device self.now) }
     {
         if file == 0 {
             self.current.journal.as_slice()

@@ -47,7 +47,7 @@ fn lock(file: &File) -> io::Result<()> {
 }
 
 /// Whether the name still leads to the file: it may have been replaced between its opening and its lock.
-fn is_named<R: Files<File = File>>(rt: &R, name: &str, file: &File) -> io::Result<bool> {
+fn is_still_named<R: Files<File = File>>(rt: &R, name: &str, file: &File) -> io::Result<bool> {
     let named = fs::metadata(rt, name)?;
     let open = file.metadata()?;
     Ok(named.dev() == open.dev() && named.ino() == open.ino())
@@ -58,7 +58,7 @@ fn is_named<R: Files<File = File>>(rt: &R, name: &str, file: &File) -> io::Resul
 fn opened_alone<R: Files<File = File>>(rt: &R, name: &str) -> io::Result<File> {
     let file = open_file(rt, name)?;
     lock(&file)?;
-    if !is_named(rt, name, &file)? {
+    if !is_still_named(rt, name, &file)? {
         return Err(io::Error::new(io::ErrorKind::ResourceBusy, "replaced as it was opened"));
     }
     file.sync_data()?;

@@ -1,7 +1,7 @@
 //! The trait of files of objects.
 
 ghost use Rattle.std.specs.Prelude.{◌≡◌, ◌≤◌, ◌+◌, ◌^◌, length, take, drop, IfOk, MatchResult};
-ghost use Rattle.disk_model.specs.Devices.{bytes_of, Measures, Fetches, Writes, Syncs, Idles, Tears};
+ghost use Rattle.disk_model.specs.Devices.{bytes_now, Measures, Fetches, Writes, Syncs, Idles, Tears};
 ghost use Rattle.disk_model.specs.DiskStates.{DiskState, IfModeled, Both, Counted};
 
 use crate::Counts;
@@ -10,7 +10,7 @@ use crate::disk::DiskFault;
 /// The file of objects of a disk, file 1, in the hands of whoever has the disk. Its calls are those of `Disk` on that file.
 /// What else its holder knows of the disk, as where a journal ends on file 0, each call keeps.
 pub trait Objects {
-    /// The device, where it is told, and the counts.
+    /// The device, where contracts know it, and the counts.
     ghost ghost_state: { Self → DiskState };
 
     /// What each call keeps, from before it to after it.
@@ -19,7 +19,7 @@ pub trait Objects {
     /// The file's length. A file longer than 2^62 bytes is a fault.
     fn length(&mut self) -> Result<u64, DiskFault>
         ensures length { IfOk result
-            (λ n. IfModeled (ghost_state self.old).modeled (λ d. n ≡ length (bytes_of 1 d))) }
+            (λ n. IfModeled (ghost_state self.old).modeled (λ d. n ≡ length (bytes_now 1 d))) }
         ensures most { IfOk result (λ n. n ≤ 2 ^ 62) }
         ensures modeled { MatchResult result
             (λ _. Both (Measures 1) (ghost_state self.old).modeled (ghost_state self.new).modeled)
@@ -30,11 +30,11 @@ pub trait Objects {
     /// Fills `into` with the file's bytes from a place on. The range lies in the file.
     fn read_at(&mut self, place: u64, into: &mut [u8]) -> Result<(), DiskFault>
         requires { IfModeled (ghost_state self.old).modeled
-            (λ d. place + length into.old ≤ length (bytes_of 1 d)) }
+            (λ d. place + length into.old ≤ length (bytes_now 1 d)) }
         ensures bytes { IfOk result
             (λ _.
             IfModeled (ghost_state self.old).modeled
-            (λ d. into.new ≡ take (length into.old) (drop place (bytes_of 1 d)))) }
+            (λ d. into.new ≡ take (length into.old) (drop place (bytes_now 1 d)))) }
         ensures modeled { MatchResult result
             (λ _.
             Both (Fetches 1 place (length into.old)) (ghost_state self.old).modeled
@@ -46,7 +46,7 @@ pub trait Objects {
     /// Writes a piece over the file from a place on, which is at most its length. A write that would pass 2^62 bytes is
     /// a fault. After a fault the range may hold any bytes.
     fn write_at(&mut self, place: u64, piece: &[u8]) -> Result<(), DiskFault>
-        requires { IfModeled (ghost_state self.old).modeled (λ d. place ≤ length (bytes_of 1 d)) }
+        requires { IfModeled (ghost_state self.old).modeled (λ d. place ≤ length (bytes_now 1 d)) }
         ensures most { IfOk result (λ _. place + length piece.now ≤ 2 ^ 62) }
         ensures modeled { MatchResult result
             (λ _. Both (Writes 1 place piece.now) (ghost_state self.old).modeled (ghost_state self.new).modeled)

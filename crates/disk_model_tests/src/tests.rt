@@ -186,7 +186,8 @@ fn tell_taken(rt: &impl Abort, disk: &mut FileDisk<HostRuntime>) {
     assert!(rt; is_long && is_read && found.as_slice() == b"text".as_slice());
 }
 
-/// A disk that takes over goes on with the file of the other and under its lock, though the file was moved away, and counts its own
+/// A disk that takes over goes on with the file of the other and under its lock, though the file was moved away, and counts its
+/// own
 /// calls alone.
 #[test]
 fn a_disk_goes_on_with_the_files_of_another(rt: HostRuntime) -> Result<(), Fail> {

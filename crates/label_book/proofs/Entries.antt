@@ -1,36 +1,43 @@
 -- The entries of a book as labels on elements with their moves.
-use Rattle.std.proofs.Common.{◌≡◌, ℕ, zero, suc, ◌<◌, List, [], ◌∷◌, ◌++◌, length, get_or, set, map, reverse, slice_get, Some, refl, ap, ◌∙◌, arith}
+use Rattle.std.proofs.Common.{◌≡◌, ℕ, zero, suc, ◌<◌, List, [], ◌∷◌, ◌++◌, length, get_or, set, map, reverse, slice_get, Some}
+use Rattle.std.proofs.Common.{refl, ap, ◌∙◌, arith}
 use Rattle.std.specs.Str.{bytes_eq}
 use Rattle.std.specs.List.{IsDistinct}
 use Rattle.std.specs.Map.{values_of}
 use Rattle.std.proofs.lemmas.List.{get_or-map, length-map}
 use Rattle.indexmap.specs.IndexMap.{set_value_at}
 use Rattle.cc_names.specs.Falling.{Falls}
-use Rattle.label_book.specs.Holding.{MovesByPlace, Held, MoveList, row_of_move, held_in, all_held, AreNamed, HasGrown}
-use Rattle.label_book.specs.BookFields.{InStep}
+use Rattle.label_book.specs.Holding.{MovesByPlace, Held, MoveList, row_of_move, held_among, all_held, AreNamed, HasGrown}
+use Rattle.label_book.specs.BookFields.{BookInStep}
 
 -- the same label on the same element
 abbrev pub SameHead : Held → Held → Type 0
 SameHead one two = record { label : one.label ≡ two.label; element : one.element ≡ two.element }
 
 -- the moves that an index lends
-moves_at : (entries : List MovesByPlace) (p : ℕ) (d : MovesByPlace) (moves : MoveList) → slice_get (values_of entries) p ≡ Some moves → (get_or entries p d).1 ≡ moves
+moves_at : (entries : List MovesByPlace) (p : ℕ) (d : MovesByPlace) (moves : MoveList)
+    → slice_get (values_of entries) p ≡ Some moves → (get_or entries p d).1 ≡ moves
 moves_at [] p d moves is = absurd (cc)
 moves_at (entry ∷ entries) zero d moves is = cc
 moves_at (entry ∷ entries) (suc p) d moves is = moves_at entries p d moves is
 
-pub held_moves : (names : List (List ℕ)) (entries : List MovesByPlace) (p : ℕ) (moves : MoveList) → slice_get (values_of entries) p ≡ Some moves → p < length (all_held names entries)
+pub held_moves : (names : List (List ℕ)) (entries : List MovesByPlace) (p : ℕ) (moves : MoveList)
+    → slice_get (values_of entries) p ≡ Some moves → p < length (all_held names entries)
     → (f : Held) → (get_or (all_held names entries) p f).moves ≡ moves
 held_moves names entries p moves is within f =
     let d : MovesByPlace = (record { label = 0; element = 0 }, moves) in
-    ap (λ (h : Held). h.moves) (get_or-map (held_in names) entries p d f (omega (arith, length-map entries (held_in names)))) ∙ moves_at entries p d moves is
+    ap (λ (h : Held). h.moves) (get_or-map (held_among names) entries p d f
+    (omega (arith, length-map entries (held_among names)))) ∙ moves_at entries p d moves is
 
 -- other moves in their place
-pub held_set : (names : List (List ℕ)) (entries : List MovesByPlace) (p : ℕ) (d : MovesByPlace) (moves : MoveList) → p < length entries
-    → all_held names (set_value_at entries p moves) ≡ set (all_held names entries) p (held_in names ((get_or entries p d).0, moves))
+pub held_set : (names : List (List ℕ)) (entries : List MovesByPlace) (p : ℕ) (d : MovesByPlace) (moves : MoveList)
+    → p < length entries
+    → all_held names (set_value_at entries p moves) ≡ set (all_held names entries) p
+    (held_among names ((get_or entries p d).0, moves))
 held_set names [] p d moves within = absurd (omega arith)
 held_set names (entry ∷ entries) zero d moves within = refl
-held_set names (entry ∷ entries) (suc p) d moves within = ap (λ all. held_in names entry ∷ all) (held_set names entries p d moves (omega arith))
+held_set names (entry ∷ entries) (suc p) d moves within = ap (λ all. held_among names entry ∷ all)
+    (held_set names entries p d moves (omega arith))
 
 -- what such a write leaves of the list
 pub record Writes (all after : List Held) (p : ℕ) (moves : MoveList) : Type 0 where
@@ -39,43 +46,55 @@ pub record Writes (all after : List Held) (p : ℕ) (moves : MoveList) : Type 0 
   pub same : (f : Held) → SameHead held (get_or all p f)
   pub set : after ≡ set all p held
 
-pub writes : (names : List (List ℕ)) (entries : List MovesByPlace) (p : ℕ) (moves : MoveList) → p < length (all_held names entries) → Writes (all_held names entries) (all_held names (set_value_at entries p moves)) p moves
+pub writes : (names : List (List ℕ)) (entries : List MovesByPlace) (p : ℕ) (moves : MoveList)
+    → p < length (all_held names entries) → Writes (all_held names entries) (all_held names (set_value_at entries p moves)) p
+    moves
 writes names entries p moves within =
     let d : MovesByPlace = (record { label = 0; element = 0 }, moves) in
-    let in_range : p < length entries = omega (arith, length-map entries (held_in names)) in
+    let in_range : p < length entries = omega (arith, length-map entries (held_among names)) in
     record {
-      held = held_in names ((get_or entries p d).0, moves);
+      held = held_among names ((get_or entries p d).0, moves);
       written = refl;
-      same = λ f. rw (get_or-map (held_in names) entries p d f in_range) (record { label = refl; element = refl });
+      same = λ f. rw (get_or-map (held_among names) entries p d f in_range) (record { label = refl; element = refl });
       set = held_set names entries p d moves in_range;
     }
 
 -- one entry more
-pub held_push : (names : List (List ℕ)) (entries : List MovesByPlace) (entry : MovesByPlace) → all_held names (entries ++ entry ∷ []) ≡ all_held names entries ++ held_in names entry ∷ []
+pub held_push : (names : List (List ℕ)) (entries : List MovesByPlace) (entry : MovesByPlace)
+    → all_held names (entries ++ entry ∷ []) ≡ all_held names entries ++ held_among names entry ∷ []
 held_push names [] entry = refl
-held_push names (e ∷ entries) entry = ap (λ all. held_in names e ∷ all) (held_push names entries entry)
+held_push names (e ∷ entries) entry = ap (λ all. held_among names e ∷ all) (held_push names entries entry)
 
 -- more names leave what was named
-pub held_grown : (old new : List (List ℕ)) (entries : List MovesByPlace) → HasGrown old new → AreNamed old entries → all_held new entries ≡ all_held old entries
+pub held_grown : (old new : List (List ℕ)) (entries : List MovesByPlace) → HasGrown old new → AreNamed old entries
+    → all_held new entries ≡ all_held old entries
 held_grown old new [] grown named = refl
 held_grown old new (entry ∷ entries) grown named =
-    let same : held_in new entry ≡ held_in old entry = ap (λ (l : List ℕ). record { label = l; element = entry.0.element; moves = entry.1 }) (grown.same entry.0.label (named 0 entry (omega arith))) in
-    ap (λ (h : Held). h ∷ all_held new entries) same ∙ ap (λ all. held_in old entry ∷ all) (held_grown old new entries grown (λ p d within. named (suc p) d (omega arith)))
+    let same : held_among new entry ≡ held_among old entry = ap (λ (l : List ℕ). record {
+      label = l;
+      element = entry.0.element;
+      moves = entry.1;
+    }) (grown.same entry.0.label (named 0 entry (omega arith))) in
+    ap (λ (h : Held). h ∷ all_held new entries) same ∙ ap (λ all. held_among old entry ∷ all)
+    (held_grown old new entries grown (λ p d within. named (suc p) d (omega arith)))
 
 -- what holds of each entry, where one has other moves
 module _ (P : MovesByPlace → Type 0) where
   all_set : (moves : MoveList) → ((entry : MovesByPlace) → P entry → P (entry.0, moves)) → (entries : List MovesByPlace) (p : ℕ)
-      → ((q : ℕ) (d : MovesByPlace) → q < length entries → P (get_or entries q d)) → (q : ℕ) (d : MovesByPlace) → q < length (set_value_at entries p moves) → P (get_or (set_value_at entries p moves) q d)
+      → ((q : ℕ) (d : MovesByPlace) → q < length entries → P (get_or entries q d)) → (q : ℕ) (d : MovesByPlace)
+      → q < length (set_value_at entries p moves) → P (get_or (set_value_at entries p moves) q d)
   all_set moves carries [] p all q d within = absurd (omega arith)
   all_set moves carries (entry ∷ entries) zero all zero d within = carries entry (all 0 d (omega arith))
   all_set moves carries (entry ∷ entries) zero all (suc q) d within = all (suc q) d within
   all_set moves carries (entry ∷ entries) (suc p) all zero d within = all 0 d (omega arith)
-  all_set moves carries (entry ∷ entries) (suc p) all (suc q) d within = all_set moves carries entries p (λ i f in_range. all (suc i) f (omega arith)) q d (omega arith)
+  all_set moves carries (entry ∷ entries) (suc p) all (suc q) d within =
+      all_set moves carries entries p (λ i f in_range. all (suc i) f (omega arith)) q d (omega arith)
 
 -- the fields of a book stay in step
-module _ (names : List (List ℕ)) (entries : List MovesByPlace) (step : InStep names entries) where
+module _ (names : List (List ℕ)) (entries : List MovesByPlace) (step : BookInStep names entries) where
   -- as there are other moves at a place
-  pub step_set : (p : ℕ) (moves : MoveList) → Falls (map row_of_move (reverse moves.items)) → InStep names (set_value_at entries p moves)
+  pub step_set : (p : ℕ) (moves : MoveList) → Falls (map row_of_move (reverse moves.items))
+      → BookInStep names (set_value_at entries p moves)
   step_set p moves falls = record {
     apart = step.apart;
     named = all_set (λ entry. entry.0.label < length names) moves (λ entry named. named) entries p step.named;
@@ -83,15 +102,21 @@ module _ (names : List (List ℕ)) (entries : List MovesByPlace) (step : InStep 
   }
 
   -- the moves that an index lends are in order
-  pub fall_at : (p : ℕ) (moves : MoveList) → slice_get (values_of entries) p ≡ Some moves → p < length (all_held names entries) → Falls (map row_of_move (reverse moves.items))
+  pub fall_at : (p : ℕ) (moves : MoveList) → slice_get (values_of entries) p ≡ Some moves → p < length (all_held names entries)
+      → Falls (map row_of_move (reverse moves.items))
   fall_at p moves is within =
       let d : MovesByPlace = (record { label = 0; element = 0 }, moves) in
-      rw (moves_at entries p d moves is) at (step.fall p d (omega (arith, length-map entries (held_in names))))
+      rw (moves_at entries p d moves is) at (step.fall p d (omega (arith, length-map entries (held_among names))))
 
   -- as the same moves get more room
-  pub step_same : (p : ℕ) (old new : MoveList) → slice_get (values_of entries) p ≡ Some old → p < length (all_held names entries) → new.items ≡ old.items → InStep names (set_value_at entries p new)
+  pub step_same : (p : ℕ) (old new : MoveList) → slice_get (values_of entries) p ≡ Some old → p < length (all_held names entries)
+      → new.items ≡ old.items → BookInStep names (set_value_at entries p new)
   step_same p old new is within items = step_set p new (rw items (fall_at p old is within))
 
   -- as there are more names
-  pub step_grown : (more : List (List ℕ)) → HasGrown names more → IsDistinct bytes_eq more → InStep more entries
-  step_grown more grown apart = record { apart = apart; named = λ p d within. omega (arith, step.named p d within, grown.more); fall = step.fall }
+  pub step_grown : (more : List (List ℕ)) → HasGrown names more → IsDistinct bytes_eq more → BookInStep more entries
+  step_grown more grown apart = record {
+    apart = apart;
+    named = λ p d within. omega (arith, step.named p d within, grown.more);
+    fall = step.fall;
+  }

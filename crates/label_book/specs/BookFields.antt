@@ -16,11 +16,12 @@ abbrev pub marks_of : Inside → Marks
 marks_of inside = marks_in (all_held inside.labels.keys inside.moves.entries)
 
 -- each name stands once, each label has one, and the changes of each label on each element are in order of rows
-pub record InStep (names : List (List ℕ)) (entries : List MovesByPlace) : Type 0 where
+pub record BookInStep (names : List (List ℕ)) (entries : List MovesByPlace) : Type 0 where
   pub apart : IsDistinct bytes_eq names
   pub named : AreNamed names entries
-  pub fall : (p : ℕ) (d : MovesByPlace) → p < length entries → Falls (map row_of_move (reverse (slice_index_or entries p d).1.items))
+  pub fall : (p : ℕ) (d : MovesByPlace) → p < length entries → Falls (map row_of_move
+      (reverse (slice_index_or entries p d).1.items))
 
 -- the fields of a book are in step
-abbrev pub IsInStep : Inside → Type 0
-IsInStep inside = InStep inside.labels.keys inside.moves.entries
+abbrev pub IsBookInStep : Inside → Type 0
+IsBookInStep inside = BookInStep inside.labels.keys inside.moves.entries

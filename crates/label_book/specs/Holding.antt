@@ -1,5 +1,6 @@
 -- The labels that a book keeps, each on one element with its changes.
-use Rattle.std.specs.Prelude.{◌≡◌, ◌≢◌, ℕ, ◌<◌, ◌≤◌, ◌==◌, ◌&&◌, nat_lt, Bool, true, false, Option, Some, None, List, [], ◌∷◌, ◌++◌, length, map, reverse, slice_index_or, Vec, vec_len, vec_capacity}
+use Rattle.std.specs.Prelude.{◌≡◌, ◌≢◌, ℕ, ◌<◌, ◌≤◌, ◌==◌, ◌&&◌, nat_lt, Bool, true, false, Option, Some, None, List, [], ◌∷◌}
+use Rattle.std.specs.Prelude.{◌++◌, length, map, reverse, slice_index_or, Vec, vec_len, vec_capacity}
 use Rattle.std.specs.declared.alloc.Global.{Global}
 use Rattle.std.specs.Str.{bytes_eq}
 use Rattle.cc_names.specs.Versions.{put_if}
@@ -53,23 +54,24 @@ is_pair l e held = bytes_eq l held.label && (e == held.element)
 abbrev pub ready_pairs : List Held → List Pair
 ready_pairs [] = []
 ready_pairs (held ∷ others) =
-    put_if (nat_lt (vec_len held.moves) (vec_capacity held.moves)) (record { label = held.label; element = held.element }) (ready_pairs others)
+    put_if (nat_lt (vec_len held.moves) (vec_capacity held.moves)) (record { label = held.label; element = held.element })
+    (ready_pairs others)
 
 -- whether two are the same label on the same element
-abbrev pub is_same : LabelOn → LabelOn → Bool
-is_same one two = (one.label == two.label) && (one.element == two.element)
+abbrev pub is_same_label : LabelOn → LabelOn → Bool
+is_same_label one two = (one.label == two.label) && (one.element == two.element)
 
--- a label on an element with its moves, where the label is told by its place
+-- a label on an element with its moves, where the label is given by its place
 abbrev pub MovesByPlace : Type 0
 MovesByPlace = LabelOn × MoveList
 
 -- the same by the label's name, among these names
-abbrev pub held_in : List (List ℕ) → MovesByPlace → Held
-held_in names entry = record { label = slice_index_or names entry.0.label []; element = entry.0.element; moves = entry.1 }
+abbrev pub held_among : List (List ℕ) → MovesByPlace → Held
+held_among names entry = record { label = slice_index_or names entry.0.label []; element = entry.0.element; moves = entry.1 }
 
 -- the same of all of them
 abbrev pub all_held : List (List ℕ) → List MovesByPlace → List Held
-all_held names entries = map (held_in names) entries
+all_held names entries = map (held_among names) entries
 
 -- each label has a name
 abbrev pub AreNamed : List (List ℕ) → List MovesByPlace → Type 0

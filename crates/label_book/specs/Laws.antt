@@ -2,12 +2,12 @@
 use Rattle.std.specs.Prelude.{◌≡◌, ℕ, ◌≤◌, List, ◌∷◌}
 use Rattle.cc_names.specs.Labels.{row_of_label_change, labels_of_first_rows, holder}
 use Rattle.cc_names.specs.declared.changes.LabelChange.{LabelChange}
-use Rattle.label_book.specs.Marks.{Marks, AddsChange, KeepsAll}
+use Rattle.label_book.specs.Marks.{Marks, AddsLabelChange, KeepsMarks}
 
 -- After a change each label stands where it stands by that change and all older ones, at any number of rows.
 abbrev pub OneChangeMore : Type 0
 OneChangeMore = (old new : Marks) (change : LabelChange)
-    → AddsChange old new change
+    → AddsLabelChange old new change
     → (rows : ℕ) (l : List ℕ) (e : ℕ)
     → holder (labels_of_first_rows rows new.changes) l e
     ≡ holder (labels_of_first_rows rows (change ∷ old.changes)) l e
@@ -16,7 +16,7 @@ OneChangeMore = (old new : Marks) (change : LabelChange)
 -- smaller number of rows.
 abbrev pub OlderHoldersStay : Type 0
 OlderHoldersStay = (old new : Marks) (change : LabelChange)
-    → AddsChange old new change
+    → AddsLabelChange old new change
     → (rows : ℕ)
     → rows ≤ row_of_label_change change
     → (l : List ℕ) (e : ℕ)
@@ -26,7 +26,7 @@ OlderHoldersStay = (old new : Marks) (change : LabelChange)
 -- Making room moves no label.
 abbrev pub RoomMovesNoLabel : Type 0
 RoomMovesNoLabel = (old new : Marks)
-    → KeepsAll old new
+    → KeepsMarks old new
     → (rows : ℕ) (l : List ℕ) (e : ℕ)
     → holder (labels_of_first_rows rows new.changes) l e
     ≡ holder (labels_of_first_rows rows old.changes) l e

@@ -34,15 +34,16 @@ abbrev pub is_that : List ℕ → ℕ → Pair → Bool
 is_that l e pair = bytes_eq l pair.label && (e == pair.element)
 
 -- whether a label on an element has room for one more change
-abbrev pub has_room : Marks → List ℕ → ℕ → Bool
-has_room marks l e = list_any (is_that l e) marks.ready
+abbrev pub has_label_room : Marks → List ℕ → ℕ → Bool
+has_label_room marks l e = list_any (is_that l e) marks.ready
 
 -- one change more, the newest of its label on its element; all others keep their room
-pub record AddsChange (old new : Marks) (change : LabelChange) : Type 0 where
+pub record AddsLabelChange (old new : Marks) (change : LabelChange) : Type 0 where
   pub pairs : (l : List ℕ) (e : ℕ) → of_pair l e new.changes ≡ of_pair l e (change ∷ old.changes)
-  pub ready : (l : List ℕ) (e : ℕ) → is_about l e change ≡ false → IsTrue (has_room old l e) → IsTrue (has_room new l e)
+  pub ready : (l : List ℕ) (e : ℕ) → is_about l e change ≡ false → IsTrue (has_label_room old l e)
+      → IsTrue (has_label_room new l e)
 
 -- nothing is changed but room, of which there is no less
-pub record KeepsAll (old new : Marks) : Type 0 where
+pub record KeepsMarks (old new : Marks) : Type 0 where
   pub pairs : (l : List ℕ) (e : ℕ) → of_pair l e new.changes ≡ of_pair l e old.changes
-  pub ready : (l : List ℕ) (e : ℕ) → IsTrue (has_room old l e) → IsTrue (has_room new l e)
+  pub ready : (l : List ℕ) (e : ℕ) → IsTrue (has_label_room old l e) → IsTrue (has_label_room new l e)

@@ -5,7 +5,7 @@ ghost use Rattle.std.specs.List.{IsDistinct};
 ghost use Rattle.indexmap.specs.IndexMap.{get};
 ghost use Rattle.cc_names.specs.Falling.{Falls};
 ghost use Rattle.cc_names.specs.Labels.{labels_of_first_rows, holder};
-ghost use Rattle.label_book.specs.Holding.{row_of_move, changes_by, is_same, all_held, AreNamed, HasGrown, IsPlaceOf, HasNoPlace, IsPlaceOfLabel};
+ghost use Rattle.label_book.specs.Holding.{row_of_move, changes_by, is_same_label, all_held, AreNamed, HasGrown, IsPlaceOf, HasNoPlace, IsPlaceOfLabel};
 
 use cc_names::by_row::{ByRow, count_below};
 use cc_names::memory::NoMemory;
@@ -43,7 +43,7 @@ pub type Labels = IndexSet<Name, RandomState>;
 pub type Moves = IndexMap<LabelOn, Vec<Move>, RandomState>;
 
 /// The place of a label on an element among all. Takes time linear in the label's name.
-pub fn find(labels: &Labels, moves: &Moves, label: &Name, element: u64) -> Option<usize>
+pub fn find_label(labels: &Labels, moves: &Moves, label: &Name, element: u64) -> Option<usize>
     requires apart { IsDistinct bytes_eq labels.now.keys }
     requires named { AreNamed labels.now.keys moves.now.entries }
     ensures found { IfSome result
@@ -71,7 +71,7 @@ pub fn place_of_label(alloc: Global, labels: &mut Labels, label: &Name) -> Resul
 
 /// Adds the changes of a label on an element behind all others, where it has none yet.
 pub fn put_last(moves: &mut Moves, on: LabelOn, changes: Vec<Move>) -> Result<(), NoMemory>
-    requires { get is_same moves.old on ≡ None }
+    requires { get is_same_label moves.old on ≡ None }
     ensures put { OnOk result (moves.new.entries ≡ moves.old.entries ++ (on, changes) ∷ []) }
     ensures unchanged { OnErr result (moves.new.entries ≡ moves.old.entries) }
 {

@@ -13,14 +13,14 @@ ghost use Rattle.std.specs.Prelude.{◌≡◌, ℕ, ◌<◌, ◌∷◌, [], IsTr
 ghost use Rattle.cc_names.specs.Labels.{labels_of_first_rows, holder};
 ghost use Rattle.cc_names.specs.Falling.{IsAbove};
 ghost use Rattle.cc_names.specs.declared.changes.LabelChange.TheVariants as changes;
-ghost use Rattle.label_book.specs.Marks.{rows_of_pair, has_room, AddsChange, KeepsAll};
+ghost use Rattle.label_book.specs.Marks.{rows_of_pair, has_label_room, AddsLabelChange, KeepsMarks};
 
 mod held;
 pub mod laws;
 
 use cc_names::memory::NoMemory;
 use cc_names::names::Name;
-use held::{LabelOn, Labels, Move, Moves, find, place_of_label, put_last, version_at};
+use held::{LabelOn, Labels, Move, Moves, find_label, place_of_label, put_last, version_at};
 use indexmap::{IndexMap, IndexSet};
 use std::alloc::Global;
 use std::hash::RandomState;
@@ -38,11 +38,11 @@ impl Model for Book {
 
     ghost Value = { Marks };
 
-    ghost use Rattle.label_book.specs.BookFields.{marks_of, IsInStep};
+    ghost use Rattle.label_book.specs.BookFields.{marks_of, IsBookInStep};
 
     ghost view = { marks_of };
 
-    ghost invariant = { IsInStep };
+    ghost invariant = { IsBookInStep };
 }
 
 impl Book {
@@ -61,11 +61,11 @@ impl Book {
     /// Makes room for one change of a label on each of these elements. Takes for each the time to find the label there, as
     /// `at` does, and to copy its name where it is new; a list that is full is doubled, in time linear in it.
     pub fn reserve(&mut self, alloc: Global, label: &Name, elements: &[u64]) -> Result<(), NoMemory>
-        ensures kept { KeepsAll self.old self.new }
+        ensures kept { KeepsMarks self.old self.new }
         ensures ready { OnOk result
             ((k : ℕ)
             → k < length elements.now
-            → IsTrue (has_room self.new label.now (slice_index elements.now k))) }
+            → IsTrue (has_label_room self.new label.now (slice_index elements.now k))) }
     {
         for element in elements {
             self.reserve_one(alloc, label, *element)?;
@@ -75,10 +75,10 @@ impl Book {
 
     // Makes room for one change of a label on an element.
     fn reserve_one(&mut self, alloc: Global, label: &Name, element: u64) -> Result<(), NoMemory>
-        ensures kept { KeepsAll self.old self.new }
-        ensures ready { OnOk result (IsTrue (has_room self.new label.now element)) }
+        ensures kept { KeepsMarks self.old self.new }
+        ensures ready { OnOk result (IsTrue (has_label_room self.new label.now element)) }
     {
-        if let Some(place) = find(&self.labels, &self.moves, label, element) {
+        if let Some(place) = find_label(&self.labels, &self.moves, label, element) {
             let moves = &mut self.moves[place];
             moves.reserve(1)?;
             return Ok(());
@@ -94,8 +94,8 @@ impl Book {
     /// time to find the label there, as `at` does.
     pub fn attach(&mut self, row: u64, label: &Name, element: u64, version: u64)
         requires above { IsAbove row (rows_of_pair label.now element self.old.changes) }
-        requires ready { IsTrue (has_room self.old label.now element) }
-        ensures { AddsChange self.old self.new (changes.Put row label.now element version) }
+        requires ready { IsTrue (has_label_room self.old label.now element) }
+        ensures { AddsLabelChange self.old self.new (changes.Put row label.now element version) }
     {
         self.add(
             label,
@@ -111,8 +111,8 @@ impl Book {
     /// the label there, as `at` does.
     pub fn detach(&mut self, row: u64, label: &Name, element: u64)
         requires above { IsAbove row (rows_of_pair label.now element self.old.changes) }
-        requires ready { IsTrue (has_room self.old label.now element) }
-        ensures { AddsChange self.old self.new (changes.Taken row label.now element) }
+        requires ready { IsTrue (has_label_room self.old label.now element) }
+        ensures { AddsLabelChange self.old self.new (changes.Taken row label.now element) }
     {
         self.add(label, element, Move { row, version: None });
     }
@@ -120,11 +120,11 @@ impl Book {
     // Adds one change of a label on an element.
     fn add(&mut self, label: &Name, element: u64, change: Move)
         requires above { IsAbove change.row (rows_of_pair label.now element self.old.changes) }
-        requires ready { IsTrue (has_room self.old label.now element) }
-        ensures { AddsChange self.old self.new
+        requires ready { IsTrue (has_label_room self.old label.now element) }
+        ensures { AddsLabelChange self.old self.new
             (change_by label.now element change.row change.version) }
     {
-        match find(&self.labels, &self.moves, label, element) {
+        match find_label(&self.labels, &self.moves, label, element) {
             Some(place) => {
                 let moves = &mut self.moves[place];
                 moves.push_reserved(change);
@@ -138,7 +138,7 @@ impl Book {
     pub fn at(&self, label: &Name, element: u64, rows: u64) -> Option<u64>
         ensures { result ≡ holder (labels_of_first_rows rows self.now.changes) label.now element }
     {
-        let place = find(&self.labels, &self.moves, label, element)?;
+        let place = find_label(&self.labels, &self.moves, label, element)?;
         version_at(&self.moves[place], rows)
     }
 }

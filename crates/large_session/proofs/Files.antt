@@ -2,11 +2,11 @@
 use Rattle.std.proofs.Common.{◌≡◌, ℕ, suc, ◌+◌, ◌-◌, ◌<◌, ◌≤◌, List, [], ◌∷◌, ◌++◌, sym, ◌∙◌, arith}
 use Rattle.std.proofs.lemmas.List.{append_assoc, append-nil}
 use Rattle.large_session.specs.declared.draws.SourceFile.{SourceFile}
-use Rattle.large_session.specs.Draws.{next_state, file_of, files_from}
+use Rattle.large_session.specs.Draws.{next_state, drawn_file, files_from}
 
 -- one file is drawn
 pub one_more : (size index x state : ℕ) (file : SourceFile) (files more whole : List SourceFile) → index < size
-    → file ≡ file_of size (index + 1) x → more ≡ files ++ file ∷ [] → state ≡ next_state (next_state x)
+    → file ≡ drawn_file size (index + 1) x → more ≡ files ++ file ∷ [] → state ≡ next_state (next_state x)
     → files ++ files_from size (index + 1) x (size - index) ≡ whole
     → more ++ files_from size (index + 1 + 1) state (size - (index + 1)) ≡ whole
 one_more size index x state file files more whole below file_is more_is state_is h =

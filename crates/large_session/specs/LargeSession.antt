@@ -25,18 +25,18 @@ abbrev pub object_name : ℕ → List ℕ
 object_name number = codes "o" ++ decimal number
 
 -- the two source files of an object
-abbrev pub sources : SourceFile → List ℕ
-sources file = source_name file.number ++ (codes " " ++ source_name file.joined)
+abbrev pub object_sources : SourceFile → List ℕ
+object_sources file = source_name file.number ++ (codes " " ++ source_name file.joined)
 
 -- the rule of an object: its line, and its script, which begins with a tab
-abbrev pub rule_line : SourceFile → List ℕ
-rule_line file = body_line (object_name file.number ++ (codes ": " ++ sources file))
+abbrev pub object_rule_line : SourceFile → List ℕ
+object_rule_line file = body_line (object_name file.number ++ (codes ": " ++ object_sources file))
 
-abbrev pub script_line : SourceFile → List ℕ
-script_line file = body_line (9 ∷ (codes "cat " ++ (sources file ++ (codes " > " ++ object_name file.number))))
+abbrev pub object_script_line : SourceFile → List ℕ
+object_script_line file = body_line (9 ∷ (codes "cat " ++ (object_sources file ++ (codes " > " ++ object_name file.number))))
 
 abbrev pub rule : SourceFile → List ℕ
-rule file = rule_line file ++ script_line file
+rule file = object_rule_line file ++ object_script_line file
 
 -- the name of an object among those that the first goal wants
 abbrev pub wanted_name : SourceFile → List ℕ
@@ -48,7 +48,8 @@ makefile files = body_line (codes "all:" ++ flat_map wanted_name files) ++ flat_
 
 -- the commands that make a file element in v0 with this text
 unfoldable pub made : List ℕ → List ℕ → List ℕ
-made name text = line (codes "mkelem v0 " ++ name) ++ (line (codes "save v0 " ++ name) ++ (text ++ line (codes "checkin v0 " ++ name)))
+made name text = line (codes "mkelem v0 " ++ name) ++ (line (codes "save v0 " ++ name)
+    ++ (text ++ line (codes "checkin v0 " ++ name)))
 
 -- a source file: one line of one word
 abbrev pub source_text : SourceFile → List ℕ
@@ -69,20 +70,21 @@ making files =
     ++ (line (codes "checkin v0 .") ++ flat_map (λ n. line (codes "mkview v" ++ n)) builders)))
 
 -- phase 2: each of these views builds, in a lane of its own
-abbrev pub building : List ℕ
-building =
-    line (codes "phase") ++ flat_map (λ n. line (codes "lane b" ++ n) ++ line (codes "clearmake v" ++ (n ++ codes " -J 4"))) builders
+abbrev pub building_phase : List ℕ
+building_phase =
+    line (codes "phase") ++ flat_map (λ n. line (codes "lane b" ++ n) ++ line (codes "clearmake v" ++ (n ++ codes " -J 4")))
+    builders
 
 -- phase 3: a source file is changed, and one view builds again
-abbrev pub changing : List ℕ
-changing =
+abbrev pub changing_phase : List ℕ
+changing_phase =
     lines (codes "phase" ∷ codes "lane a" ∷ codes "checkout v0 s1" ∷ codes "save v0 s1" ∷ codes "|changed" ∷ codes "checkin v0 s1"
     ∷ codes "clearmake v1" ∷ [])
 
 -- the session of these files
-abbrev pub session_of : List SourceFile → List ℕ
-session_of files = making files ++ (building ++ changing)
+abbrev pub session_text_of : List SourceFile → List ℕ
+session_text_of files = making files ++ (building_phase ++ changing_phase)
 
 -- The text of the large session of this seed and size.
 abbrev pub large_session : ℕ → ℕ → List ℕ
-large_session seed size = session_of (files_of seed size)
+large_session seed size = session_text_of (files_of seed size)

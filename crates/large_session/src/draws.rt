@@ -1,7 +1,7 @@
 //! The numbers of the large session.
 
 ghost use Rattle.std.specs.Prelude.{◌≡◌, ◌<◌, IfOk};
-ghost use Rattle.large_session.specs.Draws.{next_state, draw_of, file_of, files_of};
+ghost use Rattle.large_session.specs.Draws.{next_state, draw_of, drawn_file, files_of};
 
 use cc_names::memory::NoMemory;
 use std::alloc::Global;
@@ -29,9 +29,9 @@ fn draw_of(state: u64) -> u64
 }
 
 /// The file of this number, from the state before its draws.
-fn file_of(size: u32, number: u32, state: u64) -> SourceFile
+fn drawn_file(size: u32, number: u32, state: u64) -> SourceFile
     requires { 0 < size }
-    ensures { result ≡ file_of size number state }
+    ensures { result ≡ drawn_file size number state }
 {
     let first = next_state(state);
     let second = next_state(first);
@@ -49,7 +49,7 @@ pub(crate) fn files_of(alloc: Global, seed: u64, size: u32) -> Result<Vec<Source
     let mut files = Vec::new(alloc);
     let mut state = seed;
     for index in 0..size {
-        files.push(file_of(size, index + 1, state))?;
+        files.push(drawn_file(size, index + 1, state))?;
         state = next_state(next_state(state));
     }
     Ok(files)

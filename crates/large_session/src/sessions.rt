@@ -3,7 +3,7 @@
 
 ghost use Rattle.std.specs.Prelude.{◌≡◌, ◌++◌, IfOk, OnOk, codes};
 ghost use Rattle.std.specs.List.{flat_map};
-ghost use Rattle.large_session.specs.LargeSession.{line, source_name, object_name, sources, rule_line, script_line, rule, wanted_name, makefile, made, source_text, made_source, making, session_of, large_session};
+ghost use Rattle.large_session.specs.LargeSession.{line, source_name, object_name, object_sources, object_rule_line, object_script_line, rule, wanted_name, makefile, made, source_text, made_source, making, session_text_of, large_session};
 
 use crate::draws::{SourceFile, files_of};
 use cc_names::memory::NoMemory;
@@ -38,7 +38,7 @@ fn push_source(alloc: Global, text: &mut Vec<u8>, number: u64) -> Result<(), NoM
     push_number(alloc, text, number)
 }
 
-fn push_object(alloc: Global, text: &mut Vec<u8>, number: u64) -> Result<(), NoMemory>
+fn push_object_lines(alloc: Global, text: &mut Vec<u8>, number: u64) -> Result<(), NoMemory>
     ensures { OnOk result (text.new.items ≡ text.old.items ++ object_name number) }
 {
     text.extend_from_slice(b"o")?;
@@ -46,7 +46,7 @@ fn push_object(alloc: Global, text: &mut Vec<u8>, number: u64) -> Result<(), NoM
 }
 
 fn push_sources(alloc: Global, text: &mut Vec<u8>, file: &SourceFile) -> Result<(), NoMemory>
-    ensures { OnOk result (text.new.items ≡ text.old.items ++ sources file.now) }
+    ensures { OnOk result (text.new.items ≡ text.old.items ++ object_sources file.now) }
 {
     push_source(alloc, text, file.number)?;
     text.extend_from_slice(b" ")?;
@@ -54,22 +54,22 @@ fn push_sources(alloc: Global, text: &mut Vec<u8>, file: &SourceFile) -> Result<
 }
 
 fn push_rule_line(alloc: Global, text: &mut Vec<u8>, file: &SourceFile) -> Result<(), NoMemory>
-    ensures { OnOk result (text.new.items ≡ text.old.items ++ rule_line file.now) }
+    ensures { OnOk result (text.new.items ≡ text.old.items ++ object_rule_line file.now) }
 {
     text.extend_from_slice(b"|")?;
-    push_object(alloc, text, file.number)?;
+    push_object_lines(alloc, text, file.number)?;
     text.extend_from_slice(b": ")?;
     push_sources(alloc, text, file)?;
     push_bytes(text, b"\n")
 }
 
 fn push_script_line(alloc: Global, text: &mut Vec<u8>, file: &SourceFile) -> Result<(), NoMemory>
-    ensures { OnOk result (text.new.items ≡ text.old.items ++ script_line file.now) }
+    ensures { OnOk result (text.new.items ≡ text.old.items ++ object_script_line file.now) }
 {
     text.extend_from_slice(b"|\tcat ")?;
     push_sources(alloc, text, file)?;
     text.extend_from_slice(b" > ")?;
-    push_object(alloc, text, file.number)?;
+    push_object_lines(alloc, text, file.number)?;
     push_bytes(text, b"\n")
 }
 
@@ -79,7 +79,7 @@ fn push_objects(alloc: Global, text: &mut Vec<u8>, files: &[SourceFile]) -> Resu
 {
     for file in files {
         text.extend_from_slice(b" ")?;
-        push_object(alloc, text, file.number)?;
+        push_object_lines(alloc, text, file.number)?;
     }
     Ok(())
 }
@@ -118,7 +118,7 @@ fn source_text(alloc: Global, file: &SourceFile) -> Result<Vec<u8>, NoMemory>
 }
 
 /// A line of these words and this name.
-fn push_line(text: &mut Vec<u8>, words: &[u8], name: &[u8]) -> Result<(), NoMemory>
+fn push_words_line(text: &mut Vec<u8>, words: &[u8], name: &[u8]) -> Result<(), NoMemory>
     ensures { OnOk result (text.new.items ≡ text.old.items ++ line (words.now ++ name.now)) }
 {
     text.extend_from_slice(words)?;
@@ -131,10 +131,10 @@ fn push_line(text: &mut Vec<u8>, words: &[u8], name: &[u8]) -> Result<(), NoMemo
 fn push_made(text: &mut Vec<u8>, name: &[u8], body: &[u8]) -> Result<(), NoMemory>
     ensures { OnOk result (text.new.items ≡ text.old.items ++ made name.now body.now) }
 {
-    push_line(text, b"mkelem v0 ", name)?;
-    push_line(text, b"save v0 ", name)?;
+    push_words_line(text, b"mkelem v0 ", name)?;
+    push_words_line(text, b"save v0 ", name)?;
     text.extend_from_slice(body)?;
-    push_line(text, b"checkin v0 ", name)
+    push_words_line(text, b"checkin v0 ", name)
 }
 
 fn push_made_source(alloc: Global, text: &mut Vec<u8>, file: &SourceFile) -> Result<(), NoMemory>
@@ -183,7 +183,7 @@ fn push_making(alloc: Global, text: &mut Vec<u8>, files: &[SourceFile]) -> Resul
 }
 
 fn push_session(alloc: Global, text: &mut Vec<u8>, files: &[SourceFile]) -> Result<(), NoMemory>
-    ensures { OnOk result (text.new.items ≡ text.old.items ++ session_of files.now) }
+    ensures { OnOk result (text.new.items ≡ text.old.items ++ session_text_of files.now) }
 {
     push_making(alloc, text, files)?;
     text.extend_from_slice(BUILDING)?;

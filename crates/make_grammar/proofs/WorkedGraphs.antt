@@ -38,7 +38,8 @@ among files path = list_any (bytes_eq path) files
 abbrev by_rules : List MakeRule → List (List ℕ) → List (List ℕ) → Result (List Unit) GraphFault
 by_rules rules files goals = graph_of (record { rules = rules; suffix_rules = []; phony = []; macros = [] }) goals (among files)
 
-abbrev by_suffixes : List MakeRule → List SuffixRule → List (List ℕ) → List (List ℕ) → List (List ℕ) → Result (List Unit) GraphFault
+abbrev by_suffixes : List MakeRule → List SuffixRule → List (List ℕ) → List (List ℕ) → List (List ℕ)
+    → Result (List Unit) GraphFault
 by_suffixes rules suffix_rules phony files goals =
     graph_of (record { rules = rules; suffix_rules = suffix_rules; phony = phony; macros = [] }) goals (among files)
 
@@ -57,10 +58,12 @@ d = codes "d"
 
 -- prerequisites stand before what is made of them, each once; with no goal, the first target without a period is the goal
 abbrev diamond : List MakeRule
-diamond = bare (codes ".first") (d ∷ []) ∷ bare d (a ∷ b ∷ []) ∷ made (a ∷ []) (c ∷ []) ∷ made (b ∷ []) (c ∷ codes "in" ∷ []) ∷ made (c ∷ []) [] ∷ []
+diamond = bare (codes ".first") (d ∷ []) ∷ bare d (a ∷ b ∷ []) ∷ made (a ∷ []) (c ∷ []) ∷ made (b ∷ []) (c ∷ codes "in" ∷ [])
+    ∷ made (c ∷ []) [] ∷ []
 
 abbrev diamond_units : List Unit
-diamond_units = unit_made (c ∷ []) [] ∷ unit_made (a ∷ []) (c ∷ []) ∷ unit_made (b ∷ []) (c ∷ codes "in" ∷ []) ∷ unit_bare d (a ∷ b ∷ []) ∷ []
+diamond_units = unit_made (c ∷ []) [] ∷ unit_made (a ∷ []) (c ∷ []) ∷ unit_made (b ∷ []) (c ∷ codes "in" ∷ [])
+    ∷ unit_bare d (a ∷ b ∷ []) ∷ []
 
 no_goal_named : by_rules diamond [] [] ≡ Ok diamond_units
 no_goal_named = refl
@@ -100,7 +103,8 @@ source_last = refl
 abbrev siblings : List MakeRule
 siblings = made (c ∷ []) (b ∷ []) ∷ made (a ∷ b ∷ []) (codes "in" ∷ []) ∷ made (d ∷ []) (a ∷ c ∷ []) ∷ []
 
-one_unit : by_rules siblings [] (d ∷ b ∷ []) ≡ Ok (unit_made (a ∷ b ∷ []) (codes "in" ∷ []) ∷ unit_made (c ∷ []) (b ∷ []) ∷ unit_made (d ∷ []) (a ∷ c ∷ []) ∷ [])
+one_unit : by_rules siblings [] (d ∷ b ∷ []) ≡ Ok (unit_made (a ∷ b ∷ []) (codes "in" ∷ []) ∷ unit_made (c ∷ []) (b ∷ [])
+    ∷ unit_made (d ∷ []) (a ∷ c ∷ []) ∷ [])
 one_unit = refl
 
 by_a_sibling : by_rules (made (a ∷ b ∷ []) (c ∷ []) ∷ made (c ∷ []) (b ∷ []) ∷ []) [] (a ∷ []) ≡ Err (Cycle b)
@@ -111,37 +115,45 @@ source_sibling = refl
 
 -- suffix rules, in their order: the first whose source is a file or has a rule
 abbrev to_objects : List SuffixRule
-to_objects = suffix_rule (codes ".c") (codes ".o") ∷ suffix_rule (codes ".s") (codes ".o") ∷ suffix_rule (codes ".y") (codes ".c") ∷ []
+to_objects = suffix_rule (codes ".c") (codes ".o") ∷ suffix_rule (codes ".s") (codes ".o") ∷ suffix_rule (codes ".y") (codes ".c")
+    ∷ []
 
 abbrev with_objects : List MakeRule → List (List ℕ) → List (List ℕ) → Result (List Unit) GraphFault
 with_objects rules files goals = by_suffixes rules to_objects [] files goals
 
-from_a_file : with_objects [] (codes "d/x.c" ∷ codes "d/x.s" ∷ []) (codes "d/x.o" ∷ []) ≡ Ok (unit_served (codes "d/x.o") (codes "d/x.c" ∷ []) ∷ [])
+from_a_file : with_objects [] (codes "d/x.c" ∷ codes "d/x.s" ∷ []) (codes "d/x.o" ∷ [])
+    ≡ Ok (unit_served (codes "d/x.o") (codes "d/x.c" ∷ []) ∷ [])
 from_a_file = refl
 
-from_the_second : with_objects [] (codes "x.s" ∷ codes "y.c" ∷ []) (codes "x.o" ∷ []) ≡ Ok (unit_served (codes "x.o") (codes "x.s" ∷ []) ∷ [])
+from_the_second : with_objects [] (codes "x.s" ∷ codes "y.c" ∷ []) (codes "x.o" ∷ [])
+    ≡ Ok (unit_served (codes "x.o") (codes "x.s" ∷ []) ∷ [])
 from_the_second = refl
 
-from_a_target : with_objects (made (codes "x.s" ∷ []) [] ∷ []) [] (codes "x.o" ∷ []) ≡ Ok (unit_made (codes "x.s" ∷ []) [] ∷ unit_served (codes "x.o") (codes "x.s" ∷ []) ∷ [])
+from_a_target : with_objects (made (codes "x.s" ∷ []) [] ∷ []) [] (codes "x.o" ∷ [])
+    ≡ Ok (unit_made (codes "x.s" ∷ []) [] ∷ unit_served (codes "x.o") (codes "x.s" ∷ []) ∷ [])
 from_a_target = refl
 
 -- a source that a suffix rule alone would serve is none
 no_chain : with_objects [] (codes "x.y" ∷ []) (codes "x.o" ∷ []) ≡ Err (NoGoal (codes "x.o"))
 no_chain = refl
 
--- the source comes to the front of the prerequisites of a rule without a script
-goes_first : with_objects (bare (codes "x.o") (a ∷ codes "x.c" ∷ []) ∷ []) (a ∷ codes "x.c" ∷ []) [] ≡ Ok (unit_served (codes "x.o") (codes "x.c" ∷ a ∷ []) ∷ [])
+-- the source comes to the start of the prerequisites of a rule without a script
+goes_first : with_objects (bare (codes "x.o") (a ∷ codes "x.c" ∷ []) ∷ []) (a ∷ codes "x.c" ∷ []) []
+    ≡ Ok (unit_served (codes "x.o") (codes "x.c" ∷ a ∷ []) ∷ [])
 goes_first = refl
 
-a_prerequisite : with_objects (made (a ∷ []) (codes "x.o" ∷ []) ∷ []) (codes "x.c" ∷ []) [] ≡ Ok (unit_served (codes "x.o") (codes "x.c" ∷ []) ∷ unit_made (a ∷ []) (codes "x.o" ∷ []) ∷ [])
+a_prerequisite : with_objects (made (a ∷ []) (codes "x.o" ∷ []) ∷ []) (codes "x.c" ∷ []) []
+    ≡ Ok (unit_served (codes "x.o") (codes "x.c" ∷ []) ∷ unit_made (a ∷ []) (codes "x.o" ∷ []) ∷ [])
 a_prerequisite = refl
 
 -- a path that is a file, has a script or is phony is served by no suffix rule
-a_file_of_the_view : with_objects (bare (codes "x.o") [] ∷ []) (codes "x.o" ∷ codes "x.c" ∷ []) [] ≡ Ok (unit_bare (codes "x.o") [] ∷ [])
+a_file_of_the_view : with_objects (bare (codes "x.o") [] ∷ []) (codes "x.o" ∷ codes "x.c" ∷ []) []
+    ≡ Ok (unit_bare (codes "x.o") [] ∷ [])
 a_file_of_the_view = refl
 
 with_a_script : with_objects (made (codes "x.o" ∷ []) [] ∷ []) (codes "x.c" ∷ []) [] ≡ Ok (unit_made (codes "x.o" ∷ []) [] ∷ [])
 with_a_script = refl
 
-phony : by_suffixes (bare (codes "x.o") [] ∷ []) to_objects (codes "x.o" ∷ []) (codes "x.c" ∷ []) [] ≡ Ok (unit_bare (codes "x.o") [] ∷ [])
+phony : by_suffixes (bare (codes "x.o") [] ∷ []) to_objects (codes "x.o" ∷ []) (codes "x.c" ∷ []) []
+    ≡ Ok (unit_bare (codes "x.o") [] ∷ [])
 phony = refl

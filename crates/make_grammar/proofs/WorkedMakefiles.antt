@@ -1,11 +1,13 @@
 -- Makefiles worked out by hand from the rules of POSIX make, checked by computation.
-use Rattle.std.proofs.Common.{◌≡◌, ℕ, true, false, if◌then◌else◌, Some, None, Option, Result, Ok, Err, List, [], ◌∷◌, ◌++◌, refl, map}
+use Rattle.std.proofs.Common.{◌≡◌, ℕ, true, false, if◌then◌else◌, Some, None, Option, Result, Ok, Err, List, [], ◌∷◌, ◌++◌, refl}
+use Rattle.std.proofs.Common.{map}
 use Rattle.std.specs.Prelude.{codes, flat_map}
 use Rattle.std.specs.Str.{bytes_eq}
 use Rattle.cc_names.specs.Files.{Files}
 use Rattle.cc_names.specs.declared.commands.Macro.{Macro}
 use Rattle.cc_names.specs.declared.refusals.MakeCause.{MakeCause}
-use Rattle.cc_names.specs.declared.refusals.MakeCause.TheVariants.{BadLine, BadMacro, BadPath, MacroLoop, TwoScripts, PhonyScript, IncludeAbsent, IncludeDepth}
+use Rattle.cc_names.specs.declared.refusals.MakeCause.TheVariants.{BadLine, BadMacro, BadPath, MacroLoop, TwoScripts}
+use Rattle.cc_names.specs.declared.refusals.MakeCause.TheVariants.{PhonyScript, IncludeAbsent, IncludeDepth}
 use Rattle.cc_names.specs.declared.refusals.MakeError.{MakeError}
 use Rattle.make_grammar.specs.LogicalLines.{logical_lines}
 use Rattle.make_grammar.specs.LineKinds.{Kind, Blank, Include, Assignment, Rule, Unclosed, Neither, line_kind, without_comment}
@@ -25,7 +27,8 @@ text lines = flat_map (λ line. line ++ (10 ∷ [])) lines
 abbrev at_line : ℕ → List ℕ → LogicalLine
 at_line n bytes = record { number = n; bytes = bytes }
 
-joined_lines : logical_lines (text (codes "a \\" ∷ codes "  b" ∷ codes "" ∷ codes "c" ∷ [])) ≡ at_line 1 (codes "a  b") ∷ at_line 3 [] ∷ at_line 4 (codes "c") ∷ []
+joined_lines : logical_lines (text (codes "a \\" ∷ codes "  b" ∷ codes "" ∷ codes "c" ∷ [])) ≡ at_line 1 (codes "a  b")
+    ∷ at_line 3 [] ∷ at_line 4 (codes "c") ∷ []
 joined_lines = refl
 
 -- the blanks behind a newline go with it, those before the next backslash too
@@ -40,7 +43,8 @@ joined_to_nothing : logical_lines (text (codes "a\\" ∷ [])) ≡ at_line 1 (cod
 joined_to_nothing = refl
 
 -- a tab behind a joined newline begins no line of a script
-joined_script : logical_lines (text (codes "a:\\" ∷ (9 ∷ codes "b") ∷ (9 ∷ codes "c\\") ∷ (9 ∷ codes "d") ∷ [])) ≡ at_line 1 (codes "a: b") ∷ at_line 3 (9 ∷ codes "c d") ∷ []
+joined_script : logical_lines (text (codes "a:\\" ∷ (9 ∷ codes "b") ∷ (9 ∷ codes "c\\") ∷ (9 ∷ codes "d") ∷ []))
+    ≡ at_line 1 (codes "a: b") ∷ at_line 3 (9 ∷ codes "c d") ∷ []
 joined_script = refl
 
 no_lines : logical_lines [] ≡ []
@@ -83,10 +87,12 @@ unclosed = refl
 abbrev macro : List ℕ → List ℕ → Macro
 macro name value = record { name = name; value = value }
 
-the_pieces : pieces_of (codes "a$$$(B.1)$b$@${c}") ≡ Byte 97 ∷ Byte 36 ∷ Reference (codes "B.1") ∷ Reference (codes "b") ∷ Automatic 64 ∷ Reference (codes "c") ∷ []
+the_pieces : pieces_of (codes "a$$$(B.1)$b$@${c}") ≡ Byte 97 ∷ Byte 36 ∷ Reference (codes "B.1") ∷ Reference (codes "b")
+    ∷ Automatic 64 ∷ Reference (codes "c") ∷ []
 the_pieces = refl
 
-bad_pieces : map pieces_of (codes "$()" ∷ codes "$(@)" ∷ codes "$." ∷ codes "$" ∷ codes "$(a" ∷ codes "${a)" ∷ []) ≡ (Bad ∷ []) ∷ (Bad ∷ []) ∷ (Bad ∷ []) ∷ (Bad ∷ []) ∷ (Bad ∷ []) ∷ (Bad ∷ []) ∷ []
+bad_pieces : map pieces_of (codes "$()" ∷ codes "$(@)" ∷ codes "$." ∷ codes "$" ∷ codes "$(a" ∷ codes "${a)" ∷ []) ≡ (Bad ∷ [])
+    ∷ (Bad ∷ []) ∷ (Bad ∷ []) ∷ (Bad ∷ []) ∷ (Bad ∷ []) ∷ (Bad ∷ []) ∷ []
 bad_pieces = refl
 
 abbrev some_macros : List Macro
@@ -94,7 +100,8 @@ some_macros =
     macro (codes "A") (codes "x$(B)y") ∷ macro (codes "B") (codes "<$C>") ∷ macro (codes "C") (codes "$@") ∷
     macro (codes "L") (codes "l$(M)") ∷ macro (codes "M") (codes "m$(L)n") ∷ []
 
-nested : expansion_of some_macros (in_script (codes "t") None []) (codes "$A $(none)$$") ≡ record { bytes = codes "x<t>y $"; loops = false }
+nested : expansion_of some_macros (in_script (codes "t") None []) (codes "$A $(none)$$")
+    ≡ record { bytes = codes "x<t>y $"; loops = false }
 nested = refl
 
 -- what comes before a loop is there
@@ -109,7 +116,11 @@ file_in [] path = None
 file_in ((name, bytes) ∷ files) path = if bytes_eq name path then Some bytes else file_in files path
 
 abbrev read : List (List ℕ) → Result Contents MakeError
-read lines = makefile_of (file_in ((codes "Makefile", text lines) ∷ (codes "a.mk", text (codes "A = 1" ∷ codes "x: $A" ∷ (9 ∷ codes "one") ∷ [])) ∷ (codes "bad.mk", text ([] ∷ codes "bad" ∷ [])) ∷ (codes "self.mk", text (codes "include self.mk" ∷ [])) ∷ [])) (codes "Makefile") []
+read lines = makefile_of (file_in ((codes "Makefile", text lines) ∷ (
+  codes "a.mk",
+  text (codes "A = 1" ∷ codes "x: $A" ∷ (9 ∷ codes "one") ∷ []),
+) ∷ (codes "bad.mk", text ([] ∷ codes "bad" ∷ []))
+    ∷ (codes "self.mk", text (codes "include self.mk" ∷ [])) ∷ [])) (codes "Makefile") []
 
 abbrev fails : List (List ℕ) → ℕ → MakeCause → Type 0
 fails lines n cause = read lines ≡ Err (record { file = codes "Makefile"; line = n; cause = cause })
@@ -121,7 +132,8 @@ abbrev rule : List (List ℕ) → List (List ℕ) → Option (List ℕ) → Make
 rule targets prerequisites script = record { targets = targets; prerequisites = prerequisites; script = script }
 
 -- the program from its parts
-program : read (codes "# program" ∷ codes "OBJS = main.o util.o" ∷ codes "prog: $(OBJS)" ∷ script (codes "@cat $(OBJS) >$@") ∷ codes ".c.o:" ∷ script (codes "pp $< > $@") ∷ []) ≡
+program : read (codes "# program" ∷ codes "OBJS = main.o util.o" ∷ codes "prog: $(OBJS)" ∷ script (codes "@cat $(OBJS) >$@")
+    ∷ codes ".c.o:" ∷ script (codes "pp $< > $@") ∷ []) ≡
     Ok (record {
       rules = rule (codes "prog" ∷ []) (codes "main.o" ∷ codes "util.o" ∷ []) (Some (text (codes "@cat $(OBJS) >$@" ∷ []))) ∷ [];
       suffix_rules = record { from = codes ".c"; to = codes ".o"; script = text (codes "pp $< > $@" ∷ []) } ∷ [];
@@ -131,11 +143,13 @@ program : read (codes "# program" ∷ codes "OBJS = main.o util.o" ∷ codes "pr
 program = refl
 
 -- targets and prerequisites are joined, each prerequisite once; a script may stand at any of a target's rule lines
-several_rules : read (codes "a b: c d c" ∷ codes "b: e c" ∷ [] ∷ script (codes "echo $@ > b") ∷ script [] ∷ codes "  # on" ∷ script (codes "# said") ∷ codes "a:f" ∷ codes ".PHONY: q a" ∷ []) ≡
+several_rules : read (codes "a b: c d c" ∷ codes "b: e c" ∷ [] ∷ script (codes "echo $@ > b") ∷ script [] ∷ codes "  # on"
+    ∷ script (codes "# said") ∷ codes "a:f" ∷ codes ".PHONY: q a" ∷ []) ≡
     Ok (record {
       rules =
           rule (codes "a" ∷ []) (codes "c" ∷ codes "d" ∷ codes "f" ∷ []) None ∷
-          rule (codes "b" ∷ []) (codes "c" ∷ codes "d" ∷ codes "e" ∷ []) (Some (text (codes "echo $@ > b" ∷ codes "# said" ∷ []))) ∷ [];
+          rule (codes "b" ∷ []) (codes "c" ∷ codes "d" ∷ codes "e" ∷ []) (Some (text (codes "echo $@ > b" ∷ codes "# said" ∷ [])))
+          ∷ [];
       suffix_rules = [];
       phony = codes "q" ∷ codes "a" ∷ [];
       macros = [];
@@ -143,7 +157,8 @@ several_rules : read (codes "a b: c d c" ∷ codes "b: e c" ∷ [] ∷ script (c
 several_rules = refl
 
 -- a group is one rule where it has a script, with what others say of its members in the order of reading
-a_group : read (codes "y: p" ∷ codes "all: x y" ∷ codes "x y x&: in" ∷ script (codes "cat in > x") ∷ codes "x: q p" ∷ codes "u v &: w" ∷ []) ≡
+a_group : read (codes "y: p" ∷ codes "all: x y" ∷ codes "x y x&: in" ∷ script (codes "cat in > x") ∷ codes "x: q p"
+    ∷ codes "u v &: w" ∷ []) ≡
     Ok (record {
       rules =
           rule (codes "x" ∷ codes "y" ∷ []) (codes "p" ∷ codes "in" ∷ codes "q" ∷ []) (Some (text (codes "cat in > x" ∷ []))) ∷
@@ -156,9 +171,11 @@ a_group : read (codes "y: p" ∷ codes "all: x y" ∷ codes "x y x&: in" ∷ scr
 a_group = refl
 
 -- suffixes are added, and cleared by a line without words; a rule is a suffix rule by the list that stands at the end
-the_suffixes : read (codes ".b.a:" ∷ script (codes "1") ∷ codes ".c.o: x" ∷ script (codes "2") ∷ codes ".SUFFIXES:" ∷ codes ".SUFFIXES: .a .b .c .o .a" ∷ codes ".a.b:" ∷ script (codes "3") ∷ codes ".o.h:" ∷ script (codes "4") ∷ []) ≡
+the_suffixes : read (codes ".b.a:" ∷ script (codes "1") ∷ codes ".c.o: x" ∷ script (codes "2") ∷ codes ".SUFFIXES:"
+    ∷ codes ".SUFFIXES: .a .b .c .o .a" ∷ codes ".a.b:" ∷ script (codes "3") ∷ codes ".o.h:" ∷ script (codes "4") ∷ []) ≡
     Ok (record {
-      rules = rule (codes ".c.o" ∷ []) (codes "x" ∷ []) (Some (text (codes "2" ∷ []))) ∷ rule (codes ".o.h" ∷ []) [] (Some (text (codes "4" ∷ []))) ∷ [];
+      rules = rule (codes ".c.o" ∷ []) (codes "x" ∷ []) (Some (text (codes "2" ∷ [])))
+          ∷ rule (codes ".o.h" ∷ []) [] (Some (text (codes "4" ∷ []))) ∷ [];
       suffix_rules =
           record { from = codes ".a"; to = codes ".b"; script = text (codes "3" ∷ []) } ∷
           record { from = codes ".b"; to = codes ".a"; script = text (codes "1" ∷ []) } ∷ [];
@@ -170,7 +187,8 @@ the_suffixes = refl
 -- a file is read in place: its macros count behind it, and a script line behind its line belongs to its last rule
 an_included_file : read (codes "y: $A" ∷ codes "include a.mk" ∷ script (codes "two") ∷ codes "z: $A" ∷ []) ≡
     Ok (record {
-      rules = rule (codes "y" ∷ []) [] None ∷ rule (codes "x" ∷ []) (codes "1" ∷ []) (Some (text (codes "one" ∷ codes "two" ∷ []))) ∷ rule (codes "z" ∷ []) (codes "1" ∷ []) None ∷ [];
+      rules = rule (codes "y" ∷ []) [] None ∷ rule (codes "x" ∷ []) (codes "1" ∷ [])
+          (Some (text (codes "one" ∷ codes "two" ∷ []))) ∷ rule (codes "z" ∷ []) (codes "1" ∷ []) None ∷ [];
       suffix_rules = [];
       phony = [];
       macros = macro (codes "A") (codes "1") ∷ [];
@@ -178,11 +196,19 @@ an_included_file : read (codes "y: $A" ∷ codes "include a.mk" ∷ script (code
 an_included_file = refl
 
 -- the command line's macros come first and are not changed by the makefile
-overridden : makefile_of (λ path. Some (text (codes "B = 2" ∷ codes "A = 3" ∷ codes "B = 4" ∷ []))) (codes "Makefile") (macro (codes "A") (codes "1") ∷ macro (codes "A") (codes "$(B)") ∷ []) ≡
-    Ok (record { rules = []; suffix_rules = []; phony = []; macros = macro (codes "A") (codes "$(B)") ∷ macro (codes "B") (codes "4") ∷ [] })
+overridden : makefile_of (λ path. Some (text (codes "B = 2" ∷ codes "A = 3" ∷ codes "B = 4" ∷ []))) (codes "Makefile")
+    (macro (codes "A") (codes "1") ∷ macro (codes "A") (codes "$(B)") ∷ []) ≡
+    Ok (record {
+      rules = [];
+      suffix_rules = [];
+      phony = [];
+      macros = macro (codes "A") (codes "$(B)")
+          ∷ macro (codes "B") (codes "4") ∷ [];
+    })
 overridden = refl
 
-bad_override : makefile_of (λ path. Some (codes "bad")) (codes "Makefile") (macro (codes "A") (codes "$") ∷ []) ≡ Err (record { file = codes "Makefile"; line = 0; cause = BadMacro })
+bad_override : makefile_of (λ path. Some (codes "bad")) (codes "Makefile") (macro (codes "A") (codes "$") ∷ [])
+    ≡ Err (record { file = codes "Makefile"; line = 0; cause = BadMacro })
 bad_override = refl
 
 -- ---- the first line that fails, and why
@@ -256,11 +282,13 @@ phony_script = refl
 absent : fails (codes "include none b" ∷ []) 1 IncludeAbsent
 absent = refl
 
-in_an_included_file : read (codes "include a.mk bad.mk none" ∷ []) ≡ Err (record { file = codes "bad.mk"; line = 2; cause = BadLine })
+in_an_included_file : read (codes "include a.mk bad.mk none" ∷ []) ≡ Err
+    (record { file = codes "bad.mk"; line = 2; cause = BadLine })
 in_an_included_file = refl
 
 too_deep : read (codes "include self.mk" ∷ []) ≡ Err (record { file = codes "self.mk"; line = 1; cause = IncludeDepth })
 too_deep = refl
 
-the_expansion : expansion (record { rules = []; suffix_rules = []; phony = []; macros = some_macros }) (codes "$A $< $* $@") (codes "t") (Some (codes "f")) (codes "s") ≡ expansions.Lines (codes "x<t>y f s t")
+the_expansion : expansion (record { rules = []; suffix_rules = []; phony = []; macros = some_macros }) (codes "$A $< $* $@")
+    (codes "t") (Some (codes "f")) (codes "s") ≡ expansions.Lines (codes "x<t>y f s t")
 the_expansion = refl

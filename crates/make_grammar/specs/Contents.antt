@@ -1,11 +1,12 @@
 -- What a makefile says, by the rule lines that were read.
-use Rattle.std.specs.Prelude.{ℕ, Bool, not, ◌&&◌, ◌==◌, Option, None, List, [], ◌∷◌, ◌++◌, length, filter, find, flat_map, fold, is_some, unwrap_or, if◌then◌else◌}
+use Rattle.std.specs.Prelude.{ℕ, Bool, not, ◌&&◌, ◌==◌, Option, None, List, [], ◌∷◌, ◌++◌, length, filter, find, flat_map, fold}
+use Rattle.std.specs.Prelude.{is_some, unwrap_or, if◌then◌else◌}
 use Rattle.std.specs.List.{list_any}
 use Rattle.std.specs.Option.{option_or}
 use Rattle.std.specs.Str.{bytes_eq}
 use Rattle.cc_names.specs.declared.commands.Macro.{Macro}
 use Rattle.make_grammar.specs.Macros.{Expansion, is_among, expansion_of, in_script, is_too_long}
-use Rattle.make_grammar.specs.WordPaths.{with_path}
+use Rattle.make_grammar.specs.WordPaths.{with_path_once}
 use Rattle.make_grammar.specs.declared.contents.Expanded.{Expanded}
 use Rattle.make_grammar.specs.declared.contents.Expanded.TheVariants as expansions
 use Rattle.make_grammar.specs.Rules.{MakeRule, SuffixRule}
@@ -46,10 +47,10 @@ abbrev pub made_with : List (List (List ℕ)) → List ℕ → List (List ℕ)
 made_with groups target = unwrap_or (find (λ group. is_among group target) groups) (target ∷ [])
 
 -- a rule to which a rule line was joined: its prerequisites, each once, and its script
-abbrev pub with_line : RuleLine → MakeRule → MakeRule
-with_line line rule =
+abbrev pub with_joined_line : RuleLine → MakeRule → MakeRule
+with_joined_line line rule =
     record rule {
-      prerequisites = fold with_path rule.prerequisites line.prerequisites;
+      prerequisites = fold with_path_once rule.prerequisites line.prerequisites;
       script = option_or line.script rule.script;
     }
 
@@ -59,9 +60,9 @@ rule_without targets = record { targets = targets; prerequisites = []; script = 
 
 -- rules to which a rule line was joined at one of its targets, whose rule may be new
 abbrev pub with_target : List (List (List ℕ)) → RuleLine → List MakeRule → List ℕ → List MakeRule
-with_target groups line [] target = with_line line (rule_without (made_with groups target)) ∷ []
+with_target groups line [] target = with_joined_line line (rule_without (made_with groups target)) ∷ []
 with_target groups line (rule ∷ rules) target =
-    if is_among rule.targets target then with_line line rule ∷ rules else rule ∷ with_target groups line rules target
+    if is_among rule.targets target then with_joined_line line rule ∷ rules else rule ∷ with_target groups line rules target
 
 -- rules to which a rule line was joined
 abbrev pub with_rule_line : List (List (List ℕ)) → List MakeRule → RuleLine → List MakeRule

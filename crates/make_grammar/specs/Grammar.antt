@@ -1,5 +1,6 @@
 -- What a makefile says, or its first line that fails: its lines, and what is tested behind the last of them.
-use Rattle.std.specs.Prelude.{ℕ, false, ◌&&◌, Option, Some, None, Result, Ok, Err, List, [], ◌∷◌, length, reverse, is_some, if◌then◌else◌, codes}
+use Rattle.std.specs.Prelude.{ℕ, false, ◌&&◌, Option, Some, None, Result, Ok, Err, List, [], ◌∷◌, length, reverse, is_some}
+use Rattle.std.specs.Prelude.{if◌then◌else◌, codes}
 use Rattle.std.specs.List.{list_any}
 use Rattle.cc_names.specs.Files.{Files}
 use Rattle.cc_names.specs.declared.commands.Macro.{Macro}
@@ -9,7 +10,8 @@ use Rattle.cc_names.specs.declared.refusals.MakeError.{MakeError}
 use Rattle.make_grammar.specs.LogicalLines.{logical_lines}
 use Rattle.make_grammar.specs.Macros.{is_among, no_automatic, reference_expansion}
 use Rattle.make_grammar.specs.Contents.{Contents, RuleLine, contents_from, groups_of, joined_rules}
-use Rattle.make_grammar.specs.Statements.{Definition, Reading, depth_limit, expansion_fault, reading_of_include, macros_of, override, and_then, read_lines}
+use Rattle.make_grammar.specs.Statements.{Definition, Reading, depth_limit, expansion_fault, reading_of_include, macros_of}
+use Rattle.make_grammar.specs.Statements.{override, if_no_fault, read_lines}
 
 -- the suffixes of a makefile that says nothing of them
 abbrev pub first_suffixes : List (List ℕ)
@@ -32,7 +34,7 @@ nothing_read =
 -- the macros of the command line, one after the other
 abbrev pub with_overrides : List ℕ → List Macro → Reading → Result Reading MakeError
 with_overrides file [] reading = Ok reading
-with_overrides file (macro ∷ macros) reading = and_then (override file reading macro) (with_overrides file macros)
+with_overrides file (macro ∷ macros) reading = if_no_fault (override file reading macro) (with_overrides file macros)
 
 -- a fault at a place, where there is a cause
 abbrev pub at_place : List ℕ → ℕ → Option MakeCause → Option MakeError
@@ -40,15 +42,15 @@ at_place file n None = None
 at_place file n (Some cause) = Some (record { file = file; line = n; cause = cause })
 
 -- one fault, or where there is none another
-abbrev pub fault_or : Option MakeError → Option MakeError → Option MakeError
-fault_or (Some fault) later = Some fault
-fault_or None later = later
+abbrev pub make_fault_or : Option MakeError → Option MakeError → Option MakeError
+make_fault_or (Some fault) later = Some fault
+make_fault_or None later = later
 
 -- the first macro whose expansion is too long or meets itself
 abbrev pub macros_fault : List Macro → List Definition → Option MakeError
 macros_fault macros [] = None
 macros_fault macros (definition ∷ definitions) =
-    fault_or
+    make_fault_or
     (at_place definition.file definition.line
     (expansion_fault (reference_expansion macros no_automatic (length macros) [] definition.name)))
     (macros_fault macros definitions)
@@ -74,7 +76,7 @@ contents_of reading lines =
 -- what is tested behind the last line: each macro in the order of first definition, and then the phony targets
 abbrev pub ending_fault : Reading → Option MakeError
 ending_fault reading =
-    fault_or (macros_fault (macros_of reading.macros) reading.macros) (phony_fault reading.phony (reverse reading.rules))
+    make_fault_or (macros_fault (macros_of reading.macros) reading.macros) (phony_fault reading.phony (reverse reading.rules))
 
 -- what a makefile says, by what was read of it, unless there is a fault behind its last line
 abbrev pub checked_contents : Result Reading MakeError → Result Contents MakeError
@@ -84,7 +86,7 @@ checked_contents (Ok reading) = unless_fault (ending_fault reading) (contents_of
 -- the macros of the command line and then the lines of a makefile, read behind what was read
 abbrev pub lines_behind : Files → List ℕ → List ℕ → List Macro → Reading → Result Reading MakeError
 lines_behind files file text overrides reading =
-    and_then (with_overrides file overrides reading)
+    if_no_fault (with_overrides file overrides reading)
     (read_lines (reading_of_include files depth_limit file) file (logical_lines text))
 
 -- the lines of a makefile, read behind the macros of the command line

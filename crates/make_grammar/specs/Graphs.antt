@@ -1,5 +1,6 @@
 -- The units of a build, in their order, or the refusal in their place.
-use Rattle.std.specs.Prelude.{ℕ, Bool, ◌||◌, not, is_some, Option, Some, None, Result, Ok, Err, List, [], ◌∷◌, map, find, flat_map, slice_get}
+use Rattle.std.specs.Prelude.{ℕ, Bool, ◌||◌, not, is_some, Option, Some, None, Result, Ok, Err, List, [], ◌∷◌, map, find}
+use Rattle.std.specs.Prelude.{flat_map, slice_get}
 use Rattle.std.specs.List.{filter_map}
 use Rattle.cc_names.specs.Files.{Files}
 use Rattle.cc_names.specs.Paths.{root}
@@ -15,7 +16,7 @@ use Rattle.cc_names.specs.declared.units.UnitScript.TheVariants.{Bare}
 use Rattle.make_grammar.specs.Contents.{Contents, expansion}
 use Rattle.make_grammar.specs.Grammar.{makefile_of}
 use Rattle.make_grammar.specs.Serving.{servings}
-use Rattle.make_grammar.specs.Units.{script_of_unit, goals_of, made_by, unless_source, unless_refused, main_file}
+use Rattle.make_grammar.specs.Units.{script_of_unit, goals_of, made_by, unless_source, units_unless_refused, main_file}
 use Rattle.make_grammar.specs.Rules.{Serving}
 use Rattle.make_grammar.specs.Walks.{Walk, number_of, walk_of}
 
@@ -56,7 +57,8 @@ unless_cycle make units is_file (Ok walk) =
     unless_source (find is_file (flat_map made_by (units_walked make units walk.order))) (units_walked make units walk.order)
 
 -- the units of a walk over goals, unless one of them is missing
-abbrev pub unless_missing : Contents → List Serving → (List ℕ → Bool) → List (List ℕ) → Option (List ℕ) → Result (List Unit) GraphFault
+abbrev pub unless_missing : Contents → List Serving → (List ℕ → Bool) → List (List ℕ) → Option (List ℕ)
+    → Result (List Unit) GraphFault
 unless_missing make units is_file goals (Some goal) = Err (graphs.NoGoal goal)
 unless_missing make units is_file goals None = unless_cycle make units is_file (walk_of units goals)
 
@@ -66,12 +68,13 @@ graph_by make units is_file goals = unless_missing make units is_file goals (mis
 
 -- The units of a build of these goals, by the rules of a makefile and the test of what is a file of the view.
 abbrev pub graph_of : Contents → List (List ℕ) → (List ℕ → Bool) → Result (List Unit) GraphFault
-graph_of make goals is_file = graph_by make (servings make is_file (goals_of make.rules goals)) is_file (goals_of make.rules goals)
+graph_of make goals is_file = graph_by make (servings make is_file (goals_of make.rules goals)) is_file
+    (goals_of make.rules goals)
 
 -- the units of a makefile that was read, or the refusal
 abbrev pub units_of : Files → List (List ℕ) → Result Contents MakeError → Result (List Unit) Refusal
 units_of files goals (Err fault) = Err (refusals.MakeError fault.file fault.line fault.cause)
-units_of files goals (Ok make) = unless_refused (graph_of make goals (λ path. is_some (files path)))
+units_of files goals (Ok make) = units_unless_refused (graph_of make goals (λ path. is_some (files path)))
 
 -- the units of the makefile at this path, which may be no file
 abbrev pub units_at : Files → List Macro → List (List ℕ) → List ℕ → Option (List ℕ) → Result (List Unit) Refusal

@@ -1,5 +1,6 @@
 -- What a line of a makefile is, where it is no line of a script.
-use Rattle.std.specs.Prelude.{ℕ, Bool, true, false, not, ◌&&◌, ◌||◌, ◌==◌, Option, Some, None, List, [], ◌∷◌, take, drop, reverse, slice_get, if◌then◌else◌, codes}
+use Rattle.std.specs.Prelude.{ℕ, Bool, true, false, not, ◌&&◌, ◌||◌, ◌==◌, Option, Some, None, List, [], ◌∷◌, take, drop}
+use Rattle.std.specs.Prelude.{reverse, slice_get, if◌then◌else◌, codes}
 use Rattle.std.specs.List.{before_first}
 use Rattle.std.specs.Str.{bytes_eq}
 use Rattle.cc_names.specs.Cuts.{is_blank}
@@ -12,7 +13,7 @@ use Rattle.make_grammar.specs.declared.line_kinds.Position.TheVariants.{Outside,
 pub data Kind : Type 0 where
   -- nothing, or blanks
   Blank : Kind
-  -- `include` and what stands behind it
+  -- `include` and what follows it
   Include : List ℕ → Kind
   -- what stands before the `=` and behind it
   Assignment : List ℕ → List ℕ → Kind
@@ -40,7 +41,7 @@ abbrev pub is_blank_byte : Option ℕ → Bool
 is_blank_byte None = false
 is_blank_byte (Some b) = is_blank b
 
--- what stands behind the word `include`, where bytes begin with it and a blank follows
+-- what follows the word `include`, where bytes begin with it and a blank follows
 abbrev pub behind_include : List ℕ → Option (List ℕ)
 behind_include bytes =
     if bytes_eq (take 7 bytes) (codes "include") && is_blank_byte (slice_get bytes 7) then Some (drop 7 bytes) else None
@@ -52,19 +53,19 @@ behind_byte Dollar b = if b == 40 then Within 41 else if b == 123 then Within 12
 behind_byte (Within close) b = if b == close then Outside else Within close
 
 -- whether a position is inside a reference
-abbrev pub is_within : Position → Bool
-is_within (Within close) = true
-is_within position = false
+abbrev pub is_in_reference : Position → Bool
+is_in_reference (Within close) = true
+is_in_reference position = false
 
 -- whether a byte decides what the line is: a `=` or `:` outside a macro reference
-abbrev pub decides : Position → ℕ → Bool
-decides position b = not (is_within position) && ((b == 61) || (b == 58))
+abbrev pub is_deciding_byte : Position → ℕ → Bool
+is_deciding_byte position b = not (is_in_reference position) && ((b == 61) || (b == 58))
 
--- the kind that a byte decides, by what stands behind it
+-- the kind that a byte decides, by what follows it
 abbrev pub kind_by_byte : ℕ → List ℕ → Kind
 kind_by_byte b behind = if b == 61 then Assignment [] behind else Rule [] behind
 
--- a byte in front of what stands before the `=` or `:`
+-- a byte before what stands before the `=` or `:`
 abbrev pub with_byte : ℕ → Kind → Kind
 with_byte b (Assignment before behind) = Assignment (b ∷ before) behind
 with_byte b (Rule before behind) = Rule (b ∷ before) behind
@@ -72,9 +73,9 @@ with_byte b kind = kind
 
 -- the kind by the first `=` or `:` outside a macro reference
 abbrev pub kind_from : Position → List ℕ → Kind
-kind_from position [] = if is_within position then Unclosed else Neither
+kind_from position [] = if is_in_reference position then Unclosed else Neither
 kind_from position (b ∷ bs) =
-    if decides position b then kind_by_byte b bs else with_byte b (kind_from (behind_byte position b) bs)
+    if is_deciding_byte position b then kind_by_byte b bs else with_byte b (kind_from (behind_byte position b) bs)
 
 -- the kind where the bytes may begin with `include`
 abbrev pub kind_or_include : Option (List ℕ) → List ℕ → Kind

@@ -9,7 +9,7 @@ use Rattle.make_grammar.specs.declared.logical_lines.LogicalLine.{LogicalLine}
 abbrev pub next_number : ℕ → ℕ
 next_number n = min (n + 1) 4294967295
 
--- bytes without the blanks at their front
+-- bytes without the blanks at their start
 abbrev pub past_blanks : List ℕ → List ℕ
 past_blanks [] = []
 past_blanks (b ∷ bs) = if is_blank b then past_blanks bs else b ∷ bs
@@ -20,10 +20,10 @@ abbrev pub part_of : Bool → List ℕ → List ℕ
 part_of joined line = if joined then past_blanks line else line
 
 -- without the last byte
-abbrev pub without_last : List ℕ → List ℕ
-without_last bytes = take (length bytes - 1) bytes
+abbrev pub without_last_byte : List ℕ → List ℕ
+without_last_byte bytes = take (length bytes - 1) bytes
 
--- a part and a space in front of the line that follows, which may be missing
+-- a part and a space before the line that follows, which may be missing
 abbrev pub before_line : ℕ → List ℕ → List LogicalLine → List LogicalLine
 before_line n part [] = record { number = n; bytes = part ++ (32 ∷ []) } ∷ []
 before_line n part (line ∷ lines) = record { number = n; bytes = part ++ (32 ∷ line.bytes) } ∷ lines
@@ -36,7 +36,7 @@ last_line n (b ∷ bs) = record { number = n; bytes = b ∷ bs } ∷ []
 -- a part that a newline ends, with the logical lines that follow where it is joined to them and where it is not
 abbrev pub ended_line : ℕ → List ℕ → List LogicalLine → List LogicalLine → List LogicalLine
 ended_line n part joined apart =
-    if is_joined part then before_line n (without_last part) joined
+    if is_joined part then before_line n (without_last_byte part) joined
     else record { number = n; bytes = part } ∷ apart
 
 -- the logical lines in what newlines part, numbered from here on; the first may be joined to what stands above

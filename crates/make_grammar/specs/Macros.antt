@@ -1,5 +1,6 @@
 -- What the macro references in a text are, and what a text expands to.
-use Rattle.std.specs.Prelude.{ℕ, zero, suc, Bool, true, false, ◌&&◌, ◌||◌, ◌==◌, nat_le, nat_lt, Option, Some, None, List, [], ◌∷◌, ◌++◌, length, unwrap_or, if◌then◌else◌}
+use Rattle.std.specs.Prelude.{ℕ, zero, suc, Bool, true, false, ◌&&◌, ◌||◌, ◌==◌, nat_le, nat_lt, Option, Some, None, List, []}
+use Rattle.std.specs.Prelude.{◌∷◌, ◌++◌, length, unwrap_or, if◌then◌else◌}
 use Rattle.std.specs.List.{list_any, list_all}
 use Rattle.std.specs.Str.{bytes_eq}
 use Rattle.cc_names.specs.declared.commands.Macro.{Macro}
@@ -69,13 +70,13 @@ abbrev pub pieces_of : List ℕ → List Piece
 pieces_of text = pieces_from Plain text
 
 -- a `$` that begins no macro reference
-abbrev pub is_bad : Piece → Bool
-is_bad Bad = true
-is_bad piece = false
+abbrev pub is_bad_dollar : Piece → Bool
+is_bad_dollar Bad = true
+is_bad_dollar piece = false
 
 -- whether a text has a `$` that begins no macro reference
 abbrev pub has_bad_dollar : List ℕ → Bool
-has_bad_dollar text = list_any is_bad (pieces_of text)
+has_bad_dollar text = list_any is_bad_dollar (pieces_of text)
 
 -- what an expansion gives: its bytes, up to where it meets a macro that is being expanded, if it does
 pub record Expansion : Type 0 where

@@ -26,7 +26,7 @@ abbrev pub IsRule : MakeRule → Type 0
 IsRule rule = AreTargets rule.targets × ArePrerequisites rule.prerequisites
 
 -- The form of what a makefile says: of its rules, of which no two have a target.
-pub record IsFormed (make : Contents) : Type 0 where
+pub record IsFormedMakefile (make : Contents) : Type 0 where
   pub rules : AllByRecursion IsRule make.rules
   pub apart : IsDistinct bytes_eq (flat_map targets_of make.rules)
 
@@ -49,20 +49,21 @@ made_by_unit unit = unit.targets
 pub record InOrder (units : List Unit) : Type 0 where
   pub one : (n : ℕ) (unit : Unit) (path : List ℕ) → slice_get units n ≡ Some unit → is_among unit.targets path ≡ true →
       number_from made_by_unit 0 path units ≡ Some n
-  pub earlier : (n m : ℕ) (unit : Unit) (path : List ℕ) → slice_get units n ≡ Some unit → is_among unit.prerequisites path ≡ true →
+  pub earlier : (n m : ℕ) (unit : Unit) (path : List ℕ) → slice_get units n ≡ Some unit → is_among unit.prerequisites path ≡ true
+      →
       number_from made_by_unit 0 path units ≡ Some m → m < n
 
 -- The units of a build are in order.
 abbrev pub UnitsInOrder : Type 0
 UnitsInOrder = (make : Contents) (goals : List (List ℕ)) (is_file : List ℕ → Bool) (units : List Unit) →
-    IsFormed make → graph_of make goals is_file ≡ Ok units → InOrder units
+    IsFormedMakefile make → graph_of make goals is_file ≡ Ok units → InOrder units
 
 -- Each of them is formed.
 abbrev pub UnitsFormed : Type 0
 UnitsFormed = (make : Contents) (goals : List (List ℕ)) (is_file : List ℕ → Bool) (units : List Unit) →
-    IsFormed make → graph_of make goals is_file ≡ Ok units → AllByRecursion IsUnit units
+    IsFormedMakefile make → graph_of make goals is_file ≡ Ok units → AllByRecursion IsUnit units
 
 -- Every makefile that is read is formed.
 abbrev pub MakefilesAreFormed : Type 0
 MakefilesAreFormed = (files : Files) (file : List ℕ) (overrides : List Macro) (make : Contents) →
-    makefile_of files file overrides ≡ Ok make → IsFormed make
+    makefile_of files file overrides ≡ Ok make → IsFormedMakefile make

@@ -1,5 +1,6 @@
 -- What the units of a build are made of: rules, goals, expanded scripts, and the refusals in their place.
-use Rattle.std.specs.Prelude.{ℕ, Bool, true, false, not, is_some, Option, Some, None, Result, Ok, Err, List, [], ◌∷◌, find, flat_map, if◌then◌else◌, codes}
+use Rattle.std.specs.Prelude.{ℕ, Bool, true, false, not, is_some, Option, Some, None, Result, Ok, Err, List, [], ◌∷◌, find}
+use Rattle.std.specs.Prelude.{flat_map, if◌then◌else◌, codes}
 use Rattle.std.specs.List.{list_any}
 use Rattle.std.specs.Str.{bytes_eq}
 use Rattle.cc_names.specs.Files.{Files}
@@ -25,8 +26,8 @@ abbrev pub targets_of : MakeRule → List (List ℕ)
 targets_of rule = rule.targets
 
 -- whether a rule makes the path
-abbrev pub is_target : List MakeRule → List ℕ → Bool
-is_target rules path = list_any (bytes_eq path) (flat_map targets_of rules)
+abbrev pub is_rule_target : List MakeRule → List ℕ → Bool
+is_rule_target rules path = list_any (bytes_eq path) (flat_map targets_of rules)
 
 -- a path where there is one
 abbrev pub path_list : Option (List ℕ) → List (List ℕ)
@@ -60,9 +61,9 @@ refusal_of (graphs.Cycle path) = refusals.Cycle path
 refusal_of (graphs.TargetIsSource path) = refusals.TargetIsSource path
 
 -- units, or the refusal
-abbrev pub unless_refused : Result (List Unit) GraphFault → Result (List Unit) Refusal
-unless_refused (Ok units) = Ok units
-unless_refused (Err fault) = Err (refusal_of fault)
+abbrev pub units_unless_refused : Result (List Unit) GraphFault → Result (List Unit) Refusal
+units_unless_refused (Ok units) = Ok units
+units_unless_refused (Err fault) = Err (refusal_of fault)
 
 -- the makefile of a build: the one that is named, else `makefile` where it is a file of the view, else `Makefile`
 abbrev pub main_file : Files → Option (List ℕ) → List ℕ

@@ -1,5 +1,6 @@
 -- The walk over the goals of a build: depth first, prerequisites before what is made of them.
-use Rattle.std.specs.Prelude.{ℕ, suc, zero, Option, Some, None, Result, Ok, Err, List, [], ◌∷◌, ◌++◌, length, slice_get, slice_set, replicate}
+use Rattle.std.specs.Prelude.{ℕ, suc, zero, Option, Some, None, Result, Ok, Err, List, [], ◌∷◌, ◌++◌, length, slice_get}
+use Rattle.std.specs.Prelude.{slice_set, replicate}
 use Rattle.make_grammar.specs.Numbers.{number_from}
 use Rattle.make_grammar.specs.Rules.{Serving}
 use Rattle.make_grammar.specs.declared.walks.Mark.{Mark}
@@ -28,14 +29,14 @@ abbrev pub with_done_unit : ℕ → Walk → Walk
 with_done_unit n walk = record { marks = slice_set walk.marks n Done; order = walk.order ++ n ∷ [] }
 
 -- a walk that goes on, unless a path was met again
-abbrev pub and_then : Result Walk (List ℕ) → (Walk → Result Walk (List ℕ)) → Result Walk (List ℕ)
-and_then (Ok walk) more = more walk
-and_then (Err path) more = Err path
+abbrev pub walk_then : Result Walk (List ℕ) → (Walk → Result Walk (List ℕ)) → Result Walk (List ℕ)
+walk_then (Ok walk) more = more walk
+walk_then (Err path) more = Err path
 
 -- a walk that takes paths in their order
 abbrev pub each_of : (List ℕ → Walk → Result Walk (List ℕ)) → List (List ℕ) → Walk → Result Walk (List ℕ)
 each_of take_path [] walk = Ok walk
-each_of take_path (path ∷ paths) walk = and_then (take_path path walk) (each_of take_path paths)
+each_of take_path (path ∷ paths) walk = walk_then (take_path path walk) (each_of take_path paths)
 
 -- A walk that takes a path: a path that no unit makes is past, and so is one whose unit is done. One whose unit is still open
 -- is met again, and the walk ends with that path. Else its unit is opened, its prerequisites are taken, and it is closed.
@@ -48,7 +49,8 @@ take_path (suc depth) units path walk =
       | None ↦ Ok walk
       | Some n ↦ elim (slice_get walk.marks n) [
         | None ↦ Ok walk
-        | Some New ↦ and_then (each_of (take_path depth units) (prerequisites_at (slice_get units n)) (with_open_unit n walk)) (λ later. Ok (with_done_unit n later))
+        | Some New ↦ walk_then (each_of (take_path depth units) (prerequisites_at (slice_get units n)) (with_open_unit n walk))
+            (λ later. Ok (with_done_unit n later))
         | Some Open ↦ Err path
         | Some Done ↦ Ok walk
       ]
@@ -56,4 +58,5 @@ take_path (suc depth) units path walk =
 
 -- the walk over goals, or the path by which it met a unit again
 abbrev pub walk_of : List Serving → List (List ℕ) → Result Walk (List ℕ)
-walk_of units goals = each_of (take_path (suc (length units)) units) goals (record { marks = replicate (length units) New; order = [] })
+walk_of units goals = each_of (take_path (suc (length units)) units) goals
+    (record { marks = replicate (length units) New; order = [] })

@@ -12,25 +12,25 @@ unless_root None = None
 unless_root (Some path) = if is_root path then None else Some path
 
 -- a word as a path below the root, where it is one
-abbrev pub path_in : List ℕ → Option (List ℕ)
-path_in word = unless_root (result_ok (path_of word))
+abbrev pub path_below_root : List ℕ → Option (List ℕ)
+path_below_root word = unless_root (result_ok (path_of word))
 
 -- words as paths below the root, where all of them are so
-abbrev pub paths_of : List (List ℕ) → Option (List (List ℕ))
-paths_of words = paths_read path_in words
+abbrev pub paths_below_root : List (List ℕ) → Option (List (List ℕ))
+paths_below_root words = paths_read path_below_root words
 
 -- a path behind paths, unless it stands there
-abbrev pub with_path : List (List ℕ) → List ℕ → List (List ℕ)
-with_path paths path = if list_any (bytes_eq path) paths then paths else paths ++ path ∷ []
+abbrev pub with_path_once : List (List ℕ) → List ℕ → List (List ℕ)
+with_path_once paths path = if list_any (bytes_eq path) paths then paths else paths ++ path ∷ []
 
 -- paths, each of them once
 abbrev pub each_once : List (List ℕ) → List (List ℕ)
-each_once paths = fold with_path [] paths
+each_once paths = fold with_path_once [] paths
 
 -- lists of paths put together, each path once
 abbrev pub once_joined : List (List (List ℕ)) → List (List ℕ)
-once_joined parts = fold (fold with_path) [] parts
+once_joined parts = fold (fold with_path_once) [] parts
 
--- a `.` at the front
+-- a `.` at the start
 abbrev pub begins_with_period : List ℕ → Bool
 begins_with_period path = is_byte 46 (slice_get path 0)

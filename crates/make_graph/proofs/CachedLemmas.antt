@@ -1,5 +1,6 @@
 -- The closures that are kept, one after the other.
-use Rattle.std.proofs.Common.{◌≡◌, ◌⊎◌, inl, inr, refl, sym, ap, ◌∙◌, ℕ, zero, suc, ◌<◌, ◌==◌, nat_lt, Bool, true, false, ◌||◌, ◌&&◌, Option, Some, None, List, [], ◌∷◌, ◌++◌, length, map, take, get_or, arith}
+use Rattle.std.proofs.Common.{◌≡◌, ◌⊎◌, inl, inr, refl, sym, ap, ◌∙◌, ℕ, zero, suc, ◌<◌, ◌==◌, nat_lt, Bool, true, false, ◌||◌}
+use Rattle.std.proofs.Common.{◌&&◌, Option, Some, None, List, [], ◌∷◌, ◌++◌, length, map, take, get_or, arith}
 use Rattle.std.proofs.lemmas.Bool.{ltb-true, lt-ltb}
 use Rattle.std.proofs.lemmas.Option.{slice_get_within, slice_get-get_or, slice_get_read, slice_get-map}
 use Rattle.std.proofs.lemmas.List.{length-take}
@@ -21,7 +22,8 @@ put_get (first ∷ sets) set (suc k) found h =
     elim (put_get sets set k found h) [ inl before ↦ inl before | inr (at, is) ↦ inr (ap suc at, is) ]
 
 -- what a set brings is what its unit brings
-same_brought : (units : List Unit) (sets : List (List Bool)) (n m : ℕ) → AreClosures units sets → brings_marked sets n m ≡ brings units (length sets) n m
+same_brought : (units : List Unit) (sets : List (List Bool)) (n m : ℕ) → AreClosures units sets
+    → brings_marked sets n m ≡ brings units (length sets) n m
 same_brought units sets n m closures = by (slice_get sets m) refl
   where
     by : (o : Option (List Bool)) → slice_get sets m ≡ o → is_brought n m o ≡ brings units (length sets) n m
@@ -60,7 +62,8 @@ closure_put units sets set makers closures made marks k found is n =
           ∙ ap (λ j. is_in (closure_of units j) n) (sym at)))))
     ]
 
-pub room_put : (sets : List (List Bool)) (set : List Bool) → HaveRooms sets → length set ≡ room_below (length sets) → HaveRooms (sets ++ set ∷ [])
+pub room_put : (sets : List (List Bool)) (set : List Bool) → HaveRooms sets → length set ≡ room_below (length sets)
+    → HaveRooms (sets ++ set ∷ [])
 room_put sets set rooms room k found is =
     elim (put_get sets set k found is) [
       | inl before ↦ rooms k found before
@@ -76,12 +79,14 @@ maker_at units makers k made all within at =
     (sym (slice_get-map (λ (unit : Unit). makers_of units unit.prerequisites) units k)
     ∙ (ap (λ (l : List (List ℕ)). slice_get l k) (sym all) ∙ slice_get_read makers (length makers) k made refl within at))
   where
-    by : (o : Option Unit) → option_map (λ (unit : Unit). makers_of units unit.prerequisites) o ≡ Some made → made ≡ makers_of units (prerequisites_of o)
+    by : (o : Option Unit) → option_map (λ (unit : Unit). makers_of units unit.prerequisites) o ≡ Some made
+        → made ≡ makers_of units (prerequisites_of o)
     by None h = absurd (cc)
     by (Some unit) h = cc
 
 -- one number more, and then all of another set
-pub put_two : (n maker : ℕ) (old one new other : List Bool) (sets : List (List Bool)) → is_marked one n ≡ (is_marked old n || (n == maker)) →
+pub put_two : (n maker : ℕ) (old one new other : List Bool) (sets : List (List Bool))
+    → is_marked one n ≡ (is_marked old n || (n == maker)) →
     is_marked new n ≡ (is_marked one n || is_marked other n) → slice_get sets maker ≡ Some other →
     is_marked new n ≡ (is_marked old n || brings_marked sets n maker)
 put_two n maker old one new other sets first second is =
@@ -96,7 +101,8 @@ put_two n maker old one new other sets first second is =
 
 pub put_none : (n maker : ℕ) (old : List Bool) (sets : List (List Bool)) → slice_get sets maker ≡ None →
     is_marked old n ≡ (is_marked old n || brings_marked sets n maker)
-put_none n maker old sets is = sym (ap (λ (o : Option (List Bool)). is_marked old n || is_brought n maker o) is ∙ or_false (is_marked old n))
+put_none n maker old sets is = sym (ap (λ (o : Option (List Bool)). is_marked old n || is_brought n maker o) is
+    ∙ or_false (is_marked old n))
   where
     or_false : (x : Bool) → (x || false) ≡ x
     or_false true = refl

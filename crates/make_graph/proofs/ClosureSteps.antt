@@ -1,5 +1,6 @@
 -- What a unit stands on, by what those that make its prerequisites stand on.
-use Rattle.std.proofs.Common.{◌≡◌, refl, sym, subst, ◌∙◌, ℕ, ◌<◌, ◌==◌, nat_lt, Bool, true, false, ◌||◌, ◌&&◌, inl, inr, List, [], ◌∷◌, arith}
+use Rattle.std.proofs.Common.{◌≡◌, refl, sym, subst, ◌∙◌, ℕ, ◌<◌, ◌==◌, nat_lt, Bool, true, false, ◌||◌, ◌&&◌, inl, inr, List}
+use Rattle.std.proofs.Common.{[], ◌∷◌, arith}
 use Rattle.std.proofs.lemmas.Bool.{ltb-true, lt-ltb}
 use Rattle.std.specs.List.{list_any}
 use Rattle.cc_names.specs.declared.units.Unit.{Unit}
@@ -28,7 +29,8 @@ same_truth false true f g = g refl
 same_truth false false f g = refl
 
 -- one of the numbers that has a test
-one_of : (test : ℕ → Bool) (numbers : List ℕ) → list_any test numbers ≡ true → (m : ℕ) × ((is_in numbers m ≡ true) × (test m ≡ true))
+one_of : (test : ℕ → Bool) (numbers : List ℕ) → list_any test numbers ≡ true → (m : ℕ)
+    × ((is_in numbers m ≡ true) × (test m ≡ true))
 one_of test [] h = absurd (cc)
 one_of test (k ∷ numbers) h =
     elim (either (test k) (list_any test numbers) h) [
@@ -47,29 +49,37 @@ any_of test (k ∷ numbers) m h is =
 -- a unit is stood on by one that a maker brings
 pub closure_step : (units : List Unit) (unit n : ℕ) →
     is_in (closure_of units unit) n ≡ list_any (brings units unit n) (makers_of units (prerequisites_at units unit))
-closure_step units unit n = same_truth (is_in (closure_of units unit) n) (list_any (brings units unit n) (makers_of units (prerequisites_at units unit))) down up
+closure_step units unit n = same_truth (is_in (closure_of units unit) n)
+    (list_any (brings units unit n) (makers_of units (prerequisites_at units unit))) down up
   where
-    down : is_in (closure_of units unit) n ≡ true → list_any (brings units unit n) (makers_of units (prerequisites_at units unit)) ≡ true
+    down : is_in (closure_of units unit) n ≡ true → list_any (brings units unit n) (makers_of units (prerequisites_at units unit))
+        ≡ true
     down h = by ((closure_is units unit n).0 h)
       where
-        by : Needs units unit (prerequisites_at units unit) n → list_any (brings units unit n) (makers_of units (prerequisites_at units unit)) ≡ true
+        by : Needs units unit (prerequisites_at units unit) n → list_any (brings units unit n)
+            (makers_of units (prerequisites_at units unit)) ≡ true
         by (Directly lt makes) =
-            any_of (brings units unit n) (makers_of units (prerequisites_at units unit)) n (is_maker units (prerequisites_at units unit) n ∙ makes)
+            any_of (brings units unit n) (makers_of units (prerequisites_at units unit)) n
+            (is_maker units (prerequisites_at units unit) n ∙ makes)
             (both_are (nat_lt n unit) _ (lt-ltb _ _ lt) (left_is (n == n) _ (itself n n refl)))
         by (Through {m = m} lt makes more) =
-            any_of (brings units unit n) (makers_of units (prerequisites_at units unit)) m (is_maker units (prerequisites_at units unit) m ∙ makes)
+            any_of (brings units unit n) (makers_of units (prerequisites_at units unit)) m
+            (is_maker units (prerequisites_at units unit) m ∙ makes)
             (both_are (nat_lt m unit) _ (lt-ltb _ _ lt) (right_is (n == m) _ ((closure_is units m n).1 more)))
 
-    up : list_any (brings units unit n) (makers_of units (prerequisites_at units unit)) ≡ true → is_in (closure_of units unit) n ≡ true
+    up : list_any (brings units unit n) (makers_of units (prerequisites_at units unit)) ≡ true
+        → is_in (closure_of units unit) n ≡ true
     up h =
         let found = one_of (brings units unit n) (makers_of units (prerequisites_at units unit)) h in
         let m = found.0 in
-        let makes : makes_one units (prerequisites_at units unit) m ≡ true = sym (is_maker units (prerequisites_at units unit) m) ∙ found.1.0 in
+        let makes : makes_one units (prerequisites_at units unit) m ≡ true = sym (is_maker units (prerequisites_at units unit) m)
+        ∙ found.1.0 in
         let parts = both (nat_lt m unit) ((n == m) || is_in (closure_of units m) n) found.1.1 in
         let lt : m < unit = ltb-true _ _ parts.0 in
         elim (either (n == m) (is_in (closure_of units m) n) parts.1) [
           | inl same ↦
               let at = same_number n m same in
-              (closure_is units unit n).1 (Directly (omega (arith, at, lt)) (subst (λ (j : ℕ). makes_one units (prerequisites_at units unit) j ≡ true) (sym at) makes))
+              (closure_is units unit n).1 (Directly (omega (arith, at, lt))
+              (subst (λ (j : ℕ). makes_one units (prerequisites_at units unit) j ≡ true) (sym at) makes))
           | inr stands ↦ (closure_is units unit n).1 (Through lt makes ((closure_is units m n).0 stands))
         ]

@@ -1,5 +1,7 @@
 -- Units named among the dependants of others.
-use Rattle.std.proofs.Common.{◌≡◌, refl, sym, ap, ◌∙◌, ℕ, zero, suc, ◌+◌, ◌-◌, ◌<◌, ◌≤◌, ◌==◌, Bool, true, false, cond, ◌||◌, ◌&&◌, ◌⊎◌, inl, inr, Option, Some, None, List, [], ◌∷◌, ◌++◌, length, get_or, take, arith, zero-add, add-one}
+use Rattle.std.proofs.Common.{◌≡◌, refl, sym, ap, ◌∙◌, ℕ, zero, suc, ◌+◌, ◌-◌, ◌<◌, ◌≤◌, ◌==◌, Bool, true, false, cond, ◌||◌}
+use Rattle.std.proofs.Common.{◌&&◌, ◌⊎◌, inl, inr, Option, Some, None, List, [], ◌∷◌, ◌++◌, length, get_or, take, arith}
+use Rattle.std.proofs.Common.{zero-add, add-one}
 use Rattle.std.proofs.lemmas.Bool.{cases_lt, ne_eqb}
 use Rattle.std.proofs.lemmas.List.{append-nil, get_or_at, length_push}
 use Rattle.std.proofs.lemmas.List.Elements.{filter-append}
@@ -10,7 +12,7 @@ use Rattle.std.proofs.lemmas.Option.{slice_get-get_or, slice_get_past}
 use Rattle.std.specs.List.{filter, range_with_len, slice_get}
 use Rattle.cc_names.specs.Versions.{is_number}
 use Rattle.cc_names.specs.declared.units.Unit.{Unit}
-use Rattle.make_graph.specs.Dependants.{is_last, with_last, named_if, Names}
+use Rattle.make_graph.specs.Dependants.{is_last, with_last, named_if, NamesDependant}
 use Rattle.make_graph.specs.Waits.{is_in, makes_one, makers_of, prerequisites_of, prerequisites_at, dependants_of}
 use Rattle.make_graph.proofs.NeedLemmas.{same_number, itself}
 use Rattle.make_graph.proofs.MakerLemmas.{is_maker}
@@ -48,11 +50,12 @@ named_twice false b n numbers = refl
 
 -- ---- a number put behind some of the lists
 
-pub names_none : (n : ℕ) (lists : List (List ℕ)) → Names (is_in []) n lists lists
+pub names_none : (n : ℕ) (lists : List (List ℕ)) → NamesDependant (is_in []) n lists lists
 names_none n lists = record { size = refl; lists = λ m h. refl }
 
 pub names_more : (makers : List ℕ) (i n : ℕ) (old mid new : List (List ℕ)) → i < length makers →
-    Names (is_in (take i makers)) n old mid → Names (λ m. m == get_or makers i 0) n mid new → Names (is_in (take (i + 1) makers)) n old new
+    NamesDependant (is_in (take i makers)) n old mid → NamesDependant (λ m. m == get_or makers i 0) n mid new
+    → NamesDependant (is_in (take (i + 1) makers)) n old new
 names_more makers i n old mid new within first second = record {
   size = second.size ∙ first.size;
   lists = λ m h.
@@ -73,7 +76,8 @@ range_more a zero = ap (λ n. n ∷ []) (omega arith)
 range_more a (suc k) =
     ap (λ (l : List ℕ). a ∷ l) (range_more (a + 1) k ∙ ap (λ n. range_with_len (a + 1) k ++ n ∷ []) (omega arith))
 
-filter_more : (p : ℕ → Bool) (k : ℕ) → filter p (range_with_len 0 (k + 1)) ≡ filter p (range_with_len 0 k) ++ cond (p k) (k ∷ []) []
+filter_more : (p : ℕ → Bool) (k : ℕ) → filter p (range_with_len 0 (k + 1)) ≡ filter p (range_with_len 0 k)
+    ++ cond (p k) (k ∷ []) []
 filter_more p k =
     ap (λ n. filter p (range_with_len 0 n)) (add-one k)
     ∙ (ap (filter p) (range_more 0 k)
@@ -87,7 +91,8 @@ all_below p a (suc k) j x h = by (λ i is. all_below p (a + 1) k i x is) (p a) j
     later : List ℕ
     later = filter p (range_with_len (a + 1) k)
 
-    by : ((i : ℕ) → slice_get later i ≡ Some x → x < (a + 1) + k) → (b : Bool) (i : ℕ) → slice_get (cond b (a ∷ later) later) i ≡ Some x → x < a + suc k
+    by : ((i : ℕ) → slice_get later i ≡ Some x → x < (a + 1) + k) → (b : Bool) (i : ℕ)
+        → slice_get (cond b (a ∷ later) later) i ≡ Some x → x < a + suc k
     by rest true zero is = let same : a ≡ x = cc in omega arith
     by rest true (suc i) is = omega (arith, rest i is)
     by rest false i is = omega (arith, rest i is)
@@ -98,7 +103,8 @@ not_last p k = by (slice_get numbers (length numbers - 1)) refl
     numbers : List ℕ
     numbers = filter p (range_with_len 0 k)
 
-    by : (o : Option ℕ) → slice_get (filter p (range_with_len 0 k)) (length (filter p (range_with_len 0 k)) - 1) ≡ o → is_number k o ≡ false
+    by : (o : Option ℕ) → slice_get (filter p (range_with_len 0 k)) (length (filter p (range_with_len 0 k)) - 1) ≡ o
+        → is_number k o ≡ false
     by None h = refl
     by (Some x) h = ne_eqb k x (λ same. omega (arith, same, all_below p 0 k _ x h))
 
@@ -107,14 +113,16 @@ named_behind : (p : ℕ → Bool) (k : ℕ) (b : Bool) →
 named_behind p k true = where_not_last k (filter p (range_with_len 0 k)) (not_last p k)
 named_behind p k false = sym (append-nil (filter p (range_with_len 0 k)))
 
-pub dependants_more : (units : List Unit) (k : ℕ) (made : List ℕ) (old new : List (List ℕ)) → made ≡ makers_of units (prerequisites_at units k) →
-    ((m : ℕ) → m < length old → get_or old m [] ≡ dependants_before units k m) → Names (is_in made) k old new →
+pub dependants_more : (units : List Unit) (k : ℕ) (made : List ℕ) (old new : List (List ℕ))
+    → made ≡ makers_of units (prerequisites_at units k) →
+    ((m : ℕ) → m < length old → get_or old m [] ≡ dependants_before units k m) → NamesDependant (is_in made) k old new →
     (m : ℕ) → m < length old → get_or new m [] ≡ dependants_before units (k + 1) m
 dependants_more units k made old new is before names m within =
     let test : ℕ → Bool = λ n. makes_one units (prerequisites_at units n) m in
     names.lists m within
     ∙ (ap (named_if (is_in made m) k) (before m within)
-    ∙ (ap (λ t. named_if t k (dependants_before units k m)) (ap (λ (l : List ℕ). is_in l m) is ∙ is_maker units (prerequisites_at units k) m)
+    ∙ (ap (λ t. named_if t k (dependants_before units k m)) (ap (λ (l : List ℕ). is_in l m) is
+    ∙ is_maker units (prerequisites_at units k) m)
     ∙ (named_behind test k (test k)
     ∙ sym (filter_more test k))))
 
@@ -128,7 +136,8 @@ both_true : (a b : Bool) → b ≡ true → (a && b) ≡ a
 both_true true b h = h
 both_true false b h = refl
 
-pub dependants_are : (units : List Unit) (m n : ℕ) → is_in (dependants_of units m) n ≡ is_in (makers_of units (prerequisites_at units n)) m
+pub dependants_are : (units : List Unit) (m n : ℕ) → is_in (dependants_of units m) n
+    ≡ is_in (makers_of units (prerequisites_at units n)) m
 dependants_are units m n =
     any-filter_same (λ k. n == k) test (test n) (λ k same. ap test (sym (same_number n k same))) all
     ∙ (by (cases_lt n (length units)) ∙ sym (is_maker units (prerequisites_at units n) m))
@@ -145,5 +154,6 @@ dependants_are units m n =
         (list_any_at (λ k. n == k) all n 0 (omega (arith, within, length-range_with_len 0 (length units)))
         (itself n _ (sym (get_or-range_with_len 0 (length units) n 0 within ∙ zero-add n))))
     by (inr past) =
-        let none : test n ≡ false = ap (λ (o : Option Unit). makes_one units (prerequisites_of o) m) (slice_get_past units n past) in
+        let none : test n ≡ false = ap (λ (o : Option Unit). makes_one units (prerequisites_of o) m) (slice_get_past units n past)
+        in
         both_false (test n) (is_in all n) none ∙ sym none

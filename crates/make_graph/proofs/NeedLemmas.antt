@@ -30,25 +30,38 @@ pub right_is : (a b : Bool) → b ≡ true → (a || b) ≡ true
 right_is true b h = refl
 right_is false b h = h
 
-pub makes_more : (units : List Unit) (ps qs : List (List ℕ)) (n : ℕ) → makes_one units (ps ++ qs) n ≡ (makes_one units ps n || makes_one units qs n)
+pub makes_more : (units : List Unit) (ps qs : List (List ℕ)) (n : ℕ) → makes_one units (ps ++ qs) n
+    ≡ (makes_one units ps n || makes_one units qs n)
 makes_more units ps qs n = list_any-append (λ path. is_number n (unit_of units path)) ps qs
 
 -- ---- what is needed of more units, or by more paths
 
-pub more_units : (units : List Unit) (below : ℕ) (paths : List (List ℕ)) (n : ℕ) → Needs units below paths n → Needs units (suc below) paths n
+pub more_units : (units : List Unit) (below : ℕ) (paths : List (List ℕ)) (n : ℕ) → Needs units below paths n
+    → Needs units (suc below) paths n
 more_units units below paths n (Directly lt makes) = Directly (omega (arith, lt)) makes
 more_units units below paths n (Through lt makes more) = Through (omega (arith, lt)) makes more
 
-pub more_left : (units : List Unit) (below : ℕ) (ps qs : List (List ℕ)) (n : ℕ) → Needs units below ps n → Needs units below (ps ++ qs) n
+pub more_left : (units : List Unit) (below : ℕ) (ps qs : List (List ℕ)) (n : ℕ) → Needs units below ps n
+    → Needs units below (ps ++ qs) n
 more_left units below ps qs n (Directly lt makes) = Directly lt (makes_more units ps qs n ∙ left_is _ _ makes)
 more_left units below ps qs n (Through {m = m} lt makes more) = Through lt (makes_more units ps qs m ∙ left_is _ _ makes) more
 
-pub more_right : (units : List Unit) (below : ℕ) (ps qs : List (List ℕ)) (n : ℕ) → Needs units below qs n → Needs units below (ps ++ qs) n
+pub more_right : (units : List Unit) (below : ℕ) (ps qs : List (List ℕ)) (n : ℕ) → Needs units below qs n
+    → Needs units below (ps ++ qs) n
 more_right units below ps qs n (Directly lt makes) = Directly lt (makes_more units ps qs n ∙ right_is _ _ makes)
 more_right units below ps qs n (Through {m = m} lt makes more) = Through lt (makes_more units ps qs m ∙ right_is _ _ makes) more
 
-pub split : (units : List Unit) (below : ℕ) (ps qs : List (List ℕ)) (n : ℕ) → Needs units below (ps ++ qs) n → Needs units below ps n ⊎ Needs units below qs n
+pub split : (units : List Unit) (below : ℕ) (ps qs : List (List ℕ)) (n : ℕ) → Needs units below (ps ++ qs) n
+    → Needs units below ps n ⊎ Needs units below qs n
 split units below ps qs n (Directly lt makes) =
-    elim (either _ _ (sym (makes_more units ps qs n) ∙ makes)) [ inl one ↦ inl (Directly lt one) | inr other ↦ inr (Directly lt other) ]
+    elim (either _ _ (sym (makes_more units ps qs n) ∙ makes)) [
+      | inl one ↦ inl (Directly lt one)
+      | inr other ↦
+          inr (Directly lt other)
+    ]
 split units below ps qs n (Through {m = m} lt makes more) =
-    elim (either _ _ (sym (makes_more units ps qs m) ∙ makes)) [ inl one ↦ inl (Through lt one more) | inr other ↦ inr (Through lt other more) ]
+    elim (either _ _ (sym (makes_more units ps qs m) ∙ makes)) [
+      | inl one ↦ inl (Through lt one more)
+      | inr other ↦
+          inr (Through lt other more)
+    ]

@@ -1,8 +1,11 @@
 -- The bits of words, and what sets of numbers have.
-use Rattle.std.proofs.Common.{◌≡◌, ◌≢◌, inl, inr, refl, sym, ap, ◌∙◌, ℕ, zero, suc, ◌+◌, ◌-◌, ◌*◌, ◌/◌, ◌%◌, ◌<◌, ◌≤◌, ◌==◌, ◌↔◌, nat_lt, Bool, true, false, ◌||◌, List, [], ◌∷◌, ◌++◌, length, get_or, set, take, replicate, length-append, arith}
+use Rattle.std.proofs.Common.{◌≡◌, ◌≢◌, inl, inr, refl, sym, ap, ◌∙◌, ℕ, zero, suc, ◌+◌, ◌-◌, ◌*◌, ◌/◌, ◌%◌, ◌<◌, ◌≤◌, ◌==◌, ◌↔◌}
+use Rattle.std.proofs.Common.{nat_lt, Bool, true, false, ◌||◌, List, [], ◌∷◌, ◌++◌, length, get_or, set, take, replicate}
+use Rattle.std.proofs.Common.{length-append, arith}
 use Rattle.std.proofs.lemmas.Bool.{ltb-true}
 use Rattle.std.proofs.lemmas.Bool.Decides.{nat_tests}
-use Rattle.std.proofs.lemmas.List.{get_or-set_same, get_or-set_other, get_or_append_left, get_or-append-add, get_or_past, length-replicate, length-take-le, take_more}
+use Rattle.std.proofs.lemmas.List.{get_or-set_same, get_or-set_other, get_or_append_left, get_or-append-add, get_or_past}
+use Rattle.std.proofs.lemmas.List.{length-replicate, length-take-le, take_more}
 use Rattle.std.proofs.lemmas.Nat.{and_le_r, or_disjoint}
 use Rattle.std.proofs.lemmas.Nat.Bits.{bit_at_lowest, bit_at-suc, bit_at-zero, bit_at_or, bit_at-lt}
 use Rattle.std.proofs.lemmas.Option.{unwrap_or-slice_get, get_or_from_slice_get, slice_get_read}
@@ -28,10 +31,12 @@ pub length_bits : (words : List ℕ) → length (bits_of words) ≡ length words
 unfolding bits_of
 length_bits [] = refl
 length_bits (word ∷ words) =
-    let both : length (bits_of (word ∷ words)) ≡ length (word_bits 64 word) + length (bits_of words) = length-append (word_bits 64 word) (bits_of words) in
+    let both : length (bits_of (word ∷ words)) ≡ length (word_bits 64 word) + length (bits_of words) =
+    length-append (word_bits 64 word) (bits_of words) in
     omega (arith, both, length_word 64 word, length_bits words)
 
-first_word : (word : ℕ) (words : List ℕ) (n : ℕ) → n < 64 → get_or (word_bits 64 word ++ bits_of words) n false ≡ has_number (word ∷ words) n
+first_word : (word : ℕ) (words : List ℕ) (n : ℕ) → n < 64 → get_or (word_bits 64 word ++ bits_of words) n false
+    ≡ has_number (word ∷ words) n
 first_word word words n lt =
     let first : n / 64 ≡ 0 = omega (arith, lt) in
     let place : n % 64 ≡ n = omega (arith, lt) in
@@ -48,7 +53,8 @@ other_words word words n ge rest =
     ap (λ i. get_or (word_bits 64 word ++ bits_of words) i false) at
     ∙ (get_or-append-add (word_bits 64 word) (bits_of words) (n - 64) false
     ∙ (rest
-    ∙ sym (ap (λ i. bit_at (get_or (word ∷ words) i 0) (n % 64) == 1) quotient ∙ ap (λ i. bit_at (get_or words ((n - 64) / 64) 0) i == 1) place)))
+    ∙ sym (ap (λ i. bit_at (get_or (word ∷ words) i 0) (n % 64) == 1) quotient
+    ∙ ap (λ i. bit_at (get_or words ((n - 64) / 64) 0) i == 1) place)))
 
 bits_at : (words : List ℕ) (n : ℕ) → get_or (bits_of words) n false ≡ has_number words n
 unfolding bits_of
@@ -143,7 +149,8 @@ same_room one other same = length_bits one ∙ (ap (λ l. l * 64) same ∙ sym (
 
 -- a word that was read
 pub read_at : (words : List ℕ) (i word : ℕ) → i < length words → word ≡ get_or words i word → word ≡ get_or words i 0
-read_at words i word within at = sym (get_or_from_slice_get words i word 0 (slice_get_read words (length words) i word refl within at))
+read_at words i word within at = sym (get_or_from_slice_get words i word 0
+    (slice_get_read words (length words) i word refl within at))
 
 -- a test of a bit
 pub truth : (r : Bool) (b : ℕ) → (IsTrue r ↔ (b ≡ 1)) → r ≡ (b == 1)
@@ -175,10 +182,12 @@ one_joined old other new i within room joined k = by (k == i) (nat_lt k i) refl 
     more = take_more other i 0 within
 
     at : get_or (take i other ++ get_or other i 0 ∷ []) i 0 ≡ get_or other i 0
-    at = ap (λ j. get_or (take i other ++ get_or other i 0 ∷ []) j 0) (let e : i ≡ length (take i other) + 0 = omega (arith, size) in e) ∙ get_or-append-add (take i other) (get_or other i 0 ∷ []) 0 0
+    at = ap (λ j. get_or (take i other ++ get_or other i 0 ∷ []) j 0) (let e : i ≡ length (take i other) + 0 = omega (arith, size)
+        in e) ∙ get_or-append-add (take i other) (get_or other i 0 ∷ []) 0 0
 
     by : (e l : Bool) → (k == i) ≡ e → nat_lt k i ≡ l →
-        get_or (set new i (bit_or (get_or new i 0) (get_or other i 0))) k 0 ≡ bit_or (get_or old k 0) (get_or (take (i + 1) other) k 0)
+        get_or (set new i (bit_or (get_or new i 0) (get_or other i 0))) k 0
+        ≡ bit_or (get_or old k 0) (get_or (take (i + 1) other) k 0)
     by true l he hl =
         let same : k ≡ i = grind (arith, nat_tests) in
         let past : get_or (take i other) i 0 ≡ 0 = get_or_past (take i other) i 0 (omega (arith, size)) in
@@ -194,13 +203,16 @@ one_joined old other new i within room joined k = by (k == i) (nat_lt k i) refl 
         get_or-set_other new i k (bit_or (get_or new i 0) (get_or other i 0)) 0 apart
         ∙ (joined k
         ∙ ap (bit_or (get_or old k 0))
-        (sym (ap (λ (l : List ℕ). get_or l k 0) more ∙ get_or_append_left (take i other) (get_or other i 0 ∷ []) 0 k (omega (arith, lt, size)))))
+        (sym (ap (λ (l : List ℕ). get_or l k 0) more ∙ get_or_append_left (take i other) (get_or other i 0 ∷ []) 0 k
+        (omega (arith, lt, size)))))
     by false false he hl =
         let apart : k ≢ i = λ e. grind (arith, nat_tests) in
         let gt : i < k = grind (arith, nat_tests) in
-        let both : length (take i other ++ get_or other i 0 ∷ []) ≡ length (take i other) + 1 = length-append (take i other) (get_or other i 0 ∷ []) in
+        let both : length (take i other ++ get_or other i 0 ∷ []) ≡ length (take i other) + 1 =
+        length-append (take i other) (get_or other i 0 ∷ []) in
         get_or-set_other new i k (bit_or (get_or new i 0) (get_or other i 0)) 0 apart
         ∙ (joined k
         ∙ ap (bit_or (get_or old k 0))
         (get_or_past (take i other) k 0 (omega (arith, gt, size))
-        ∙ sym (ap (λ (l : List ℕ). get_or l k 0) more ∙ get_or_past (take i other ++ get_or other i 0 ∷ []) k 0 (omega (arith, gt, size, both)))))
+        ∙ sym (ap (λ (l : List ℕ). get_or l k 0) more ∙ get_or_past (take i other ++ get_or other i 0 ∷ []) k 0
+        (omega (arith, gt, size, both)))))

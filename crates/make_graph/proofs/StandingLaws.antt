@@ -5,31 +5,43 @@ use Rattle.cc_names.specs.declared.units.Unit.{Unit}
 use Rattle.make_graph.specs.Waits.{makes_one, needed_units, prerequisites_at, is_in}
 use Rattle.make_graph.specs.Standing.{Needs, ClosureStands}
 use Rattle.make_graph.specs.Standing.Needs.{Directly, Through}
-use Rattle.make_graph.proofs.NeedLemmas.{true_or_false, same_number, itself, either, left_is, right_is, more_units, more_left, more_right, split}
+use Rattle.make_graph.proofs.NeedLemmas.{true_or_false, same_number, itself, either, left_is, right_is, more_units, more_left}
+use Rattle.make_graph.proofs.NeedLemmas.{more_right, split}
 
 pub when_made : (units : List Unit) (k : ℕ) (paths : List (List ℕ)) → makes_one units paths k ≡ true →
     needed_units units (suc k) paths ≡ k ∷ needed_units units k (paths ++ prerequisites_at units k)
 when_made units k paths made =
-    ap (λ t. elim t as (λ b. List ℕ) [ true ↦ k ∷ needed_units units k (paths ++ prerequisites_at units k) | false ↦ needed_units units k paths ]) made
+    ap (λ t. elim t as (λ b. List ℕ) [
+      | true ↦ k ∷ needed_units units k (paths ++ prerequisites_at units k)
+      | false ↦
+          needed_units units k paths
+    ]) made
 
 pub when_not : (units : List Unit) (k : ℕ) (paths : List (List ℕ)) → makes_one units paths k ≡ false →
     needed_units units (suc k) paths ≡ needed_units units k paths
 when_not units k paths not =
-    ap (λ t. elim t as (λ b. List ℕ) [ true ↦ k ∷ needed_units units k (paths ++ prerequisites_at units k) | false ↦ needed_units units k paths ]) not
+    ap (λ t. elim t as (λ b. List ℕ) [
+      | true ↦ k ∷ needed_units units k (paths ++ prerequisites_at units k)
+      | false ↦
+          needed_units units k paths
+    ]) not
 
 -- ---- what is listed is needed
 
-found : (units : List Unit) (k : ℕ) (paths : List (List ℕ)) (n : ℕ) → is_in (needed_units units k paths) n ≡ true → Needs units k paths n
+found : (units : List Unit) (k : ℕ) (paths : List (List ℕ)) (n : ℕ) → is_in (needed_units units k paths) n ≡ true
+    → Needs units k paths n
 found units zero paths n h = absurd (cc)
 found units (suc k) paths n h =
     elim (true_or_false (makes_one units paths k)) [
       | inl made ↦
-          elim (either (n == k) (is_in (needed_units units k (paths ++ prerequisites_at units k)) n) (sym (ap (λ l. is_in l n) (when_made units k paths made)) ∙ h)) [
+          elim (either (n == k) (is_in (needed_units units k (paths ++ prerequisites_at units k)) n)
+          (sym (ap (λ l. is_in l n) (when_made units k paths made)) ∙ h)) [
             | inl same ↦
                 let at = same_number n k same in
                 Directly (omega (arith, at)) (subst (λ (m : ℕ). makes_one units paths m ≡ true) (sym at) made)
             | inr there ↦
-                elim (split units k paths (prerequisites_at units k) n (found units k (paths ++ prerequisites_at units k) n there)) [
+                elim (split units k paths (prerequisites_at units k) n
+                (found units k (paths ++ prerequisites_at units k) n there)) [
                   | inl by_paths ↦ more_units units k paths n by_paths
                   | inr by_unit ↦ Through (omega arith) made by_unit
                 ]
@@ -60,19 +72,23 @@ nothing_below : (units : List Unit) (paths : List (List ℕ)) (n : ℕ) → Need
 nothing_below units paths n (Directly lt makes) = omega (arith, lt)
 nothing_below units paths n (Through lt makes more) = omega (arith, lt)
 
-listed : (units : List Unit) (k : ℕ) (paths : List (List ℕ)) (n : ℕ) → Needs units k paths n → is_in (needed_units units k paths) n ≡ true
+listed : (units : List Unit) (k : ℕ) (paths : List (List ℕ)) (n : ℕ) → Needs units k paths n
+    → is_in (needed_units units k paths) n ≡ true
 listed units zero paths n needs = absurd (nothing_below units paths n needs)
 listed units (suc k) paths n needs =
-    let behind = λ (made : makes_one units paths k ≡ true) (h : is_in (needed_units units k (paths ++ prerequisites_at units k)) n ≡ true).
+    let behind = λ (made : makes_one units paths k ≡ true) (h : is_in (needed_units units k (paths ++ prerequisites_at units k)) n
+    ≡ true).
     ap (λ l. is_in l n) (when_made units k paths made) ∙ right_is (n == k) _ h in
     elim (peel units k paths n needs) [
       | inl before ↦
           elim (true_or_false (makes_one units paths k)) [
-            | inl made ↦ behind made (listed units k (paths ++ prerequisites_at units k) n (more_left units k paths (prerequisites_at units k) n before))
+            | inl made ↦ behind made (listed units k (paths ++ prerequisites_at units k) n
+                (more_left units k paths (prerequisites_at units k) n before))
             | inr not ↦ ap (λ l. is_in l n) (when_not units k paths not) ∙ listed units k paths n before
           ]
       | inr (made, inl same) ↦ ap (λ l. is_in l n) (when_made units k paths made) ∙ left_is (n == k) _ (itself n k same)
-      | inr (made, inr by_unit) ↦ behind made (listed units k (paths ++ prerequisites_at units k) n (more_right units k paths (prerequisites_at units k) n by_unit))
+      | inr (made, inr by_unit) ↦ behind made (listed units k (paths ++ prerequisites_at units k) n
+          (more_right units k paths (prerequisites_at units k) n by_unit))
     ]
 
 -- the law of the closure

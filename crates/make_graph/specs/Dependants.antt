@@ -16,6 +16,6 @@ named_if true n numbers = with_last n numbers
 named_if false n numbers = numbers
 
 -- each list whose place has a test has this number at its end, and the others are as they were
-pub record Names (test : ℕ → Bool) (n : ℕ) (old new : List (List ℕ)) : Type 0 where
+pub record NamesDependant (test : ℕ → Bool) (n : ℕ) (old new : List (List ℕ)) : Type 0 where
   pub size : length new ≡ length old
   pub lists : (m : ℕ) → m < length old → slice_index_or new m [] ≡ named_if (test m) n (slice_index_or old m [])

@@ -12,7 +12,8 @@ use Rattle.make_graph.specs.Waits.{makers_of, dependants_of}
 
 -- the map has the number of each target of a unit, each unit has the numbers of those that make its prerequisites and of its
 -- dependants, the first of them have their closures, and there are fewer than 2^31 units
-pub record KnowsAll (numbers : HashMap (List ℕ) ℕ RandomState) (units : List Unit) (makers dependants : List (List ℕ)) (closures : List (List Bool)) : Type 0 where
+pub record KnowsAll (numbers : HashMap (List ℕ) ℕ RandomState) (units : List Unit) (makers dependants : List (List ℕ))
+    (closures : List (List Bool)) : Type 0 where
   pub few : length units < 2 ^ 31
   pub knows : (path : List ℕ) → get bytes_eq numbers path ≡ number_from made_by_unit 0 path units
   pub made_by : makers ≡ map (λ (unit : Unit). makers_of units unit.prerequisites) units

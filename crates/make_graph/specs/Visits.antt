@@ -8,7 +8,7 @@ use Rattle.cc_names.specs.declared.memory.Or.{Or}
 use Rattle.cc_names.specs.declared.memory.Or.TheVariants.{NoMemory, Is}
 use Rattle.cc_names.specs.declared.refusals.GraphFault.{GraphFault}
 use Rattle.cc_names.specs.declared.refusals.GraphFault.TheVariants.{Cycle}
-use Rattle.make_grammar.specs.Walks.{Walk, number_of, prerequisites_at, with_done_unit, and_then, each_of, take_path}
+use Rattle.make_grammar.specs.Walks.{Walk, number_of, prerequisites_at, with_done_unit, walk_then, each_of, take_path}
 use Rattle.make_grammar.specs.Rules.{Serving}
 use Rattle.make_grammar.specs.declared.walks.Mark.{Mark}
 use Rattle.make_grammar.specs.declared.walks.Mark.TheVariants.{New, Open, Done}
@@ -36,31 +36,32 @@ meeting marks (Some n) = meeting_at n (slice_get marks n)
 abbrev pub visit_of_unit : List Serving → ℕ → Visit
 visit_of_unit units n = record { unit = n; paths = prerequisites_at (slice_get units n); next = 0 }
 
-abbrev pub behind : Visit → Visit
-behind visit = record { unit = visit.unit; paths = visit.paths; next = visit.next + 1 }
+abbrev pub past_next : Visit → Visit
+past_next visit = record { unit = visit.unit; paths = visit.paths; next = visit.next + 1 }
 
 -- the prerequisite of a visit that comes next, and all that come
 abbrev pub next_of : Visit → Option (List ℕ)
 next_of visit = slice_get visit.paths visit.next
 
-abbrev pub rest_of : Visit → List (List ℕ)
-rest_of visit = drop visit.next visit.paths
+abbrev pub rest_of_visit : Visit → List (List ℕ)
+rest_of_visit visit = drop visit.next visit.paths
 
 -- a unit that so many are open below is walked to its end
 abbrev pub finish : List Serving → ℕ → Visit → Walk → Result Walk (List ℕ)
 finish units below visit walk =
-    and_then (each_of (take_path (length units - below) units) (rest_of visit) walk) (λ later. Ok (with_done_unit visit.unit later))
+    walk_then (each_of (take_path (length units - below) units) (rest_of_visit visit) walk)
+    (λ later. Ok (with_done_unit visit.unit later))
 
 -- a walk whose units on the stack are walked to their ends, the last one first
 abbrev pub resume : List Serving → ℕ → List Visit → Walk → Result Walk (List ℕ)
 resume units below [] walk = Ok walk
-resume units below (visit ∷ above) walk = and_then (resume units (suc below) above walk) (finish units below visit)
+resume units below (visit ∷ above) walk = walk_then (resume units (suc below) above walk) (finish units below visit)
 
 -- a call went on, so that the rest comes to the same; or it found what all comes to
-abbrev pub Goes : Result (Unit {0}) (Or (List ℕ)) → Result Walk (List ℕ) → Result Walk (List ℕ) → Type 0
-Goes (Ok done) all rest = all ≡ rest
-Goes (Err NoMemory) all rest = ⊤
-Goes (Err (Is path)) all rest = all ≡ Err path
+abbrev pub WalkGoes : Result (Unit {0}) (Or (List ℕ)) → Result Walk (List ℕ) → Result Walk (List ℕ) → Type 0
+WalkGoes (Ok done) all rest = all ≡ rest
+WalkGoes (Err NoMemory) all rest = ⊤
+WalkGoes (Err (Is path)) all rest = all ≡ Err path
 
 -- one for a new unit
 abbrev pub new_one : Mark → ℕ

@@ -1,5 +1,6 @@
 -- What the units of a build wait for.
-use Rattle.std.specs.Prelude.{ℕ, zero, suc, ◌==◌, Bool, true, false, List, [], ◌∷◌, ◌++◌, length, slice_get, filter, Option, Some, None, unwrap_or}
+use Rattle.std.specs.Prelude.{ℕ, zero, suc, ◌==◌, Bool, true, false, List, [], ◌∷◌, ◌++◌, length, slice_get, filter, Option}
+use Rattle.std.specs.Prelude.{Some, None, unwrap_or}
 use Rattle.std.specs.List.{list_any, list_all, filter_map, range_with_len}
 use Rattle.cc_names.specs.Versions.{is_number}
 use Rattle.cc_names.specs.declared.units.Unit.{Unit}
@@ -36,7 +37,11 @@ dependants_of units m = filter (λ n. makes_one units (prerequisites_at units n)
 abbrev pub needed_units : List Unit → ℕ → List (List ℕ) → List ℕ
 needed_units units zero wanted = []
 needed_units units (suc n) wanted =
-    elim (makes_one units wanted n) [ true ↦ n ∷ needed_units units n (wanted ++ prerequisites_at units n) | false ↦ needed_units units n wanted ]
+    elim (makes_one units wanted n) [
+      | true ↦ n ∷ needed_units units n (wanted ++ prerequisites_at units n)
+      | false ↦
+          needed_units units n wanted
+    ]
 
 -- the units that a unit stands on, by their numbers, the last one first
 abbrev pub closure_of : List Unit → ℕ → List ℕ

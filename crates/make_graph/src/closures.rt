@@ -3,7 +3,7 @@
 ghost use Rattle.std.specs.Prelude.{◌≡◌, ◌≤◌, ◌<◌, ◌∷◌, [], ℕ, length, IfOk};
 ghost use Rattle.make_graph.specs.Standing.{ClosureStands};
 ghost use Rattle.make_graph.specs.Waits.{is_in, is_marked, closure_of};
-ghost use Rattle.make_graph.specs.Marks.{AddsMarks, IsEnd};
+ghost use Rattle.make_graph.specs.Marks.{AddsMarks, IsEndBelow};
 
 use crate::number_sets::NumberSet;
 use crate::unit_graphs::Graph;
@@ -46,7 +46,7 @@ impl Closure {
 /// One more than the greatest of these numbers that are below another, 0 where there is none.
 fn end_below(numbers: &[u32], below: u32) -> u32
     ensures within { result ≤ below }
-    ensures all { IsEnd below numbers.now result }
+    ensures all { IsEndBelow below numbers.now result }
 {
     let mut end = 0;
     for number in numbers {

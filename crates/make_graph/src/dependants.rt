@@ -3,7 +3,7 @@
 ghost use Rattle.std.specs.Prelude.{◌≡◌, ◌==◌, ◌<◌, ◌^◌, [], ℕ, length, map, replicate, IfOk, OnOk};
 ghost use Rattle.std.specs.List.{range_with_len};
 ghost use Rattle.cc_names.specs.declared.units.Unit as units;
-ghost use Rattle.make_graph.specs.Dependants.{Names, is_last, with_last};
+ghost use Rattle.make_graph.specs.Dependants.{NamesDependant, is_last, with_last};
 ghost use Rattle.make_graph.specs.Standing.{DependantsStand};
 ghost use Rattle.make_graph.specs.Waits.{dependants_of, is_in, makers_of};
 
@@ -65,7 +65,7 @@ impl Dependants {
 
 /// Names a unit among the dependants of another, if there is that.
 fn name(all: &mut [Dependants], maker: u32, unit: u32) -> Result<(), NoMemory>
-    ensures { OnOk result (Names (λ m. m == maker) unit all.old all.new) }
+    ensures { OnOk result (NamesDependant (λ m. m == maker) unit all.old all.new) }
 {
     if (maker as usize) < all.len() {
         all[maker as usize].put(unit)?;
@@ -75,7 +75,7 @@ fn name(all: &mut [Dependants], maker: u32, unit: u32) -> Result<(), NoMemory>
 
 /// Names a unit among the dependants of those that make its prerequisites.
 fn name_all(all: &mut [Dependants], makers: &[u32], unit: u32) -> Result<(), NoMemory>
-    ensures { OnOk result (Names (is_in makers.now) unit all.old all.new) }
+    ensures { OnOk result (NamesDependant (is_in makers.now) unit all.old all.new) }
 {
     for maker in makers {
         name(all, *maker, unit)?;

@@ -2,9 +2,9 @@
 
 ghost use Rattle.std.specs.Prelude.{◌≡◌, [], ◌∷◌, ◌++◌, IfOk, OnOk, not, map, filter, fold, option_copied};
 ghost use Rattle.std.specs.List.{filter_map};
-ghost use Rattle.make_grammar.specs.WordPaths.{with_path};
+ghost use Rattle.make_grammar.specs.WordPaths.{with_path_once};
 ghost use Rattle.make_grammar.specs.Serving.{stem_of, source_at, inference_at, first_inference, inference, may_be_served, with_first, by_suffix, by_itself, with_suffix_rule, inference_for, serving_of, bare_rule, serving_alone, without_rule, servings};
-ghost use Rattle.make_grammar.specs.Units.{is_target};
+ghost use Rattle.make_grammar.specs.Units.{is_rule_target};
 ghost use Rattle.make_graph.specs.Numbered.{KnowsRules};
 
 use crate::goals::Exists;
@@ -19,7 +19,7 @@ use indexmap::IndexSet;
 use make_text::contents::Makefile;
 use make_text::numbers::Makes;
 use make_text::rules::{MakeRule, SuffixRule};
-use make_text::word_paths::read_path;
+use make_text::word_paths::read_path_below_root;
 use std::alloc::Global;
 use std::hash::RandomState;
 use std::marker::Model;
@@ -136,9 +136,9 @@ impl Serving {
 }
 
 /// Whether the path is the target of a rule, in constant time.
-fn is_target(make: &Makefile, rules: &Numbers, path: &Path) -> bool
+fn is_rule_target(make: &Makefile, rules: &Numbers, path: &Path) -> bool
     requires { KnowsRules rules.now make.now }
-    ensures { result ≡ is_target make.now.rules path.now }
+    ensures { result ≡ is_rule_target make.now.rules path.now }
 {
     number(rules, path).is_some()
 }
@@ -158,10 +158,10 @@ fn source<E: Exists>(
 {
     let mut bytes = Vec::from_slice(alloc, stem)?;
     bytes.extend_from_slice(suffix)?;
-    let Some(path) = read_path(alloc, bytes.as_slice())? else {
+    let Some(path) = read_path_below_root(alloc, bytes.as_slice())? else {
         return Ok(None);
     };
-    if files.exists(&path) || is_target(make, rules, &path) {
+    if files.exists(&path) || is_rule_target(make, rules, &path) {
         Ok(Some(path))
     } else {
         Ok(None)
@@ -249,7 +249,7 @@ fn infer<E: Exists>(
     infer_first(alloc, make, rules, suffixes, files, path)
 }
 
-/// The paths with this one at the front.
+/// The paths with this one at the start.
 fn with_first(alloc: Global, first: &Path, paths: &[Path]) -> Result<List<Path>, NoMemory>
     ensures { IfOk result (λ all. all ≡ with_first first.now paths.now) }
 {
@@ -333,11 +333,11 @@ fn put_without_rule(
     requires { KnowsRules rules.now make.now }
     ensures { OnOk result
         (others.new.keys
-        ≡ fold with_path others.old.keys
-        (filter (λ path. not (is_target make.now.rules path)) paths.now)) }
+        ≡ fold with_path_once others.old.keys
+        (filter (λ path. not (is_rule_target make.now.rules path)) paths.now)) }
 {
     for path in paths {
-        if !is_target(make, rules, path) && !others.contains(path) {
+        if !is_rule_target(make, rules, path) && !others.contains(path) {
             others.insert(path.copy(alloc)?)?;
         }
     }

@@ -4,7 +4,7 @@ ghost use Rattle.std.specs.Prelude.{◌≡◌, ◌<◌, ◌==◌, ℕ, List, Som
 ghost use Rattle.std.specs.HashMap.{get};
 ghost use Rattle.std.specs.List.{list_any};
 ghost use Rattle.std.specs.Str.{bytes_eq};
-ghost use Rattle.make_graph.specs.Suffixes.{KnowsSuffixes, are_dotted, is_dotted, key_of, next_of, place_of, rule_at, suffix_of};
+ghost use Rattle.make_graph.specs.Suffixes.{KnowsSuffixes, are_dotted, is_dotted, suffix_key, next_place, rule_place, rule_at, suffix_of};
 
 use cc_names::memory::NoMemory;
 use cc_names::texts::Text;
@@ -66,8 +66,8 @@ fn suffix_of(bytes: &[u8]) -> &[u8]
 }
 
 /// What the rules for bytes are found by.
-fn key_of(by_suffix: bool, bytes: &[u8]) -> &[u8]
-    ensures { result.now ≡ key_of by_suffix bytes.now }
+fn suffix_key(by_suffix: bool, bytes: &[u8]) -> &[u8]
+    ensures { result.now ≡ suffix_key by_suffix bytes.now }
 {
     if by_suffix { suffix_of(bytes) } else { &[] }
 }
@@ -105,7 +105,7 @@ impl<'a> SuffixTable<'a> {
         let mut place = rules.len();
         while place > 0 {
             place -= 1;
-            let key = key_of(by_suffix, rules[place].to_suffix());
+            let key = suffix_key(by_suffix, rules[place].to_suffix());
             next[place] = put_first(alloc, &mut first, key, place, rules.len())?;
         }
         Ok(SuffixTable {
@@ -136,17 +136,17 @@ impl<'a> SuffixTable<'a> {
         ensures { IfOk result
             (λ place.
             place
-            ≡ place_of self.now.by_suffix (key_of self.now.by_suffix path.now)
+            ≡ rule_place self.now.by_suffix (suffix_key self.now.by_suffix path.now)
             self.now.rules.now) }
     {
-        let key = Text::from_bytes(alloc, key_of(self.by_suffix, path))?;
+        let key = Text::from_bytes(alloc, suffix_key(self.by_suffix, path))?;
         Ok(self.first.get(&key).copied().unwrap_or(self.rules.len()))
     }
 
     /// The place of the next rule that may serve what the one at a place does, in constant time.
     pub(crate) fn next(&self, place: usize) -> usize
         requires { place < length self.now.rules.now }
-        ensures { result ≡ next_of self.now.by_suffix self.now.rules.now place }
+        ensures { result ≡ next_place self.now.by_suffix self.now.rules.now place }
     {
         self.next[place]
     }

@@ -82,7 +82,7 @@ fn is_done(number: u32, done: &[bool]) -> bool
 }
 
 /// Whether the units of these numbers are done.
-fn are_done(numbers: &[u32], done: &[bool]) -> bool
+fn are_units_done(numbers: &[u32], done: &[bool]) -> bool
     ensures { result ≡ list_all (λ number. is_done done.now (Some number)) numbers.now }
 {
     for number in numbers {
@@ -169,6 +169,6 @@ impl Graph {
         requires done { length done.now ≡ length self.now }
         ensures { result ≡ is_ready self.now unit done.now }
     {
-        are_done(self.makers(unit), done)
+        are_units_done(self.makers(unit), done)
     }
 }

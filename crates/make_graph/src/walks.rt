@@ -4,7 +4,7 @@ ghost use Rattle.std.specs.Prelude.{◌≡◌, ◌≤◌, ◌+◌, ◌<◌, ◌+
 ghost use Rattle.cc_names.specs.Answers.{Gives};
 ghost use Rattle.make_grammar.specs.Walks.{number_of, prerequisites_at, with_done_unit, take_path, walk_of};
 ghost use Rattle.make_grammar.specs.declared.walks.Mark.TheVariants.{New};
-ghost use Rattle.make_graph.specs.Visits.{KnowsUnits, meeting, visit_of_unit, behind, next_of, resume, Goes, news};
+ghost use Rattle.make_graph.specs.Visits.{KnowsUnits, meeting, visit_of_unit, past_next, next_of, resume, WalkGoes, news};
 
 use crate::numbers::{Numbers, number};
 use crate::serving::Serving;
@@ -106,9 +106,9 @@ fn next_path(visit: &Visit) -> Option<&Path>
 }
 
 /// A visit whose next prerequisite is past.
-fn behind(visit: Visit) -> Visit
+fn past_next(visit: Visit) -> Visit
     requires { visit.next < 2 ^ 63 }
-    ensures { result ≡ behind visit }
+    ensures { result ≡ past_next visit }
 {
     let Visit { unit, paths, next } = visit;
     Visit {
@@ -151,7 +151,7 @@ fn advance(
 ) -> Result<(), Or<Path>>
     requires known { KnowsUnits numbers.now units.now }
     requires room { length stack.old.items + 1 + news walk.old.marks ≤ length units.now }
-    ensures goes { Goes result (resume units.now 0 (stack.old.items ++ top ∷ []) walk.old)
+    ensures goes { WalkGoes result (resume units.now 0 (stack.old.items ++ top ∷ []) walk.old)
         (resume units.now 0 stack.new.items walk.new) }
     ensures room { OnOk result (length stack.new.items + news walk.new.marks ≤ length units.now) }
     ensures size { OnOk result (length walk.new.marks ≡ length walk.old.marks) }
@@ -161,11 +161,11 @@ fn advance(
         return Ok(());
     };
     match meet(walk, numbers, units, path) {
-        Meeting::Past => stack.push(behind(top))?,
+        Meeting::Past => stack.push(past_next(top))?,
         Meeting::Again => return Err(Or::Is(path.copy(alloc)?)),
         Meeting::Enter(unit) => {
             let visit = visit_of_unit(alloc, hashing, units, unit)?;
-            stack.push(behind(top))?;
+            stack.push(past_next(top))?;
             stack.push(visit)?;
             walk.mark(unit, Mark::Open);
         }
@@ -184,7 +184,7 @@ fn run(
 ) -> Result<(), Or<Path>>
     requires known { KnowsUnits numbers.now units.now }
     requires room { 1 + news walk.old.marks ≤ length units.now }
-    ensures goes { Goes result (resume units.now 0 (first ∷ []) walk.old) (Ok walk.new) }
+    ensures goes { WalkGoes result (resume units.now 0 (first ∷ []) walk.old) (Ok walk.new) }
     ensures size { OnOk result (length walk.new.marks ≡ length walk.old.marks) }
 {
     let mut stack = Vec::new(alloc);
@@ -200,7 +200,7 @@ fn run(
 }
 
 /// Takes a goal, unless a path is met again.
-fn take(
+fn take_goal(
     alloc: Global,
     hashing: RandomState,
     units: &[Serving],
@@ -210,7 +210,7 @@ fn take(
 ) -> Result<(), Or<Path>>
     requires known { KnowsUnits numbers.now units.now }
     requires size { length walk.old.marks ≡ length units.now }
-    ensures goes { Goes result (take_path (suc (length units.now)) units.now path.now walk.old)
+    ensures goes { WalkGoes result (take_path (suc (length units.now)) units.now path.now walk.old)
         (Ok walk.new) }
     ensures size { OnOk result (length walk.new.marks ≡ length units.now) }
 {
@@ -247,7 +247,7 @@ pub(crate) fn walk_over(
 {
     let mut walk = new_walk(alloc, units.len())?;
     for goal in goals {
-        take(alloc, hashing, units, numbers, &mut walk, goal)?;
+        take_goal(alloc, hashing, units, numbers, &mut walk, goal)?;
     }
     Ok(walk)
 }

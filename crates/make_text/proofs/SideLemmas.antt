@@ -1,5 +1,6 @@
 -- A rule line by its two sides.
-use Rattle.std.proofs.Common.{◌≡◌, refl, sym, ap, ◌∙◌, ℕ, Bool, true, false, Option, Some, None, Result, Ok, Err, List, [], ◌++◌, ◌||◌, ◌+◌, ◌<◌, length, nat_lt, if◌then◌else◌, length-append, arith}
+use Rattle.std.proofs.Common.{◌≡◌, refl, sym, ap, ◌∙◌, ℕ, Bool, true, false, Option, Some, None, Result, Ok, Err, List, [], ◌++◌}
+use Rattle.std.proofs.Common.{◌||◌, ◌+◌, ◌<◌, length, nat_lt, if◌then◌else◌, length-append, arith}
 use Rattle.std.proofs.lemmas.Bool.{ltb-true, lt-ltb}
 use Rattle.std.proofs.lemmas.List.{append-nil}
 use Rattle.cc_names.specs.Answers.{FaultIs}
@@ -11,7 +12,8 @@ use Rattle.cc_names.specs.declared.refusals.MakeCause.{MakeCause}
 use Rattle.cc_names.specs.declared.refusals.MakeCause.TheVariants.{LineTooLong, MacroLoop}
 use Rattle.make_grammar.specs.Macros.{Expansion, plain, one_after_other, is_too_long}
 use Rattle.make_text.specs.RuleLines.{rule_of_sides, expanded_sides}
-use Rattle.make_grammar.specs.Statements.{or_cause, cause_or, expansion_fault, expanded_by, before_mark, mark_of, is_grouped, rule_expansion, rule_bytes_fault, rule_words_fault, rule_words}
+use Rattle.make_grammar.specs.Statements.{or_cause, cause_or, expansion_fault, expanded_by, before_mark, mark_of, is_grouped}
+use Rattle.make_grammar.specs.Statements.{rule_expansion, rule_bytes_fault, rule_words_fault, rule_words}
 use Rattle.make_grammar.specs.declared.rule_lines.RuleWords.{RuleWords}
 
 -- where there is something, there was no cause
@@ -27,13 +29,15 @@ a_cause (Some other) x cause h = cc
 no_fault : (total : Expansion) → expansion_fault total ≡ None → total ≡ plain total.bytes
 no_fault total h = by (is_too_long total) total.loops refl h
   where
-    by : (long loops : Bool) → total.loops ≡ loops → (if long then Some LineTooLong else if loops then Some MacroLoop else None) ≡ None → total ≡ plain total.bytes
+    by : (long loops : Bool) → total.loops ≡ loops → (if long then Some LineTooLong else if loops then Some MacroLoop else None)
+        ≡ None → total ≡ plain total.bytes
     by true loops is h = absurd (cc)
     by false true is h = absurd (cc)
     by false false is h = ap (λ (b : Bool). record { bytes = total.bytes; loops = b }) is
 
 -- the fault of an expansion is that of what begins with it
-fault_follows : (one rest : Expansion) (cause : MakeCause) → expansion_fault one ≡ Some cause → expansion_fault (one_after_other one rest) ≡ Some cause
+fault_follows : (one rest : Expansion) (cause : MakeCause) → expansion_fault one ≡ Some cause
+    → expansion_fault (one_after_other one rest) ≡ Some cause
 fault_follows one rest cause h = by (is_too_long one) one.loops refl refl h
   where
     longer : nat_lt 65536 (length one.bytes) ≡ true → (more : List ℕ) → nat_lt 65536 (length (one.bytes ++ more)) ≡ true
@@ -42,19 +46,25 @@ fault_follows one rest cause h = by (is_too_long one) one.loops refl refl h
         let all : length (one.bytes ++ more) ≡ length one.bytes + length more = length-append one.bytes more in
         lt-ltb _ _ (omega (arith, before, all))
 
-    by : (long loops : Bool) → is_too_long one ≡ long → one.loops ≡ loops → (if long then Some LineTooLong else if loops then Some MacroLoop else None) ≡ Some cause → expansion_fault (one_after_other one rest) ≡ Some cause
+    by : (long loops : Bool) → is_too_long one ≡ long → one.loops ≡ loops
+        → (if long then Some LineTooLong else if loops then Some MacroLoop else None) ≡ Some cause
+        → expansion_fault (one_after_other one rest) ≡ Some cause
     by true loops l is h =
-        ap (λ b. if b then Some LineTooLong else if one.loops || rest.loops then Some MacroLoop else None) (longer l (if one.loops then [] else rest.bytes)) ∙ h
+        ap (λ b. if b then Some LineTooLong else if one.loops || rest.loops then Some MacroLoop else None)
+        (longer l (if one.loops then [] else rest.bytes)) ∙ h
     by false true l is h =
-        ap (λ b. if nat_lt 65536 (length (one.bytes ++ (if b then [] else rest.bytes))) then Some LineTooLong else if b || rest.loops then Some MacroLoop else None) is
+        ap (λ b. if nat_lt 65536 (length (one.bytes ++ (if b then [] else rest.bytes))) then Some LineTooLong else if b
+        || rest.loops then Some MacroLoop else None) is
         ∙ (ap (λ (x : List ℕ). if nat_lt 65536 (length x) then Some LineTooLong else Some MacroLoop) (append-nil one.bytes)
         ∙ (ap (λ b. if b then Some LineTooLong else Some MacroLoop) l ∙ h))
     by false false l is h = absurd (cc)
 
 -- the expansion of a rule line whose first side has no fault
 first_side : (macros : List Macro) (before behind : List ℕ) (first : List ℕ) →
-    Ok first ≡ or_cause (expansion_fault (expanded_by macros (before_mark before))) (expanded_by macros (before_mark before)).bytes →
-    rule_expansion macros before behind ≡ one_after_other (plain first) (one_after_other (plain (mark_of before)) (expanded_by macros behind))
+    Ok first ≡ or_cause (expansion_fault (expanded_by macros (before_mark before)))
+    (expanded_by macros (before_mark before)).bytes →
+    rule_expansion macros before behind ≡ one_after_other (plain first)
+    (one_after_other (plain (mark_of before)) (expanded_by macros behind))
 first_side macros before behind first h =
     let one = expanded_by macros (before_mark before) in
     let fine = no_cause (expansion_fault one) one.bytes first h in
@@ -63,21 +73,28 @@ first_side macros before behind first h =
 
 -- both sides, where the first has no fault
 pub second_sides : (macros : List Macro) (before behind first mark : List ℕ) (read : Result (List ℕ × List ℕ) MakeCause) →
-    Ok first ≡ or_cause (expansion_fault (expanded_by macros (before_mark before))) (expanded_by macros (before_mark before)).bytes →
+    Ok first ≡ or_cause (expansion_fault (expanded_by macros (before_mark before)))
+    (expanded_by macros (before_mark before)).bytes →
     mark ≡ mark_of before →
-    read ≡ or_cause (expansion_fault (one_after_other (plain first) (one_after_other (plain mark) (expanded_by macros behind)))) (first, (expanded_by macros behind).bytes) →
+    read ≡ or_cause (expansion_fault (one_after_other (plain first) (one_after_other (plain mark) (expanded_by macros behind))))
+    (first, (expanded_by macros behind).bytes) →
     expanded_sides macros before behind ≡ read
 second_sides macros before behind first mark read h m r =
     let one = expanded_by macros (before_mark before) in
     let fine = no_cause (expansion_fault one) one.bytes first h in
-    ap (λ (e : Expansion). or_cause (expansion_fault e) (one.bytes, (expanded_by macros behind).bytes)) (first_side macros before behind first h)
-    ∙ ap (λ (x : List ℕ × List ℕ). or_cause (expansion_fault (one_after_other (plain x.0) (one_after_other (plain x.1) (expanded_by macros behind)))) (one.bytes, (expanded_by macros behind).bytes)) (ap (λ (b : List ℕ). (first, b)) (sym m))
-    ∙ ap (λ (b : List ℕ). or_cause (expansion_fault (one_after_other (plain first) (one_after_other (plain mark) (expanded_by macros behind)))) (b, (expanded_by macros behind).bytes)) (sym fine.1)
+    ap (λ (e : Expansion). or_cause (expansion_fault e) (one.bytes, (expanded_by macros behind).bytes))
+    (first_side macros before behind first h)
+    ∙ ap (λ (x : List ℕ × List ℕ). or_cause (expansion_fault (one_after_other (plain x.0)
+    (one_after_other (plain x.1) (expanded_by macros behind)))) (one.bytes, (expanded_by macros behind).bytes))
+    (ap (λ (b : List ℕ). (first, b)) (sym m))
+    ∙ ap (λ (b : List ℕ). or_cause (expansion_fault (one_after_other (plain first)
+    (one_after_other (plain mark) (expanded_by macros behind)))) (b, (expanded_by macros behind).bytes)) (sym fine.1)
     ∙ sym r
 
 -- a fault of the first side is one of the line
 pub first_fault : (macros : List Macro) (before behind : List ℕ) (cause : MakeCause) →
-    Err cause ≡ or_cause (expansion_fault (expanded_by macros (before_mark before))) (expanded_by macros (before_mark before)).bytes →
+    Err cause ≡ or_cause (expansion_fault (expanded_by macros (before_mark before)))
+    (expanded_by macros (before_mark before)).bytes →
     expanded_sides macros before behind ≡ Err cause
 first_fault macros before behind cause h =
     let one = expanded_by macros (before_mark before) in
@@ -93,17 +110,20 @@ line_fault macros before behind (Is cause) none h =
     let o = expansion_fault (rule_expansion macros before behind) in
     let sides : List ℕ × List ℕ = ((expanded_by macros (before_mark before)).bytes, (expanded_by macros behind).bytes) in
     let words = rule_words_fault (is_grouped before) (words_of sides.0) (words_of sides.1) in
-    let made : RuleWords = record { is_group = is_grouped before; targets = words_of sides.0; prerequisites = words_of sides.1 } in
+    let made : RuleWords = record { is_group = is_grouped before; targets = words_of sides.0; prerequisites = words_of sides.1 }
+    in
     ap (λ (b : Option MakeCause). or_cause (cause_or b (cause_or o words)) made) (sym none)
     ∙ ap (λ (p : Option MakeCause). or_cause (cause_or p words) made) (a_cause o sides cause (sym h))
 
 pub line_words : (macros : List Macro) (before behind first second : List ℕ) → None ≡ rule_bytes_fault before behind →
-    expanded_sides macros before behind ≡ Ok (first, second) → rule_words macros before behind ≡ rule_of_sides (is_grouped before) first second
+    expanded_sides macros before behind ≡ Ok (first, second) → rule_words macros before behind
+    ≡ rule_of_sides (is_grouped before) first second
 line_words macros before behind first second none h =
     let o = expansion_fault (rule_expansion macros before behind) in
     let sides : List ℕ × List ℕ = ((expanded_by macros (before_mark before)).bytes, (expanded_by macros behind).bytes) in
     let words = rule_words_fault (is_grouped before) (words_of sides.0) (words_of sides.1) in
-    let made : RuleWords = record { is_group = is_grouped before; targets = words_of sides.0; prerequisites = words_of sides.1 } in
+    let made : RuleWords = record { is_group = is_grouped before; targets = words_of sides.0; prerequisites = words_of sides.1 }
+    in
     let fine = no_cause o sides (first, second) (sym h) in
     ap (λ (b : Option MakeCause). or_cause (cause_or b (cause_or o words)) made) (sym none)
     ∙ ap (λ (p : Option MakeCause). or_cause (cause_or p words) made) fine.0

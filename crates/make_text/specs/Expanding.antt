@@ -2,7 +2,8 @@
 -- that were.
 use Rattle.std.specs.Prelude.{◌≡◌, ℕ, ◌-◌, ◌≤◌, false, Option, Some, None, List, [], ◌∷◌, ◌++◌, length, map, take, drop}
 use Rattle.cc_names.specs.declared.commands.Macro.{Macro}
-use Rattle.make_grammar.specs.Macros.{Piece, Reference, Expansion, plain, one_after_other, pieces_of, pieces_expansion, reference_expansion, value_in, is_among}
+use Rattle.make_grammar.specs.Macros.{Piece, Reference, Expansion, plain, one_after_other, pieces_of, pieces_expansion}
+use Rattle.make_grammar.specs.Macros.{reference_expansion, value_in, is_among}
 
 -- what is known of the macros whose expansion came to an end: its bytes
 abbrev pub Memo : Type 0
@@ -15,8 +16,8 @@ pub record Opened : Type 0 where
   pub start : ℕ
 
 -- the names of macros that are being expanded
-abbrev pub names_of : List Opened → List (List ℕ)
-names_of opened = map (λ o. o.name) opened
+abbrev pub opened_names : List Opened → List (List ℕ)
+opened_names opened = map (λ o. o.name) opened
 
 module _ (macros : List Macro) (automatic : ℕ → List ℕ) where
   -- a reference, while macros of these names are being expanded
@@ -35,7 +36,7 @@ module _ (macros : List Macro) (automatic : ℕ → List ℕ) where
   abbrev pub still : List ℕ → List Opened → Expansion
   still rest [] = goes_on (length macros) [] (pieces_of rest)
   still rest (o ∷ opened) =
-      one_after_other (goes_on (left_of (o ∷ opened)) (names_of (o ∷ opened)) (pieces_of rest)) (still o.outer opened)
+      one_after_other (goes_on (left_of (o ∷ opened)) (opened_names (o ∷ opened)) (pieces_of rest)) (still o.outer opened)
 
   -- some names may be those of the macros that are being expanded, for results of so many macros: there is room for those,
   -- none of them is among the names, and each name is defined
@@ -64,5 +65,5 @@ module _ (macros : List Macro) (automatic : ℕ → List ℕ) where
   AllGive memo size written before rest [] = Unit {0}
   AllGive memo size written before rest (o ∷ opened) =
       Gives memo size o.name (drop o.start written) (before ++ pieces_of rest) × (o.start ≤ length written)
-      × (is_among (names_of opened) o.name ≡ false)
+      × (is_among (opened_names opened) o.name ≡ false)
       × AllGive memo size (take o.start written) (Reference o.name ∷ []) o.outer opened

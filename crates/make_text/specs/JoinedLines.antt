@@ -4,10 +4,10 @@ use Rattle.std.specs.List.{slice_split}
 use Rattle.std.specs.Borrow.{Bor}
 use Rattle.cc_names.specs.Cuts.{is_newline}
 use Rattle.make_grammar.specs.Lines.{is_joined}
-use Rattle.make_grammar.specs.LogicalLines.{without_last}
+use Rattle.make_grammar.specs.LogicalLines.{without_last_byte}
 use Rattle.make_grammar.specs.declared.logical_lines.LogicalLine.{LogicalLine}
 
--- a text is cut into its first line and what stands behind the newline, if there is one
+-- a text is cut into its first line and what follows the newline, if there is one
 abbrev pub CutsLine : List ℕ → List ℕ → Option (Bor (List ℕ)) → Type 0
 CutsLine text line None = (slice_split is_newline text ≡ line ∷ []) × (line ≡ text)
 CutsLine text line (Some rest) =
@@ -16,9 +16,9 @@ CutsLine text line (Some rest) =
 -- a line is cut before the backslash at its end, if there is one
 abbrev pub CutsBackslash : List ℕ → Option (Bor (List ℕ)) → Type 0
 CutsBackslash line None = is_joined line ≡ false
-CutsBackslash line (Some prefix) = (is_joined line ≡ true) × (prefix.now ≡ without_last line)
+CutsBackslash line (Some prefix) = (is_joined line ≡ true) × (prefix.now ≡ without_last_byte line)
 
--- bytes in front of the first of some lines
+-- bytes before the first of some lines
 abbrev pub joined_onto : ℕ → List ℕ → List LogicalLine → List LogicalLine
 joined_onto n bytes [] = record { number = n; bytes = bytes } ∷ []
 joined_onto n bytes (line ∷ lines) = record { number = n; bytes = bytes ++ line.bytes } ∷ lines

@@ -1,9 +1,10 @@
 -- Rules as the numbers of the rule lines that are joined to them.
-use Rattle.std.specs.Prelude.{◌≡◌, ℕ, ◌&&◌, Option, Some, None, List, [], ◌∷◌, ◌++◌, fold, map, is_some, slice_get, slice_index_or, slice_set, if◌then◌else◌}
+use Rattle.std.specs.Prelude.{◌≡◌, ℕ, ◌&&◌, Option, Some, None, List, [], ◌∷◌, ◌++◌, fold, map, is_some, slice_get}
+use Rattle.std.specs.Prelude.{slice_index_or, slice_set, if◌then◌else◌}
 use Rattle.std.specs.declared.random_state.RandomState.{RandomState}
 use Rattle.std.specs.HashMap.{HashMap, get}
 use Rattle.std.specs.Str.{bytes_eq}
-use Rattle.make_grammar.specs.Contents.{RuleLine, groups_of, with_line, rule_without, with_target}
+use Rattle.make_grammar.specs.Contents.{RuleLine, groups_of, with_joined_line, rule_without, with_target}
 use Rattle.make_grammar.specs.Numbers.{number_from}
 use Rattle.make_grammar.specs.Rules.{MakeRule}
 use Rattle.make_text.specs.declared.joining.JoinedRule.{JoinedRule}
@@ -11,18 +12,18 @@ use Rattle.make_text.specs.declared.joining.JoinedRule.{JoinedRule}
 -- a rule with this line joined to it, if there is one
 abbrev pub joined_with : MakeRule → Option RuleLine → MakeRule
 joined_with rule None = rule
-joined_with rule (Some line) = with_line line rule
+joined_with rule (Some line) = with_joined_line line rule
 
 -- a rule with the line of this number joined to it
 abbrev pub joined_at : List RuleLine → MakeRule → ℕ → MakeRule
 joined_at lines rule n = joined_with rule (slice_get lines n)
 
 -- the rule of these targets that the lines of these numbers are joined to
-abbrev pub rule_of : List RuleLine → JoinedRule → MakeRule
-rule_of lines rule = fold (joined_at lines) (rule_without rule.targets) rule.lines.items
+abbrev pub joined_rule : List RuleLine → JoinedRule → MakeRule
+joined_rule lines rule = fold (joined_at lines) (rule_without rule.targets) rule.lines.items
 
 abbrev pub rules_of : List RuleLine → List JoinedRule → List MakeRule
-rules_of lines rules = map (rule_of lines) rules
+rules_of lines rules = map (joined_rule lines) rules
 
 -- the targets of a rule
 abbrev pub joined_targets : JoinedRule → List (List ℕ)
@@ -43,7 +44,7 @@ KnowsGroups numbers lines = (path : List ℕ) → get bytes_eq numbers path ≡ 
 -- a rule with one more line
 abbrev pub HasJoined : JoinedRule → ℕ → JoinedRule → Type 0
 HasJoined old n new =
-    (new.targets ≡ old.targets) × ((lines : List RuleLine) → rule_of lines new ≡ joined_at lines (rule_of lines old) n)
+    (new.targets ≡ old.targets) × ((lines : List RuleLine) → joined_rule lines new ≡ joined_at lines (joined_rule lines old) n)
 
 -- rules with a new one behind them
 abbrev pub HasNew : List (List ℕ) → ℕ → List JoinedRule → List JoinedRule → Type 0
@@ -53,9 +54,11 @@ HasNew targets n old new =
 -- rules of which the one of this number has one more line
 abbrev pub HasLonger : ℕ → ℕ → List JoinedRule → List JoinedRule → Type 0
 HasLonger k n old new =
-    (lines : List RuleLine) (rule : MakeRule) → rules_of lines new ≡ slice_set (rules_of lines old) k (joined_at lines (slice_index_or (rules_of lines old) k rule) n)
+    (lines : List RuleLine) (rule : MakeRule) → rules_of lines new ≡ slice_set (rules_of lines old) k
+    (joined_at lines (slice_index_or (rules_of lines old) k rule) n)
 
 -- rules to which the line of this number was joined at a target
 abbrev pub HasTarget : List RuleLine → ℕ → List ℕ → List JoinedRule → List JoinedRule → Type 0
 HasTarget lines n target old new =
-    (line : RuleLine) → slice_get lines n ≡ Some line → rules_of lines new ≡ with_target (groups_of lines) line (rules_of lines old) target
+    (line : RuleLine) → slice_get lines n ≡ Some line → rules_of lines new
+    ≡ with_target (groups_of lines) line (rules_of lines old) target

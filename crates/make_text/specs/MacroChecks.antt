@@ -11,7 +11,13 @@ use Rattle.make_text.specs.declared.expansions.Expanding.{Expanding}
 
 -- the definition at an index
 abbrev pub definition_at : List Definition → ℕ → Definition
-definition_at definitions i = slice_index_or definitions i (record { name = []; value = []; file = []; line = 0; is_fixed = false })
+definition_at definitions i = slice_index_or definitions i (record {
+  name = [];
+  value = [];
+  file = [];
+  line = 0;
+  is_fixed = false;
+})
 
 -- the fault of what a reference to a macro expands to
 abbrev pub macro_fault_of : List Macro → (ℕ → List ℕ) → List ℕ → Option MakeCause
@@ -29,7 +35,7 @@ RunsTo macros automatic total start cause e =
     → (cause ≡ expansion_fault part) × AtEndUnless macros automatic cause e
 
 -- unless memory ran out, a test found nothing where there is no fault, and else the fault
-abbrev pub Finds : {U E : Type 0} → Result U (Or E) → Option E → Type 0
-Finds (Ok done) fault = fault ≡ None
-Finds (Err NoMemory) fault = Unit {0}
-Finds (Err (Is found)) fault = fault ≡ Some found
+abbrev pub FindsFault : {U E : Type 0} → Result U (Or E) → Option E → Type 0
+FindsFault (Ok done) fault = fault ≡ None
+FindsFault (Err NoMemory) fault = Unit {0}
+FindsFault (Err (Is found)) fault = fault ≡ Some found

@@ -1,5 +1,6 @@
 -- A makefile that is being read, with the targets that have scripts.
-use Rattle.std.specs.Prelude.{◌≡◌, ℕ, Bool, true, false, ◌&&◌, Option, Some, None, Result, Ok, Err, List, [], ◌∷◌, is_some, if◌then◌else◌}
+use Rattle.std.specs.Prelude.{◌≡◌, ℕ, Bool, true, false, ◌&&◌, Option, Some, None, Result, Ok, Err, List, [], ◌∷◌, is_some}
+use Rattle.std.specs.Prelude.{if◌then◌else◌}
 use Rattle.cc_names.specs.Answers.{FaultIs}
 use Rattle.cc_names.specs.declared.memory.Or.{Or}
 use Rattle.cc_names.specs.declared.refusals.MakeCause.TheVariants.{BadLine, BadMacro, TwoScripts}
@@ -7,7 +8,8 @@ use Rattle.cc_names.specs.declared.refusals.MakeError.{MakeError}
 use Rattle.make_grammar.specs.Contents.{RuleLine}
 use Rattle.make_grammar.specs.Macros.{is_among, has_bad_dollar}
 use Rattle.make_text.specs.ReadingSteps.{ended_rule}
-use Rattle.make_grammar.specs.Statements.{Reading, fault_at, unless_cause, cause_or, where_so, is_scripted, is_second_script, macros_of, include_words, include_line, within_limits}
+use Rattle.make_grammar.specs.Statements.{Reading, reading_fault, unless_cause, cause_or, cause_where, is_scripted}
+use Rattle.make_grammar.specs.Statements.{is_second_script, macros_of, include_words, include_line, within_limits}
 
 -- the rule lines behind the newest
 abbrev pub older_of : List RuleLine → List RuleLine
@@ -20,7 +22,7 @@ is_doubled [] = false
 is_doubled (rule ∷ older) = is_some rule.script && is_second_script rule older
 
 -- some targets are those that have a script of a rule line older than the newest, whose script is no target's second
-pub record Keeps (scripted : List (List ℕ)) (rules : List RuleLine) : Type 0 where
+pub record KeepsScripted (scripted : List (List ℕ)) (rules : List RuleLine) : Type 0 where
   pub scripts : (target : List ℕ) → is_among scripted target ≡ is_scripted (older_of rules) target
   pub single : is_doubled rules ≡ false
 
@@ -32,8 +34,8 @@ open_rule takes_script rules = None
 -- what was read, unless a line of a script has a fault
 abbrev pub script_tested : List ℕ → ℕ → List ℕ → RuleLine → List RuleLine → Reading → Result Reading MakeError
 script_tested file n line rule older reading =
-    if is_second_script rule older then fault_at rule.file rule.line TwoScripts
-    else unless_cause file n (cause_or (where_so rule.is_special BadLine) (where_so (has_bad_dollar line) BadMacro)) reading
+    if is_second_script rule older then reading_fault rule.file rule.line TwoScripts
+    else unless_cause file n (cause_or (cause_where rule.is_special BadLine) (cause_where (has_bad_dollar line) BadMacro)) reading
 
 -- an include line gave paths, and ended the rule above it; or it has a fault, whichever files there are
 abbrev pub OpensInclude : List ℕ → ℕ → List ℕ → Reading → Result (List (List ℕ)) (Or MakeError) → Reading → Type 0

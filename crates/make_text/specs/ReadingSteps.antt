@@ -6,15 +6,16 @@ use Rattle.cc_names.specs.declared.memory.Or.{Or}
 use Rattle.cc_names.specs.declared.refusals.MakeError.{MakeError}
 use Rattle.make_grammar.specs.Contents.{RuleLine}
 use Rattle.make_grammar.specs.Macros.{is_among}
-use Rattle.make_grammar.specs.WordPaths.{with_path}
-use Rattle.make_grammar.specs.Statements.{Definition, Reading, with_definition, with_script_line, with_suffixes, suffixes_name, phony_name, is_special, plain_targets, and_then, read_line, within_limits}
+use Rattle.make_grammar.specs.WordPaths.{with_path_once}
+use Rattle.make_grammar.specs.Statements.{Definition, Reading, with_definition, with_script_line, with_suffixes, suffixes_name}
+use Rattle.make_grammar.specs.Statements.{phony_name, is_special, plain_targets, if_no_fault, read_line, within_limits}
 use Rattle.make_grammar.specs.declared.logical_lines.LogicalLine.{LogicalLine}
 use Rattle.make_grammar.specs.declared.rule_lines.RuleWords.{RuleWords}
 
 -- unless memory ran out, a call left what reading gives, or answered the fault that it gives
-abbrev pub Leaves : {U X E : Type 0} → Result U (Or E) → X → Result X E → Type 0
-Leaves (Ok done) left read = read ≡ Ok left
-Leaves (Err fault) left read = FaultIs fault read
+abbrev pub LeavesReading : {U X E : Type 0} → Result U (Or E) → X → Result X E → Type 0
+LeavesReading (Ok done) left read = read ≡ Ok left
+LeavesReading (Err fault) left read = FaultIs fault read
 
 -- what was read, with a macro
 abbrev pub with_defined : Definition → Reading → Reading
@@ -35,13 +36,14 @@ counted_file reading = record reading { files = reading.files + 1 }
 abbrev pub with_special : RuleWords → Reading → Reading
 with_special words reading =
     record reading {
-      suffixes = if is_among words.targets suffixes_name then with_suffixes reading.suffixes words.prerequisites else reading.suffixes;
-      phony = if is_among words.targets phony_name then fold with_path reading.phony words.prerequisites else reading.phony;
+      suffixes = if is_among words.targets suffixes_name then with_suffixes reading.suffixes words.prerequisites else
+          reading.suffixes;
+      phony = if is_among words.targets phony_name then fold with_path_once reading.phony words.prerequisites else reading.phony;
     }
 
 -- the rule line of these words, without a script
-abbrev pub line_of_words : List ℕ → ℕ → RuleWords → RuleLine
-line_of_words file n words =
+abbrev pub rule_line_of_words : List ℕ → ℕ → RuleWords → RuleLine
+rule_line_of_words file n words =
     record {
       file = file;
       line = n;
@@ -70,6 +72,7 @@ abbrev pub with_newest_line : List ℕ → Reading → Reading
 with_newest_line line reading = record reading { rules = newest_with line reading.rules }
 
 -- a line counted and read, within the limits behind it
-abbrev pub counted_line_read : (ℕ → Reading → List ℕ → Result Reading MakeError) → List ℕ → LogicalLine → Reading → Result Reading MakeError
+abbrev pub counted_line_read : (ℕ → Reading → List ℕ → Result Reading MakeError) → List ℕ → LogicalLine → Reading
+    → Result Reading MakeError
 counted_line_read include file line reading =
-    and_then (read_line include file line (counted_line reading)) (within_limits file line.number)
+    if_no_fault (read_line include file line (counted_line reading)) (within_limits file line.number)

@@ -5,17 +5,18 @@ use Rattle.cc_names.specs.declared.commands.Macro.{Macro}
 use Rattle.cc_names.specs.Cuts.{words_of}
 use Rattle.cc_names.specs.declared.refusals.MakeCause.{MakeCause}
 use Rattle.cc_names.specs.declared.refusals.MakeCause.TheVariants.{BadPath}
-use Rattle.make_grammar.specs.Statements.{or_cause, where_so, is_path, expanded_by, before_mark, rule_expansion, expansion_fault, rule_words_fault}
+use Rattle.make_grammar.specs.Statements.{or_cause, cause_where, is_path, expanded_by, before_mark, rule_expansion}
+use Rattle.make_grammar.specs.Statements.{expansion_fault, rule_words_fault}
 use Rattle.make_grammar.specs.declared.rule_lines.RuleWords.{RuleWords}
 
 -- words that are paths below the root, or that one is none
-abbrev pub below_root : List (List ℕ) → Result (List (List ℕ)) MakeCause
-below_root words = or_cause (where_so (not (list_all is_path words)) BadPath) words
+abbrev pub words_below_root : List (List ℕ) → Result (List (List ℕ)) MakeCause
+words_below_root words = or_cause (cause_where (not (list_all is_path words)) BadPath) words
 
 -- a rule line of these words, or the fault of their paths
 abbrev pub rule_of_paths : Bool → List (List ℕ) → List (List ℕ) → Result RuleWords MakeCause
 rule_of_paths grouped targets prerequisites =
-    or_cause (where_so (not (list_all is_path targets && list_all is_path prerequisites)) BadPath)
+    or_cause (cause_where (not (list_all is_path targets && list_all is_path prerequisites)) BadPath)
     (record { is_group = grouped; targets = targets; prerequisites = prerequisites })
 
 -- a rule line of these words, or their fault

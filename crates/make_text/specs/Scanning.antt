@@ -16,7 +16,7 @@ pub record CutsFrom (scan : Scan) (text : List ℕ) (part : lent.Part) (rest : L
   pub pieces : pieces_from scan text ≡ pieces_in part ++ pieces_of rest
   pub shorter : length rest ≤ length text
 
--- a text is cut into its first part and what stands behind it
+-- a text is cut into its first part and what follows it
 pub record CutsPart (text : List ℕ) (part : lent.Part) (rest : List ℕ) : Type 0 where
   pub pieces : pieces_of text ≡ pieces_in part ++ pieces_of rest
   pub shorter : length rest < length text

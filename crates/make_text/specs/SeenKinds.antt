@@ -14,7 +14,7 @@ kind_of_lent (variants.Rule before behind) = Rule before.now behind.now
 kind_of_lent variants.Unclosed = Unclosed
 kind_of_lent variants.Neither = Neither
 
--- bytes in front of what stands before the `=` or `:`
+-- bytes before what stands before the `=` or `:`
 abbrev pub onto : List ℕ → Kind → Kind
 onto bytes (Assignment before behind) = Assignment (bytes ++ before) behind
 onto bytes (Rule before behind) = Rule (bytes ++ before) behind

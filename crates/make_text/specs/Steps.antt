@@ -1,9 +1,10 @@
 -- The steps by which the code expands a text.
-use Rattle.std.specs.Prelude.{◌≡◌, ℕ, ◌-◌, ◌<◌, ◌≤◌, true, false, Some, None, List, [], ◌∷◌, ◌++◌, length, map, reverse, take, drop, slice_set, option_copied, All}
+use Rattle.std.specs.Prelude.{◌≡◌, ℕ, ◌-◌, ◌<◌, ◌≤◌, true, false, Some, None, List, [], ◌∷◌, ◌++◌, length, map, reverse, take}
+use Rattle.std.specs.Prelude.{drop, slice_set, option_copied, All}
 use Rattle.cc_names.specs.declared.commands.Macro.{Macro}
 use Rattle.make_grammar.specs.Macros.{Piece, Expansion, plain, in_script, is_too_long, value_in}
 use Rattle.make_text.specs.Expanding.{Opened}
-use Rattle.make_text.specs.Runs.{Runs, work, macro_at, IsFound, EndsIn}
+use Rattle.make_text.specs.Runs.{Runs, work, macro_at, IsMacroFound, EndsIn}
 use Rattle.make_text.specs.States.{state_at}
 use Rattle.make_text.specs.declared.expansions.Automatic as automatics
 use Rattle.make_text.specs.declared.expansions.Expanding as expandings
@@ -25,16 +26,17 @@ abbrev pub opened_in : List Macro → lent.Opened → Opened
 opened_in macros o = record { name = (macro_at macros o.index).name; outer = o.outer.now; start = o.start }
 
 -- those that are being expanded, the innermost first
-abbrev pub opened_of : List Macro → List lent.Opened → List Opened
-opened_of macros items = map (opened_in macros) (reverse items)
+abbrev pub macros_opened : List Macro → List lent.Opened → List Opened
+macros_opened macros items = map (opened_in macros) (reverse items)
 
 -- an expansion of the code that gives a total in the end, behind some pieces
-pub record IsRunning (macros : List Macro) (automatic : ℕ → List ℕ) (total : Expansion) (pieces : List Piece) (e : expandings.Expanding) : Type 0 where
-  pub runs : Runs macros automatic total pieces e.rest.now e.written.items (opened_of macros e.opened.items) e.states
+pub record IsExpanding (macros : List Macro) (automatic : ℕ → List ℕ) (total : Expansion) (pieces : List Piece)
+    (e : expandings.Expanding) : Type 0 where
+  pub runs : Runs macros automatic total pieces e.rest.now e.written.items (macros_opened macros e.opened.items) e.states
   pub within : All (λ o. o.index < length macros) e.opened.items
 
 abbrev pub work_of : List Macro → expandings.Expanding → ℕ
-work_of macros e = work macros e.rest.now (opened_of macros e.opened.items) e.states
+work_of macros e = work macros e.rest.now (macros_opened macros e.opened.items) e.states
 
 -- ---- the end of the innermost macro
 
@@ -68,17 +70,17 @@ pub data Referred (macros : List Macro) (name : List ℕ) (old new : expandings.
   Undefined : value_in macros name ≡ None → new.rest.now ≡ old.rest.now → new.opened.items ≡ old.opened.items
       → new.states ≡ old.states → new.written.items ≡ old.written.items → Referred macros name old new Goes
   -- its result is known
-  Known : (i start len : ℕ) → IsFound macros name (Some i) → state_at old.states i ≡ Expanded start len
+  Known : (i start len : ℕ) → IsMacroFound macros name (Some i) → state_at old.states i ≡ Expanded start len
       → new.rest.now ≡ old.rest.now → new.opened.items ≡ old.opened.items → new.states ≡ old.states
       → new.written.items ≡ old.written.items ++ take len (drop start old.written.items) → Referred macros name old new Goes
   -- its expansion begins
-  Begins : (i : ℕ) (o : lent.Opened) → IsFound macros name (Some i) → state_at old.states i ≡ Untouched
+  Begins : (i : ℕ) (o : lent.Opened) → IsMacroFound macros name (Some i) → state_at old.states i ≡ Untouched
       → o.index ≡ i → o.outer.now ≡ old.rest.now → o.start ≡ length old.written.items
       → new.rest.now ≡ (macro_at macros i).value → new.opened.items ≡ old.opened.items ++ (o ∷ [])
       → new.states ≡ slice_set old.states i Begun → new.written.items ≡ old.written.items
       → Referred macros name old new Goes
   -- it is being expanded
-  Meets : (i : ℕ) → IsFound macros name (Some i) → state_at old.states i ≡ Begun
+  Meets : (i : ℕ) → IsMacroFound macros name (Some i) → state_at old.states i ≡ Begun
       → new.written.items ≡ old.written.items → Referred macros name old new Loops
 
 -- what a part of the text did
@@ -96,13 +98,13 @@ Took macros automatic variants.Bad old new step = (step ≡ Goes) × (new ≡ ol
 pub record IsAtEnd (macros : List Macro) (automatic : ℕ → List ℕ) (e : expandings.Expanding) : Type 0 where
   pub rest : e.rest.now ≡ []
   pub opened : e.opened.items ≡ []
-  pub running : IsRunning macros automatic (plain e.written.items) [] e
+  pub running : IsExpanding macros automatic (plain e.written.items) [] e
 
 -- what a step did: the expansion goes on without its first pieces, or came to its end, or met a loop
-abbrev pub Went : List Macro → (ℕ → List ℕ) → Expansion → Step → expandings.Expanding → Type 0
-Went macros automatic total Goes new = IsRunning macros automatic total [] new
-Went macros automatic total Ends new = (total ≡ plain new.written.items) × IsAtEnd macros automatic new
-Went macros automatic total Loops new = total ≡ record { bytes = new.written.items; loops = true }
+abbrev pub StepWent : List Macro → (ℕ → List ℕ) → Expansion → Step → expandings.Expanding → Type 0
+StepWent macros automatic total Goes new = IsExpanding macros automatic total [] new
+StepWent macros automatic total Ends new = (total ≡ plain new.written.items) × IsAtEnd macros automatic new
+StepWent macros automatic total Loops new = total ≡ record { bytes = new.written.items; loops = true }
 
 -- there is less left to do behind a step, where the expansion goes on
 abbrev pub FallsBelow : ℕ → Step → ℕ → Type 0
@@ -112,7 +114,7 @@ FallsBelow before Loops after = Unit {0}
 
 -- some expansion of the code runs
 abbrev pub IsSomeRun : List Macro → (ℕ → List ℕ) → expandings.Expanding → Type 0
-IsSomeRun macros automatic e = (total : Expansion) × IsRunning macros automatic total [] e
+IsSomeRun macros automatic e = (total : Expansion) × IsExpanding macros automatic total [] e
 
 -- ---- the outcome
 

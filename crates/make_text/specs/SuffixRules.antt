@@ -10,7 +10,7 @@ use Rattle.make_grammar.specs.Rules.{MakeRule, SuffixRule}
 abbrev pub begins_with : List ℕ → List ℕ → Bool
 begins_with bytes prefix = bytes_eq (take (length prefix) bytes) prefix
 
--- what stands behind a front, where bytes begin with it
+-- what follows a prefix, where bytes begin with it
 abbrev pub behind_prefix : List ℕ → List ℕ → Option (List ℕ)
 behind_prefix bytes prefix = if begins_with bytes prefix then Some (drop (length prefix) bytes) else None
 

@@ -84,7 +84,7 @@ impl Makefile {
     ) -> Result<Makefile, Or<MakeError>>
         ensures { Gives result (makefile_of (X.texts texts.now) file.now overrides.now) }
     {
-        let text = text_at(texts, file);
+        let text = text_or_empty(texts, file);
         let file = Rc::new(alloc, file.copy(alloc)?)?;
         match read_all(alloc, hashing, &file, texts, text, overrides) {
             Ok(reading) => checked_contents(alloc, hashing, reading),
@@ -163,12 +163,12 @@ impl Makefile {
             ≡ expansion self.now script.now target.now (option_copied first.entry) stem.now) }
     {
         let automatic = automatic_of(target, first, stem);
-        Ok(answer(expand(alloc, &self.macros, &automatic, script)?))
+        Ok(answer_expansion(expand(alloc, &self.macros, &automatic, script)?))
     }
 }
 
 /// The text at a path, which is empty where there is none.
-fn text_at<'a, X: Texts>(texts: &'a X, file: &Path) -> &'a [u8]
+fn text_or_empty<'a, X: Texts>(texts: &'a X, file: &Path) -> &'a [u8]
     ensures { result.now ≡ unwrap_or (X.texts texts.now file.now) [] }
 {
     match texts.text(file) {
@@ -178,7 +178,7 @@ fn text_at<'a, X: Texts>(texts: &'a X, file: &Path) -> &'a [u8]
 }
 
 /// The bytes of a path, if there is one.
-fn bytes_of(path: Option<&Path>) -> Option<&[u8]>
+fn path_bytes(path: Option<&Path>) -> Option<&[u8]>
     ensures { option_copied result ≡ option_copied path.entry }
 {
     match path {
@@ -193,13 +193,13 @@ fn automatic_of<'a>(target: &'a Path, first: Option<&'a Path>, stem: &'a [u8]) -
 {
     Automatic {
         target: target.as_bytes(),
-        first: bytes_of(first),
+        first: path_bytes(first),
         stem,
     }
 }
 
 /// What a script expands to, by what its expansion gave. A loop does not come in a makefile that was read.
-fn answer(outcome: ExpandedText) -> Expanded
+fn answer_expansion(outcome: ExpandedText) -> Expanded
     ensures { (total : Expansion) → IsExpandedText total outcome → result ≡ unless_too_long total }
 {
     match outcome {

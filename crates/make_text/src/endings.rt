@@ -6,7 +6,7 @@ ghost use Rattle.make_grammar.specs.Contents.{groups_of, is_suffix_rule, joined_
 ghost use Rattle.make_grammar.specs.Grammar.{contents_of, ending_fault, phony_fault};
 ghost use Rattle.make_text.specs.Endings.{checked_reading};
 ghost use Rattle.make_text.specs.Joining.{KnowsGroups, rules_of};
-ghost use Rattle.make_text.specs.MacroChecks.{Finds};
+ghost use Rattle.make_text.specs.MacroChecks.{FindsFault};
 ghost use Rattle.make_grammar.specs.Serving.{prerequisites_of};
 ghost use Rattle.make_grammar.specs.WordPaths.{each_once};
 
@@ -16,7 +16,7 @@ use crate::joining::{JoinedRule, join_rules, number_groups};
 use crate::line_cache::RuleLine;
 use crate::macro_checks::test_macros;
 use crate::numbers::Numbers;
-use crate::readings::{Parts, Reading, fault_at};
+use crate::readings::{Parts, Reading, reading_fault};
 use crate::rules::MakeRule;
 use crate::special_targets::has_some;
 use crate::suffix_rules::{is_suffix_rule, suffix_rules};
@@ -47,12 +47,12 @@ fn test_phony(
     phony: &IndexSet<Path, RandomState>,
     lines: &[RuleLine],
 ) -> Result<(), Or<MakeError>>
-    ensures { Finds result (phony_fault phony.now.keys lines.now) }
+    ensures { FindsFault result (phony_fault phony.now.keys lines.now) }
 {
     for line in lines {
         if line.has_script() && has_some(phony, line.targets()) {
             let (file, number) = line.place();
-            return Err(fault_at(alloc, file, number, MakeCause::PhonyScript));
+            return Err(reading_fault(alloc, file, number, MakeCause::PhonyScript));
         }
     }
     Ok(())
@@ -150,7 +150,7 @@ fn contents_of(alloc: Global, hashing: RandomState, reading: Reading) -> Result<
 
 /// Tests each macro, and then the phony targets.
 fn test_ending(alloc: Global, reading: &Reading) -> Result<(), Or<MakeError>>
-    ensures { Finds result (ending_fault reading.now) }
+    ensures { FindsFault result (ending_fault reading.now) }
 {
     match test_macros(alloc, reading.macros()) {
         Ok(()) => test_phony(alloc, reading.phony(), reading.lines()),

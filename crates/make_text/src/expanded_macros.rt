@@ -98,7 +98,7 @@ fn outcome_behind(
 }
 
 /// An outcome behind which no results are known.
-fn without_results(alloc: Global, macros: &MacroTable, outcome: ExpandedText) -> Ran
+fn outcome_without_results(alloc: Global, macros: &MacroTable, outcome: ExpandedText) -> Ran
     ensures outcome { result.outcome ≡ outcome }
     ensures results { AreResults (macros_of macros.now) result.results.written.items
         result.results.states }
@@ -110,7 +110,7 @@ fn without_results(alloc: Global, macros: &MacroTable, outcome: ExpandedText) ->
 }
 
 /// The outcome of an expansion that came to its end, by what was written behind so many bytes, and what is known then.
-fn ended(alloc: Global, expanding: Expanding<'_>, start: usize) -> Result<Ran, NoMemory>
+fn expansion_ended(alloc: Global, expanding: Expanding<'_>, start: usize) -> Result<Ran, NoMemory>
     requires { start ≤ length expanding.written.items }
     ensures outcome { IfOk result
         (λ ran.
@@ -128,7 +128,12 @@ fn ended(alloc: Global, expanding: Expanding<'_>, start: usize) -> Result<Ran, N
 }
 
 /// The outcome of an expansion that met a loop, by what was written behind so many bytes.
-fn looped(alloc: Global, macros: &MacroTable, written: &[u8], start: usize) -> Result<Ran, NoMemory>
+fn expansion_looped(
+    alloc: Global,
+    macros: &MacroTable,
+    written: &[u8],
+    start: usize,
+) -> Result<Ran, NoMemory>
     requires { start ≤ length written.now }
     ensures outcome { IfOk result
         (λ ran.
@@ -138,7 +143,7 @@ fn looped(alloc: Global, macros: &MacroTable, written: &[u8], start: usize) -> R
         AreResults (macros_of macros.now) ran.results.written.items ran.results.states) }
 {
     let outcome = outcome_behind(alloc, written, start, true)?;
-    Ok(without_results(alloc, macros, outcome))
+    Ok(outcome_without_results(alloc, macros, outcome))
 }
 
 /// Expands a text outside scripts behind the results that are known.
@@ -167,11 +172,16 @@ fn run_behind<'a>(
     'steps: loop {
         match expanding.step(alloc, macros, &automatic)? {
             Step::Goes => {}
-            Step::Ends => return ended(alloc, expanding, start),
-            Step::Loops => return looped(alloc, macros, expanding.written.as_slice(), start),
+            Step::Ends => return expansion_ended(alloc, expanding, start),
+            Step::Loops => return expansion_looped(
+                alloc,
+                macros,
+                expanding.written.as_slice(),
+                start,
+            ),
         }
         if expanding.written_behind(start) > EXPANSION_LIMIT {
-            return Ok(without_results(alloc, macros, ExpandedText::TooLong));
+            return Ok(outcome_without_results(alloc, macros, ExpandedText::TooLong));
         }
     }
 }

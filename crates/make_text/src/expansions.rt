@@ -5,7 +5,7 @@ ghost use Rattle.make_grammar.specs.Macros.{Expansion, plain, expansion_of, is_t
 ghost use Rattle.make_text.specs.Runs.{HasNamesApart, len_in};
 ghost use Rattle.make_text.specs.States.{state_at};
 ghost use Rattle.make_grammar.specs.Statements.{macros_of};
-ghost use Rattle.make_text.specs.Steps.{automatic_of, IsRunning, work_of, EndsSafely, MacroEnded, RefersSafely, Referred, Took, Went, FallsBelow, IsSomeRun, IsExpandedText};
+ghost use Rattle.make_text.specs.Steps.{automatic_of, IsExpanding, work_of, EndsSafely, MacroEnded, RefersSafely, Referred, Took, StepWent, FallsBelow, IsSomeRun, IsExpandedText};
 ghost use Rattle.make_text.specs.declared.states.State.TheVariants as variants;
 
 use crate::macros::MacroTable;
@@ -235,8 +235,8 @@ impl<'a> Expanding<'a> {
         ensures went { IfOk result
             (λ step.
             (total : Expansion)
-            → IsRunning (macros_of macros.now) (automatic_of automatic.now) total [] self.old
-            → Went (macros_of macros.now) (automatic_of automatic.now) total step self.new) }
+            → IsExpanding (macros_of macros.now) (automatic_of automatic.now) total [] self.old
+            → StepWent (macros_of macros.now) (automatic_of automatic.now) total step self.new) }
         ensures falls { IfOk result
             (λ step.
             FallsBelow (work_of (macros_of macros.now) self.old) step

@@ -2,9 +2,9 @@
 
 ghost use Rattle.std.specs.Prelude.{◌≡◌, true, false, IfOk, OnOk, flat_map, fold, slice_get, slice_set, unwrap_or};
 ghost use Rattle.make_text.specs.Gathering.{prerequisites_at, HasPut};
-ghost use Rattle.make_text.specs.Joining.{rule_of, rules_of};
+ghost use Rattle.make_text.specs.Joining.{joined_rule, rules_of};
 ghost use Rattle.make_grammar.specs.Serving.{prerequisites_of};
-ghost use Rattle.make_grammar.specs.WordPaths.{with_path, each_once};
+ghost use Rattle.make_grammar.specs.WordPaths.{with_path_once, each_once};
 
 use crate::joining::JoinedRule;
 use crate::line_cache::RuleLine;
@@ -55,7 +55,7 @@ impl Gathered {
         requires { HasPut lines.now self.old.marks.items self.old.paths.keys }
         ensures paths { OnOk result
             (self.new.paths.keys
-            ≡ fold with_path self.old.paths.keys (prerequisites_at lines.now number)) }
+            ≡ fold with_path_once self.old.paths.keys (prerequisites_at lines.now number)) }
         ensures put { OnOk result (HasPut lines.now self.new.marks.items self.new.paths.keys) }
     {
         if self.has_put(number) {
@@ -76,7 +76,7 @@ impl Gathered {
         requires { HasPut lines.now self.old.marks.items self.old.paths.keys }
         ensures paths { OnOk result
             (self.new.paths.keys
-            ≡ fold with_path self.old.paths.keys
+            ≡ fold with_path_once self.old.paths.keys
             (flat_map (prerequisites_at lines.now) numbers.now)) }
         ensures put { OnOk result (HasPut lines.now self.new.marks.items self.new.paths.keys) }
     {
@@ -96,7 +96,7 @@ impl Gathered {
         requires { HasPut lines.now self.old.marks.items self.old.paths.keys }
         ensures paths { OnOk result
             (self.new.paths.keys
-            ≡ fold with_path self.old.paths.keys (rule_of lines.now rule.now).prerequisites) }
+            ≡ fold with_path_once self.old.paths.keys (joined_rule lines.now rule.now).prerequisites) }
         ensures put { OnOk result (HasPut lines.now self.new.marks.items self.new.paths.keys) }
     {
         self.put_lines(alloc, lines, rule.lines())

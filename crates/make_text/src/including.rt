@@ -4,15 +4,15 @@ ghost use Rattle.std.specs.Prelude.{◌≡◌, OnOk};
 ghost use Rattle.cc_names.specs.Answers.{Gives};
 ghost use Rattle.make_grammar.specs.Grammar.{lines_behind, lines_read};
 ghost use Rattle.make_grammar.specs.LogicalLines.{logical_lines};
-ghost use Rattle.make_text.specs.ReadingSteps.{Leaves, counted_line_read};
-ghost use Rattle.make_text.specs.Readers.{Keeps};
+ghost use Rattle.make_text.specs.ReadingSteps.{LeavesReading, counted_line_read};
+ghost use Rattle.make_text.specs.Readers.{KeepsScripted};
 ghost use Rattle.make_grammar.specs.Statements.{reading_of_include, include_line, read_line, read_lines};
 
 use crate::contents::Texts;
 use crate::line_kinds::{Kind, line_kind, trimmed_bytes, without_comment};
 use crate::logical_lines::LogicalLines;
 use crate::readers::Reader;
-use crate::readings::{Reading, fault_at};
+use crate::readings::{Reading, reading_fault};
 use crate::words::is_script_line;
 use cc_names::commands::Macro;
 use cc_names::memory::Or;
@@ -38,16 +38,16 @@ fn reading_of_include<X: Texts>(
     line: u32,
     path: &Path,
 ) -> Result<(), Or<MakeError>>
-    requires { Keeps reader.old.scripted.keys reader.old.reading.rules }
-    ensures read { Leaves result reader.new.reading
+    requires { KeepsScripted reader.old.scripted.keys reader.old.reading.rules }
+    ensures read { LeavesReading result reader.new.reading
         (reading_of_include (X.texts texts.now) left file.now.value line reader.old.reading path.now) }
-    ensures kept { OnOk result (Keeps reader.new.scripted.keys reader.new.reading.rules) }
+    ensures kept { OnOk result (KeepsScripted reader.new.scripted.keys reader.new.reading.rules) }
 {
     let Some(text) = texts.text(path) else {
-        return Err(fault_at(alloc, file, line, MakeCause::IncludeAbsent));
+        return Err(reading_fault(alloc, file, line, MakeCause::IncludeAbsent));
     };
     if left == 0 {
-        return Err(fault_at(alloc, file, line, MakeCause::IncludeDepth));
+        return Err(reading_fault(alloc, file, line, MakeCause::IncludeDepth));
     }
     match reader.open_file(alloc, file, line) {
         Ok(()) => {
@@ -68,11 +68,11 @@ pub(crate) fn read_lines<X: Texts>(
     file: &Rc<Path>,
     text: &[u8],
 ) -> Result<(), Or<MakeError>>
-    requires { Keeps reader.old.scripted.keys reader.old.reading.rules }
-    ensures read { Leaves result reader.new.reading
+    requires { KeepsScripted reader.old.scripted.keys reader.old.reading.rules }
+    ensures read { LeavesReading result reader.new.reading
         (read_lines (reading_of_include (X.texts texts.now) left file.now.value) file.now.value
         (logical_lines text.now) reader.old.reading) }
-    ensures kept { OnOk result (Keeps reader.new.scripted.keys reader.new.reading.rules) }
+    ensures kept { OnOk result (KeepsScripted reader.new.scripted.keys reader.new.reading.rules) }
 {
     let mut lines = LogicalLines::of(text);
     'lines: while let Some(line) = lines.next(alloc)? {
@@ -94,11 +94,11 @@ fn counted_line<X: Texts>(
     file: &Rc<Path>,
     line: &LogicalLine,
 ) -> Result<(), Or<MakeError>>
-    requires { Keeps reader.old.scripted.keys reader.old.reading.rules }
-    ensures read { Leaves result reader.new.reading
+    requires { KeepsScripted reader.old.scripted.keys reader.old.reading.rules }
+    ensures read { LeavesReading result reader.new.reading
         (counted_line_read (reading_of_include (X.texts texts.now) left file.now.value) file.now.value
         line.now reader.old.reading) }
-    ensures kept { OnOk result (Keeps reader.new.scripted.keys reader.new.reading.rules) }
+    ensures kept { OnOk result (KeepsScripted reader.new.scripted.keys reader.new.reading.rules) }
 {
     reader.reading.count_line()?;
     match read_line(reader, alloc, texts, left, file, line) {
@@ -117,11 +117,11 @@ fn read_line<X: Texts>(
     file: &Rc<Path>,
     line: &LogicalLine,
 ) -> Result<(), Or<MakeError>>
-    requires { Keeps reader.old.scripted.keys reader.old.reading.rules }
-    ensures read { Leaves result reader.new.reading
+    requires { KeepsScripted reader.old.scripted.keys reader.old.reading.rules }
+    ensures read { LeavesReading result reader.new.reading
         (read_line (reading_of_include (X.texts texts.now) left file.now.value) file.now.value line.now
         reader.old.reading) }
-    ensures kept { OnOk result (Keeps reader.new.scripted.keys reader.new.reading.rules) }
+    ensures kept { OnOk result (KeepsScripted reader.new.scripted.keys reader.new.reading.rules) }
 {
     let (number, bytes) = (line.number, line.bytes.as_bytes());
     if is_script_line(bytes) {
@@ -140,8 +140,8 @@ fn read_line<X: Texts>(
             )
         }
         Kind::Rule(before, behind) => reader.rule_line(alloc, file, number, before, behind),
-        Kind::Unclosed => Err(fault_at(alloc, file, number, MakeCause::BadMacro)),
-        Kind::Neither => Err(fault_at(alloc, file, number, MakeCause::BadLine)),
+        Kind::Unclosed => Err(reading_fault(alloc, file, number, MakeCause::BadMacro)),
+        Kind::Neither => Err(reading_fault(alloc, file, number, MakeCause::BadLine)),
     }
 }
 
@@ -156,11 +156,11 @@ fn include_line<X: Texts>(
     line: u32,
     behind: &[u8],
 ) -> Result<(), Or<MakeError>>
-    requires { Keeps reader.old.scripted.keys reader.old.reading.rules }
-    ensures read { Leaves result reader.new.reading
+    requires { KeepsScripted reader.old.scripted.keys reader.old.reading.rules }
+    ensures read { LeavesReading result reader.new.reading
         (include_line (reading_of_include (X.texts texts.now) left file.now.value line) file.now.value
         line behind.now reader.old.reading) }
-    ensures kept { OnOk result (Keeps reader.new.scripted.keys reader.new.reading.rules) }
+    ensures kept { OnOk result (KeepsScripted reader.new.scripted.keys reader.new.reading.rules) }
 {
     let paths = match reader.open_include(alloc, file, line, behind) {
         Ok(paths) => paths,
@@ -184,8 +184,8 @@ fn read_behind<X: Texts>(
     text: &[u8],
     overrides: &[Macro],
 ) -> Result<(), Or<MakeError>>
-    requires { Keeps reader.old.scripted.keys reader.old.reading.rules }
-    ensures { Leaves result reader.new.reading
+    requires { KeepsScripted reader.old.scripted.keys reader.old.reading.rules }
+    ensures { LeavesReading result reader.new.reading
         (lines_behind (X.texts texts.now) file.now.value text.now overrides.now
         reader.old.reading) }
 {

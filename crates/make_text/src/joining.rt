@@ -2,11 +2,11 @@
 
 ghost use Rattle.std.specs.Prelude.{◌≡◌, ◌<◌, ◌^◌, ◌-◌, ◌∷◌, [], Some, true, IfOk, OnOk, find, length, option_copied, slice_get};
 ghost use Rattle.make_grammar.specs.Contents.{groups_of, made_with, with_rule_line, joined_rules};
-ghost use Rattle.make_text.specs.Joining.{joined_at, rule_of, rules_of, KnowsJoined, made_together, KnowsGroups, HasJoined, HasNew, HasLonger, HasTarget};
+ghost use Rattle.make_text.specs.Joining.{joined_at, joined_rule, rules_of, KnowsJoined, made_together, KnowsGroups, HasJoined, HasNew, HasLonger, HasTarget};
 ghost use Rattle.make_grammar.specs.Macros.{is_among};
 
 use crate::line_cache::RuleLine;
-use crate::numbers::{Numbers, number, number_all, put};
+use crate::numbers::{Numbers, number, number_all, number_paths};
 use crate::rules::MakeRule;
 use cc_names::copies::Copied;
 use cc_names::lists::List;
@@ -70,7 +70,7 @@ pub(crate) fn group<'a>(
 }
 
 /// A target alone.
-fn alone(alloc: Global, target: &Path) -> Result<List<Path>, NoMemory>
+fn target_alone(alloc: Global, target: &Path) -> Result<List<Path>, NoMemory>
     ensures { IfOk result (λ paths. paths ≡ target.now ∷ []) }
 {
     let mut paths = Vec::new(alloc);
@@ -90,7 +90,7 @@ fn made_with(
 {
     match group(lines, groups, target) {
         Some(line) => line.copy_targets(alloc),
-        None => alone(alloc, target),
+        None => target_alone(alloc, target),
     }
 }
 
@@ -143,7 +143,7 @@ impl JoinedRule {
 
     /// The rule itself. Takes time linear in the lines that were joined.
     pub(crate) fn into_rule(self, alloc: Global, lines: &[RuleLine]) -> Result<MakeRule, NoMemory>
-        ensures { IfOk result (λ rule. rule ≡ rule_of lines.now self) }
+        ensures { IfOk result (λ rule. rule ≡ joined_rule lines.now self) }
     {
         let JoinedRule {
             targets,
@@ -169,7 +169,7 @@ impl Joining {
         if number >= u32::MAX as usize {
             return Err(NoMemory);
         }
-        put(alloc, &mut self.numbers, targets.as_slice(), number as u32)?;
+        number_paths(alloc, &mut self.numbers, targets.as_slice(), number as u32)?;
         let mut lines = Vec::new(alloc);
         lines.push(line)?;
         self.rules.push(JoinedRule { targets, lines })?;

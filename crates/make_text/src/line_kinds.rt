@@ -2,7 +2,7 @@
 
 ghost use Rattle.std.specs.Prelude.{◌≡◌, ◌<◌, ◌+◌, [], option_copied, IfSome, length, take, drop, slice_index};
 ghost use Rattle.std.specs.List.{position};
-ghost use Rattle.make_grammar.specs.LineKinds.{is_hash, without_comment, trimmed_bytes, behind_include, behind_byte, is_within, decides, kind_by_byte, kind_from, line_kind};
+ghost use Rattle.make_grammar.specs.LineKinds.{is_hash, without_comment, trimmed_bytes, behind_include, behind_byte, is_in_reference, is_deciding_byte, kind_by_byte, kind_from, line_kind};
 ghost use Rattle.make_grammar.specs.declared.line_kinds.Position.TheVariants.{Outside};
 ghost use Rattle.make_text.specs.SeenKinds.{kind_of_lent, onto, past_end_blanks};
 
@@ -16,7 +16,7 @@ use make_grammar::line_kinds::Position;
 pub(crate) enum Kind<'a> {
     /// Nothing, or blanks.
     Blank,
-    /// `include`, and what stands behind it.
+    /// `include`, and what follows it.
     Include(&'a [u8]),
     /// What stands before a `=` and behind it.
     Assignment(&'a [u8], &'a [u8]),
@@ -66,7 +66,7 @@ pub(crate) fn trimmed_bytes(bytes: &[u8]) -> &[u8]
     past_end_blanks(past_blanks(bytes))
 }
 
-/// What stands behind the word `include`, where bytes begin with it and a blank follows.
+/// What follows the word `include`, where bytes begin with it and a blank follows.
 fn behind_include(bytes: &[u8]) -> Option<&[u8]>
     ensures { option_copied result ≡ behind_include bytes.now }
 {
@@ -95,24 +95,24 @@ fn behind_byte(position: Position, byte: u8) -> Position
     }
 }
 
-fn is_within(position: Position) -> bool
-    ensures { result ≡ is_within position }
+fn is_in_reference(position: Position) -> bool
+    ensures { result ≡ is_in_reference position }
 {
     matches!(position, Position::Within(_))
 }
 
 /// Whether a byte decides what the line is.
-fn decides(position: Position, byte: u8) -> bool
-    ensures { result ≡ decides position byte }
+fn is_deciding_byte(position: Position, byte: u8) -> bool
+    ensures { result ≡ is_deciding_byte position byte }
 {
-    !is_within(position) && (byte == b'=' || byte == b':')
+    !is_in_reference(position) && (byte == b'=' || byte == b':')
 }
 
 /// The kind of a line that no byte decides, by the position behind its last byte.
 fn kind_at_end(position: Position) -> Kind<'static>
     ensures { kind_of_lent result ≡ kind_from position [] }
 {
-    if is_within(position) {
+    if is_in_reference(position) {
         Kind::Unclosed
     } else {
         Kind::Neither
@@ -140,7 +140,7 @@ fn kind_by_marks(line: &[u8]) -> Kind<'_>
 {
     let mut position = Position::Outside;
     for (index, byte) in line.iter().enumerate() {
-        if decides(position, *byte) {
+        if is_deciding_byte(position, *byte) {
             return kind_by_byte(line, index);
         }
         position = behind_byte(position, *byte);

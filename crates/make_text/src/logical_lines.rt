@@ -100,7 +100,7 @@ fn next_number(number: u32) -> u32
     number.saturating_add(1)
 }
 
-/// The first line of a text, and what stands behind its newline if it has one.
+/// The first line of a text, and what follows its newline if it has one.
 fn cut_line(text: &[u8]) -> (&[u8], Option<&[u8]>)
     ensures { CutsLine text.now result.0.now result.1 }
 {
@@ -120,7 +120,7 @@ fn cut_backslash(line: &[u8]) -> Option<&[u8]>
     }
 }
 
-/// Bytes without the blanks at their front.
+/// Bytes without the blanks at their start.
 pub(crate) fn past_blanks(bytes: &[u8]) -> &[u8]
     ensures { result.now ≡ past_blanks bytes.now }
 {

@@ -2,15 +2,15 @@
 
 ghost use Rattle.std.specs.Prelude.{◌≡◌, ◌<◌, ◌-◌, [], IfOk, length};
 ghost use Rattle.make_grammar.specs.Grammar.{macros_fault};
-ghost use Rattle.make_text.specs.MacroChecks.{AtEndUnless, RunsTo, Finds, macro_fault_of};
+ghost use Rattle.make_text.specs.MacroChecks.{AtEndUnless, RunsTo, FindsFault, macro_fault_of};
 ghost use Rattle.make_grammar.specs.Macros.{Expansion};
 ghost use Rattle.make_text.specs.Runs.{HasNamesApart, macro_at};
 ghost use Rattle.make_grammar.specs.Statements.{macros_of, expansion_fault};
-ghost use Rattle.make_text.specs.Steps.{automatic_of, IsAtEnd, IsRunning, IsSomeRun};
+ghost use Rattle.make_text.specs.Steps.{automatic_of, IsAtEnd, IsExpanding, IsSomeRun};
 
 use crate::expansions::{Automatic, EXPANSION_LIMIT, Expanding, Step};
 use crate::macros::MacroTable;
-use crate::readings::fault_at;
+use crate::readings::reading_fault;
 use cc_names::memory::{NoMemory, Or};
 use cc_names::refusals::{MakeCause, MakeError};
 use std::alloc::Global;
@@ -19,7 +19,7 @@ use std::alloc::Global;
 pub(crate) const RESULTS_LIMIT: usize = 16_777_216;
 
 /// The fault of an expansion of so many bytes, which a loop may have ended.
-fn fault_of(len: usize, loops: bool) -> Option<MakeCause>
+fn fault_of_expansion(len: usize, loops: bool) -> Option<MakeCause>
     ensures { (total : Expansion)
         → length total.bytes ≡ len
         → total.loops ≡ loops
@@ -49,15 +49,15 @@ impl<'a> Expanding<'a> {
         ensures { IfOk result
             (λ cause.
             (total : Expansion)
-            → IsRunning (macros_of macros.now) (automatic_of automatic.now) total [] self.old
+            → IsExpanding (macros_of macros.now) (automatic_of automatic.now) total [] self.old
             → RunsTo (macros_of macros.now) (automatic_of automatic.now) total start cause
             self.new) }
     {
         'steps: loop {
             match self.step(alloc, macros, automatic)? {
                 Step::Goes => {}
-                Step::Ends => return Ok(fault_of(self.written_behind(start), false)),
-                Step::Loops => return Ok(fault_of(self.written_behind(start), true)),
+                Step::Ends => return Ok(fault_of_expansion(self.written_behind(start), false)),
+                Step::Loops => return Ok(fault_of_expansion(self.written_behind(start), true)),
             }
             if self.written_behind(start) > EXPANSION_LIMIT {
                 return Ok(Some(MakeCause::LineTooLong));
@@ -89,18 +89,18 @@ impl<'a> Expanding<'a> {
             AtEndUnless (macros_of macros.now) (automatic_of automatic.now) cause self.new) }
     {
         if let Some(len) = self.known_len(index) {
-            return Ok(fault_of(len, false));
+            return Ok(fault_of_expansion(len, false));
         }
         let start = self.written.len();
         match self.refer(alloc, macros, name)? {
-            Step::Loops => Ok(fault_of(self.written_behind(start), true)),
+            Step::Loops => Ok(fault_of_expansion(self.written_behind(start), true)),
             _ => self.run(alloc, macros, automatic, start),
         }
     }
 }
 
 /// An expansion at its end, without its results where they are too many.
-fn without_results<'a>(
+fn without_many_results<'a>(
     alloc: Global,
     macros: &'a MacroTable,
     automatic: &Automatic<'a>,
@@ -128,7 +128,7 @@ fn new_expansion<'a>(
 
 /// Tests each macro, in the order of first definition. Takes time linear in their values and in what they expand to.
 pub(crate) fn test_macros(alloc: Global, macros: &MacroTable) -> Result<(), Or<MakeError>>
-    ensures { Finds result (macros_fault (macros_of macros.now) macros.now) }
+    ensures { FindsFault result (macros_fault (macros_of macros.now) macros.now) }
 {
     let automatic = Automatic {
         target: &[],
@@ -137,10 +137,10 @@ pub(crate) fn test_macros(alloc: Global, macros: &MacroTable) -> Result<(), Or<M
     };
     let mut expanding = new_expansion(alloc, macros, &automatic);
     for index in 0..macros.len() {
-        expanding = without_results(alloc, macros, &automatic, expanding);
+        expanding = without_many_results(alloc, macros, &automatic, expanding);
         let (name, file, line) = macros.definition(index);
         if let Some(cause) = expanding.test(alloc, macros, &automatic, index, name)? {
-            return Err(fault_at(alloc, file, line, cause));
+            return Err(reading_fault(alloc, file, line, cause));
         }
     }
     Ok(())

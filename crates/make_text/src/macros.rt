@@ -3,7 +3,7 @@
 ghost use Rattle.std.specs.Prelude.{◌≡◌, ◌<◌, ◌&&◌, not, IfOk, OnOk, [], length};
 ghost use Rattle.make_text.specs.MacroChecks.{definition_at};
 ghost use Rattle.make_text.specs.MacroEntries.{definition_in};
-ghost use Rattle.make_text.specs.Runs.{macro_at, HasNamesApart, IsFound};
+ghost use Rattle.make_text.specs.Runs.{macro_at, HasNamesApart, IsMacroFound};
 ghost use Rattle.make_grammar.specs.Statements.{macros_of, has_fixed, with_definition};
 
 use cc_names::memory::NoMemory;
@@ -116,7 +116,7 @@ impl MacroTable {
 
     /// The index of the macro of this name. Takes time linear in the name.
     pub(crate) fn find(&self, alloc: Global, name: &[u8]) -> Result<Option<usize>, NoMemory>
-        ensures { IfOk result (λ found. IsFound (macros_of self.now) name.now found) }
+        ensures { IfOk result (λ found. IsMacroFound (macros_of self.now) name.now found) }
     {
         let name = Text::from_bytes(alloc, name)?;
         Ok(self.defined.get_index_of(&name))

@@ -64,7 +64,12 @@ pub fn number(numbers: &Numbers, path: &Path) -> Option<u32>
 }
 
 /// Numbers a path, unless it has a number.
-fn put_path(alloc: Global, numbers: &mut Numbers, path: &Path, number: u32) -> Result<(), NoMemory>
+fn number_path(
+    alloc: Global,
+    numbers: &mut Numbers,
+    path: &Path,
+    number: u32,
+) -> Result<(), NoMemory>
     ensures { OnOk result
         ((other : List ℕ)
         → get bytes_eq numbers.new other
@@ -77,7 +82,7 @@ fn put_path(alloc: Global, numbers: &mut Numbers, path: &Path, number: u32) -> R
 }
 
 /// Numbers paths, except those that have a number.
-pub(crate) fn put(
+pub(crate) fn number_paths(
     alloc: Global,
     numbers: &mut Numbers,
     paths: &[Path],
@@ -89,7 +94,7 @@ pub(crate) fn put(
         ≡ with_numbers number paths.now other (get bytes_eq numbers.old other)) }
 {
     for path in paths {
-        put_path(alloc, numbers, path, number)?;
+        number_path(alloc, numbers, path, number)?;
     }
     Ok(())
 }
@@ -108,7 +113,7 @@ pub fn number_all<X: Makes>(
 {
     let mut numbers = HashMap::with_hasher(alloc, hashing);
     for (index, item) in items.iter().enumerate() {
-        put(alloc, &mut numbers, item.targets(), index as u32)?;
+        number_paths(alloc, &mut numbers, item.targets(), index as u32)?;
     }
     Ok(numbers)
 }

@@ -58,7 +58,7 @@ pub(crate) fn first_dollar(text: &[u8]) -> Option<usize>
     text.iter().position(|byte| *byte == b'$')
 }
 
-fn first_of(text: &[u8], close: u8) -> Option<usize>
+fn first_place_of(text: &[u8], close: u8) -> Option<usize>
     ensures place { result ≡ position (λ b. b == close) text.now }
     ensures within { IfSome result (λ index. index < length text.now) }
 {
@@ -76,11 +76,11 @@ fn piece_of_name(name: &[u8]) -> Part<'_>
     }
 }
 
-/// The reference whose name stands before the closing byte, with what stands behind that.
+/// The reference whose name stands before the closing byte, with what follows that.
 fn cut_name(text: &[u8], close: u8) -> (Part<'_>, &[u8])
     ensures { CutsFrom (Name close []) text.now result.0 result.1.now }
 {
-    match first_of(text, close) {
+    match first_place_of(text, close) {
         Some(end) => (piece_of_name(&text[..end]), &text[end + 1..]),
         None => (Part::Bad, &[]),
     }
@@ -103,7 +103,7 @@ fn single(behind: &[u8]) -> Part<'_>
     }
 }
 
-/// The reference that goes on here behind its `$`, with what stands behind it.
+/// The reference that goes on here behind its `$`, with what follows it.
 fn cut_reference(behind: &[u8]) -> (Part<'_>, &[u8])
     ensures { CutsFrom Dollar behind.now result.0 result.1.now }
 {
@@ -115,7 +115,7 @@ fn cut_reference(behind: &[u8]) -> (Part<'_>, &[u8])
     }
 }
 
-/// The first part of a text that is not empty, with what stands behind it. Takes time linear in the part.
+/// The first part of a text that is not empty, with what follows it. Takes time linear in the part.
 pub(crate) fn cut_part(text: &[u8]) -> (Part<'_>, &[u8])
     requires { 0 < length text.now }
     ensures { CutsPart text.now result.0 result.1.now }

@@ -3,13 +3,13 @@
 ghost use Rattle.std.specs.Prelude.{◌≡◌, ℕ, List, IfOk, OnOk, Some, true};
 ghost use Rattle.make_grammar.specs.Grammar.{nothing_read, with_overrides};
 ghost use Rattle.make_grammar.specs.Macros.{is_among};
-ghost use Rattle.make_text.specs.ReadingSteps.{Leaves, counted_file};
-ghost use Rattle.make_text.specs.Readers.{Keeps, older_of, open_rule, script_tested, OpensInclude};
+ghost use Rattle.make_text.specs.ReadingSteps.{LeavesReading, counted_file};
+ghost use Rattle.make_text.specs.Readers.{KeepsScripted, older_of, open_rule, script_tested, OpensInclude};
 ghost use Rattle.make_grammar.specs.Statements.{assignment, override, has_twice, is_scripted, is_second_script, rule_line, script_line, with_rule, within_limits};
 
 use crate::line_cache::RuleLine;
 use crate::pieces::has_bad_dollar;
-use crate::readings::{Reading, fault_at};
+use crate::readings::{Reading, reading_fault};
 use crate::special_targets::{has_some, put_paths};
 use crate::words::is_blank_line;
 use cc_names::commands::Macro;
@@ -50,7 +50,7 @@ impl Reader {
     /// A makefile of which nothing was read.
     pub(crate) fn new(alloc: Global, hashing: RandomState) -> Result<Reader, NoMemory>
         ensures reading { IfOk result (λ reader. reader.reading ≡ nothing_read) }
-        ensures kept { IfOk result (λ reader. Keeps reader.scripted.keys reader.reading.rules) }
+        ensures kept { IfOk result (λ reader. KeepsScripted reader.scripted.keys reader.reading.rules) }
     {
         Ok(Reader {
             reading: Reading::new(alloc, hashing)?,
@@ -66,10 +66,10 @@ impl Reader {
         file: &Rc<Path>,
         fixed: &Macro,
     ) -> Result<(), Or<MakeError>>
-        requires { Keeps self.old.scripted.keys self.old.reading.rules }
-        ensures read { Leaves result self.new.reading
+        requires { KeepsScripted self.old.scripted.keys self.old.reading.rules }
+        ensures read { LeavesReading result self.new.reading
             (override file.now.value self.old.reading fixed.now) }
-        ensures kept { OnOk result (Keeps self.new.scripted.keys self.new.reading.rules) }
+        ensures kept { OnOk result (KeepsScripted self.new.scripted.keys self.new.reading.rules) }
     {
         self.reading.fix(alloc, file, fixed)
     }
@@ -81,10 +81,10 @@ impl Reader {
         file: &Rc<Path>,
         overrides: &[Macro],
     ) -> Result<(), Or<MakeError>>
-        requires { Keeps self.old.scripted.keys self.old.reading.rules }
-        ensures read { Leaves result self.new.reading
+        requires { KeepsScripted self.old.scripted.keys self.old.reading.rules }
+        ensures read { LeavesReading result self.new.reading
             (with_overrides file.now.value overrides.now self.old.reading) }
-        ensures kept { OnOk result (Keeps self.new.scripted.keys self.new.reading.rules) }
+        ensures kept { OnOk result (KeepsScripted self.new.scripted.keys self.new.reading.rules) }
     {
         for fixed in overrides {
             match self.fix(alloc, file, fixed) {
@@ -116,17 +116,17 @@ impl Reader {
         name: &[u8],
         value: &[u8],
     ) -> Result<(), Or<MakeError>>
-        requires { Keeps self.old.scripted.keys self.old.reading.rules }
-        ensures read { Leaves result self.new.reading
+        requires { KeepsScripted self.old.scripted.keys self.old.reading.rules }
+        ensures read { LeavesReading result self.new.reading
             (assignment file.now.value line name.now value.now self.old.reading) }
-        ensures kept { OnOk result (Keeps self.new.scripted.keys self.new.reading.rules) }
+        ensures kept { OnOk result (KeepsScripted self.new.scripted.keys self.new.reading.rules) }
     {
         self.reading.assign(alloc, file, line, name, value)
     }
 
     /// Puts the targets of the newest rule line among those that have scripts, if it has one.
     fn set_aside(&mut self, alloc: Global) -> Result<(), NoMemory>
-        requires { Keeps self.old.scripted.keys self.old.reading.rules }
+        requires { KeepsScripted self.old.scripted.keys self.old.reading.rules }
         ensures reading { self.new.reading ≡ self.old.reading }
         ensures scripts { OnOk result
             ((target : List ℕ)
@@ -148,10 +148,10 @@ impl Reader {
         line: u32,
         words: RuleWords,
     ) -> Result<(), NoMemory>
-        requires { Keeps self.old.scripted.keys self.old.reading.rules }
+        requires { KeepsScripted self.old.scripted.keys self.old.reading.rules }
         ensures read { OnOk result
             (self.new.reading ≡ with_rule file.now.value line words self.old.reading) }
-        ensures kept { OnOk result (Keeps self.new.scripted.keys self.new.reading.rules) }
+        ensures kept { OnOk result (KeepsScripted self.new.scripted.keys self.new.reading.rules) }
     {
         self.set_aside(alloc)?;
         self.reading
@@ -168,21 +168,21 @@ impl Reader {
         before: &[u8],
         behind: &[u8],
     ) -> Result<(), Or<MakeError>>
-        requires { Keeps self.old.scripted.keys self.old.reading.rules }
-        ensures read { Leaves result self.new.reading
+        requires { KeepsScripted self.old.scripted.keys self.old.reading.rules }
+        ensures read { LeavesReading result self.new.reading
             (rule_line file.now.value line before.now behind.now self.old.reading) }
-        ensures kept { OnOk result (Keeps self.new.scripted.keys self.new.reading.rules) }
+        ensures kept { OnOk result (KeepsScripted self.new.scripted.keys self.new.reading.rules) }
     {
         match self.reading.rule_words(alloc, before, behind) {
             Ok(words) => Ok(self.add_rule(alloc, file, line, words)?),
-            Err(Or::Is(cause)) => Err(fault_at(alloc, file, line, cause)),
+            Err(Or::Is(cause)) => Err(reading_fault(alloc, file, line, cause)),
             Err(Or::NoMemory) => Err(Or::NoMemory),
         }
     }
 
     /// Whether a script of the newest rule line is the second one of a target. One that is there already is not.
     fn is_second_script(&self, alloc: Global, rule: &RuleLine) -> Result<bool, NoMemory>
-        requires kept { Keeps self.now.scripted.keys self.now.reading.rules }
+        requires kept { KeepsScripted self.now.scripted.keys self.now.reading.rules }
         requires newest { open_rule true self.now.reading.rules ≡ Some rule.now }
         ensures { IfOk result
             (λ second.
@@ -204,21 +204,21 @@ impl Reader {
         rule: &RuleLine,
         bytes: &[u8],
     ) -> Result<(), Or<MakeError>>
-        requires kept { Keeps self.now.scripted.keys self.now.reading.rules }
+        requires kept { KeepsScripted self.now.scripted.keys self.now.reading.rules }
         requires newest { open_rule true self.now.reading.rules ≡ Some rule.now }
-        ensures { Leaves result self.now.reading
+        ensures { LeavesReading result self.now.reading
             (script_tested file.now line bytes.now rule.now (older_of self.now.reading.rules)
             self.now.reading) }
     {
         if self.is_second_script(alloc, rule)? {
             let (file, line) = rule.place();
-            return Err(fault_at(alloc, file, line, MakeCause::TwoScripts));
+            return Err(reading_fault(alloc, file, line, MakeCause::TwoScripts));
         }
         if rule.is_special() {
-            return Err(fault_at(alloc, file, line, MakeCause::BadLine));
+            return Err(reading_fault(alloc, file, line, MakeCause::BadLine));
         }
         if has_bad_dollar(bytes) {
-            return Err(fault_at(alloc, file, line, MakeCause::BadMacro));
+            return Err(reading_fault(alloc, file, line, MakeCause::BadMacro));
         }
         Ok(())
     }
@@ -231,14 +231,14 @@ impl Reader {
         line: u32,
         bytes: &[u8],
     ) -> Result<(), Or<MakeError>>
-        requires { Keeps self.old.scripted.keys self.old.reading.rules }
-        ensures read { Leaves result self.new.reading
+        requires { KeepsScripted self.old.scripted.keys self.old.reading.rules }
+        ensures read { LeavesReading result self.new.reading
             (script_line file.now line bytes.now self.old.reading.takes_script
             self.old.reading.rules self.old.reading) }
-        ensures kept { OnOk result (Keeps self.new.scripted.keys self.new.reading.rules) }
+        ensures kept { OnOk result (KeepsScripted self.new.scripted.keys self.new.reading.rules) }
     {
         let Some(rule) = self.reading.open_rule() else {
-            return Err(fault_at(alloc, file, line, MakeCause::BadLine));
+            return Err(reading_fault(alloc, file, line, MakeCause::BadLine));
         };
         if is_blank_line(bytes) {
             return Ok(());
@@ -256,10 +256,10 @@ impl Reader {
         file: &Path,
         line: u32,
     ) -> Result<(), Or<MakeError>>
-        requires { Keeps self.old.scripted.keys self.old.reading.rules }
-        ensures read { Leaves result self.new.reading
+        requires { KeepsScripted self.old.scripted.keys self.old.reading.rules }
+        ensures read { LeavesReading result self.new.reading
             (within_limits file.now line self.old.reading) }
-        ensures kept { OnOk result (Keeps self.new.scripted.keys self.new.reading.rules) }
+        ensures kept { OnOk result (KeepsScripted self.new.scripted.keys self.new.reading.rules) }
     {
         self.reading.within_limits(alloc, file, line)
     }
@@ -271,10 +271,10 @@ impl Reader {
         file: &Path,
         line: u32,
     ) -> Result<(), Or<MakeError>>
-        requires { Keeps self.old.scripted.keys self.old.reading.rules }
-        ensures read { Leaves result self.new.reading
+        requires { KeepsScripted self.old.scripted.keys self.old.reading.rules }
+        ensures read { LeavesReading result self.new.reading
             (within_limits file.now line (counted_file self.old.reading)) }
-        ensures kept { OnOk result (Keeps self.new.scripted.keys self.new.reading.rules) }
+        ensures kept { OnOk result (KeepsScripted self.new.scripted.keys self.new.reading.rules) }
     {
         self.reading.count_file()?;
         self.within_limits(alloc, file, line)
@@ -288,10 +288,10 @@ impl Reader {
         line: u32,
         behind: &[u8],
     ) -> Result<List<Path>, Or<MakeError>>
-        requires { Keeps self.old.scripted.keys self.old.reading.rules }
+        requires { KeepsScripted self.old.scripted.keys self.old.reading.rules }
         ensures read { OpensInclude file.now line behind.now self.old.reading result
             self.new.reading }
-        ensures kept { OnOk result (Keeps self.new.scripted.keys self.new.reading.rules) }
+        ensures kept { OnOk result (KeepsScripted self.new.scripted.keys self.new.reading.rules) }
     {
         match self.reading.include_words(alloc, behind) {
             Ok(paths) => {
@@ -301,7 +301,7 @@ impl Reader {
                     Err(fault) => Err(fault),
                 }
             }
-            Err(Or::Is(cause)) => Err(fault_at(alloc, file, line, cause)),
+            Err(Or::Is(cause)) => Err(reading_fault(alloc, file, line, cause)),
             Err(Or::NoMemory) => Err(Or::NoMemory),
         }
     }

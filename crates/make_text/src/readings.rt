@@ -5,15 +5,15 @@ ghost use Rattle.cc_names.specs.Answers.{FaultIs, Gives};
 ghost use Rattle.make_grammar.specs.Grammar.{nothing_read};
 ghost use Rattle.make_text.specs.MacroEntries.{definition_in};
 ghost use Rattle.make_text.specs.Readers.{open_rule};
-ghost use Rattle.make_text.specs.ReadingSteps.{Leaves, counted_line, counted_file, with_defined, ended_rule, with_special, with_newest_line, line_of_words, with_next_rule};
-ghost use Rattle.make_grammar.specs.Statements.{fault_at, assignment, include_words, macros_of, override, rule_words, with_rule, within_limits};
+ghost use Rattle.make_text.specs.ReadingSteps.{LeavesReading, counted_line, counted_file, with_defined, ended_rule, with_special, with_newest_line, rule_line_of_words, with_next_rule};
+ghost use Rattle.make_grammar.specs.Statements.{reading_fault, assignment, include_words, macros_of, override, rule_words, with_rule, within_limits};
 
 use crate::expanded_macros::ExpandedMacros;
 use crate::line_cache::RuleLine;
 use crate::macros::{Defined, MacroTable};
 use crate::rule_lines::{macro_fault, read_include_line, read_rule_line};
 use crate::special_targets::{
-    first_suffixes, has_special, is_named, plain_targets, put_paths, put_suffixes,
+    first_suffixes, has_special_target, is_target_named, plain_targets, put_paths, put_suffixes,
 };
 use cc_names::commands::Macro;
 use cc_names::lists::List;
@@ -77,8 +77,13 @@ pub(crate) struct Parts {
 }
 
 /// The fault of this cause at a line of a file.
-pub(crate) fn fault_at(alloc: Global, file: &Path, line: u32, cause: MakeCause) -> Or<MakeError>
-    ensures { FaultIs result (fault_at file.now line cause) }
+pub(crate) fn reading_fault(
+    alloc: Global,
+    file: &Path,
+    line: u32,
+    cause: MakeCause,
+) -> Or<MakeError>
+    ensures { FaultIs result (reading_fault file.now line cause) }
 {
     match file.copy(alloc) {
         Ok(file) => Or::Is(MakeError { file, line, cause }),
@@ -97,21 +102,21 @@ fn more(count: u64, by: usize) -> Result<u64, NoMemory>
 }
 
 /// The rule line of these words, without a script.
-fn line_of_words(
+fn rule_line_of_words(
     alloc: Global,
     hashing: RandomState,
     file: &Rc<Path>,
     line: u32,
     words: RuleWords,
 ) -> Result<RuleLine, NoMemory>
-    ensures { IfOk result (λ rule. rule ≡ line_of_words file.now.value line words) }
+    ensures { IfOk result (λ rule. rule ≡ rule_line_of_words file.now.value line words) }
 {
     let RuleWords {
         is_group,
         targets,
         prerequisites,
     } = words;
-    let is_special = has_special(targets.as_slice());
+    let is_special = has_special_target(targets.as_slice());
     let prerequisites = Rc::new(alloc, prerequisites)?;
     let targets = plain_targets(alloc, hashing, is_group, targets)?;
     RuleLine::of(file, line, targets, prerequisites, is_group, is_special)
@@ -249,10 +254,10 @@ impl Reading {
         file: &Path,
         line: u32,
     ) -> Result<(), Or<MakeError>>
-        ensures { Leaves result self.new (within_limits file.now line self.old) }
+        ensures { LeavesReading result self.new (within_limits file.now line self.old) }
     {
         if self.lines > LINE_LIMIT || self.targets > TARGET_LIMIT || self.files > FILE_LIMIT {
-            return Err(fault_at(alloc, file, line, MakeCause::TooMany));
+            return Err(reading_fault(alloc, file, line, MakeCause::TooMany));
         }
         Ok(())
     }
@@ -283,11 +288,11 @@ impl Reading {
         name: &[u8],
         value: &[u8],
     ) -> Result<(), Or<MakeError>>
-        ensures { Leaves result self.new
+        ensures { LeavesReading result self.new
             (assignment file.now.value line name.now value.now self.old) }
     {
         if let Some(cause) = macro_fault(name, value) {
-            return Err(fault_at(alloc, file, line, cause));
+            return Err(reading_fault(alloc, file, line, cause));
         }
         let defined = Defined::at(alloc, file, line, value, false)?;
         self.define(alloc, name, defined)?;
@@ -302,11 +307,11 @@ impl Reading {
         file: &Rc<Path>,
         fixed: &Macro,
     ) -> Result<(), Or<MakeError>>
-        ensures { Leaves result self.new (override file.now.value self.old fixed.now) }
+        ensures { LeavesReading result self.new (override file.now.value self.old fixed.now) }
     {
         let (name, value) = (fixed.name.as_bytes(), fixed.value.as_bytes());
         if let Some(cause) = macro_fault(name, value) {
-            return Err(fault_at(alloc, file, 0, cause));
+            return Err(reading_fault(alloc, file, 0, cause));
         }
         let defined = Defined::at(alloc, file, 0, value, true)?;
         self.define(alloc, name, defined)?;
@@ -318,10 +323,10 @@ impl Reading {
         ensures { OnOk result (self.new ≡ with_special words.now self.old) }
     {
         let (targets, prerequisites) = (words.targets.as_slice(), words.prerequisites.as_slice());
-        if is_named(targets, b".SUFFIXES") {
+        if is_target_named(targets, b".SUFFIXES") {
             put_suffixes(alloc, &mut self.suffixes, prerequisites)?;
         }
-        if is_named(targets, b".PHONY") {
+        if is_target_named(targets, b".PHONY") {
             put_paths(alloc, &mut self.phony, prerequisites)?;
         }
         Ok(())
@@ -339,7 +344,7 @@ impl Reading {
         ensures { OnOk result (self.new ≡ with_rule file.now.value line words self.old) }
     {
         self.take_special(alloc, &words)?;
-        self.put_rule(line_of_words(alloc, hashing, file, line, words)?)
+        self.put_rule(rule_line_of_words(alloc, hashing, file, line, words)?)
     }
 
     /// Puts a rule line behind the others.

@@ -10,12 +10,12 @@ ghost use Rattle.make_grammar.specs.Lines.{is_byte};
 ghost use Rattle.make_grammar.specs.Macros.{Expansion, one_after_other, plain, is_among, is_macro_name, has_bad_dollar};
 ghost use Rattle.make_text.specs.Steps.{IsExpandedText};
 ghost use Rattle.make_grammar.specs.Statements.{macros_of, or_cause, macro_fault, expansion_fault, is_special, suffixes_name, is_suffix_byte, is_suffix, is_grouped, before_mark, mark_of, is_semicolon, rule_bytes_fault, line_words_fault, rule_words, include_words_fault, include_words};
-ghost use Rattle.make_text.specs.RuleLines.{below_root, rule_of_paths, rule_of_words, rule_of_sides, expanded_sides};
+ghost use Rattle.make_text.specs.RuleLines.{words_below_root, rule_of_paths, rule_of_words, rule_of_sides, expanded_sides};
 
 use crate::expanded_macros::ExpandedMacros;
 use crate::expansions::{EXPANSION_LIMIT, ExpandedText};
 use crate::pieces::{has_bad_dollar, is_macro_name};
-use crate::word_paths::read_paths;
+use crate::word_paths::read_paths_below_root;
 use crate::words::words;
 use cc_names::lists::List;
 use cc_names::memory::{NoMemory, Or};
@@ -43,7 +43,7 @@ fn has_semicolon(bytes: &[u8]) -> bool
     bytes.iter().any(|byte| *byte == b';')
 }
 
-/// Whether what stands behind a `:` begins with another, or with a `=`.
+/// Whether what follows a `:` begins with another, or with a `=`.
 fn goes_on(behind: &[u8]) -> bool
     ensures { result
         ≡ (is_byte 58 (slice_get behind.now 0) || is_byte 61 (slice_get behind.now 0)) }
@@ -71,7 +71,7 @@ pub(crate) fn is_special(word: &[u8]) -> bool
     word == b".PHONY".as_slice() || word == b".SUFFIXES".as_slice() || word == b".POSIX".as_slice()
 }
 
-fn has_special(words: &[&[u8]]) -> bool
+fn has_special_word(words: &[&[u8]]) -> bool
     ensures { result ≡ list_any is_special (map (λ word. word.now) words.now) }
 {
     for word in words {
@@ -138,7 +138,7 @@ fn words_fault(is_group: bool, targets: &[&[u8]], prerequisites: &[&[u8]]) -> Op
         ≡ line_words_fault is_group (map (λ word. word.now) targets.now)
         (map (λ word. word.now) prerequisites.now) }
 {
-    if targets.is_empty() || is_group && has_special(targets) {
+    if targets.is_empty() || is_group && has_special_word(targets) {
         return Some(MakeCause::BadLine);
     }
     if names_suffixes(targets) && !are_suffixes(prerequisites) {
@@ -148,10 +148,10 @@ fn words_fault(is_group: bool, targets: &[&[u8]], prerequisites: &[&[u8]]) -> Op
 }
 
 /// The words as paths below the root, or that one of them is none. Takes time linear in the words.
-fn paths_of(alloc: Global, words: &[&[u8]]) -> Result<List<Path>, Or<MakeCause>>
-    ensures { Gives result (below_root (map (λ word. word.now) words.now)) }
+fn words_as_paths(alloc: Global, words: &[&[u8]]) -> Result<List<Path>, Or<MakeCause>>
+    ensures { Gives result (words_below_root (map (λ word. word.now) words.now)) }
 {
-    match read_paths(alloc, words)? {
+    match read_paths_below_root(alloc, words)? {
         Some(paths) => Ok(List::of(paths)),
         None => Err(Or::Is(MakeCause::BadPath)),
     }
@@ -168,8 +168,8 @@ fn rule_of_paths(
         (rule_of_paths is_group (map (λ word. word.now) targets.now)
         (map (λ word. word.now) prerequisites.now)) }
 {
-    let targets = paths_of(alloc, targets)?;
-    let prerequisites = paths_of(alloc, prerequisites)?;
+    let targets = words_as_paths(alloc, targets)?;
+    let prerequisites = words_as_paths(alloc, prerequisites)?;
     Ok(RuleWords {
         is_group,
         targets,
@@ -227,7 +227,7 @@ fn only_bytes(outcome: ExpandedText) -> Result<Text, MakeCause>
 }
 
 /// Whether so many bytes are no more than a line has.
-fn fits(before: usize, mark: usize, behind: usize) -> bool
+fn fits_line(before: usize, mark: usize, behind: usize) -> bool
     ensures { result ≡ not (nat_lt 65536 (before + (mark + behind))) }
 {
     before.saturating_add(mark.saturating_add(behind)) <= EXPANSION_LIMIT
@@ -245,8 +245,10 @@ fn bytes_behind(before: &Text, mark: &[u8], outcome: ExpandedText) -> Result<Tex
     let (before, mark) = (before.as_bytes().len(), mark.len());
     match outcome {
         ExpandedText::TooLong => Err(MakeCause::LineTooLong),
-        ExpandedText::Loop(bytes) if fits(before, mark, bytes.len()) => Err(MakeCause::MacroLoop),
-        ExpandedText::Bytes(bytes) if fits(before, mark, bytes.len()) => Ok(Text::of(bytes)),
+        ExpandedText::Loop(bytes) if fits_line(before, mark, bytes.len()) => Err(
+            MakeCause::MacroLoop,
+        ),
+        ExpandedText::Bytes(bytes) if fits_line(before, mark, bytes.len()) => Ok(Text::of(bytes)),
         _ => Err(MakeCause::LineTooLong),
     }
 }
@@ -363,5 +365,5 @@ fn include_of_text(alloc: Global, text: &[u8]) -> Result<List<Path>, Or<MakeCaus
     if words.is_empty() {
         return Err(Or::Is(MakeCause::BadLine));
     }
-    paths_of(alloc, words.as_slice())
+    words_as_paths(alloc, words.as_slice())
 }

@@ -1,7 +1,7 @@
 //! The rules of a makefile.
 
 ghost use Rattle.std.specs.Prelude.{◌≡◌, ◌==◌, ◌&&◌, [], IfOk, OnOk, is_some, length, option_copied, option_map};
-ghost use Rattle.make_grammar.specs.Contents.{rule_without, with_line};
+ghost use Rattle.make_grammar.specs.Contents.{rule_without, with_joined_line};
 
 use crate::line_cache::RuleLine;
 use crate::special_targets::put_paths;
@@ -81,7 +81,7 @@ impl MakeRule {
 
     /// Joins a rule line to it, in constant time.
     pub(crate) fn join(&mut self, line: &RuleLine) -> Result<(), NoMemory>
-        ensures { OnOk result (self.new ≡ with_line line.now self.old) }
+        ensures { OnOk result (self.new ≡ with_joined_line line.now self.old) }
     {
         self.parts.push(line.shared_prerequisites()?)?;
         if let Some(script) = line.script()? {

@@ -4,11 +4,11 @@ ghost use Rattle.std.specs.Prelude.{◌≡◌, IfOk, OnOk, fold, filter, not};
 ghost use Rattle.std.specs.List.{list_any};
 ghost use Rattle.make_grammar.specs.Grammar.{first_suffixes};
 ghost use Rattle.make_grammar.specs.Macros.{is_among};
-ghost use Rattle.make_grammar.specs.WordPaths.{with_path};
+ghost use Rattle.make_grammar.specs.WordPaths.{with_path_once};
 ghost use Rattle.make_grammar.specs.Statements.{is_special, plain_targets, with_suffixes};
 
 use crate::rule_lines::is_special;
-use crate::word_paths::{each_once, read_paths};
+use crate::word_paths::{each_once, read_paths_below_root};
 use crate::words::words;
 use cc_names::lists::List;
 use cc_names::memory::NoMemory;
@@ -23,7 +23,7 @@ pub(crate) fn put_paths(
     set: &mut IndexSet<Path, RandomState>,
     paths: &[Path],
 ) -> Result<(), NoMemory>
-    ensures { OnOk result (set.new.keys ≡ fold with_path set.old.keys paths.now) }
+    ensures { OnOk result (set.new.keys ≡ fold with_path_once set.old.keys paths.now) }
 {
     for path in paths {
         if !set.contains(path) {
@@ -53,7 +53,7 @@ pub(crate) fn first_suffixes(alloc: Global) -> Result<Vec<Path>, NoMemory>
     ensures { IfOk result (λ suffixes. suffixes.items ≡ first_suffixes) }
 {
     let words = words(alloc, b".o .c .h .s .txt")?;
-    match read_paths(alloc, words.as_slice())? {
+    match read_paths_below_root(alloc, words.as_slice())? {
         Some(suffixes) => Ok(suffixes),
         None => unreachable!(),
     }
@@ -89,7 +89,7 @@ pub(crate) fn plain_targets(
 }
 
 /// Whether a target is special.
-pub(crate) fn has_special(targets: &[Path]) -> bool
+pub(crate) fn has_special_target(targets: &[Path]) -> bool
     ensures { result ≡ list_any is_special targets.now }
 {
     for target in targets {
@@ -101,7 +101,7 @@ pub(crate) fn has_special(targets: &[Path]) -> bool
 }
 
 /// Whether a target has this name.
-pub(crate) fn is_named(targets: &[Path], name: &[u8]) -> bool
+pub(crate) fn is_target_named(targets: &[Path], name: &[u8]) -> bool
     ensures { result ≡ is_among targets.now name.now }
 {
     for target in targets {

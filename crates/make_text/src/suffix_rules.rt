@@ -18,7 +18,7 @@ use cc_names::texts::Text;
 use std::alloc::Global;
 use std::rc::Rc;
 
-/// What stands behind a front, where bytes begin with it.
+/// What follows a prefix, where bytes begin with it.
 fn cut_prefix<'a>(bytes: &'a [u8], prefix: &[u8]) -> Option<&'a [u8]>
     ensures { option_copied result ≡ behind_prefix bytes.now prefix.now }
 {
@@ -156,7 +156,7 @@ fn suffix_rule(
 }
 
 /// Puts the suffix rules that make one suffix from another behind others.
-fn put_pair(
+fn put_pair_rules(
     alloc: Global,
     made: &mut Vec<SuffixRule>,
     from: &Path,
@@ -230,7 +230,7 @@ fn put_pairs(
         ++ suffix_rules_from suffixes.now (map (λ rule. rule.now) rules.now) from.now) }
 {
     for to in suffixes {
-        put_pair(alloc, made, from, to, rules)?;
+        put_pair_rules(alloc, made, from, to, rules)?;
     }
     Ok(())
 }

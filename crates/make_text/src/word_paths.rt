@@ -1,7 +1,7 @@
 //! Words as paths.
 
 ghost use Rattle.std.specs.Prelude.{◌≡◌, IfOk, map, option_map};
-ghost use Rattle.make_grammar.specs.WordPaths.{path_in, paths_of, each_once};
+ghost use Rattle.make_grammar.specs.WordPaths.{path_below_root, paths_below_root, each_once};
 
 use cc_names::lists::List;
 use cc_names::memory::{NoMemory, Or};
@@ -11,8 +11,8 @@ use std::alloc::{AllocError, Global};
 use std::hash::RandomState;
 
 /// A word as a path below the root, where it is one. Takes time linear in the word.
-pub fn read_path(alloc: Global, word: &[u8]) -> Result<Option<Path>, NoMemory>
-    ensures { IfOk result (λ read. read ≡ path_in word.now) }
+pub fn read_path_below_root(alloc: Global, word: &[u8]) -> Result<Option<Path>, NoMemory>
+    ensures { IfOk result (λ read. read ≡ path_below_root word.now) }
 {
     match Path::read(alloc, word) {
         Ok(path) if !path.is_root() => Ok(Some(path)),
@@ -22,13 +22,16 @@ pub fn read_path(alloc: Global, word: &[u8]) -> Result<Option<Path>, NoMemory>
 }
 
 /// The words as paths below the root, where all of them are so.
-pub(crate) fn read_paths(alloc: Global, words: &[&[u8]]) -> Result<Option<Vec<Path>>, NoMemory>
+pub(crate) fn read_paths_below_root(
+    alloc: Global,
+    words: &[&[u8]],
+) -> Result<Option<Vec<Path>>, NoMemory>
     ensures { IfOk result
-        (λ paths. option_map (λ v. v.items) paths ≡ paths_of (map (λ word. word.now) words.now)) }
+        (λ paths. option_map (λ v. v.items) paths ≡ paths_below_root (map (λ word. word.now) words.now)) }
 {
     let mut paths = Vec::new(alloc);
     for word in words {
-        let Some(path) = read_path(alloc, word)? else {
+        let Some(path) = read_path_below_root(alloc, word)? else {
             return Ok(None);
         };
         paths.push(path)?;

@@ -1,5 +1,6 @@
 -- The objects that have to be run again are found from the newest row down.
-use Rattle.std.proofs.Common.{◌≡◌, refl, ap, sym, subst, ◌∙◌, ℕ, suc, ◌<◌, ◌≤◌, ◌==◌, ◌&&◌, ◌||◌, Bool, true, false, cond, Option, Some, List, [], ◌∷◌, arith}
+use Rattle.std.proofs.Common.{◌≡◌, refl, ap, sym, subst, ◌∙◌, ℕ, suc, ◌<◌, ◌≤◌, ◌==◌, ◌&&◌, ◌||◌, Bool, true, false, cond}
+use Rattle.std.proofs.Common.{Option, Some, List, [], ◌∷◌, arith}
 use Rattle.std.proofs.lemmas.Bool.Decides.{nat_tests}
 use Rattle.std.specs.BTreeMap.{is_at}
 use Rattle.std.specs.Cmp.{unsigned_tied}
@@ -18,7 +19,7 @@ use Rattle.base_model.proofs.Owned.{and_first, and_second, row_fits, rows_below}
 use Rattle.base_model.proofs.EntriesBelow.{entries_fit, entry_below}
 use Rattle.object_check.specs.Needed.{HasLive, IsClosed, NeedsFrom, name_object}
 
--- an entry that is taken in
+-- an entry that is added
 pub entry_put : (t p old : Bool) → p ≡ true → cond t true old ≡ ((t && p) || old)
 entry_put true true old h = refl
 entry_put true false old h = absurd (cc)
@@ -35,14 +36,18 @@ taken_before true false old = refl
 taken_before false true old = refl
 taken_before false false old = refl
 
-named_below : (b older : Base) (entries : List ReadOf) (r : ℕ) → list_all (is_entry older) entries ≡ true → name_object b entries r ≡ true → r < size older
+named_below : (b older : Base) (entries : List ReadOf) (r : ℕ) → list_all (is_entry older) entries ≡ true
+    → name_object b entries r ≡ true → r < size older
 named_below b older [] r fit h = absurd (cc)
-named_below b older (entry ∷ entries) r fit h = by (entry.row == r) refl h (named_below b older entries r (and_second (is_entry older entry) (list_all (is_entry older) entries) fit))
+named_below b older (entry ∷ entries) r fit h = by (entry.row == r) refl h
+    (named_below b older entries r (and_second (is_entry older entry) (list_all (is_entry older) entries) fit))
   where
-    by : (t : Bool) → (entry.row == r) ≡ t → ((t && is_publish b entry.row) || name_object b entries r) ≡ true → (name_object b entries r ≡ true → r < size older) → r < size older
+    by : (t : Bool) → (entry.row == r) ≡ t → ((t && is_publish b entry.row) || name_object b entries r) ≡ true
+        → (name_object b entries r ≡ true → r < size older) → r < size older
     by true at h rest =
         let same : entry.row ≡ r = grind (arith, nat_tests) in
-        subst (λ n. n < size older) same (entry_below older entry (and_first (is_entry older entry) (list_all (is_entry older) entries) fit))
+        subst (λ n. n < size older) same (entry_below older entry (and_first (is_entry older entry)
+        (list_all (is_entry older) entries) fit))
     by false at h rest = rest h
 
 -- the objects that a record names come before it
@@ -50,11 +55,13 @@ pub names_before : (b rows : Base) (id r : ℕ) → is_base rows ≡ true → na
 names_before b [] id r base h = absurd (cc)
 names_before b (row ∷ older) id r base h = by (size older == id) refl h (names_before b older id r (rows_below row older base))
   where
-    by : (t : Bool) → (size older == id) ≡ t → name_object b (entries_of_deed (deed_of (elim t as (λ x. Option Plain) [ true ↦ Some row | false ↦ row_at older id ]))) r ≡ true →
+    by : (t : Bool) → (size older == id) ≡ t → name_object b (entries_of_deed
+        (deed_of (elim t as (λ x. Option Plain) [ true ↦ Some row | false ↦ row_at older id ]))) r ≡ true →
         (name_object b (record_of older id) r ≡ true → r < id) → r < id
     by true at h rest =
         let number : size older ≡ id = grind (arith, nat_tests) in
-        subst (λ n. r < n) number (named_below b older (entries_of_deed (Some row.deed)) r (entries_fit older row.deed (row_fits row older base)) h)
+        subst (λ n. r < n) number (named_below b older (entries_of_deed (Some row.deed)) r
+        (entries_fit older row.deed (row_fits row older base)) h)
     by false at h rest = rest h
 
 module _ (b : Base) (k : ℕ) (old : ℕ → Bool) (before : NeedsFrom b (suc k) old) where
@@ -67,14 +74,19 @@ module _ (b : Base) (k : ℕ) (old : ℕ → Bool) (before : NeedsFrom b (suc k)
     where
       by_live : (id : ℕ) (t : Bool) → (k == id) ≡ t → k ≤ id → id < size b → is_some (live_row b id) ≡ true → old id ≡ true
       by_live id true at from within lives = let same : k ≡ id = grind (arith, nat_tests) in absurd (cc (dead, lives, same))
-      by_live id false at from within lives = let past : suc k ≤ id = grind (arith, nat_tests, from) in before.lives id past within lives
+      by_live id false at from within lives = let past : suc k ≤ id = grind (arith, nat_tests, from) in
+          before.lives id past within lives
 
-      by_closed : (id object : ℕ) (t : Bool) → (k == id) ≡ t → k ≤ id → old id ≡ true → name_object b (record_of b id) object ≡ true → old object ≡ true
-      by_closed id object true at from needs names = let same : k ≡ id = grind (arith, nat_tests) in absurd (cc (unneeded, needs, same))
-      by_closed id object false at from needs names = let past : suc k ≤ id = grind (arith, nat_tests, from) in before.closed id object past needs names
+      by_closed : (id object : ℕ) (t : Bool) → (k == id) ≡ t → k ≤ id → old id ≡ true
+          → name_object b (record_of b id) object ≡ true → old object ≡ true
+      by_closed id object true at from needs names = let same : k ≡ id = grind (arith, nat_tests) in
+          absurd (cc (unneeded, needs, same))
+      by_closed id object false at from needs names = let past : suc k ≤ id = grind (arith, nat_tests, from) in
+          before.closed id object past needs names
 
   -- one that is, with those that its entries name
-  pub needs_more : (new : ℕ → Bool) → is_base b ≡ true → ((q : ℕ) → new q ≡ (name_object b (record_of b k) q || cond (is_at (nat_cmp k) q) true (old q))) → NeedsFrom b k new
+  pub needs_more : (new : ℕ → Bool) → is_base b ≡ true → ((q : ℕ) → new q
+      ≡ (name_object b (record_of b k) q || cond (is_at (nat_cmp k) q) true (old q))) → NeedsFrom b k new
   needs_more new base put = record {
     lives = λ id from within lives. by_live id (k == id) refl from within lives;
     closed = λ id object from needs names. by_closed id object (k == id) refl from needs names;
@@ -97,21 +109,26 @@ module _ (b : Base) (k : ℕ) (old : ℕ → Bool) (before : NeedsFrom b (suc k)
           by false false is = absurd (cc)
 
       later : (id : ℕ) → suc k ≤ id → (k == id) ≡ false → new id ≡ true → old id ≡ true
-      later id past apart is = by (name_object b (record_of b k) id) refl (is_at (nat_cmp k) id) (unsigned_tied k id ∙ apart) (sym (put id) ∙ is)
+      later id past apart is = by (name_object b (record_of b k) id) refl (is_at (nat_cmp k) id) (unsigned_tied k id
+          ∙ apart) (sym (put id) ∙ is)
         where
-          by : (x : Bool) → name_object b (record_of b k) id ≡ x → (t : Bool) → t ≡ false → (x || cond t true (old id)) ≡ true → old id ≡ true
+          by : (x : Bool) → name_object b (record_of b k) id ≡ x → (t : Bool) → t ≡ false → (x || cond t true (old id)) ≡ true
+              → old id ≡ true
           by true names t unlike h = let low = names_before b b k id base names in absurd (omega (arith, low, past))
           by false names true unlike h = absurd (cc)
           by false names false unlike h = h
 
       by_live : (id : ℕ) (t : Bool) → (k == id) ≡ t → k ≤ id → id < size b → is_some (live_row b id) ≡ true → new id ≡ true
       by_live id true at from within lives = own id at
-      by_live id false at from within lives = let past : suc k ≤ id = grind (arith, nat_tests, from) in stays id (before.lives id past within lives)
+      by_live id false at from within lives = let past : suc k ≤ id = grind (arith, nat_tests, from) in
+          stays id (before.lives id past within lives)
 
-      by_closed : (id object : ℕ) (t : Bool) → (k == id) ≡ t → k ≤ id → new id ≡ true → name_object b (record_of b id) object ≡ true → new object ≡ true
+      by_closed : (id object : ℕ) (t : Bool) → (k == id) ≡ t → k ≤ id → new id ≡ true
+          → name_object b (record_of b id) object ≡ true → new object ≡ true
       by_closed id object true at from needs names =
           let same : k ≡ id = grind (arith, nat_tests) in
-          put object ∙ ap (λ x. x || cond (is_at (nat_cmp k) object) true (old object)) (ap (λ n. name_object b (record_of b n) object) same ∙ names)
+          put object ∙ ap (λ x. x || cond (is_at (nat_cmp k) object) true (old object))
+          (ap (λ n. name_object b (record_of b n) object) same ∙ names)
       by_closed id object false at from needs names =
           let past : suc k ≤ id = grind (arith, nat_tests, from) in
           stays object (before.closed id object past (later id past at needs) names)
@@ -134,7 +151,8 @@ needs_none b n needed past none = record {
     by object id needs = let not_needed = none id in absurd (cc)
 
 -- what is not needed is no live object
-pub dead_unneeded : (b : Base) (needed : ℕ → Bool) (id : ℕ) → HasLive b needed → id < size b → needed id ≡ false → is_some (live_row b id) ≡ false
+pub dead_unneeded : (b : Base) (needed : ℕ → Bool) (id : ℕ) → HasLive b needed → id < size b → needed id ≡ false
+    → is_some (live_row b id) ≡ false
 dead_unneeded b needed id has within is = by (is_some (live_row b id)) refl
   where
     by : (t : Bool) → is_some (live_row b id) ≡ t → t ≡ false

@@ -23,8 +23,8 @@ kept_of ran (Some (deeds.Publish v targets script entries outputs)) =
 kept_of ran _ = None
 
 -- what is kept of each object
-abbrev pub kept : Base → Values
-kept b id = kept_of (rerun b id) (deed_at b id)
+abbrev pub values_kept : Base → Values
+values_kept b id = kept_of (rerun b id) (deed_at b id)
 
 -- the text of a row at a path: the output that is kept of an object, else the row's own
 abbrev pub text_or_output : Base → List ℕ → ℕ → Option (Option (List (List ℕ))) → Option (List ℕ)
@@ -50,4 +50,4 @@ texts_kept b values entries path = option_and_then (text_kept b values path) (ro
 
 -- The values are kept of the needed objects below a number, and of no others.
 abbrev pub KeepsBelow : ℕ → (ℕ → Bool) → Base → Values → Type 0
-KeepsBelow n needed b values = (id : ℕ) → values id ≡ only_where (nat_lt id n && needed id) (kept b id)
+KeepsBelow n needed b values = (id : ℕ) → values id ≡ only_where (nat_lt id n && needed id) (values_kept b id)

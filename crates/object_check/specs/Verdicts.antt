@@ -14,10 +14,10 @@ IsVerdict b (Sound n) = (first_unsound b ≡ None) × (n ≡ live_count b)
 IsVerdict b (Unsound id) = first_unsound b ≡ Some id
 
 -- what a number was found to be: no live object, one that is true, or one that is not
-abbrev pub IsFound : Base → ℕ → Found → Type 0
-IsFound b id Dead = is_some (live_row b id) ≡ false
-IsFound b id Same = (is_some (live_row b id) ≡ true) × (is_true b id ≡ true)
-IsFound b id Other = (is_some (live_row b id) ≡ true) × (is_true b id ≡ false)
+abbrev pub IsFoundToBe : Base → ℕ → Found → Type 0
+IsFoundToBe b id Dead = is_some (live_row b id) ≡ false
+IsFoundToBe b id Same = (is_some (live_row b id) ≡ true) × (is_true b id ≡ true)
+IsFoundToBe b id Other = (is_some (live_row b id) ≡ true) × (is_true b id ≡ false)
 
 -- how many live objects a row is, where it is none that is not true
 abbrev pub live_objects : Found → Option ℕ

@@ -38,7 +38,7 @@ pub(crate) struct Checked {
 }
 
 /// Whether two texts are the same.
-fn is_same(one: &Text, other: &Text) -> bool
+fn are_same_texts(one: &Text, other: &Text) -> bool
     ensures { result ≡ bytes_eq one.now other.now }
 {
     one.as_bytes() == other.as_bytes()
@@ -52,7 +52,7 @@ fn are_same(one: &[Text], other: &[Text]) -> bool
         return false;
     }
     for index in 0..one.len() {
-        if !is_same(&one[index], &other[index]) {
+        if !are_same_texts(&one[index], &other[index]) {
             return false;
         }
     }

@@ -27,7 +27,7 @@ fn record_of<'a>(rows: &FirstRows<'a>, object: u64) -> &'a [ReadOf]
 }
 
 /// Adds the object that an entry names, if it names one.
-fn add_entry(
+fn add_object_of_entry(
     rows: &FirstRows<'_>,
     needed: &mut BTreeSet<u64>,
     entry: &ReadOf,
@@ -44,7 +44,7 @@ fn add_entry(
 }
 
 /// Adds the objects that entries name.
-fn add_named(
+fn add_objects_of_entries(
     rows: &FirstRows<'_>,
     needed: &mut BTreeSet<u64>,
     entries: &[ReadOf],
@@ -54,7 +54,7 @@ fn add_named(
         ≡ (name_object rows.now entries.now id || contains nat_cmp needed.old id)) }
 {
     for entry in entries {
-        add_entry(rows, needed, entry)?;
+        add_object_of_entry(rows, needed, entry)?;
     }
     Ok(())
 }
@@ -67,7 +67,7 @@ fn is_needed(rows: &FirstRows<'_>, needed: &BTreeSet<u64>, id: u64) -> bool
 }
 
 /// Adds a row, where it is needed, and the objects that its entries name. Those behind it are added by now.
-fn take(rows: &FirstRows<'_>, needed: &mut BTreeSet<u64>, id: u64) -> Result<(), NoMemory>
+fn take_row(rows: &FirstRows<'_>, needed: &mut BTreeSet<u64>, id: u64) -> Result<(), NoMemory>
     requires { NeedsFrom rows.now (suc id) (contains nat_cmp needed.old) }
     ensures { OnOk result (NeedsFrom rows.now id (contains nat_cmp needed.new)) }
 {
@@ -76,7 +76,7 @@ fn take(rows: &FirstRows<'_>, needed: &mut BTreeSet<u64>, id: u64) -> Result<(),
         return Ok(());
     }
     needed.insert(id)?;
-    add_named(rows, needed, record_of(rows, id))?;
+    add_objects_of_entries(rows, needed, record_of(rows, id))?;
     Ok(())
 }
 
@@ -90,7 +90,7 @@ pub(crate) fn needed(alloc: Global, rows: &FirstRows<'_>) -> Result<BTreeSet<u64
     let mut id = rows.size();
     while id > 0 {
         id -= 1;
-        take(rows, &mut needed, id)?;
+        take_row(rows, &mut needed, id)?;
     }
     Ok(needed)
 }

@@ -7,7 +7,7 @@ ghost use Rattle.std.specs.Ordering.{nat_cmp};
 ghost use Rattle.base_model.specs.Rows.{size};
 ghost use Rattle.object_check.specs.Kept.{KeepsBelow};
 ghost use Rattle.object_check.specs.Needed.{HasLive, IsClosed};
-ghost use Rattle.object_check.specs.Verdicts.{IsFound, IsVerdict};
+ghost use Rattle.object_check.specs.Verdicts.{IsFoundToBe, IsVerdict};
 
 use crate::checks::check;
 use crate::needs::needed;
@@ -33,7 +33,7 @@ fn find(
     requires live { HasLive rows.now (contains nat_cmp needed.now) }
     requires closed { IsClosed rows.now (contains nat_cmp needed.now) }
     requires keeps { KeepsBelow id (contains nat_cmp needed.now) rows.now (get nat_eq values.old) }
-    ensures found { IfOk result (λ found. IsFound rows.now id found) }
+    ensures found { IfOk result (λ found. IsFoundToBe rows.now id found) }
     ensures keeps { OnOk result
         (KeepsBelow (suc id) (contains nat_cmp needed.now) rows.now (get nat_eq values.new)) }
 {

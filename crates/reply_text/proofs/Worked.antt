@@ -20,7 +20,15 @@ commands : List Command
 unfolding view
 commands =
     Change (Mkview view) ∷ Change (Save view (codes "in") (codes "hi"))
-    ∷ Build (record { view = view; file = None; own_only = false; rebuild = false; jobs = 1; macros = []; goals = codes "out" ∷ [] }) ∷ []
+    ∷ Build (record {
+      view = view;
+      file = None;
+      own_only = false;
+      rebuild = false;
+      jobs = 1;
+      macros = [];
+      goals = codes "out" ∷ [];
+    }) ∷ []
 
 phase : Phase
 unfolding commands

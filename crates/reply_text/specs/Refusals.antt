@@ -13,7 +13,7 @@ use Rattle.cc_names.specs.declared.refusals.SpecCause.{SpecCause}
 use Rattle.cc_names.specs.declared.refusals.SpecCause.TheVariants as spec_causes
 use Rattle.cc_names.specs.declared.refusals.MakeCause.{MakeCause}
 use Rattle.cc_names.specs.declared.refusals.MakeCause.TheVariants as make_causes
-use Rattle.reply_text.specs.Words.{lane_at}
+use Rattle.reply_text.specs.Words.{lane_words_at}
 
 -- the cause of a bad config spec
 abbrev pub spec_cause : SpecCause → List ℕ
@@ -98,7 +98,7 @@ refusal_arguments phase (refusals.TypeExists name) = name ∷ []
 refusal_arguments phase (refusals.BranchExists row) = decimal row ∷ []
 refusal_arguments phase (refusals.LabelElsewhere row) = decimal row ∷ []
 refusal_arguments phase (refusals.NoCheckoutRule line) = decimal line ∷ []
-refusal_arguments phase (refusals.Building tag) = name_of_lane (lane_at phase tag.lane) ∷ decimal tag.command ∷ []
+refusal_arguments phase (refusals.Building tag) = name_of_lane (lane_words_at phase tag.lane) ∷ decimal tag.command ∷ []
 refusal_arguments phase (refusals.IsDerived path) = path ∷ []
 refusal_arguments phase (refusals.NoObject path) = path ∷ []
 refusal_arguments phase (refusals.HasCheckouts row) = decimal row ∷ []

@@ -2,7 +2,7 @@
 use Rattle.std.specs.Prelude.{ℕ, ◌+◌, Bool, true, false, Option, Some, None, List, [], ◌∷◌, ◌++◌, codes, if◌then◌else◌}
 use Rattle.std.specs.List.{flat_map, list_all}
 use Rattle.std.specs.Fmt.{decimal}
-use Rattle.cc_names.specs.CommandWords.{words_of}
+use Rattle.cc_names.specs.CommandWords.{words_of_command}
 use Rattle.hex.specs.Hex.{encode_lower}
 use Rattle.cc_names.specs.declared.commands.LaneWords.{LaneWords}
 use Rattle.cc_names.specs.declared.commands.Phase.{Phase}
@@ -13,7 +13,7 @@ use Rattle.cc_names.specs.declared.replies.UnitWord.TheVariants as words
 use Rattle.cc_names.specs.declared.replies.UnitLine.{UnitLine}
 use Rattle.cc_names.specs.declared.replies.Reply.{Reply}
 use Rattle.cc_names.specs.declared.replies.Reply.TheVariants as replies
-use Rattle.reply_text.specs.Words.{spaced_words, marked_text, lane_at}
+use Rattle.reply_text.specs.Words.{spaced_words, marked_text, lane_words_at}
 use Rattle.reply_text.specs.Refusals.{refusal_words, fault_words}
 
 -- the length and the digest of an output as words
@@ -58,15 +58,15 @@ reply_words phase (replies.Answer text) = codes "ok" ∷ []
 reply_words phase (replies.Built units) = build_word units ∷ []
 
 -- the lines that follow the line of a reply
-abbrev pub lines_behind : Reply → List ℕ
-lines_behind (replies.Answer text) = marked_text text
-lines_behind (replies.Built units) = flat_map unit_line units
-lines_behind _ = []
+abbrev pub lines_of_reply : Reply → List ℕ
+lines_of_reply (replies.Answer text) = marked_text text
+lines_of_reply (replies.Built units) = flat_map unit_line units
+lines_of_reply _ = []
 
 -- the lines of the command of this number, which has this word
 abbrev pub command_lines : PhaseWords → ℕ → List ℕ → Reply → List ℕ
 command_lines phase number word reply =
-    decimal number ++ spaced_words (word ∷ reply_words phase reply) ++ 10 ∷ lines_behind reply
+    decimal number ++ spaced_words (word ∷ reply_words phase reply) ++ 10 ∷ lines_of_reply reply
 
 -- the lines of the commands of these words, which are numbered from this number on, each with its reply
 abbrev pub lines_from : PhaseWords → ℕ → List (List ℕ) → List Reply → List ℕ
@@ -82,8 +82,8 @@ lane_lines phase (Some lane) answers =
 
 -- The lines of a lane, by its number from 1, with the replies to its commands.
 abbrev pub render_words : PhaseWords → ℕ → List Reply → List ℕ
-render_words phase number answers = lane_lines phase (lane_at phase number) answers
+render_words phase number answers = lane_lines phase (lane_words_at phase number) answers
 
--- The lines of a lane of a phase, where each command is told by its word.
+-- The lines of a lane of a phase, where each command is given by its word.
 abbrev pub render : Phase → ℕ → List Reply → List ℕ
-render phase number answers = render_words (words_of phase) number answers
+render phase number answers = render_words (words_of_command phase) number answers

@@ -22,6 +22,6 @@ abbrev pub marked_text : List ℕ → List ℕ
 marked_text text = flat_map shown_line (lines_of text)
 
 -- the lane of this number, counted from 1
-abbrev pub lane_at : PhaseWords → ℕ → Option LaneWords
-lane_at phase zero = None
-lane_at phase (suc n) = slice_get phase.lanes n
+abbrev pub lane_words_at : PhaseWords → ℕ → Option LaneWords
+lane_words_at phase zero = None
+lane_words_at phase (suc n) = slice_get phase.lanes n

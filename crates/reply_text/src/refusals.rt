@@ -2,7 +2,7 @@
 
 ghost use Rattle.std.specs.Prelude.{◌≡◌, ◌++◌, ◌∷◌, [], OnOk, MatchOption, Some, None};
 ghost use Rattle.std.specs.Fmt.{decimal};
-ghost use Rattle.reply_text.specs.Words.{spaced_words, lane_at};
+ghost use Rattle.reply_text.specs.Words.{spaced_words, lane_words_at};
 ghost use Rattle.reply_text.specs.Refusals.{refusal_arguments, refusal_words, script_words, fault_words, name_of_lane};
 
 use crate::names::{make_cause, refusal_name, spec_cause};
@@ -13,18 +13,18 @@ use cc_names::refusals::{Refusal, ScriptFault, UnitFault};
 use std::alloc::Global;
 
 /// The lane of a phase with this number, from 1.
-pub(crate) fn lane_at(phase: &PhaseWords, number: u32) -> Option<&LaneWords>
-    ensures { MatchOption result (lane_at phase.now number ≡ None)
-        (λ lane. lane_at phase.now number ≡ Some lane.now) }
+pub(crate) fn lane_words_at(phase: &PhaseWords, number: u32) -> Option<&LaneWords>
+    ensures { MatchOption result (lane_words_at phase.now number ≡ None)
+        (λ lane. lane_words_at phase.now number ≡ Some lane.now) }
 {
     let index = number.checked_sub(1)?;
     phase.lanes.as_slice().get(index as usize)
 }
 
 fn lane_name(phase: &PhaseWords, number: u32) -> &[u8]
-    ensures { result.now ≡ name_of_lane (lane_at phase.now number) }
+    ensures { result.now ≡ name_of_lane (lane_words_at phase.now number) }
 {
-    match lane_at(phase, number) {
+    match lane_words_at(phase, number) {
         Some(lane) => lane.name.as_bytes(),
         None => &[],
     }

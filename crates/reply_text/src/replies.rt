@@ -3,10 +3,10 @@
 ghost use Rattle.std.specs.Prelude.{◌≡◌, ◌++◌, ◌∷◌, [], OnOk, IfOk, Some};
 ghost use Rattle.std.specs.List.{flat_map, list_all};
 ghost use Rattle.reply_text.specs.Words.{spaced_words};
-ghost use Rattle.reply_text.specs.Replies.{digest_words, unit_words, unit_line, is_made, is_made_line, build_word, reply_words, lines_behind, command_lines, lines_from, lane_lines, render_words};
+ghost use Rattle.reply_text.specs.Replies.{digest_words, unit_words, unit_line, is_made, is_made_line, build_word, reply_words, lines_of_reply, command_lines, lines_from, lane_lines, render_words};
 
 use crate::pieces::{push_bytes, push_newline, push_number_word, push_shown, push_word};
-use crate::refusals::{lane_at, push_fault, push_refusal};
+use crate::refusals::{lane_words_at, push_fault, push_refusal};
 use cc_names::commands::{LaneWords, PhaseWords};
 use cc_names::memory::NoMemory;
 use cc_names::numbers::push_number;
@@ -118,7 +118,7 @@ fn push_reply(
 }
 
 fn push_lines_behind(alloc: Global, text: &mut Vec<u8>, reply: &Reply) -> Result<(), NoMemory>
-    ensures { OnOk result (text.new.items ≡ text.old.items ++ lines_behind reply.now) }
+    ensures { OnOk result (text.new.items ≡ text.old.items ++ lines_of_reply reply.now) }
 {
     match reply {
         Reply::Answer(answer) => push_shown(text, answer.as_bytes()),
@@ -169,7 +169,7 @@ fn push_commands(
     Ok(())
 }
 
-fn push_lane(
+fn push_lane_replies(
     alloc: Global,
     text: &mut Vec<u8>,
     phase: &PhaseWords,
@@ -196,9 +196,9 @@ pub fn render(
     ensures { IfOk result (λ text. text ≡ render_words phase.now lane replies.now) }
 {
     let mut text = Vec::new(alloc);
-    let Some(lane) = lane_at(phase, lane) else {
+    let Some(lane) = lane_words_at(phase, lane) else {
         return Ok(Text::of(text));
     };
-    push_lane(alloc, &mut text, phase, lane, replies)?;
+    push_lane_replies(alloc, &mut text, phase, lane, replies)?;
     Ok(Text::of(text))
 }

@@ -32,7 +32,8 @@ shuffle true false false d = refl
 shuffle false true c d = refl
 shuffle false false c d = refl
 
-all_new_next : (keys new : List (Bor (List ℕ))) (target : List ℕ) → ((u : List ℕ) → is_seen new u ≡ (bytes_eq u target || is_seen keys u)) → (others : List (List ℕ))
+all_new_next : (keys new : List (Bor (List ℕ))) (target : List ℕ) → ((u : List ℕ)
+    → is_seen new u ≡ (bytes_eq u target || is_seen keys u)) → (others : List (List ℕ))
     → all_new new others ≡ (all_new keys others && not (list_any (λ other. bytes_eq other target) others))
 all_new_next keys new target h [] = refl
 all_new_next keys new target h (u ∷ us) =
@@ -44,14 +45,17 @@ regroup : (a b c : Bool) → (a && (b && c)) ≡ ((a && b) && c)
 regroup true b c = refl
 regroup false b c = refl
 
-pub fresh_next : (keys new : List (Bor (List ℕ))) (key : Bor (List ℕ)) (target : List ℕ) (others : List (List ℕ)) → key.now ≡ target → is_seen keys target ≡ false
+pub fresh_next : (keys new : List (Bor (List ℕ))) (key : Bor (List ℕ)) (target : List ℕ) (others : List (List ℕ))
+    → key.now ≡ target → is_seen keys target ≡ false
     → IsPermutation (key ∷ keys) new → are_fresh keys (target ∷ others) ≡ are_fresh new others
 fresh_next keys new key target others is fresh same =
     let added : (u : List ℕ) → is_seen new u ≡ (bytes_eq u target || is_seen keys u) = λ u.
     sym (list_any-IsPermutation (λ k. bytes_eq u k.now) (key ∷ keys) new same) ∙ ap (λ t. bytes_eq u t || is_seen keys u) is in
-    ap (λ b. (not b && all_new keys others) && (not (list_any (λ other. bytes_eq other target) others) && are_distinct others)) fresh
+    ap (λ b. (not b && all_new keys others) && (not (list_any (λ other. bytes_eq other target) others) && are_distinct others))
+    fresh
     ∙ regroup (all_new keys others) (not (list_any (λ other. bytes_eq other target) others)) (are_distinct others)
     ∙ ap (λ b. b && are_distinct others) (sym (all_new_next keys new target added others))
 
-pub fresh_seen : (keys : List (Bor (List ℕ))) (target : List ℕ) (others : List (List ℕ)) → is_seen keys target ≡ true → are_fresh keys (target ∷ others) ≡ false
+pub fresh_seen : (keys : List (Bor (List ℕ))) (target : List ℕ) (others : List (List ℕ)) → is_seen keys target ≡ true
+    → are_fresh keys (target ∷ others) ≡ false
 fresh_seen keys target others e = ap (λ b. (not b && all_new keys others) && are_distinct (target ∷ others)) e

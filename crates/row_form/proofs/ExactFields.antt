@@ -1,5 +1,7 @@
 -- The readers of the fields are exact.
-use Rattle.std.proofs.Common.{◌≡◌, ◌⊎◌, inl, inr, ◌≤◌, ◌<◌, ◌==◌, ℕ, nat_le, Bool, true, false, not, Option, Some, None, Ok, Err, List, [], ◌∷◌, ◌++◌, length, get_or, take, drop, refl, sym, ◌∙◌, ap, subst, if◌then◌else◌, arith, lit<}
+use Rattle.std.proofs.Common.{◌≡◌, ◌⊎◌, inl, inr, ◌≤◌, ◌<◌, ◌==◌, ℕ, nat_le, Bool, true, false, not, Option, Some, None, Ok, Err}
+use Rattle.std.proofs.Common.{List, [], ◌∷◌, ◌++◌, length, get_or, take, drop, refl, sym, ◌∙◌, ap, subst, if◌then◌else◌, arith}
+use Rattle.std.proofs.Common.{lit<}
 use Rattle.std.specs.Int.{w32, w64, from_le_bytes}
 use Rattle.std.specs.Result.{result_ok}
 use Rattle.std.proofs.lemmas.Bool.{leb-true, le-leb, eqb-true}
@@ -18,29 +20,39 @@ use Rattle.cc_names.specs.declared.rows.Out.{Out}
 use Rattle.cc_names.specs.declared.rows.Out.TheVariants as outs
 use Rattle.row_form.specs.Fields.{byte, word, long, text, flag, kind, type_kind, out_byte, entry, place_of}
 use Rattle.row_form.specs.Readers.{Reading, read_byte, read_word, read_long, read_bytes, read_text}
-use Rattle.row_form.specs.FieldReaders.{read_name, read_type_name, read_any_path, read_path, flag_of, read_flag, kind_by_code, read_kind, type_kind_of, read_type_kind, out_of, read_out, entry_of, read_entry, placed_of, read_placed}
-use Rattle.row_form.proofs.Exact.{AreBytes, IsExact, prefix_bytes, byte_at, same_read, part, exact_both, exact_chosen, exact_tested, exact_as, exact_made}
+use Rattle.row_form.specs.FieldReaders.{read_name, read_type_name, read_any_path, read_path, flag_of, read_flag, kind_by_code}
+use Rattle.row_form.specs.FieldReaders.{read_kind, type_kind_of, read_type_kind, out_of, read_out, entry_of, read_entry}
+use Rattle.row_form.specs.FieldReaders.{placed_of, read_placed}
+use Rattle.row_form.proofs.Exact.{AreBytes, IsExact, prefix_bytes, byte_at, same_read, part, exact_both, exact_chosen}
+use Rattle.row_form.proofs.Exact.{exact_tested, exact_as, exact_made}
 use Rattle.row_form.proofs.Steps.{then_ok}
 
 abbrev IsByte : ℕ → Type 0
 IsByte b = b < 256
 
-byte_read_back : (bytes : List ℕ) (a : ℕ) (rest : List ℕ) → AreBytes bytes → read_byte bytes ≡ Ok (a, rest) → IsByte a × (bytes ≡ byte a ++ rest)
+byte_read_back : (bytes : List ℕ) (a : ℕ) (rest : List ℕ) → AreBytes bytes → read_byte bytes ≡ Ok (a, rest) → IsByte a
+    × (bytes ≡ byte a ++ rest)
 byte_read_back [] a rest hb e = absurd (cc)
-byte_read_back (b ∷ bs) a rest hb e = let same = same_read (b, bs) (a, rest) e in (subst IsByte (ap (λ z. z.0) same) hb.0, ap (λ z. z.0 ∷ z.1) same)
+byte_read_back (b ∷ bs) a rest hb e = let same = same_read (b, bs) (a, rest) e in
+    (subst IsByte (ap (λ z. z.0) same) hb.0, ap (λ z. z.0 ∷ z.1) same)
 
 pub exact_byte : IsExact read_byte byte IsByte
 exact_byte = record { back = λ a rest h. refl; read_back = byte_read_back }
 
 -- where a test decides whether something is read
-read_if : {A : Type 0} (t : Bool) (x y : A × List ℕ) (at : List ℕ) → (let r : Reading A = if t then Ok x else Err at in r ≡ Ok y) → (t ≡ true) × (x ≡ y)
+read_if : {A : Type 0} (t : Bool) (x y : A × List ℕ) (at : List ℕ) → (let r : Reading A = if t then Ok x else Err at in r ≡ Ok y)
+    → (t ≡ true) × (x ≡ y)
 read_if true x y at e = (refl, same_read x y e)
 read_if false x y at e = absurd (cc)
 
 -- this many bytes, made into a number and back
 number_read_back : (size : ℕ) (of : List ℕ → ℕ) (spell : ℕ → List ℕ) (Good : ℕ → Type 0) (bytes : List ℕ) (a : ℕ) (rest : List ℕ)
-    → ((bs : List ℕ) → length bs ≡ size → AreBytes bs → spell (of bs) ≡ bs) → ((bs : List ℕ) → length bs ≡ size → AreBytes bs → Good (of bs))
-    → AreBytes bytes → (let r : Reading ℕ = if nat_le size (length bytes) then Ok (of (take size bytes), drop size bytes) else Err bytes in r ≡ Ok (a, rest))
+    → ((bs : List ℕ) → length bs ≡ size → AreBytes bs → spell (of bs) ≡ bs)
+    → ((bs : List ℕ) → length bs ≡ size → AreBytes bs → Good (of bs))
+    → AreBytes bytes → (let r : Reading ℕ = if nat_le size (length bytes) then Ok (
+      of (take size bytes),
+      drop size bytes,
+    ) else Err bytes in r ≡ Ok (a, rest))
     → Good a × (bytes ≡ spell a ++ rest)
 number_read_back size of spell Good bytes a rest again good hb e =
     let r = read_if (nat_le size (length bytes)) (of (take size bytes), drop size bytes) (a, rest) bytes e in
@@ -48,14 +60,24 @@ number_read_back size of spell Good bytes a rest again good hb e =
     let len = length-take-le size bytes long_enough in
     let are = prefix_bytes (take size bytes) (drop size bytes) (subst AreBytes (sym (take-append-drop size bytes)) hb) in
     let P : ℕ × List ℕ → Type 0 = λ z. Good z.0 × (bytes ≡ spell z.0 ++ z.1) in
-    subst P r.1 (good (take size bytes) len are, sym (take-append-drop size bytes) ∙ ap (λ f. f ++ drop size bytes) (sym (again (take size bytes) len are)))
+    subst P r.1 (
+      good (take size bytes) len are,
+      sym (take-append-drop size bytes)
+          ∙ ap (λ f. f ++ drop size bytes) (sym (again (take size bytes) len are)),
+    )
 
 number_back : (size : ℕ) (of : List ℕ → ℕ) (prefix rest : List ℕ) → length prefix ≡ size
-    → (let r : Reading ℕ = if nat_le size (length (prefix ++ rest)) then Ok (of (take size (prefix ++ rest)), drop size (prefix ++ rest)) else Err (prefix ++ rest) in r ≡ Ok (of prefix, rest))
+    → (let r : Reading ℕ = if nat_le size (length (prefix ++ rest)) then Ok (
+      of (take size (prefix ++ rest)),
+      drop size (prefix ++ rest),
+    ) else Err (prefix ++ rest) in r ≡ Ok (of prefix, rest))
 number_back size of prefix rest len =
     let enough : size ≤ length (prefix ++ rest) = omega (arith, length-append prefix rest, len) in
     let one : List ℕ → List ℕ → Reading ℕ = λ f r. Ok (of f, r) in
-    let choose : Bool → Reading ℕ = λ t. if t then Ok (of (take size (prefix ++ rest)), drop size (prefix ++ rest)) else Err (prefix ++ rest) in
+    let choose : Bool → Reading ℕ = λ t. if t then Ok (
+      of (take size (prefix ++ rest)),
+      drop size (prefix ++ rest),
+    ) else Err (prefix ++ rest) in
     ap choose (le-leb size (length (prefix ++ rest)) enough)
     ∙ ap (λ f. one f (drop size (prefix ++ rest))) (take_at prefix rest size len) ∙ ap (one prefix) (drop_at prefix rest size len)
 
@@ -67,23 +89,30 @@ below_long bs h = omega (arith, h 0, h 1, h 2, h 3, h 4, h 5, h 6, h 7)
 
 pub exact_word : IsExact read_word word IsWord
 exact_word = record {
-  back = λ n rest h. let value : ℕ → Reading ℕ = λ m. Ok (m, rest) in number_back 4 (from_le_bytes w32) (word n) rest refl ∙ ap value (from_le_bytes-to_le_bytes_4 n h);
+  back = λ n rest h. let value : ℕ → Reading ℕ = λ m. Ok (m, rest) in number_back 4 (from_le_bytes w32) (word n) rest refl
+      ∙ ap value (from_le_bytes-to_le_bytes_4 n h);
   read_back = λ bytes a rest hb e. number_read_back 4 (from_le_bytes w32) word IsWord bytes a rest
-      (λ bs len are. le_bytes_4 bs (from_le_bytes w32 bs) len (byte_at bs are) refl) (λ bs len are. below_word bs (byte_at bs are)) hb e;
+      (λ bs len are. le_bytes_4 bs (from_le_bytes w32 bs) len (byte_at bs are) refl)
+      (λ bs len are. below_word bs (byte_at bs are)) hb e;
 }
 
 pub exact_long : IsExact read_long long IsLong
 exact_long = record {
-  back = λ n rest h. let value : ℕ → Reading ℕ = λ m. Ok (m, rest) in number_back 8 (from_le_bytes w64) (long n) rest refl ∙ ap value (from_le_bytes-to_le_bytes_8 n h);
+  back = λ n rest h. let value : ℕ → Reading ℕ = λ m. Ok (m, rest) in number_back 8 (from_le_bytes w64) (long n) rest refl
+      ∙ ap value (from_le_bytes-to_le_bytes_8 n h);
   read_back = λ bytes a rest hb e. number_read_back 8 (from_le_bytes w64) long IsLong bytes a rest
-      (λ bs len are. le_bytes_8 bs (from_le_bytes w64 bs) len (byte_at bs are) refl) (λ bs len are. below_long bs (byte_at bs are)) hb e;
+      (λ bs len are. le_bytes_8 bs (from_le_bytes w64 bs) len (byte_at bs are) refl)
+      (λ bs len are. below_long bs (byte_at bs are)) hb e;
 }
 
 text_back : (a rest : List ℕ) → IsText a → read_text (text a ++ rest) ≡ Ok (a, rest)
 text_back a rest h =
     let all = text a ++ rest in
     let enough : length a ≤ length (a ++ rest) = omega (arith, length-append a rest) in
-    let choose : Bool → Reading (List ℕ) = λ t. if t then Ok (take (length a) (a ++ rest), drop (length a) (a ++ rest)) else Err all in
+    let choose : Bool → Reading (List ℕ) = λ t. if t then Ok (
+      take (length a) (a ++ rest),
+      drop (length a) (a ++ rest),
+    ) else Err all in
     let one : List ℕ → List ℕ → Reading (List ℕ) = λ f r. Ok (f, r) in
     then_ok (read_word all) (read_bytes all) (length a) (a ++ rest)
     (ap read_word (append_assoc (word (length a)) a rest) ∙ exact_word.back (length a) (a ++ rest) h)
@@ -136,16 +165,19 @@ not_true false e = refl
 
 pub exact_path : IsExact read_path text IsBelowRoot
 exact_path =
-    exact_tested (λ path. not (is_root path)) IsBelowRoot exact_any_path (λ a h. (h.0, ap not h.1)) (λ a g e. (g, not_true (is_root a) e))
+    exact_tested (λ path. not (is_root path)) IsBelowRoot exact_any_path (λ a h. (h.0, ap not h.1))
+    (λ a g e. (g, not_true (is_root a) e))
 
 pub exact_type_name : IsExact read_type_name text IsTypeName
 exact_type_name = exact_tested begins_with_letter IsTypeName exact_name (λ a h. h) (λ a g e. (g, e))
 
 pub exact_entry : IsExact read_entry entry IsEntry
-exact_entry = exact_made entry_of (λ r. (r.path, r.row)) IsEntry (exact_both exact_path exact_long) (λ b. refl) (λ a. refl) (λ b h. h) (λ a g. g)
+exact_entry = exact_made entry_of (λ r. (r.path, r.row)) IsEntry (exact_both exact_path exact_long) (λ b. refl) (λ a. refl)
+    (λ b h. h) (λ a g. g)
 
 pub exact_placed : IsExact read_placed place_of IsPlaced
-exact_placed = exact_made placed_of (λ p. (p.element, p.version)) IsPlaced (exact_both exact_long exact_long) (λ b. refl) (λ a. refl) (λ b h. h) (λ a g. g)
+exact_placed = exact_made placed_of (λ p. (p.element, p.version)) IsPlaced (exact_both exact_long exact_long) (λ b. refl)
+    (λ a. refl) (λ b h. h) (λ a g. g)
 
 -- values that bytes encode
 abbrev pub always : {A : Type 0} → A → Type 0
@@ -155,7 +187,8 @@ split : {A : Type 0} (t : Bool) (x y z : Option A) → (if t then x else y) ≡ 
 split true x y z e = inl (refl, e)
 split false x y z e = inr (refl, e)
 
-pick : {A : Type 0} (t : Bool) (x y z : Option A) (Goal : Type 0) → (if t then x else y) ≡ z → (t ≡ true → x ≡ z → Goal) → (t ≡ false → y ≡ z → Goal) → Goal
+pick : {A : Type 0} (t : Bool) (x y z : Option A) (Goal : Type 0) → (if t then x else y) ≡ z → (t ≡ true → x ≡ z → Goal)
+    → (t ≡ false → y ≡ z → Goal) → Goal
 pick t x y z Goal e holds fails = elim (split t x y z e) [ inl h ↦ holds h.0 h.1 | inr h ↦ fails h.0 h.1 ]
 
 some_same : {A : Type 0} (a b : A) → Some a ≡ Some b → a ≡ b
@@ -230,9 +263,11 @@ exact_out =
     (elim [ outs.No ↦ λ h. (lit< tt, refl) | outs.Reserved ↦ λ h. (lit< tt, refl) | outs.Unreserved ↦ λ h. (lit< tt, refl) ])
     (λ n b g e. (
       tt,
-      pick (n == 0) (Some outs.No) (if n == 1 then Some outs.Reserved else if n == 2 then Some outs.Unreserved else None) (Some b) (out_number b ≡ n) e
+      pick (n == 0) (Some outs.No) (if n == 1 then Some outs.Reserved else if n == 2 then Some outs.Unreserved else None) (Some b)
+          (out_number b ≡ n) e
           (λ is same. ap out_number (sym (some_same outs.No b same)) ∙ sym (eqb-true n 0 is))
-          (λ other rest. pick (n == 1) (Some outs.Reserved) (if n == 2 then Some outs.Unreserved else None) (Some b) (out_number b ≡ n) rest
+          (λ other rest. pick (n == 1) (Some outs.Reserved) (if n == 2 then Some outs.Unreserved else None) (Some b)
+          (out_number b ≡ n) rest
           (λ is same. ap out_number (sym (some_same outs.Reserved b same)) ∙ sym (eqb-true n 1 is))
           (λ other last. pick (n == 2) (Some outs.Unreserved) None (Some b) (out_number b ≡ n) last
           (λ is same. ap out_number (sym (some_same outs.Unreserved b same)) ∙ sym (eqb-true n 2 is))

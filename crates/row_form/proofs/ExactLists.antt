@@ -1,5 +1,6 @@
 -- The readers of lists are exact, those of lists with a rule too.
-use Rattle.std.proofs.Common.{◌≡◌, ◌≢◌, ◌==◌, ℕ, zero, suc, Bool, true, false, not, ◌&&◌, ◌||◌, Ok, List, [], ◌∷◌, ◌++◌, length, map, refl, sym, ◌∙◌, ap, subst}
+use Rattle.std.proofs.Common.{◌≡◌, ◌≢◌, ◌==◌, ℕ, zero, suc, Bool, true, false, not, ◌&&◌, ◌||◌, Ok, List, [], ◌∷◌, ◌++◌, length}
+use Rattle.std.proofs.Common.{map, refl, sym, ◌∙◌, ap, subst}
 use Rattle.std.specs.List.{flat_map, list_any, AllByRecursion, IsDistinct}
 use Rattle.std.specs.List.Sorted.{IsStrictlySortedBy}
 use Rattle.std.specs.Str.{bytes_eq}
@@ -10,11 +11,14 @@ use Rattle.std.specs.declared.cmp.Ordering.{Ordering}
 use Rattle.std.specs.declared.cmp.Ordering.TheVariants.{Less, Equal, Greater}
 use Rattle.std.proofs.lemmas.Bool.{eqb-true, eq-eqb}
 use Rattle.std.proofs.lemmas.List.{append_assoc}
-use Rattle.cc_names.specs.Formed.{IsWord, IsLong, IsText, IsListOf, IsBelowRoot, AreTargets, AreEntries, IsEntry, IsPlaced, path_of_entry, element_of}
+use Rattle.cc_names.specs.Formed.{IsWord, IsLong, IsText, IsListOf, IsBelowRoot, AreTargets, AreEntries, IsEntry, IsPlaced}
+use Rattle.cc_names.specs.Formed.{path_of_entry, element_of}
 use Rattle.cc_names.specs.declared.rows.Placed.{Placed}
 use Rattle.row_form.specs.Fields.{word, long, text, list_bytes, entry, place_of}
 use Rattle.row_form.specs.Readers.{Reader, then_read, read_word, read_long, read_text, read_members, read_list}
-use Rattle.row_form.specs.FieldReaders.{read_path, read_entry, read_placed, is_some_list, ascends_from, ascends, entry_cmp, placed_cmp, are_distinct, are_targets, read_targets, read_entries, read_objects, read_places}
+use Rattle.row_form.specs.FieldReaders.{read_path, read_entry, read_placed, is_some_list, ascends_from, ascends, entry_cmp}
+use Rattle.row_form.specs.FieldReaders.{placed_cmp, are_distinct, are_targets, read_targets, read_entries, read_objects}
+use Rattle.row_form.specs.FieldReaders.{read_places}
 use Rattle.row_form.specs.DeedReaders.{read_outputs}
 use Rattle.row_form.specs.Spelled.{form_of}
 use Rattle.row_form.proofs.Exact.{AreBytes, IsExact, rest_bytes, same_read, part, exact_tested}
@@ -22,15 +26,19 @@ use Rattle.row_form.proofs.ExactFields.{exact_word, exact_long, exact_text, exac
 use Rattle.row_form.proofs.Steps.{then_ok}
 
 module _ {A : Type 0} (read : Reader A) (s : A → List ℕ) (G : A → Type 0) (exact : IsExact read s G) where
-  members_back : (xs : List A) (rest : List ℕ) → AllByRecursion G xs → read_members read (length xs) (flat_map s xs ++ rest) ≡ Ok (xs, rest)
+  members_back : (xs : List A) (rest : List ℕ) → AllByRecursion G xs → read_members read (length xs) (flat_map s xs ++ rest)
+      ≡ Ok (xs, rest)
   members_back [] rest h = refl
   members_back (a ∷ others) rest h =
       ap (read_members read (suc (length others))) (append_assoc (s a) (flat_map s others) rest)
-      ∙ then_ok (read (s a ++ (flat_map s others ++ rest))) (λ m mid. then_read (read_members read (length others) mid) (λ ms end. Ok (m ∷ ms, end))) a (flat_map s others ++ rest)
+      ∙ then_ok (read (s a ++ (flat_map s others ++ rest))) (λ m mid. then_read (read_members read (length others) mid)
+      (λ ms end. Ok (m ∷ ms, end))) a (flat_map s others ++ rest)
       (exact.back a (flat_map s others ++ rest) h.0)
-      ∙ then_ok (read_members read (length others) (flat_map s others ++ rest)) (λ ms end. Ok (a ∷ ms, end)) others rest (members_back others rest h.1)
+      ∙ then_ok (read_members read (length others) (flat_map s others ++ rest)) (λ ms end. Ok (a ∷ ms, end)) others rest
+      (members_back others rest h.1)
 
-  members_read_back : (count : ℕ) (bytes : List ℕ) (xs : List A) (rest : List ℕ) → AreBytes bytes → read_members read count bytes ≡ Ok (xs, rest)
+  members_read_back : (count : ℕ) (bytes : List ℕ) (xs : List A) (rest : List ℕ) → AreBytes bytes
+      → read_members read count bytes ≡ Ok (xs, rest)
       → (length xs ≡ count) × AllByRecursion G xs × (bytes ≡ flat_map s xs ++ rest)
   members_read_back zero bytes xs rest hb e =
       let same = same_read ([], bytes) (xs, rest) e in
@@ -48,16 +56,19 @@ module _ {A : Type 0} (read : Reader A) (s : A → List ℕ) (G : A → Type 0) 
   list_back : (xs : List A) (rest : List ℕ) → IsListOf G xs → read_list read (list_bytes s xs ++ rest) ≡ Ok (xs, rest)
   list_back xs rest h =
       then_ok (read_word (list_bytes s xs ++ rest)) (read_members read) (length xs) (flat_map s xs ++ rest)
-      (ap read_word (append_assoc (word (length xs)) (flat_map s xs) rest) ∙ exact_word.back (length xs) (flat_map s xs ++ rest) h.0)
+      (ap read_word (append_assoc (word (length xs)) (flat_map s xs) rest)
+      ∙ exact_word.back (length xs) (flat_map s xs ++ rest) h.0)
       ∙ members_back xs rest h.1
 
-  list_read_back : (bytes : List ℕ) (xs : List A) (rest : List ℕ) → AreBytes bytes → read_list read bytes ≡ Ok (xs, rest) → IsListOf G xs × (bytes ≡ list_bytes s xs ++ rest)
+  list_read_back : (bytes : List ℕ) (xs : List A) (rest : List ℕ) → AreBytes bytes → read_list read bytes ≡ Ok (xs, rest)
+      → IsListOf G xs × (bytes ≡ list_bytes s xs ++ rest)
   list_read_back bytes xs rest hb e =
       let x = part (read_word bytes) (read_members read) (xs, rest) e in
       let w = exact_word.read_back bytes x.0 x.1 hb x.2 in
       let m = members_read_back x.0 x.1 xs rest (rest_bytes (word x.0) x.1 (subst AreBytes w.1 hb)) x.3 in (
         (subst IsWord (sym m.0) w.0, m.1),
-        w.1 ∙ ap (λ z. word x.0 ++ z) m.2 ∙ sym (append_assoc (word x.0) (flat_map s xs) rest) ∙ ap (λ n. (word n ++ flat_map s xs) ++ rest) (sym m.0),
+        w.1 ∙ ap (λ z. word x.0 ++ z) m.2 ∙ sym (append_assoc (word x.0) (flat_map s xs) rest)
+            ∙ ap (λ n. (word n ++ flat_map s xs) ++ rest) (sym m.0),
       )
 
   pub exact_list : IsExact (read_list read) (list_bytes s) (IsListOf G)
@@ -85,11 +96,13 @@ less_if Equal e = absurd (cc)
 less_if Greater e = absurd (cc)
 
 module _ {A K : Type 0} (cmp : K → K → Ordering) (total : IsTotalOrder cmp) (key : A → K) where
-  above_all : (a b : K) (ks : List K) → cmp a b ≡ Less → AllByRecursion (λ k. cmp b k ≡ Less) ks → AllByRecursion (λ k. cmp a k ≡ Less) ks
+  above_all : (a b : K) (ks : List K) → cmp a b ≡ Less → AllByRecursion (λ k. cmp b k ≡ Less) ks
+      → AllByRecursion (λ k. cmp a k ≡ Less) ks
   above_all a b [] less h = tt
   above_all a b (k ∷ ks) less h = (total.trans a b k less h.0, above_all a b ks less h.1)
 
-  from_here : (a : A) (xs : List A) → ascends_from (λ x y. cmp (key x) (key y)) a xs ≡ true → IsStrictlySortedBy cmp (key a ∷ map key xs)
+  from_here : (a : A) (xs : List A) → ascends_from (λ x y. cmp (key x) (key y)) a xs ≡ true
+      → IsStrictlySortedBy cmp (key a ∷ map key xs)
   unfolding IsStrictlySortedBy
   from_here a [] e = (tt, tt)
   from_here a (b ∷ bs) e =
@@ -103,10 +116,12 @@ module _ {A K : Type 0} (cmp : K → K → Ordering) (total : IsTotalOrder cmp) 
   sorted_if [] e = tt
   sorted_if (a ∷ xs) e = from_here a xs e
 
-  to_here : (a : A) (xs : List A) → IsStrictlySortedBy cmp (key a ∷ map key xs) → ascends_from (λ x y. cmp (key x) (key y)) a xs ≡ true
+  to_here : (a : A) (xs : List A) → IsStrictlySortedBy cmp (key a ∷ map key xs)
+      → ascends_from (λ x y. cmp (key x) (key y)) a xs ≡ true
   unfolding IsStrictlySortedBy
   to_here a [] h = refl
-  to_here a (b ∷ bs) h = and_hold (is_lt (cmp (key a) (key b))) (ascends_from (λ x y. cmp (key x) (key y)) b bs) (ap is_lt h.0.0) (to_here b bs h.1)
+  to_here a (b ∷ bs) h = and_hold (is_lt (cmp (key a) (key b))) (ascends_from (λ x y. cmp (key x) (key y)) b bs) (ap is_lt h.0.0)
+      (to_here b bs h.1)
 
   pub sorted_only : (xs : List A) → IsStrictlySortedBy cmp (map key xs) → ascends (λ x y. cmp (key x) (key y)) xs ≡ true
   unfolding IsStrictlySortedBy
@@ -129,13 +144,17 @@ or_false false b e = (refl, e)
 false_or : (a b : Bool) → a ≡ false → b ≡ false → (a || b) ≡ false
 false_or a b ha hb = rw (ha, hb) refl
 
-not_again : (t : List ℕ) (ts : List (List ℕ)) → list_any (λ u. bytes_eq u t) ts ≡ false → AllByRecursion (λ u. bytes_eq t u ≡ false) ts
+not_again : (t : List ℕ) (ts : List (List ℕ)) → list_any (λ u. bytes_eq u t) ts ≡ false
+    → AllByRecursion (λ u. bytes_eq t u ≡ false) ts
 not_again t [] e = tt
-not_again t (u ∷ us) e = let h = or_false (bytes_eq u t) (list_any (λ v. bytes_eq v t) us) e in (nat_list_eq_equiv.symm t u ∙ h.0, not_again t us h.1)
+not_again t (u ∷ us) e = let h = or_false (bytes_eq u t) (list_any (λ v. bytes_eq v t) us) e in
+    (nat_list_eq_equiv.symm t u ∙ h.0, not_again t us h.1)
 
-none_again : (t : List ℕ) (ts : List (List ℕ)) → AllByRecursion (λ u. bytes_eq t u ≡ false) ts → list_any (λ u. bytes_eq u t) ts ≡ false
+none_again : (t : List ℕ) (ts : List (List ℕ)) → AllByRecursion (λ u. bytes_eq t u ≡ false) ts
+    → list_any (λ u. bytes_eq u t) ts ≡ false
 none_again t [] h = refl
-none_again t (u ∷ us) h = false_or (bytes_eq u t) (list_any (λ v. bytes_eq v t) us) (nat_list_eq_equiv.symm u t ∙ h.0) (none_again t us h.1)
+none_again t (u ∷ us) h = false_or (bytes_eq u t) (list_any (λ v. bytes_eq v t) us) (nat_list_eq_equiv.symm u t
+    ∙ h.0) (none_again t us h.1)
 
 distinct_if : (ts : List (List ℕ)) → are_distinct ts ≡ true → IsDistinct bytes_eq ts
 unfolding IsDistinct
@@ -157,7 +176,8 @@ exact_targets form =
     (λ ts h. (
       h.0.0,
       and_hold (is_some_list ts && (form_of ts == form)) (are_distinct ts)
-          (and_hold (is_some_list ts) (form_of ts == form) (some_only ts h.0.1) (eq-eqb (form_of ts) form h.1)) (distinct_only ts h.0.2),
+          (and_hold (is_some_list ts) (form_of ts == form) (some_only ts h.0.1) (eq-eqb (form_of ts) form h.1))
+          (distinct_only ts h.0.2),
     ))
     (λ ts g e.
     let h = both_hold (is_some_list ts && (form_of ts == form)) (are_distinct ts) e in
@@ -190,8 +210,13 @@ ArePlaces placed = IsListOf IsPlaced placed × (placed ≢ []) × IsStrictlySort
 
 pub exact_places : IsExact read_places (list_bytes place_of) ArePlaces
 exact_places =
-    exact_tested (λ ps. is_some_list ps && ascends placed_cmp ps) ArePlaces (exact_list read_placed place_of IsPlaced exact_placed)
-    (λ ps h. (h.0, and_hold (is_some_list ps) (ascends placed_cmp ps) (some_only ps h.1) (sorted_only nat_cmp nat_cmp_total element_of ps h.2)))
+    exact_tested (λ ps. is_some_list ps && ascends placed_cmp ps) ArePlaces
+    (exact_list read_placed place_of IsPlaced exact_placed)
+    (λ ps h. (
+      h.0,
+      and_hold (is_some_list ps) (ascends placed_cmp ps) (some_only ps h.1)
+          (sorted_only nat_cmp nat_cmp_total element_of ps h.2),
+    ))
     (λ ps g e.
     let h = both_hold (is_some_list ps) (ascends placed_cmp ps) e in
     (g, some_if ps h.0, sorted_if nat_cmp nat_cmp_total element_of ps h.1))

@@ -59,5 +59,6 @@ the_bytes_at_extents : spelling_of (row_at_extents (extent 8192 4096 ∷ []) (ro
     0 ∷ 2 ∷ 0 ∷ 0 ∷ 0 ∷ 104 ∷ 105 ∷ 1 ∷ 0 ∷ 32 ∷ 0 ∷ 0 ∷ 0 ∷ 0 ∷ 0 ∷ 0 ∷ 0 ∷ 16 ∷ 0 ∷ 0 ∷ 0 ∷ 0 ∷ 0 ∷ 0 ∷ []
 the_bytes_at_extents = refl
 
-the_row_of_the_base : plain_row (row (publish_at (Here (codes "hi") ∷ There (extent 8192 4096) ∷ []))) ≡ row (publish (codes "hi" ∷ [] ∷ []))
+the_row_of_the_base : plain_row (row (publish_at (Here (codes "hi") ∷ There (extent 8192 4096) ∷ [])))
+    ≡ row (publish (codes "hi" ∷ [] ∷ []))
 the_row_of_the_base = refl

@@ -1,4 +1,5 @@
--- The spellings of rows of each deed, worked out by computation: the bytes are written by hand from the format. The rows are those
+-- The spellings of rows of each deed, worked out by computation: the bytes are written by hand from the format. The rows are
+-- those
 -- of phase 1, lane 2 and command 3 at the last moment that a row may have, the end of the year 9999.
 use Rattle.std.proofs.Common.{◌≡◌, ℕ, ◌-◌, ◌^◌, true, false, List, [], ◌∷◌, refl}
 use Rattle.std.specs.Prelude.{codes}
@@ -116,22 +117,26 @@ an_unlabel : spelling_of (row (deeds.Unlabel (codes "L") 5)) ≡ bytes 1 16 (
     1 ∷ 0 ∷ 0 ∷ 0 ∷ 76 ∷ 5 ∷ 0 ∷ 0 ∷ 0 ∷ 0 ∷ 0 ∷ 0 ∷ 0 ∷ [])
 an_unlabel = refl
 
-a_publish : spelling_of (row (deeds.Publish (codes "v") (codes "x" ∷ []) (codes "ls") (read (codes "a") 7 ∷ []) (codes "hi" ∷ []))) ≡ bytes 1 17 (
+a_publish : spelling_of (row (deeds.Publish (codes "v") (codes "x" ∷ []) (codes "ls") (read (codes "a") 7 ∷ [])
+    (codes "hi" ∷ []))) ≡ bytes 1 17 (
     1 ∷ 0 ∷ 0 ∷ 0 ∷ 118 ∷ 1 ∷ 0 ∷ 0 ∷ 0 ∷ 1 ∷ 0 ∷ 0 ∷ 0 ∷ 120 ∷ 2 ∷ 0 ∷ 0 ∷ 0 ∷ 108 ∷ 115 ∷ 1 ∷ 0 ∷ 0 ∷ 0 ∷ 1 ∷ 0 ∷ 0 ∷ 0 ∷
     97 ∷ 7 ∷ 0 ∷ 0 ∷ 0 ∷ 0 ∷ 0 ∷ 0 ∷ 0 ∷ 1 ∷ 0 ∷ 0 ∷ 0 ∷ 2 ∷ 0 ∷ 0 ∷ 0 ∷ 104 ∷ 105 ∷ [])
 a_publish = refl
 
-a_publish_of_two : spelling_of (row (deeds.Publish (codes "v") (codes "x" ∷ codes "y" ∷ []) [] [] ([] ∷ codes "hi" ∷ []))) ≡ bytes 2 17 (
+a_publish_of_two : spelling_of (row (deeds.Publish (codes "v") (codes "x" ∷ codes "y" ∷ []) [] [] ([] ∷ codes "hi" ∷ [])))
+    ≡ bytes 2 17 (
     1 ∷ 0 ∷ 0 ∷ 0 ∷ 118 ∷ 2 ∷ 0 ∷ 0 ∷ 0 ∷ 1 ∷ 0 ∷ 0 ∷ 0 ∷ 120 ∷ 1 ∷ 0 ∷ 0 ∷ 0 ∷ 121 ∷ 0 ∷ 0 ∷ 0 ∷ 0 ∷ 0 ∷ 0 ∷ 0 ∷ 0 ∷ 2 ∷
     0 ∷ 0 ∷ 0 ∷ 0 ∷ 0 ∷ 0 ∷ 0 ∷ 2 ∷ 0 ∷ 0 ∷ 0 ∷ 104 ∷ 105 ∷ [])
 a_publish_of_two = refl
 
-a_publish_of_three : spelling_of (row (deeds.Publish (codes "v") (codes "y" ∷ codes "x" ∷ codes "z" ∷ []) [] [] ([] ∷ [] ∷ [] ∷ []))) ≡ bytes 2 17 (
+a_publish_of_three : spelling_of (row (deeds.Publish (codes "v") (codes "y" ∷ codes "x" ∷ codes "z" ∷ []) [] []
+    ([] ∷ [] ∷ [] ∷ []))) ≡ bytes 2 17 (
     1 ∷ 0 ∷ 0 ∷ 0 ∷ 118 ∷ 3 ∷ 0 ∷ 0 ∷ 0 ∷ 1 ∷ 0 ∷ 0 ∷ 0 ∷ 121 ∷ 1 ∷ 0 ∷ 0 ∷ 0 ∷ 120 ∷ 1 ∷ 0 ∷ 0 ∷ 0 ∷ 122 ∷ 0 ∷ 0 ∷ 0 ∷ 0 ∷
     0 ∷ 0 ∷ 0 ∷ 0 ∷ 3 ∷ 0 ∷ 0 ∷ 0 ∷ 0 ∷ 0 ∷ 0 ∷ 0 ∷ 0 ∷ 0 ∷ 0 ∷ 0 ∷ 0 ∷ 0 ∷ 0 ∷ 0 ∷ [])
 a_publish_of_three = refl
 
-a_publish_with_two_reads : spelling_of (row (deeds.Publish (codes "v") (codes "x" ∷ []) [] (read (codes "a") 7 ∷ read (codes "b") 0 ∷ []) ([] ∷ []))) ≡ bytes 1 17 (
+a_publish_with_two_reads : spelling_of (row (deeds.Publish (codes "v") (codes "x" ∷ []) []
+    (read (codes "a") 7 ∷ read (codes "b") 0 ∷ []) ([] ∷ []))) ≡ bytes 1 17 (
     1 ∷ 0 ∷ 0 ∷ 0 ∷ 118 ∷ 1 ∷ 0 ∷ 0 ∷ 0 ∷ 1 ∷ 0 ∷ 0 ∷ 0 ∷ 120 ∷ 0 ∷ 0 ∷ 0 ∷ 0 ∷ 2 ∷ 0 ∷ 0 ∷ 0 ∷ 1 ∷ 0 ∷ 0 ∷ 0 ∷ 97 ∷
     7 ∷ 0 ∷ 0 ∷ 0 ∷ 0 ∷ 0 ∷ 0 ∷ 0 ∷ 1 ∷ 0 ∷ 0 ∷ 0 ∷ 98 ∷ 0 ∷ 0 ∷ 0 ∷ 0 ∷ 0 ∷ 0 ∷ 0 ∷ 0 ∷ 1 ∷ 0 ∷ 0 ∷ 0 ∷ 0 ∷ 0 ∷ 0 ∷ 0 ∷ [])
 a_publish_with_two_reads = refl
@@ -157,19 +162,22 @@ an_arrow : spelling_of (row (deeds.Arrow 5 6 7)) ≡ bytes 1 22 (
     5 ∷ 0 ∷ 0 ∷ 0 ∷ 0 ∷ 0 ∷ 0 ∷ 0 ∷ 6 ∷ 0 ∷ 0 ∷ 0 ∷ 0 ∷ 0 ∷ 0 ∷ 0 ∷ 7 ∷ 0 ∷ 0 ∷ 0 ∷ 0 ∷ 0 ∷ 0 ∷ 0 ∷ [])
 an_arrow = refl
 
-a_publish_at : spelling_of (row (deeds.PublishAt (codes "v") (codes "x" ∷ []) (codes "ls") (read (codes "a") 7 ∷ []) (There (extent 5 6) ∷ []))) ≡ bytes 1 23 (
+a_publish_at : spelling_of (row (deeds.PublishAt (codes "v") (codes "x" ∷ []) (codes "ls") (read (codes "a") 7 ∷ [])
+    (There (extent 5 6) ∷ []))) ≡ bytes 1 23 (
     1 ∷ 0 ∷ 0 ∷ 0 ∷ 118 ∷ 1 ∷ 0 ∷ 0 ∷ 0 ∷ 1 ∷ 0 ∷ 0 ∷ 0 ∷ 120 ∷ 2 ∷ 0 ∷ 0 ∷ 0 ∷ 108 ∷ 115 ∷ 1 ∷ 0 ∷ 0 ∷ 0 ∷ 1 ∷ 0 ∷ 0 ∷ 0 ∷
     97 ∷ 7 ∷ 0 ∷ 0 ∷ 0 ∷ 0 ∷ 0 ∷ 0 ∷ 0 ∷ 1 ∷ 0 ∷ 0 ∷ 0 ∷ 1 ∷ 5 ∷ 0 ∷ 0 ∷ 0 ∷ 0 ∷ 0 ∷ 0 ∷ 0 ∷ 6 ∷ 0 ∷ 0 ∷ 0 ∷ 0 ∷ 0 ∷ 0 ∷
     0 ∷ [])
 a_publish_at = refl
 
 -- the last place that a byte of the file of objects may have
-a_publish_at_the_end : spelling_of (row (deeds.PublishAt (codes "v") (codes "x" ∷ []) [] [] (There (extent (2 ^ 63 - 2) 1) ∷ []))) ≡ bytes 1 23 (
+a_publish_at_the_end : spelling_of (row (deeds.PublishAt (codes "v") (codes "x" ∷ []) [] [] (There (extent (2 ^ 63 - 2) 1) ∷ [])))
+    ≡ bytes 1 23 (
     1 ∷ 0 ∷ 0 ∷ 0 ∷ 118 ∷ 1 ∷ 0 ∷ 0 ∷ 0 ∷ 1 ∷ 0 ∷ 0 ∷ 0 ∷ 120 ∷ 0 ∷ 0 ∷ 0 ∷ 0 ∷ 0 ∷ 0 ∷ 0 ∷ 0 ∷ 1 ∷ 0 ∷ 0 ∷ 0 ∷ 1 ∷
     254 ∷ 255 ∷ 255 ∷ 255 ∷ 255 ∷ 255 ∷ 255 ∷ 127 ∷ 1 ∷ 0 ∷ 0 ∷ 0 ∷ 0 ∷ 0 ∷ 0 ∷ 0 ∷ [])
 a_publish_at_the_end = refl
 
-a_publish_at_of_two : spelling_of (row (deeds.PublishAt (codes "v") (codes "x" ∷ codes "y" ∷ []) [] [] (Here [] ∷ There (extent 0 1048576) ∷ []))) ≡ bytes 2 23 (
+a_publish_at_of_two : spelling_of (row (deeds.PublishAt (codes "v") (codes "x" ∷ codes "y" ∷ []) [] []
+    (Here [] ∷ There (extent 0 1048576) ∷ []))) ≡ bytes 2 23 (
     1 ∷ 0 ∷ 0 ∷ 0 ∷ 118 ∷ 2 ∷ 0 ∷ 0 ∷ 0 ∷ 1 ∷ 0 ∷ 0 ∷ 0 ∷ 120 ∷ 1 ∷ 0 ∷ 0 ∷ 0 ∷ 121 ∷ 0 ∷ 0 ∷ 0 ∷ 0 ∷ 0 ∷ 0 ∷ 0 ∷ 0 ∷ 2 ∷
     0 ∷ 0 ∷ 0 ∷ 0 ∷ 0 ∷ 0 ∷ 0 ∷ 0 ∷ 1 ∷ 0 ∷ 0 ∷ 0 ∷ 0 ∷ 0 ∷ 0 ∷ 0 ∷ 0 ∷ 0 ∷ 0 ∷ 16 ∷ 0 ∷ 0 ∷ 0 ∷ 0 ∷ 0 ∷ [])
 a_publish_at_of_two = refl

@@ -45,7 +45,8 @@ in_frame (There extent) = []
 
 -- the deed of the base that a deed as a frame spells it gives: each output that has an extent is empty
 abbrev pub plain_deed : Deed → Deed
-plain_deed (deeds.PublishAt view targets script entries outputs) = deeds.Publish view targets script entries (map in_frame outputs)
+plain_deed (deeds.PublishAt view targets script entries outputs) = deeds.Publish view targets script entries
+    (map in_frame outputs)
 plain_deed deed = deed
 
 -- the row of the base that a row as a frame spells it gives

@@ -1,5 +1,6 @@
 -- How the fields of a row are read. A field whose value breaks its rule cannot be read.
-use Rattle.std.specs.Prelude.{ℕ, ◌+◌, ◌^◌, Bool, true, false, not, ◌&&◌, ◌==◌, nat_le, nat_lt, Option, Some, None, Err, List, [], ◌∷◌, if◌then◌else◌}
+use Rattle.std.specs.Prelude.{ℕ, ◌+◌, ◌^◌, Bool, true, false, not, ◌&&◌, ◌==◌, nat_le, nat_lt, Option, Some, None, Err, List, []}
+use Rattle.std.specs.Prelude.{◌∷◌, if◌then◌else◌}
 use Rattle.std.specs.List.{list_any}
 use Rattle.std.specs.Str.{bytes_eq}
 use Rattle.std.specs.Result.{result_ok}
@@ -20,7 +21,8 @@ use Rattle.cc_names.specs.declared.rows.Placed.{Placed}
 use Rattle.cc_names.specs.declared.rows.Extent.{Extent}
 use Rattle.cc_names.specs.declared.rows.Stored.{Stored}
 use Rattle.cc_names.specs.declared.rows.Stored.TheVariants.{Here, There}
-use Rattle.row_form.specs.Readers.{Reader, then_read, both, reader_of_some, value_if, reader_of, read_byte, read_long, read_text, read_list}
+use Rattle.row_form.specs.Readers.{Reader, then_read, both, reader_of_some, value_if, reader_of, read_byte, read_long, read_text}
+use Rattle.row_form.specs.Readers.{read_list}
 use Rattle.row_form.specs.Spelled.{form_of}
 
 -- a name
@@ -62,7 +64,8 @@ read_type_kind = reader_of_some type_kind_of read_byte
 
 -- whether a branch is checked out, and how, of a byte
 abbrev pub out_of : ℕ → Option Out
-out_of byte = if byte == 0 then Some outs.No else if byte == 1 then Some outs.Reserved else if byte == 2 then Some outs.Unreserved else None
+out_of byte = if byte == 0 then Some outs.No else if byte == 1 then Some outs.Reserved else if byte == 2 then Some outs.Unreserved
+    else None
 
 abbrev pub read_out : Reader Out
 read_out = reader_of_some out_of read_byte
@@ -103,7 +106,8 @@ read_extent bytes = then_read (read_place bytes) (λ place. reader_of_some (exte
 
 -- an output of this kind; an unknown kind fails where the output began
 abbrev pub read_stored_of : List ℕ → ℕ → Reader Stored
-read_stored_of bytes kind rest = if kind == 0 then reader_of Here read_text rest else if kind == 1 then reader_of There read_extent rest else Err bytes
+read_stored_of bytes kind rest = if kind == 0 then reader_of Here read_text rest else if kind == 1 then reader_of There
+    read_extent rest else Err bytes
 
 -- an output: 0 and its bytes, or 1 and its extent
 abbrev pub read_stored : Reader Stored

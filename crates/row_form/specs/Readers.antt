@@ -1,6 +1,7 @@
 -- How bytes are read, part by part. Where bytes cannot be read, these definitions say from which byte on; that what they read is
 -- what is spelled so, and nothing else, is proved of them.
-use Rattle.std.specs.Prelude.{ℕ, zero, suc, Bool, nat_le, Option, Some, None, Result, Ok, Err, List, [], ◌∷◌, length, take, drop, if◌then◌else◌}
+use Rattle.std.specs.Prelude.{ℕ, zero, suc, Bool, nat_le, Option, Some, None, Result, Ok, Err, List, [], ◌∷◌, length, take, drop}
+use Rattle.std.specs.Prelude.{if◌then◌else◌}
 use Rattle.std.specs.Int.{w32, w64, from_le_bytes}
 
 -- what reading gives: a value and the bytes after it; or, where a field cannot be read, the bytes from that field on
@@ -61,7 +62,8 @@ read_text bytes = then_read (read_word bytes) (read_bytes bytes)
 -- this many members, one after the other
 abbrev pub read_members : {A : Type 0} → Reader A → ℕ → Reader (List A)
 read_members read zero bytes = Ok ([], bytes)
-read_members read (suc count) bytes = then_read (read bytes) (λ a rest. then_read (read_members read count rest) (λ others end. Ok (a ∷ others, end)))
+read_members read (suc count) bytes = then_read (read bytes) (λ a rest. then_read (read_members read count rest)
+    (λ others end. Ok (a ∷ others, end)))
 
 -- a list: a count of four bytes, and the members
 abbrev pub read_list : {A : Type 0} → Reader A → Reader (List A)

@@ -2,7 +2,8 @@
 use Rattle.std.specs.Prelude.{ℕ, ◌-◌, ◌||◌, ◌==◌, nat_le, Option, Some, None, Ok, Err, List, [], ◌∷◌, length}
 use Rattle.cc_names.specs.declared.rows.Deed.{Deed}
 use Rattle.cc_names.specs.declared.rows.Tag.{Tag}
-use Rattle.row_form.specs.Readers.{Reading, Reader, then_read, both, reader_of_some, value_if, reader_of, read_byte, read_word, read_long}
+use Rattle.row_form.specs.Readers.{Reading, Reader, then_read, both, reader_of_some, value_if, reader_of, read_byte, read_word}
+use Rattle.row_form.specs.Readers.{read_long}
 use Rattle.row_form.specs.DeedReaders.{read_deed}
 
 -- the first byte of a row

@@ -56,7 +56,8 @@ type_fields deed = object_fields deed
 -- the fields of a deed about checkouts and branches, or one of those above
 abbrev pub checkout_fields : Deed → List ℕ
 checkout_fields (deeds.Checkout view element origin reserved) = text view ++ (long element ++ (long origin ++ flag reserved))
-checkout_fields (deeds.Branch view element origin name out) = text view ++ (long element ++ (long origin ++ (text name ++ out_byte out)))
+checkout_fields (deeds.Branch view element origin name out) = text view
+    ++ (long element ++ (long origin ++ (text name ++ out_byte out)))
 checkout_fields (deeds.Save view element bytes) = text view ++ (long element ++ text bytes)
 checkout_fields (deeds.Checkin view element) = text view ++ long element
 checkout_fields (deeds.Uncheckout view element) = text view ++ long element
@@ -64,7 +65,8 @@ checkout_fields deed = type_fields deed
 
 -- the fields of a deed about directories, or one of those above
 abbrev pub directory_fields : Deed → List ℕ
-directory_fields (deeds.Mkelem view directory name sort out) = text view ++ (long directory ++ (text name ++ (kind sort ++ flag out)))
+directory_fields (deeds.Mkelem view directory name sort out) = text view
+    ++ (long directory ++ (text name ++ (kind sort ++ flag out)))
 directory_fields (deeds.Rmname view directory name) = text view ++ (long directory ++ text name)
 directory_fields (deeds.Mv view directory from_name to_name) = text view ++ (long directory ++ (text from_name ++ text to_name))
 directory_fields deed = checkout_fields deed

@@ -1,9 +1,11 @@
 -- Runs worked out by hand, checked by computation.
-use Rattle.std.proofs.Common.{◌≡◌, ℕ, if◌then◌else◌, Some, None, Ok, Err, List, [], ◌∷◌, ◌++◌, refl, length, true, false, nat_lt, ◌+◌, ◌*◌}
+use Rattle.std.proofs.Common.{◌≡◌, ℕ, if◌then◌else◌, Some, None, Ok, Err, List, [], ◌∷◌, ◌++◌, refl, length, true, false, nat_lt}
+use Rattle.std.proofs.Common.{◌+◌, ◌*◌}
 use Rattle.std.specs.Prelude.{codes, decimal}
 use Rattle.std.specs.Str.{bytes_eq}
 use Rattle.cc_names.specs.Files.{Files}
-use Rattle.cc_names.specs.declared.refusals.ScriptFault.TheVariants.{Absent, BadLine, TooBig, IncludeDepth, Failed, StrayWrite, NotWritten}
+use Rattle.cc_names.specs.declared.refusals.ScriptFault.TheVariants.{Absent, BadLine, TooBig, IncludeDepth, Failed, StrayWrite}
+use Rattle.cc_names.specs.declared.refusals.ScriptFault.TheVariants.{NotWritten}
 use Rattle.script_grammar.specs.Words.{words, without_at}
 use Rattle.script_grammar.specs.Forms.{lines_in, first_lines, with_replaced, linked_text}
 use Rattle.script_grammar.specs.Includes.{include_of, probes_of}
@@ -15,7 +17,8 @@ line text = text ++ 10 ∷ []
 
 -- files in which `in` is `hi` and `other` is empty
 abbrev some_files : Files
-some_files path = if bytes_eq path (codes "in") then Some (line (codes "hi")) else if bytes_eq path (codes "other") then Some [] else None
+some_files path = if bytes_eq path (codes "in") then Some (line (codes "hi")) else if bytes_eq path (codes "other") then Some []
+    else None
 
 words_of_spaces : words (codes "cat  in > out") ≡ codes "cat" ∷ codes "in" ∷ codes ">" ∷ codes "out" ∷ []
 words_of_spaces = refl
@@ -45,8 +48,13 @@ greets : run (line (codes "echo hi > c")) (codes "c" ∷ []) some_files ≡
 greets = refl
 
 -- what is written is seen by later lines and is no read; each path is noted once, absent ones too
-own_output : run (line (codes "@cat in >a") ++ 10 ∷ line (codes "cat a in a >> a") ++ codes "echo > > b") (codes "a" ∷ codes "b" ∷ []) some_files ≡
-    record { result = Ok ((line (codes "hi") ++ line (codes "hi") ++ line (codes "hi") ++ line (codes "hi")) ∷ line (codes ">") ∷ []); reads = codes "in" ∷ [] }
+own_output : run (line (codes "@cat in >a") ++ 10 ∷ line (codes "cat a in a >> a") ++ codes "echo > > b")
+    (codes "a" ∷ codes "b" ∷ []) some_files ≡
+    record {
+      result = Ok ((line (codes "hi") ++ line (codes "hi") ++ line (codes "hi") ++ line (codes "hi")) ∷ line (codes ">")
+          ∷ []);
+      reads = codes "in" ∷ [];
+    }
 own_output = refl
 
 reads_in_order : run (codes "cat other in other none > a") (codes "a" ∷ []) some_files ≡
@@ -68,11 +76,15 @@ nothing_to_cat : run (codes "cat > out") (codes "out" ∷ []) some_files ≡ rec
 nothing_to_cat = refl
 
 -- a write outside the targets comes before the reads of its line
-stray_write : run (codes "cat none > in") (codes "out" ∷ []) some_files ≡ record { result = Err (StrayWrite (codes "in")); reads = [] }
+stray_write : run (codes "cat none > in") (codes "out" ∷ []) some_files ≡ record {
+  result = Err (StrayWrite (codes "in"));
+  reads = [];
+}
 stray_write = refl
 
 -- the first target that is not written
-not_written : run (codes "echo > b") (codes "a" ∷ codes "b" ∷ codes "c" ∷ []) some_files ≡ record { result = Err (NotWritten (codes "a")); reads = [] }
+not_written : run (codes "echo > b") (codes "a" ∷ codes "b" ∷ codes "c" ∷ []) some_files
+    ≡ record { result = Err (NotWritten (codes "a")); reads = [] }
 not_written = refl
 
 -- an empty script writes nothing
@@ -80,7 +92,8 @@ empty_script : run [] (codes "a" ∷ []) some_files ≡ record { result = Err (N
 empty_script = refl
 
 -- an output of more bytes than an output may have, such as 524,289 lines of one letter
-too_big : (output : Output) (more : List ℕ) (made : Made) → nat_lt output_limit (output.before + length made.bytes + length more) ≡ true → with_output output more made ≡ Err (TooBig output.path)
+too_big : (output : Output) (more : List ℕ) (made : Made) → nat_lt output_limit (output.before + length made.bytes + length more)
+    ≡ true → with_output output more made ≡ Err (TooBig output.path)
 too_big output more made h = rw h refl
 
 too_many_lines : nat_lt output_limit (2 * 524289) ≡ true
@@ -119,7 +132,8 @@ include_and_a_blank = refl
 include_behind_a_blank : include_of (codes " #include " ++ 34 ∷ codes "h" ++ 34 ∷ []) ≡ None
 include_behind_a_blank = refl
 
-probes_in_order : probes_of (codes "one" ∷ codes "." ∷ codes "two/a" ∷ []) (codes "h") ≡ codes "h" ∷ codes "one/h" ∷ codes "h" ∷ codes "two/a/h" ∷ []
+probes_in_order : probes_of (codes "one" ∷ codes "." ∷ codes "two/a" ∷ []) (codes "h") ≡ codes "h" ∷ codes "one/h" ∷ codes "h"
+    ∷ codes "two/a/h" ∷ []
 probes_in_order = refl
 
 the_root_alone : probes_of (codes "one" ∷ []) (codes ".") ≡ codes "." ∷ []
@@ -135,14 +149,18 @@ sources path =
 
 -- a file that is found in the second directory: the probes before it are reads, and so absent ones
 includes_by_directories : run (line (codes "pp -I one -I two a.c > a")) (codes "a" ∷ []) sources ≡
-    record { result = Ok ((line (codes "foo") ++ line (codes "end")) ∷ []); reads = codes "a.c" ∷ codes "h" ∷ codes "one/h" ∷ codes "two/h" ∷ [] }
+    record {
+      result = Ok ((line (codes "foo") ++ line (codes "end")) ∷ []);
+      reads = codes "a.c" ∷ codes "h" ∷ codes "one/h" ∷ codes "two/h" ∷ [];
+    }
 includes_by_directories = refl
 
 include_found_nowhere : run (line (codes "pp -I one a.c > a")) (codes "a" ∷ []) sources ≡
     record { result = Err (Absent (codes "h")); reads = codes "a.c" ∷ codes "h" ∷ codes "one/h" ∷ [] }
 include_found_nowhere = refl
 
-include_without_end : run (line (codes "pp loop > a")) (codes "a" ∷ []) sources ≡ record { result = Err (IncludeDepth (codes "loop")); reads = codes "loop" ∷ [] }
+include_without_end : run (line (codes "pp loop > a")) (codes "a" ∷ []) sources
+    ≡ record { result = Err (IncludeDepth (codes "loop")); reads = codes "loop" ∷ [] }
 include_without_end = refl
 
 -- a text with a letter replaced, and its first line behind it
@@ -151,15 +169,18 @@ two_forms : run (line (codes "sub i a in > out") ++ line (codes "head 1 in >> ou
 two_forms = refl
 
 -- a line `fail`, by its number
-fails : run (line (codes "echo > out") ++ line [] ++ codes "fail") (codes "out" ∷ []) some_files ≡ record { result = Err (Failed 3); reads = [] }
+fails : run (line (codes "echo > out") ++ line [] ++ codes "fail") (codes "out" ∷ []) some_files
+    ≡ record { result = Err (Failed 3); reads = [] }
 fails = refl
 
 -- a `fail` with an output, a number with a zero before it, and a `-I` without its path are outside the language
 fail_with_output : run (codes "fail > out") (codes "out" ∷ []) some_files ≡ record { result = Err (BadLine 1); reads = [] }
 fail_with_output = refl
 
-number_with_a_zero : run (codes "head 01 in > out") (codes "out" ∷ []) some_files ≡ record { result = Err (BadLine 1); reads = [] }
+number_with_a_zero : run (codes "head 01 in > out") (codes "out" ∷ []) some_files
+    ≡ record { result = Err (BadLine 1); reads = [] }
 number_with_a_zero = refl
 
-flag_without_a_directory : run (codes "pp -I in > out") (codes "out" ∷ []) some_files ≡ record { result = Err (BadLine 1); reads = [] }
+flag_without_a_directory : run (codes "pp -I in > out") (codes "out" ∷ []) some_files
+    ≡ record { result = Err (BadLine 1); reads = [] }
 flag_without_a_directory = refl

@@ -10,4 +10,5 @@ pub record Agree (one other : Files) (paths : List (List ℕ)) : Type 0 where
 
 -- The law of the frame: where two files agree at the reads of a run over the one, its run over the other is equal.
 pub record IsFramed (script : List ℕ) (targets : List (List ℕ)) : Type 0 where
-  pub equal : (one other : Files) → Agree one other (run script targets one).reads → run script targets one ≡ run script targets other
+  pub equal : (one other : Files) → Agree one other (run script targets one).reads
+      → run script targets one ≡ run script targets other

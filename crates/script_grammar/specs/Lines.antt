@@ -1,5 +1,6 @@
 -- What a script is: lines of words, each of a kind of its own.
-use Rattle.std.specs.Prelude.{ℕ, ◌+◌, Bool, true, false, Option, Some, None, option_map, Result, Ok, Err, List, [], ◌∷◌, length, reverse, if◌then◌else◌, codes}
+use Rattle.std.specs.Prelude.{ℕ, ◌+◌, Bool, true, false, Option, Some, None, option_map, Result, Ok, Err, List, [], ◌∷◌, length}
+use Rattle.std.specs.Prelude.{reverse, if◌then◌else◌, codes}
 use Rattle.std.specs.List.{slice_split}
 use Rattle.std.specs.Result.{result_ok}
 use Rattle.std.specs.Str.{bytes_eq}
@@ -38,15 +39,15 @@ only_path (word ∷ []) = path_in word
 only_path _ = None
 
 -- the directory of a pair of words, `-I` and a path
-abbrev pub directory_of : List (List ℕ) → Option (List ℕ)
-directory_of (flag ∷ words) = if bytes_eq flag (codes "-I") then only_path words else None
-directory_of [] = None
+abbrev pub include_directory : List (List ℕ) → Option (List ℕ)
+include_directory (flag ∷ words) = if bytes_eq flag (codes "-I") then only_path words else None
+include_directory [] = None
 
 -- the directories that such pairs name
 abbrev pub directories_of : List (List ℕ) → Option (List (List ℕ))
 directories_of [] = Some []
 directories_of (word ∷ []) = None
-directories_of (flag ∷ directory ∷ pairs) = path_before (directory_of (flag ∷ directory ∷ [])) (directories_of pairs)
+directories_of (flag ∷ directory ∷ pairs) = path_before (include_directory (flag ∷ directory ∷ [])) (directories_of pairs)
 
 -- `pp` takes such pairs, if any, and one path
 abbrev pub preprocess_of : Option (List (List ℕ)) → Option (List ℕ) → Option Work
@@ -73,8 +74,8 @@ head_of (lines ∷ words) = head_by (number_of lines) (only_path words)
 head_of [] = None
 
 -- `sha` takes a path
-abbrev pub digest_of : List (List ℕ) → Option Work
-digest_of words = option_map Digest (only_path words)
+abbrev pub digest_work : List (List ℕ) → Option Work
+digest_work words = option_map Digest (only_path words)
 
 -- the work that words name: a command and what it takes
 abbrev pub work_of : List (List ℕ) → Option Work
@@ -85,7 +86,7 @@ work_of (command ∷ arguments) =
     else if bytes_eq command (codes "pp") then preprocess_of_reversed (reverse arguments)
     else if bytes_eq command (codes "sub") then substitute_of arguments
     else if bytes_eq command (codes "head") then head_of arguments
-    else if bytes_eq command (codes "sha") then digest_of arguments
+    else if bytes_eq command (codes "sha") then digest_work arguments
     else if bytes_eq command (codes "link") then link_of (paths_of arguments)
     else None
 
@@ -109,19 +110,19 @@ line_of_reversed n (word ∷ []) = fail_of n word
 line_of_reversed n (output ∷ arrow ∷ before) = makes (work_of (reverse before)) (appends_of arrow) (path_in output)
 
 -- the line of this number of a script, and nothing where its words are outside the language
-abbrev pub line_of : ℕ → List ℕ → Option Line
-line_of n bytes = line_of_reversed n (reverse (words (without_at bytes)))
+abbrev pub script_line_of : ℕ → List ℕ → Option Line
+script_line_of n bytes = line_of_reversed n (reverse (words (without_at bytes)))
 
 -- a line before lines, or the fault of the first that is none
-abbrev pub line_before : ℕ → Option Line → Result (List Line) ScriptFault → Result (List Line) ScriptFault
-line_before n None later = Err (faults.BadLine n)
-line_before n (Some line) (Ok lines) = Ok (line ∷ lines)
-line_before n (Some line) (Err fault) = Err fault
+abbrev pub line_before_lines : ℕ → Option Line → Result (List Line) ScriptFault → Result (List Line) ScriptFault
+line_before_lines n None later = Err (faults.BadLine n)
+line_before_lines n (Some line) (Ok lines) = Ok (line ∷ lines)
+line_before_lines n (Some line) (Err fault) = Err fault
 
 -- lines that are numbered from this number on
 abbrev pub lines_from : ℕ → List (List ℕ) → Result (List Line) ScriptFault
 lines_from n [] = Ok []
-lines_from n (bytes ∷ more) = line_before n (line_of n bytes) (lines_from (n + 1) more)
+lines_from n (bytes ∷ more) = line_before_lines n (script_line_of n bytes) (lines_from (n + 1) more)
 
 -- the lines of what is left of a text, if anything is
 abbrev pub pieces : Option (List ℕ) → List (List ℕ)

@@ -1,5 +1,6 @@
 -- What a run of a script gives and reads.
-use Rattle.std.specs.Prelude.{ℕ, zero, suc, ◌+◌, Bool, true, nat_lt, Option, Some, None, Result, Ok, Err, List, [], ◌∷◌, ◌++◌, length, map, if◌then◌else◌}
+use Rattle.std.specs.Prelude.{ℕ, zero, suc, ◌+◌, Bool, true, nat_lt, Option, Some, None, Result, Ok, Err, List, [], ◌∷◌, ◌++◌}
+use Rattle.std.specs.Prelude.{length, map, if◌then◌else◌}
 use Rattle.std.specs.List.{list_any, join_with_byte}
 use Rattle.std.specs.Str.{bytes_eq}
 use Rattle.cc_names.specs.Files.{Files}
@@ -38,7 +39,8 @@ and_then (Done a) next = next a
 and_then (Asks path more) next = Asks path (λ found. and_then (more found) next)
 
 -- what follows where there was no fault
-abbrev pub unless_fault : {A B : Type 0} → (A → Asking (Result B ScriptFault)) → Result A ScriptFault → Asking (Result B ScriptFault)
+abbrev pub unless_fault : {A B : Type 0} → (A → Asking (Result B ScriptFault)) → Result A ScriptFault
+    → Asking (Result B ScriptFault)
 unless_fault next (Err fault) = Done (Err fault)
 unless_fault next (Ok a) = next a
 
@@ -53,8 +55,8 @@ present path None = Err (Absent path)
 present path (Some text) = Ok text
 
 -- the text at a path, which has to be there
-abbrev pub text_at : Files → List ℕ → Asking (Result (List ℕ) ScriptFault)
-text_at own path = and_then (see (own path) path) (λ found. Done (present path found))
+abbrev pub needed_text : Files → List ℕ → Asking (Result (List ℕ) ScriptFault)
+needed_text own path = and_then (see (own path) path) (λ found. Done (present path found))
 
 -- the most bytes that an output may have, the most files that `pp` is inside of, and the most probes of a run
 abbrev pub output_limit : ℕ
@@ -107,18 +109,21 @@ pub record Preprocessing : Type 0 where
   pub output : Output
 
 -- an included path: its text, carried on by what is done with included texts
-abbrev pub included_text : (List ℕ → Made → Asking (Result Made ScriptFault)) → Preprocessing → List ℕ → Made → Asking (Result Made ScriptFault)
+abbrev pub included_text : (List ℕ → Made → Asking (Result Made ScriptFault)) → Preprocessing → List ℕ → Made
+    → Asking (Result Made ScriptFault)
 included_text expand pp path made =
     and_then (probe_of pp.own path (probes_of pp.directories path) made.probes)
     (unless_fault (λ found. expand found.text (record made { probes = found.probes })))
 
 -- a line, as it is or as what it includes
-abbrev pub line_expanded : (List ℕ → Made → Asking (Result Made ScriptFault)) → Output → List ℕ → Option (List ℕ) → Made → Asking (Result Made ScriptFault)
+abbrev pub line_expanded : (List ℕ → Made → Asking (Result Made ScriptFault)) → Output → List ℕ → Option (List ℕ) → Made
+    → Asking (Result Made ScriptFault)
 line_expanded include output line None made = Done (with_output output line made)
 line_expanded include output line (Some path) made = include path made
 
 -- lines one after the other, up to the first fault
-abbrev pub lines_expanded : (List ℕ → Made → Asking (Result Made ScriptFault)) → Output → List (List ℕ) → Made → Asking (Result Made ScriptFault)
+abbrev pub lines_expanded : (List ℕ → Made → Asking (Result Made ScriptFault)) → Output → List (List ℕ) → Made
+    → Asking (Result Made ScriptFault)
 lines_expanded include output [] made = Done (Ok made)
 lines_expanded include output (line ∷ lines) made =
     and_then (line_expanded include output line (include_of line) made) (unless_fault (lines_expanded include output lines))
@@ -147,10 +152,12 @@ parts_of (Link paths) = map (λ path. TextOf (linked_text path) path) paths
 -- what a line has made with one part behind it
 abbrev pub with_part : Files → Output → Part → Made → Asking (Result Made ScriptFault)
 with_part own output (Says more) made = Done (with_output output more made)
-with_part own output (TextOf form path) made = and_then (text_at own path) (unless_fault (λ text. Done (with_output output (form text) made)))
+with_part own output (TextOf form path) made = and_then (needed_text own path)
+    (unless_fault (λ text. Done (with_output output (form text) made)))
 with_part own output (Preprocessed directories path) made =
-    and_then (text_at own path)
-    (unless_fault (λ text. preprocessed_text depth_limit (record { own = own; directories = directories; output = output }) text made))
+    and_then (needed_text own path)
+    (unless_fault (λ text. preprocessed_text depth_limit (record { own = own; directories = directories; output = output }) text
+    made))
 
 -- the same with parts, up to the first fault; every part sees the run's own outputs as they stood before the line
 abbrev pub with_parts : Files → Output → List Part → Made → Asking (Result Made ScriptFault)
@@ -175,7 +182,8 @@ wrote output bytes own path = if bytes_eq output path then Some bytes else own p
 abbrev pub write_output : State → Work → Bool → List ℕ → Asking (Result State ScriptFault)
 write_output state work appends path =
     let begin = output_start appends (state.own path) in
-    and_then (with_parts state.own (record { path = path; before = length begin }) (parts_of work) (record { bytes = []; probes = state.probes }))
+    and_then (with_parts state.own (record { path = path; before = length begin }) (parts_of work)
+    (record { bytes = []; probes = state.probes }))
     (unless_fault (λ made. Done (Ok (record { own = wrote path (begin ++ made.bytes) state.own; probes = made.probes }))))
 
 -- a run after a line; a line that writes no target is a fault before all else
@@ -183,7 +191,8 @@ abbrev pub after_line : List (List ℕ) → State → Line → Asking (Result St
 after_line targets state Empty = Done (Ok state)
 after_line targets state (Fail n) = Done (Err (Failed n))
 after_line targets state (Makes work appends output) =
-    if list_any (λ target. bytes_eq target output) targets then write_output state work appends output else Done (Err (StrayWrite output))
+    if list_any (λ target. bytes_eq target output) targets then write_output state work appends output else Done
+    (Err (StrayWrite output))
 
 -- a run after lines
 abbrev pub after_lines : List (List ℕ) → List Line → State → Asking (Result State ScriptFault)
@@ -197,13 +206,14 @@ output_before target (Some bytes) (Ok outputs) = Ok (bytes ∷ outputs)
 output_before target (Some bytes) (Err fault) = Err fault
 
 -- the output of each target, or the first that was not written
-abbrev pub outputs_of : List (List ℕ) → Files → Result (List (List ℕ)) ScriptFault
-outputs_of [] own = Ok []
-outputs_of (target ∷ targets) own = output_before target (own target) (outputs_of targets own)
+abbrev pub target_outputs : List (List ℕ) → Files → Result (List (List ℕ)) ScriptFault
+target_outputs [] own = Ok []
+target_outputs (target ∷ targets) own = output_before target (own target) (target_outputs targets own)
 
 -- a run that goes on from here with these lines
 abbrev pub run_from : List (List ℕ) → List Line → State → Asking (Result (List (List ℕ)) ScriptFault)
-run_from targets lines state = and_then (after_lines targets lines state) (unless_fault (λ after. Done (outputs_of targets after.own)))
+run_from targets lines state = and_then (after_lines targets lines state)
+    (unless_fault (λ after. Done (target_outputs targets after.own)))
 
 -- nothing is written and no probe is made when a run begins
 abbrev pub nothing_written : State

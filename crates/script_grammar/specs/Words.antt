@@ -4,14 +4,14 @@ use Rattle.std.specs.List.{flat_map}
 use Rattle.cc_names.specs.Cuts.{is_blank}
 
 -- a `>`
-abbrev pub is_arrow : ℕ → Bool
-is_arrow b = b == 62
+abbrev pub is_arrow_byte : ℕ → Bool
+is_arrow_byte b = b == 62
 
 -- whether two bytes are of one kind: both blanks, both arrows, or both neither
 abbrev pub is_alike : ℕ → ℕ → Bool
 is_alike b c =
-    (is_blank b && is_blank c) || (is_arrow b && is_arrow c)
-    || (not (is_blank b || is_arrow b) && not (is_blank c || is_arrow c))
+    (is_blank b && is_blank c) || (is_arrow_byte b && is_arrow_byte c)
+    || (not (is_blank b || is_arrow_byte b) && not (is_blank c || is_arrow_byte c))
 
 -- a byte before runs: it lengthens the first where it is of its kind
 abbrev pub before_runs : ℕ → List (List ℕ) → List (List ℕ)
@@ -34,7 +34,7 @@ arrows (a ∷ b ∷ more) = (a ∷ b ∷ []) ∷ arrows more
 -- the words of a run: none of blanks, `>>` and `>` of arrows, and any other run is one word
 abbrev pub words_of_run : List ℕ → List (List ℕ)
 words_of_run [] = []
-words_of_run (b ∷ run) = if is_blank b then [] else if is_arrow b then arrows (b ∷ run) else (b ∷ run) ∷ []
+words_of_run (b ∷ run) = if is_blank b then [] else if is_arrow_byte b then arrows (b ∷ run) else (b ∷ run) ∷ []
 
 -- The words of a line: what blanks part, with `>>` and `>` as words of their own wherever they stand.
 abbrev pub words : List ℕ → List (List ℕ)

@@ -11,16 +11,16 @@ use base_core::Core;
 use cc_names::replies::{Reply, UnitLine, UnitWord};
 use disk_model::Disk;
 
-fn is_made(line: &UnitLine) -> bool
+fn is_line_made(line: &UnitLine) -> bool
     ensures { result ≡ is_made_line line.now }
 {
     !matches!(line.word, UnitWord::Failed(_) | UnitWord::Blocked(_))
 }
 
-fn are_made(lines: &[UnitLine]) -> bool
+fn are_lines_made(lines: &[UnitLine]) -> bool
     ensures { result ≡ list_all is_made_line lines.now }
 {
-    lines.iter().all(is_made)
+    lines.iter().all(is_line_made)
 }
 
 fn is_failure(reply: &Reply) -> bool
@@ -28,7 +28,7 @@ fn is_failure(reply: &Reply) -> bool
 {
     match reply {
         Reply::Refused(_) => true,
-        Reply::Built(lines) => !are_made(lines.as_slice()),
+        Reply::Built(lines) => !are_lines_made(lines.as_slice()),
         _ => false,
     }
 }

@@ -11,7 +11,7 @@
 //! their outcomes from nothing. Over any base each object that is reused has a record of just what its unit sees, none that
 //! would do is passed over, each scrub lists exactly what is due, every object that a view holds is live, and a stop at any
 //! device call finds what was acknowledged. That opens again, to a base that is sound where the opened one was, so that the
-//! next call begins on a sound base (`laws`). A disk fault is told where a call on the disk failed, and nowhere else, unless
+//! next call begins on a sound base (`laws`). A disk fault is reported where a call on the disk failed, and nowhere else, unless
 //! the sink failed too or memory ran out. All this holds in whatever order the threads take turns. It is not promised that
 //! threads get on.
 //!

@@ -31,7 +31,7 @@ fn cause_word(cause: SessionCause) -> &'static str
 }
 
 /// The status that tells why no session was started.
-fn status_of(unstarted: Unstarted) -> Status
+fn status_of_unstarted(unstarted: Unstarted) -> Status
     ensures { result ≡ unstarted_status unstarted }
 {
     match unstarted {
@@ -103,7 +103,7 @@ pub(crate) fn write_unstarted<K: Sink>(unstarted: Unstarted, sink: &mut K) -> St
     }
     let line = line_of(unstarted);
     match write_whole(sink, line.as_str().as_bytes()) {
-        Ok(()) => status_of(unstarted),
+        Ok(()) => status_of_unstarted(unstarted),
         Err(_fault) => Status::WriteFault,
     }
 }

@@ -6,10 +6,10 @@ ghost use Rattle.legal_history.specs.Stories.Steps.{state_of};
 ghost use Rattle.story_log.specs.Stopping.Backed.{may_be_open};
 ghost use Rattle.cc_names.specs.Counts.{rises};
 ghost use Rattle.disk_model.specs.DiskStates.{IfModeled, IsCounted};
-ghost use Rattle.disk_model.specs.Devices.{file_of, bytes_of};
+ghost use Rattle.disk_model.specs.Devices.{file_of, bytes_now};
 ghost use Rattle.disk_model.specs.Files.{stable};
 ghost use Rattle.session_run.specs.Calls.Causes.{disk_ghost_states, intake_of, sink_faults, FindsDamage, HasCause, LeavesAlone, TakesNoMore};
-ghost use Rattle.session_run.specs.Faults.Accounted.{IsAccountedFor, KeepsFiles, Settles};
+ghost use Rattle.session_run.specs.Faults.Accounted.{IsAccountedFor, KeepsFiles, SettlesJournal};
 ghost use Rattle.session_run.specs.Faults.Stopped.{IsHandedIn, IsMended, IsStopped};
 ghost use Rattle.session_run.specs.Promises.Headline.{clock_readings, IsSession, IsOneHistory, AreOfTheirCommands, AreFromNothing, ArePrinted};
 ghost use Rattle.session_run.specs.Promises.Objects.{HeldObjectsAreLive, ScrubsListWhatIsDue};
@@ -86,7 +86,7 @@ fn a_disk_is_counted<D: Disk>()
 fn settle<D: Disk>(core: &mut Core<D>)
     ensures same { core.new.story ≡ core.old.story }
     ensures mended { IsMended (state_of core.new.story) core.new.ghost_state }
-    ensures settles { Settles (may_be_open (state_of core.old.story).ends) core.old.ghost_state
+    ensures settles { SettlesJournal (may_be_open (state_of core.old.story).ends) core.old.ghost_state
         core.new.ghost_state }
 {
     let _ = core.finish();
@@ -131,7 +131,7 @@ fn run_session<R: Threads + Wait + Sync, G: Hook + Sync, K: Sink, D: Disk + Send
     clock: &mut C,
 ) -> SessionResult<D>
     requires runnable { IsRunnable phases.items }
-    requires stable { IfModeled (D.ghost_state disk).modeled (λ d. file_of 0 d ≡ stable (bytes_of 0 d)) }
+    requires stable { IfModeled (D.ghost_state disk).modeled (λ d. file_of 0 d ≡ stable (bytes_now 0 d)) }
     ensures { RunsSession phases.items result.status result.history
         (outside_of (K.ghost_state sink.old) (K.ghost_state sink.new) (C.ghost_state clock.old) (C.ghost_state clock.new))
         (sink_faults (K.ghost_state sink.old) (K.ghost_state sink.new))
@@ -158,7 +158,7 @@ fn run_session<R: Threads + Wait + Sync, G: Hook + Sync, K: Sink, D: Disk + Send
 ///
 /// The lanes of a phase run on threads once one of them builds, and so do the units of each build: what is promised holds in
 /// whatever order they take turns, and it is not promised that they get on. Around each script, and before each read of it, the
-/// gate is called.
+/// hook is called.
 ///
 /// Such a phase starts a thread for each lane but one, and a build that asks for N scripts at once up to N - 1 more, anew
 /// each time: 4,095 at most are there at once beside the caller's. Each has a stack of its own, of the size that `ulimit -s`

@@ -106,7 +106,7 @@ impl<D: Disk, P: Beginning> PhaseService for PhaseCore<D, P> {
     ghost number = { (state_of P.at.story).number };
 
     fn in_phase(&self) {
-        // The clause follows from the desk's invariant, which is at hand once a field is looked at.
+        // The clause follows from the service's invariant, which is at hand once a field is looked at.
         let _core = &self.core;
     }
 }

@@ -20,7 +20,7 @@ use std::marker::{Brand, PhantomData};
 use std::sync::Wait;
 use std::thread::Threads;
 
-/// What the phases of a session are run by: threads, memory, the keys for hashing, and the gate of the runs of scripts.
+/// What the phases of a session are run by: threads, memory, the keys for hashing, and the hook of the runs of scripts.
 #[derive(Drop)]
 pub(crate) struct Host<'a, R, G> {
     pub(crate) rt: &'a R,

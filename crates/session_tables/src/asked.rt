@@ -63,7 +63,7 @@ impl<'a> Asked<'a> {
         self.settings
     }
 
-    /// What stands behind these words, in the first setting that begins with them.
+    /// What follows these words, in the first setting that begins with them.
     pub(crate) fn setting(&self, words: &str) -> Option<&'a str> {
         for line in self.settings.lines() {
             if let Some(rest) = line.strip_prefix(words) {

@@ -16,7 +16,7 @@ struct Part<'a> {
     wanted: &'a str,
 }
 
-fn part_of(text: &str) -> Result<Part<'_>> {
+fn read_part(text: &str) -> Result<Part<'_>> {
     let (asked, wanted) = text
         .split_once("----\n")
         .context("a session has no line `----` behind it")?;
@@ -82,7 +82,7 @@ fn difference_in<R: Threads + Wait + Sync>(
     let mut before = preamble;
     let mut left = disk_with(host.rt.alloc(), &[], &[])?;
     for part in case.split("++++\n") {
-        let part = part_of(part)?;
+        let part = read_part(part)?;
         let found = if part.asked.setting(STOPS).is_some() {
             run_stopped(host, part, left)?
         } else {
@@ -126,7 +126,8 @@ pub(crate) fn first_difference<R: Threads + Wait + Sync>(
     Ok(None)
 }
 
-// Whether what is written is what is wanted, behind what the front's session writes. Where the first line that is wanted is `...`,
+// Whether what is written is what is wanted, behind what the front's session writes. Where the first line that is wanted is
+// `...`,
 // only the end is compared.
 fn matches_wanted(written: &str, before: &str, wanted: &str) -> bool {
     match (written.strip_prefix(before), wanted.strip_prefix("...\n")) {

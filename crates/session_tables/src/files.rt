@@ -3,7 +3,7 @@
 use std::{fs, io};
 
 /// The names in a folder, in byte order.
-pub(crate) fn names_in(rt: &HostRuntime, folder: &str) -> io::Result<Vec<String>> {
+pub(crate) fn names_in_folder(rt: &HostRuntime, folder: &str) -> io::Result<Vec<String>> {
     let mut names = Vec::new(rt.alloc());
     for entry in fs::read_dir(rt, folder)? {
         let entry = entry?;
@@ -14,7 +14,7 @@ pub(crate) fn names_in(rt: &HostRuntime, folder: &str) -> io::Result<Vec<String>
 }
 
 /// The text of a file in a part of a folder.
-pub(crate) fn text_of(
+pub(crate) fn text_of_file(
     rt: &HostRuntime,
     folder: &str,
     part: &str,

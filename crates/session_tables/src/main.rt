@@ -1,15 +1,20 @@
 //! Runs the sessions of the tables in `data/`, and then two sessions on real files.
 //!
 //! What it is for: the gate sees that sessions come to what the tables say, to the byte: what each command answers, why each is
-//! refused and which reason is told where there are two, what queries print, what builds make and reuse, that makefiles mean what
-//! they mean under GNU make, what a base goes on with that is opened again, what is told and left where a disk, a source or a sink
-//! fails, what stops leave, and how damaged journals are told. A table is a text, so a case costs no proof. And it sees that a base
+//! refused and which reason is reported where there are two, what queries print, what builds make and reuse, that makefiles mean
+//! what
+//! they mean under GNU make, what a base goes on with that is opened again, what is told and left where a disk, a source or a
+//! sink
+//! fails, what stops leave, and how damaged journals are told. A table is a text, so a case costs no proof. And it sees that a
+//! base
 //! of real files goes on with what was written to them.
 //!
-//! What it promises: nothing beside `session_run::run_words`. It is a program whose printed text the gate compares: how many tables
+//! What it promises: nothing beside `session_run::run_words`. It is a program whose printed text the gate compares: how many
+//! tables
 //! and cases were run, above that each case that comes to something else, and below it what the sessions on real files write.
 //!
-//! What it stands on: `session_run` for sessions, `disk_model` and `cc_outside` for what is outside of them, `cc_names` for words,
+//! What it stands on: `session_run` for sessions, `disk_model` and `cc_outside` for what is outside of them, `cc_names` for
+//! words,
 //! `hex` for the bytes of journals, and `anyhow` for what stops it.
 #![tactic(auto)]
 
@@ -23,7 +28,7 @@ mod runs;
 mod tables;
 
 use crate::cases::first_difference;
-use crate::files::{names_in, text_of};
+use crate::files::{names_in_folder, text_of_file};
 use crate::reopened::run_reopened;
 use crate::runs::Host;
 use crate::tables::{Preamble, Table, preamble_of, table_of};
@@ -86,10 +91,10 @@ fn run_table<R: Threads + Wait + Sync>(
     folder: &str,
     name: &str,
 ) -> Result<Tally> {
-    let text = text_of(rt, folder, "tables", name)?;
+    let text = text_of_file(rt, folder, "tables", name)?;
     let table = table_of(text.as_str()).context(format_args!("{name} is no table"))?;
     let file = format!(in rt.alloc(); "{}.txt", table.preamble)?;
-    let preamble = text_of(rt, folder, "fronts", file.as_str())?;
+    let preamble = text_of_file(rt, folder, "fronts", file.as_str())?;
     let preamble = preamble_of(preamble.as_str()).context(format_args!("{file} is no front"))?;
     run_cases(threads, rt, name, preamble, table)
 }
@@ -103,7 +108,7 @@ fn run_subject<R: Threads + Wait + Sync>(
 ) -> Result<Tally> {
     let tables = format!(in rt.alloc(); "{folder}/tables/{subject}")?;
     let mut tally = Tally::default();
-    for name in names_in(rt, tables.as_str())? {
+    for name in names_in_folder(rt, tables.as_str())? {
         let table = format!(in rt.alloc(); "{subject}/{name}")?;
         tally = tally.and(run_table(threads, rt, folder, table.as_str())?);
     }
@@ -118,7 +123,7 @@ fn run_folder<R: Threads + Wait + Sync>(
 ) -> Result<Tally> {
     let tables = format!(in rt.alloc(); "{folder}/tables")?;
     let mut tally = Tally::default();
-    for subject in names_in(rt, tables.as_str())? {
+    for subject in names_in_folder(rt, tables.as_str())? {
         tally = tally.and(run_subject(threads, rt, folder, subject.as_str())?);
     }
     Ok(tally)

@@ -1,4 +1,4 @@
-//! What is told of a session: what it writes, its status and its rows, and more where that is asked for.
+//! What is known of a session: what it writes, its status and its rows, and more where that is asked for.
 
 use crate::asked::Asked;
 use crate::runs::OBJECTS;
@@ -91,7 +91,7 @@ fn add_more(
     Ok(())
 }
 
-/// What is told of a session that wrote this.
+/// What is known of a session that wrote this.
 pub(crate) fn report_of(
     alloc: Global,
     asked: Asked<'_>,

@@ -28,7 +28,7 @@ pub(crate) struct Host<'a, R> {
     pub(crate) clock: &'a str,
 }
 
-/// What a session comes to: what is told of it, and the disk that it leaves.
+/// What a session comes to: what is known of it, and the disk that it leaves.
 #[derive(Drop)]
 pub(crate) struct Outcome {
     pub(crate) reported: String,
@@ -77,7 +77,7 @@ struct Outside {
     fail: Vec<u64>,
 }
 
-fn source_of(alloc: Global, preamble: &str, asked: Asked<'_>) -> Result<MemorySource> {
+fn session_source(alloc: Global, preamble: &str, asked: Asked<'_>) -> Result<MemorySource> {
     let text = bytes_of(alloc, preamble, asked)?;
     let fail = asked.numbers(alloc, "the source fails at ")?;
     Ok(MemorySource::new(alloc, text.as_slice(), fail.as_slice())?)
@@ -91,7 +91,7 @@ fn sink_of(alloc: Global, asked: Asked<'_>) -> Result<MemorySink> {
 fn outside_of(alloc: Global, preamble: &str, asked: Asked<'_>) -> Result<Outside> {
     Ok(Outside {
         words: words_of(alloc, asked.setting("words ").unwrap_or("f run"))?,
-        source: source_of(alloc, preamble, asked)?,
+        source: session_source(alloc, preamble, asked)?,
         sink: sink_of(alloc, asked)?,
         fail: asked.numbers(alloc, "the disk fails at ")?,
     })

@@ -21,7 +21,8 @@ pub(crate) struct Table<'a> {
     pub(crate) cases: &'a str,
 }
 
-/// The table that a text is. Its first line is `preamble NAME`, its second `clock` with moments; what follows down to a line `====`
+/// The table that a text is. Its first line is `preamble NAME`, its second `clock` with moments; what follows down to a line
+/// `====`
 /// is a note.
 pub(crate) fn table_of(text: &str) -> Option<Table<'_>> {
     let (head, cases) = text.split_once("====\n")?;

@@ -1,4 +1,4 @@
--- What the next of some commands asks for is told by the word of its line.
+-- What the next of some commands asks for is given by the word of its line.
 use Rattle.std.proofs.Common.{◌≡◌, ℕ, Bool, true, false, cond, Some, List, [], ◌∷◌, refl, sym, subst}
 use Rattle.std.specs.Prelude.{Ok, Err, IfOk}
 use Rattle.std.specs.List.{AllByRecursion}
@@ -18,7 +18,8 @@ use Rattle.session_text.specs.Words.{Said, says}
 abbrev Asks : Ahead → Said Command → Type 0
 Asks ahead said = IfOk said (λ command. ahead_of (Some command) ≡ ahead)
 
-made : {X : Type 0} (ahead : Ahead) (make : X → Command) (said : Said X) → ((x : X) → ahead_of (Some (make x)) ≡ ahead) → Asks ahead (says make said)
+made : {X : Type 0} (ahead : Ahead) (make : X → Command) (said : Said X) → ((x : X) → ahead_of (Some (make x)) ≡ ahead)
+    → Asks ahead (says make said)
 made ahead make (Ok x) f = f x
 made ahead make (Err cause) f = tt
 
@@ -34,25 +35,104 @@ asks said = made Act commands.Query said (λ query. refl)
 
 queries_ask : AllByRecursion TellsAhead query_lines
 unfolding TellsAhead
-queries_ask = ((λ ws t. asks _), ((λ ws t. asks _), ((λ ws t. asks _), ((λ ws t. asks _), ((λ ws t. asks _), ((λ ws t. asks _), ((λ ws t. asks _), ((λ ws t. asks _), ((λ ws t. asks _), ((λ ws t. asks _), ((λ ws t. asks _), tt)))))))))))
+queries_ask = (
+  (λ ws t. asks _),
+  (
+    (λ ws t. asks _),
+    (
+      (λ ws t. asks _),
+      (
+        (λ ws t. asks _),
+        (
+          (λ ws t. asks _),
+          (
+            (λ ws t. asks _),
+            (
+              (λ ws t. asks _),
+              ((λ ws t. asks _), ((λ ws t. asks _), ((λ ws t. asks _), ((λ ws t. asks _), tt)))),
+            ),
+          ),
+        ),
+      ),
+    ),
+  ),
+)
 
 types_ask : AllByRecursion TellsAhead types_on
 unfolding TellsAhead
-types_ask = ((λ ws t. changes _), ((λ ws t. changes _), ((λ ws t. changes _), ((λ ws t. changes _), ((λ ws t. changes _), ((λ ws t. changes _), ((λ ws t. changes _), ((λ ws t. made Build commands.Build _ (λ asked. refl)), queries_ask))))))))
+types_ask = (
+  (λ ws t. changes _),
+  (
+    (λ ws t. changes _),
+    (
+      (λ ws t. changes _),
+      (
+        (λ ws t. changes _),
+        (
+          (λ ws t. changes _),
+          (
+            (λ ws t. changes _),
+            (
+              (λ ws t. changes _),
+              ((λ ws t. made Build commands.Build _ (λ asked. refl)), queries_ask),
+            ),
+          ),
+        ),
+      ),
+    ),
+  ),
+)
 
 table_asks : AllByRecursion TellsAhead table
 unfolding TellsAhead
-table_asks = ((λ ws t. changes _), ((λ ws t. changes _), ((λ ws t. changes _), ((λ ws t. changes _), ((λ ws t. changes _), ((λ ws t. changes _), ((λ ws t. changes _), ((λ ws t. changes _), ((λ ws t. changes _), ((λ ws t. changes _), ((λ ws t. changes _), ((λ ws t. changes _), ((λ ws t. changes _), types_ask)))))))))))))
+table_asks = (
+  (λ ws t. changes _),
+  (
+    (λ ws t. changes _),
+    (
+      (λ ws t. changes _),
+      (
+        (λ ws t. changes _),
+        (
+          (λ ws t. changes _),
+          (
+            (λ ws t. changes _),
+            (
+              (λ ws t. changes _),
+              (
+                (λ ws t. changes _),
+                (
+                  (λ ws t. changes _),
+                  (
+                    (λ ws t. changes _),
+                    (
+                      (λ ws t. changes _),
+                      ((λ ws t. changes _), ((λ ws t. changes _), types_ask)),
+                    ),
+                  ),
+                ),
+              ),
+            ),
+          ),
+        ),
+      ),
+    ),
+  ),
+)
 
-in_table : (lines : List Line) (word : List ℕ) (words : List (List ℕ)) (text : List ℕ) → AllByRecursion TellsAhead lines → Asks (ahead_by word) (said_in lines word words text)
+in_table : (lines : List Line) (word : List ℕ) (words : List (List ℕ)) (text : List ℕ) → AllByRecursion TellsAhead lines
+    → Asks (ahead_by word) (said_in lines word words text)
 unfolding TellsAhead
 in_table [] word words text h = tt
 in_table (line ∷ lines) word words text h = by (bytes_eq word line.word) refl (in_table lines word words text h.1)
   where
-    by : (same : Bool) → bytes_eq word line.word ≡ same → Asks (ahead_by word) (said_in lines word words text) → Asks (ahead_by word) (cond same (line.says words text) (said_in lines word words text))
-    by true e later = subst (λ w. Asks (ahead_by w) (line.says words text)) (sym ((bytes_eq-Decides word line.word).0 e)) (h.0 words text)
+    by : (same : Bool) → bytes_eq word line.word ≡ same → Asks (ahead_by word) (said_in lines word words text)
+        → Asks (ahead_by word) (cond same (line.says words text) (said_in lines word words text))
+    by true e later = subst (λ w. Asks (ahead_by w) (line.says words text)) (sym ((bytes_eq-Decides word line.word).0 e))
+        (h.0 words text)
     by false e later = later
 
 -- the command of a line asks for what its word tells
-pub command_asks : (word : List ℕ) (words : List (List ℕ)) (text : List ℕ) → IfOk (command_of word words text) (λ command. ahead_of (Some command) ≡ ahead_by word)
+pub command_asks : (word : List ℕ) (words : List (List ℕ)) (text : List ℕ)
+    → IfOk (command_of word words text) (λ command. ahead_of (Some command) ≡ ahead_by word)
 command_asks word words text = in_table table word words text table_asks

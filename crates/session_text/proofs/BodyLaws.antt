@@ -18,33 +18,120 @@ AreAlike said other = (cause_in said ≡ cause_in other) × (body_follows said �
 IsAlike : Line → Type 0
 IsAlike line = (words : List (List ℕ)) (text other : List ℕ) → AreAlike (line.says words text) (line.says words other)
 
-alike : {X : Type 0} (make also : X → Change) (said : Said X) → ((x : X) → takes_body (commands.Change (make x)) ≡ takes_body (commands.Change (also x)))
+alike : {X : Type 0} (make also : X → Change) (said : Said X) → ((x : X)
+    → takes_body (commands.Change (make x)) ≡ takes_body (commands.Change (also x)))
     → AreAlike (says commands.Change (says make said)) (says commands.Change (says also said))
 alike make also (Ok x) f = (refl, f x)
 alike make also (Err cause) f = (refl, refl)
 
 queries_alike : AllByRecursion IsAlike query_lines
 unfolding IsAlike
-queries_alike = ((λ ws t u. (refl, refl)), ((λ ws t u. (refl, refl)), ((λ ws t u. (refl, refl)), ((λ ws t u. (refl, refl)), ((λ ws t u. (refl, refl)), ((λ ws t u. (refl, refl)), ((λ ws t u. (refl, refl)), ((λ ws t u. (refl, refl)), ((λ ws t u. (refl, refl)), ((λ ws t u. (refl, refl)), ((λ ws t u. (refl, refl)), tt)))))))))))
+queries_alike = (
+  (λ ws t u. (refl, refl)),
+  (
+    (λ ws t u. (refl, refl)),
+    (
+      (λ ws t u. (refl, refl)),
+      (
+        (λ ws t u. (refl, refl)),
+        (
+          (λ ws t u. (refl, refl)),
+          (
+            (λ ws t u. (refl, refl)),
+            (
+              (λ ws t u. (refl, refl)),
+              (
+                (λ ws t u. (refl, refl)),
+                (
+                  (λ ws t u. (refl, refl)),
+                  ((λ ws t u. (refl, refl)), ((λ ws t u. (refl, refl)), tt)),
+                ),
+              ),
+            ),
+          ),
+        ),
+      ),
+    ),
+  ),
+)
 
 types_alike : AllByRecursion IsAlike types_on
 unfolding IsAlike
-types_alike = ((λ ws t u. (refl, refl)), ((λ ws t u. (refl, refl)), ((λ ws t u. (refl, refl)), ((λ ws t u. (refl, refl)), ((λ ws t u. (refl, refl)), ((λ ws t u. (refl, refl)), ((λ ws t u. (refl, refl)), ((λ ws t u. (refl, refl)), queries_alike))))))))
+types_alike = (
+  (λ ws t u. (refl, refl)),
+  (
+    (λ ws t u. (refl, refl)),
+    (
+      (λ ws t u. (refl, refl)),
+      (
+        (λ ws t u. (refl, refl)),
+        (
+          (λ ws t u. (refl, refl)),
+          (
+            (λ ws t u. (refl, refl)),
+            ((λ ws t u. (refl, refl)), ((λ ws t u. (refl, refl)), queries_alike)),
+          ),
+        ),
+      ),
+    ),
+  ),
+)
 
 table_alike : AllByRecursion IsAlike table
 unfolding IsAlike
-table_alike = ((λ ws t u. (refl, refl)), ((λ ws t u. (refl, refl)), ((λ ws t u. alike _ _ _ (λ x. refl)), ((λ ws t u. (refl, refl)), ((λ ws t u. (refl, refl)), ((λ ws t u. (refl, refl)), ((λ ws t u. (refl, refl)), ((λ ws t u. alike _ _ _ (λ x. refl)), ((λ ws t u. (refl, refl)), ((λ ws t u. (refl, refl)), ((λ ws t u. (refl, refl)), ((λ ws t u. (refl, refl)), ((λ ws t u. (refl, refl)), types_alike)))))))))))))
+table_alike = (
+  (λ ws t u. (refl, refl)),
+  (
+    (λ ws t u. (refl, refl)),
+    (
+      (λ ws t u. alike _ _ _ (λ x. refl)),
+      (
+        (λ ws t u. (refl, refl)),
+        (
+          (λ ws t u. (refl, refl)),
+          (
+            (λ ws t u. (refl, refl)),
+            (
+              (λ ws t u. (refl, refl)),
+              (
+                (λ ws t u. alike _ _ _ (λ x. refl)),
+                (
+                  (λ ws t u. (refl, refl)),
+                  (
+                    (λ ws t u. (refl, refl)),
+                    (
+                      (λ ws t u. (refl, refl)),
+                      (
+                        (λ ws t u. (refl, refl)),
+                        ((λ ws t u. (refl, refl)), types_alike),
+                      ),
+                    ),
+                  ),
+                ),
+              ),
+            ),
+          ),
+        ),
+      ),
+    ),
+  ),
+)
 
-in_table : (lines : List Line) (word : List ℕ) (words : List (List ℕ)) (text other : List ℕ) → AllByRecursion IsAlike lines → AreAlike (said_in lines word words text) (said_in lines word words other)
+in_table : (lines : List Line) (word : List ℕ) (words : List (List ℕ)) (text other : List ℕ) → AllByRecursion IsAlike lines
+    → AreAlike (said_in lines word words text) (said_in lines word words other)
 unfolding IsAlike
 in_table [] word words text other h = (refl, refl)
-in_table (line ∷ lines) word words text other h = by (bytes_eq word line.word) (h.0 words text other) (in_table lines word words text other h.1)
+in_table (line ∷ lines) word words text other h = by (bytes_eq word line.word) (h.0 words text other)
+    (in_table lines word words text other h.1)
   where
-    by : (same : Bool) → AreAlike (line.says words text) (line.says words other) → AreAlike (said_in lines word words text) (said_in lines word words other)
-        → AreAlike (cond same (line.says words text) (said_in lines word words text)) (cond same (line.says words other) (said_in lines word words other))
+    by : (same : Bool) → AreAlike (line.says words text) (line.says words other)
+        → AreAlike (said_in lines word words text) (said_in lines word words other)
+        → AreAlike (cond same (line.says words text) (said_in lines word words text))
+        (cond same (line.says words other) (said_in lines word words other))
     by true here later = here
     by false here later = later
 
 -- a line says a command whatever its body is
-pub commands_alike : (word : List ℕ) (words : List (List ℕ)) (text other : List ℕ) → AreAlike (command_of word words text) (command_of word words other)
+pub commands_alike : (word : List ℕ) (words : List (List ℕ)) (text other : List ℕ)
+    → AreAlike (command_of word words text) (command_of word words other)
 commands_alike word words text other = in_table table word words text other table_alike

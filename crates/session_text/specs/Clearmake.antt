@@ -1,12 +1,13 @@
 -- What the words of `clearmake V ..` say, in any order.
-use Rattle.std.specs.Prelude.{ℕ, ◌+◌, Bool, true, false, ◌||◌, ◌&&◌, ◌==◌, not, Option, Some, None, is_none, Ok, Err, List, [], ◌∷◌, ◌++◌, codes, take, drop, length, unwrap_or, if◌then◌else◌}
+use Rattle.std.specs.Prelude.{ℕ, ◌+◌, Bool, true, false, ◌||◌, ◌&&◌, ◌==◌, not, Option, Some, None, is_none, Ok, Err, List, []}
+use Rattle.std.specs.Prelude.{◌∷◌, ◌++◌, codes, take, drop, length, unwrap_or, if◌then◌else◌}
 use Rattle.std.specs.List.{list_all, position}
 use Rattle.std.specs.Str.{bytes_eq}
 use Rattle.cc_names.specs.declared.commands.Clearmake.{Clearmake}
 use Rattle.cc_names.specs.declared.commands.Macro.{Macro}
 use Rattle.cc_names.specs.declared.refusals.SessionCause.TheVariants.{BadWord}
 use Rattle.session_text.specs.Formed.{is_macro_byte, is_word_byte}
-use Rattle.session_text.specs.Shapes.{first_name, behind_first}
+use Rattle.session_text.specs.Shapes.{read_first_name, behind_first}
 use Rattle.session_text.specs.Words.{Said, path_word, jobs_word, both, says}
 
 -- a `=`
@@ -42,14 +43,15 @@ abbrev pub with_goal : Asked → List ℕ → Asked
 with_goal asked goal = record asked { goals = asked.goals ++ goal ∷ [] }
 
 -- with one macro more, where its name and its text are those of one
-abbrev pub with_definition : Asked → List ℕ → List ℕ → Said Asked
-with_definition asked name text =
-    if is_macro_name name && list_all is_word_byte text then Ok (record asked { macros = with_macro asked.macros name text }) else Err BadWord
+abbrev pub with_asked_macro : Asked → List ℕ → List ℕ → Said Asked
+with_asked_macro asked name text =
+    if is_macro_name name && list_all is_word_byte text then Ok (record asked { macros = with_macro asked.macros name text }) else
+    Err BadWord
 
 -- with what a word asks that is no flag and no option: NAME=TEXT where it has a `=`, else a goal
 abbrev pub with_word : Asked → List ℕ → Option ℕ → Said Asked
 with_word asked word None = says (with_goal asked) (path_word word)
-with_word asked word (Some place) = with_definition asked (take place word) (drop (place + 1) word)
+with_word asked word (Some place) = with_asked_macro asked (take place word) (drop (place + 1) word)
 
 -- with a flag, or with what else a word asks
 abbrev pub with_one : Asked → List ℕ → Said Asked
@@ -105,4 +107,4 @@ build_of view asked = record {
 -- `clearmake V ..`
 abbrev pub clearmake : List (List ℕ) → Said Clearmake
 clearmake words =
-    says (λ said. build_of said.0 said.1) (both (first_name words) (asked_by (behind_first words) nothing_asked))
+    says (λ said. build_of said.0 said.1) (both (read_first_name words) (asked_by (behind_first words) nothing_asked))

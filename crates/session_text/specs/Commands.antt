@@ -13,164 +13,167 @@ use Rattle.cc_names.specs.Answers.{Gives}
 use Rattle.cc_names.specs.declared.memory.Or.{Or}
 use Rattle.cc_names.specs.declared.refusals.SessionCause.{SessionCause}
 use Rattle.cc_names.specs.declared.refusals.SessionCause.TheVariants.{UnknownCommand, BadWord}
-use Rattle.session_text.specs.Words.{Said, where_so, name_word, age_word, version_word, cat_word, latest_word, both, says, and_says}
-use Rattle.session_text.specs.Shapes.{has_flag, without_flag, view, only_type, view_path, view_below, type_path, path_type, maybe_path, first_name, behind_first, flag_path, flag_below, fits_beside}
+use Rattle.session_text.specs.Words.{Said, where_so, name_word, age_word, version_word, cat_word, latest_word, both, says}
+use Rattle.session_text.specs.Words.{and_says}
+use Rattle.session_text.specs.Shapes.{has_flag, without_flag, view, only_type, view_path, view_below, type_path, path_type}
+use Rattle.session_text.specs.Shapes.{maybe_path, read_first_name, behind_first, flag_path, flag_below, fits_beside}
 use Rattle.session_text.specs.Clearmake.{clearmake}
 
--- `mkview V`
-abbrev pub mkview : List (List ℕ) → Said Change
-mkview words = says changes.Mkview (view words)
+-- `read_mkview V`
+abbrev pub read_mkview : List (List ℕ) → Said Change
+read_mkview words = says changes.Mkview (view words)
 
--- `rmview V`, `rmview -force V`
-abbrev pub rmview : List (List ℕ) → Said Change
-rmview words =
+-- `read_rmview V`, `read_rmview -force V`
+abbrev pub read_rmview : List (List ℕ) → Said Change
+read_rmview words =
     says (λ v. changes.Rmview v (has_flag (codes "-force") words)) (view (without_flag (codes "-force") words))
 
--- `setcs V`, with a body
-abbrev pub setcs : List (List ℕ) → List ℕ → Said Change
-setcs words text = says (λ v. changes.Setcs v text) (view words)
+-- `read_setcs V`, with a body
+abbrev pub read_setcs : List (List ℕ) → List ℕ → Said Change
+read_setcs words text = says (λ v. changes.Setcs v text) (view words)
 
--- `mkelem V [-nco] P`
-abbrev pub mkelem : List (List ℕ) → Said Change
-mkelem words = says (λ at. changes.Mkelem at.0 at.1 at.2) (flag_below (codes "-nco") words)
+-- `read_mkelem V [-nco] P`
+abbrev pub read_mkelem : List (List ℕ) → Said Change
+read_mkelem words = says (λ at. changes.Mkelem at.0 at.1 at.2) (flag_below (codes "-nco") words)
 
--- `mkdir V [-nco] P`
-abbrev pub mkdir : List (List ℕ) → Said Change
-mkdir words = says (λ at. changes.Mkdir at.0 at.1 at.2) (flag_below (codes "-nco") words)
+-- `read_mkdir V [-nco] P`
+abbrev pub read_mkdir : List (List ℕ) → Said Change
+read_mkdir words = says (λ at. changes.Mkdir at.0 at.1 at.2) (flag_below (codes "-nco") words)
 
--- `checkout V [-unreserved] P`
-abbrev pub checkout : List (List ℕ) → Said Change
-checkout words = says (λ at. changes.Checkout at.0 at.1 at.2) (flag_path (codes "-unreserved") words)
+-- `read_checkout V [-unreserved] P`
+abbrev pub read_checkout : List (List ℕ) → Said Change
+read_checkout words = says (λ at. changes.Checkout at.0 at.1 at.2) (flag_path (codes "-unreserved") words)
 
--- `mkbranch V [-nco] B P`
-abbrev pub mkbranch : List (List ℕ) → Said Change
-mkbranch words =
+-- `read_mkbranch V [-nco] B P`
+abbrev pub read_mkbranch : List (List ℕ) → Said Change
+read_mkbranch words =
     says (λ at. changes.Mkbranch at.0 (has_flag (codes "-nco") (behind_first words)) at.1.0 at.1.1)
-    (both (first_name words) (type_path (without_flag (codes "-nco") (behind_first words))))
+    (both (read_first_name words) (type_path (without_flag (codes "-nco") (behind_first words))))
 
--- `save V P`, with a body
-abbrev pub save : List (List ℕ) → List ℕ → Said Change
-save words text = says (λ at. changes.Save at.0 at.1 text) (view_below words)
+-- `read_save V P`, with a body
+abbrev pub read_save : List (List ℕ) → List ℕ → Said Change
+read_save words text = says (λ at. changes.Save at.0 at.1 text) (view_below words)
 
--- `rm V P`
-abbrev pub rm : List (List ℕ) → Said Change
-rm words = says (λ at. changes.Rm at.0 at.1) (view_below words)
+-- `read_rm V P`
+abbrev pub read_rm : List (List ℕ) → Said Change
+read_rm words = says (λ at. changes.Rm at.0 at.1) (view_below words)
 
--- `checkin V [-identical] P`
-abbrev pub checkin : List (List ℕ) → Said Change
-checkin words = says (λ at. changes.Checkin at.0 at.1 at.2) (flag_path (codes "-identical") words)
+-- `read_checkin V [-identical] P`
+abbrev pub read_checkin : List (List ℕ) → Said Change
+read_checkin words = says (λ at. changes.Checkin at.0 at.1 at.2) (flag_path (codes "-identical") words)
 
--- `uncheckout V P`
-abbrev pub uncheckout : List (List ℕ) → Said Change
-uncheckout words = says (λ at. changes.Uncheckout at.0 at.1) (view_path words)
+-- `read_uncheckout V P`
+abbrev pub read_uncheckout : List (List ℕ) → Said Change
+read_uncheckout words = says (λ at. changes.Uncheckout at.0 at.1) (view_path words)
 
--- `rmname V P`
-abbrev pub rmname : List (List ℕ) → Said Change
-rmname words = says (λ at. changes.Rmname at.0 at.1) (view_below words)
+-- `read_rmname V P`
+abbrev pub read_rmname : List (List ℕ) → Said Change
+read_rmname words = says (λ at. changes.Rmname at.0 at.1) (view_below words)
 
 -- a move, where the new name makes a path
 abbrev pub moves : (List ℕ × List ℕ) × List ℕ → Said Change
 moves at = where_so (fits_beside at.0.1 at.1) (Ok (changes.Mv at.0.0 at.0.1 at.1))
 
--- `mv V P NAME`, where NAME beside P makes a path
-abbrev pub mv : List (List ℕ) → Said Change
-mv (v ∷ p ∷ name ∷ []) = and_says moves (both (view_below (v ∷ p ∷ [])) (name_word name))
-mv _ = Err BadWord
+-- `read_mv V P NAME`, where NAME beside P makes a path
+abbrev pub read_mv : List (List ℕ) → Said Change
+read_mv (v ∷ p ∷ name ∷ []) = and_says moves (both (view_below (v ∷ p ∷ [])) (name_word name))
+read_mv _ = Err BadWord
 
--- `mklbtype L`
-abbrev pub mklbtype : List (List ℕ) → Said Change
-mklbtype words = says changes.Mklbtype (only_type words)
+-- `read_mklbtype L`
+abbrev pub read_mklbtype : List (List ℕ) → Said Change
+read_mklbtype words = says changes.Mklbtype (only_type words)
 
--- `mkbrtype B`
-abbrev pub mkbrtype : List (List ℕ) → Said Change
-mkbrtype words = says changes.Mkbrtype (only_type words)
+-- `read_mkbrtype B`
+abbrev pub read_mkbrtype : List (List ℕ) → Said Change
+read_mkbrtype words = says changes.Mkbrtype (only_type words)
 
--- `mklabel V [-replace] -config P L`, by the words behind `-config`
+-- `read_mklabel V [-replace] -config P L`, by the words behind `-config`
 abbrev pub by_record : List ℕ → Bool → List (List ℕ) → Said Change
 by_record v replace words = says (λ at. changes.MklabelConfig v replace at.0 at.1) (path_type words)
 
--- `mklabel V [-replace] L P`, and with `-config`, by the words behind the flag
-abbrev pub labels : Bool → List (List ℕ) → List ℕ → Said Change
-labels replace words v =
+-- `read_mklabel V [-replace] L P`, and with `-config`, by the words behind the flag
+abbrev pub read_labels : Bool → List (List ℕ) → List ℕ → Said Change
+read_labels replace words v =
     if has_flag (codes "-config") words then by_record v replace (without_flag (codes "-config") words)
     else says (λ at. changes.Mklabel v replace at.0 at.1) (type_path words)
 
--- `mklabel V [-replace] L P`, `mklabel V [-replace] -config P L`
-abbrev pub mklabel : List (List ℕ) → Said Change
-mklabel words =
-    and_says (labels (has_flag (codes "-replace") (behind_first words)) (without_flag (codes "-replace") (behind_first words)))
-    (first_name words)
+-- `read_mklabel V [-replace] L P`, `read_mklabel V [-replace] -config P L`
+abbrev pub read_mklabel : List (List ℕ) → Said Change
+read_mklabel words =
+    and_says (read_labels (has_flag (codes "-replace") (behind_first words))
+    (without_flag (codes "-replace") (behind_first words)))
+    (read_first_name words)
 
--- `rmlabel V L P`
-abbrev pub rmlabel : List (List ℕ) → Said Change
-rmlabel words =
-    says (λ at. changes.Rmlabel at.0 at.1.0 at.1.1) (both (first_name words) (type_path (behind_first words)))
+-- `read_rmlabel V L P`
+abbrev pub read_rmlabel : List (List ℕ) → Said Change
+read_rmlabel words =
+    says (λ at. changes.Rmlabel at.0 at.1.0 at.1.1) (both (read_first_name words) (type_path (behind_first words)))
 
--- `mkarrow V P VERSION`
-abbrev pub mkarrow : List (List ℕ) → Said Change
-mkarrow (v ∷ p ∷ version ∷ []) =
+-- `read_mkarrow V P VERSION`
+abbrev pub read_mkarrow : List (List ℕ) → Said Change
+read_mkarrow (v ∷ p ∷ version ∷ []) =
     says (λ at. changes.Mkarrow at.0.0 at.0.1 at.1) (both (view_below (v ∷ p ∷ [])) (version_word version))
-mkarrow _ = Err BadWord
+read_mkarrow _ = Err BadWord
 
--- `rmdo V P`
-abbrev pub rmdo : List (List ℕ) → Said Change
-rmdo words = says (λ at. changes.Rmdo at.0 at.1) (view_below words)
+-- `read_rmdo V P`
+abbrev pub read_rmdo : List (List ℕ) → Said Change
+read_rmdo words = says (λ at. changes.Rmdo at.0 at.1) (view_below words)
 
--- `scrub AGE`
-abbrev pub scrub : List (List ℕ) → Said Change
-scrub (age ∷ []) = says changes.Scrub (age_word age)
-scrub _ = Err BadWord
+-- `read_scrub AGE`
+abbrev pub read_scrub : List (List ℕ) → Said Change
+read_scrub (age ∷ []) = says changes.Scrub (age_word age)
+read_scrub _ = Err BadWord
 
--- `catcs V`
-abbrev pub catcs : List (List ℕ) → Said Query
-catcs words = says queries.Catcs (view words)
+-- `read_catcs V`
+abbrev pub read_catcs : List (List ℕ) → Said Query
+read_catcs words = says queries.Catcs (view words)
 
--- `lsdo V`
-abbrev pub lsdo : List (List ℕ) → Said Query
-lsdo words = says queries.Lsdo (view words)
+-- `read_lsdo V`
+abbrev pub read_lsdo : List (List ℕ) → Said Query
+read_lsdo words = says queries.Lsdo (view words)
 
--- `ls V`, `ls V P`
-abbrev pub ls : List (List ℕ) → Said Query
-ls words = says (λ at. queries.Ls at.0 at.1) (both (first_name words) (maybe_path (behind_first words)))
+-- `read_ls V`, `read_ls V P`
+abbrev pub read_ls : List (List ℕ) → Said Query
+read_ls words = says (λ at. queries.Ls at.0 at.1) (both (read_first_name words) (maybe_path (behind_first words)))
 
--- `cat V P`, `cat V P@@VERSION`
-abbrev pub cat : List (List ℕ) → Said Query
-cat (v ∷ p ∷ []) = says (λ at. queries.Cat at.0 at.1.0 at.1.1) (both (name_word v) (cat_word p))
-cat _ = Err BadWord
+-- `read_cat V P`, `read_cat V P@@VERSION`
+abbrev pub read_cat : List (List ℕ) → Said Query
+read_cat (v ∷ p ∷ []) = says (λ at. queries.Cat at.0 at.1.0 at.1.1) (both (name_word v) (cat_word p))
+read_cat _ = Err BadWord
 
--- `describe V P`
-abbrev pub describe : List (List ℕ) → Said Query
-describe words = says (λ at. queries.Describe at.0 at.1) (view_path words)
+-- `read_describe V P`
+abbrev pub read_describe : List (List ℕ) → Said Query
+read_describe words = says (λ at. queries.Describe at.0 at.1) (view_path words)
 
--- `lsvtree V P`
-abbrev pub lsvtree : List (List ℕ) → Said Query
-lsvtree words = says (λ at. queries.Lsvtree at.0 at.1) (view_path words)
+-- `read_lsvtree V P`
+abbrev pub read_lsvtree : List (List ℕ) → Said Query
+read_lsvtree words = says (λ at. queries.Lsvtree at.0 at.1) (view_path words)
 
--- `lshistory V P`
-abbrev pub lshistory : List (List ℕ) → Said Query
-lshistory words = says (λ at. queries.Lshistory at.0 at.1) (view_path words)
+-- `read_lshistory V P`
+abbrev pub read_lshistory : List (List ℕ) → Said Query
+read_lshistory words = says (λ at. queries.Lshistory at.0 at.1) (view_path words)
 
--- `catcr V P`
-abbrev pub catcr : List (List ℕ) → Said Query
-catcr words = says (λ at. queries.Catcr at.0 at.1) (view_below words)
+-- `read_catcr V P`
+abbrev pub read_catcr : List (List ℕ) → Said Query
+read_catcr words = says (λ at. queries.Catcr at.0 at.1) (view_below words)
 
--- `diffcr V P W Q`
-abbrev pub diffcr : List (List ℕ) → Said Query
-diffcr (v ∷ p ∷ words) =
+-- `read_diffcr V P W Q`
+abbrev pub read_diffcr : List (List ℕ) → Said Query
+read_diffcr (v ∷ p ∷ words) =
     says (λ at. queries.Diffcr at.0.0 at.0.1 at.1.0 at.1.1) (both (view_below (v ∷ p ∷ [])) (view_below words))
-diffcr _ = Err BadWord
+read_diffcr _ = Err BadWord
 
--- `covers W V P`
-abbrev pub covers : List (List ℕ) → Said Query
-covers words =
-    says (λ at. queries.Covers at.0 at.1.0 at.1.1) (both (first_name words) (view_path (behind_first words)))
+-- `read_covers W V P`
+abbrev pub read_covers : List (List ℕ) → Said Query
+read_covers words =
+    says (λ at. queries.Covers at.0 at.1.0 at.1.1) (both (read_first_name words) (view_path (behind_first words)))
 
--- `findmerge V P -fversion .../B/LATEST`
-abbrev pub findmerge : List (List ℕ) → Said Query
-findmerge (v ∷ p ∷ flag ∷ latest ∷ []) =
+-- `read_findmerge V P -fversion .../B/LATEST`
+abbrev pub read_findmerge : List (List ℕ) → Said Query
+read_findmerge (v ∷ p ∷ flag ∷ latest ∷ []) =
     where_so (bytes_eq flag (codes "-fversion"))
     (says (λ at. queries.Findmerge at.0.0 at.0.1 at.1) (both (view_path (v ∷ p ∷ [])) (latest_word latest)))
-findmerge _ = Err BadWord
+read_findmerge _ = Err BadWord
 
 -- what a reader of one kind of command answered is answered as a command, whatever was read
 abbrev pub GivesAs : {X : Type 0} → (X → Command) → Result X (Or SessionCause) → Result Command (Or SessionCause) → Type 0
@@ -200,48 +203,48 @@ build word said = record { word = word; says = λ words text. says commands.Buil
 -- the queries
 abbrev pub query_lines : List Line
 query_lines =
-    query (codes "catcs") catcs
-    ∷ query (codes "lsdo") lsdo
-    ∷ query (codes "ls") ls
-    ∷ query (codes "cat") cat
-    ∷ query (codes "describe") describe
-    ∷ query (codes "lsvtree") lsvtree
-    ∷ query (codes "lshistory") lshistory
-    ∷ query (codes "catcr") catcr
-    ∷ query (codes "diffcr") diffcr
-    ∷ query (codes "covers") covers
-    ∷ query (codes "findmerge") findmerge
+    query (codes "catcs") read_catcs
+    ∷ query (codes "lsdo") read_lsdo
+    ∷ query (codes "ls") read_ls
+    ∷ query (codes "cat") read_cat
+    ∷ query (codes "describe") read_describe
+    ∷ query (codes "lsvtree") read_lsvtree
+    ∷ query (codes "lshistory") read_lshistory
+    ∷ query (codes "catcr") read_catcr
+    ∷ query (codes "diffcr") read_diffcr
+    ∷ query (codes "covers") read_covers
+    ∷ query (codes "findmerge") read_findmerge
     ∷ []
 
 -- the changes of types, labels, arrows and objects, the build, and the queries
 abbrev pub types_on : List Line
 types_on =
-    change (codes "mklbtype") mklbtype
-    ∷ change (codes "mkbrtype") mkbrtype
-    ∷ change (codes "mklabel") mklabel
-    ∷ change (codes "rmlabel") rmlabel
-    ∷ change (codes "mkarrow") mkarrow
-    ∷ change (codes "rmdo") rmdo
-    ∷ change (codes "scrub") scrub
+    change (codes "mklbtype") read_mklbtype
+    ∷ change (codes "mkbrtype") read_mkbrtype
+    ∷ change (codes "mklabel") read_mklabel
+    ∷ change (codes "rmlabel") read_rmlabel
+    ∷ change (codes "mkarrow") read_mkarrow
+    ∷ change (codes "rmdo") read_rmdo
+    ∷ change (codes "scrub") read_scrub
     ∷ build (codes "clearmake") clearmake
     ∷ query_lines
 
 -- the commands: the changes of views and elements, and all others
 abbrev pub table : List Line
 table =
-    change (codes "mkview") mkview
-    ∷ change (codes "rmview") rmview
-    ∷ change_with_body (codes "setcs") setcs
-    ∷ change (codes "mkelem") mkelem
-    ∷ change (codes "mkdir") mkdir
-    ∷ change (codes "checkout") checkout
-    ∷ change (codes "mkbranch") mkbranch
-    ∷ change_with_body (codes "save") save
-    ∷ change (codes "rm") rm
-    ∷ change (codes "checkin") checkin
-    ∷ change (codes "uncheckout") uncheckout
-    ∷ change (codes "rmname") rmname
-    ∷ change (codes "mv") mv
+    change (codes "mkview") read_mkview
+    ∷ change (codes "rmview") read_rmview
+    ∷ change_with_body (codes "setcs") read_setcs
+    ∷ change (codes "mkelem") read_mkelem
+    ∷ change (codes "mkdir") read_mkdir
+    ∷ change (codes "checkout") read_checkout
+    ∷ change (codes "mkbranch") read_mkbranch
+    ∷ change_with_body (codes "save") read_save
+    ∷ change (codes "rm") read_rm
+    ∷ change (codes "checkin") read_checkin
+    ∷ change (codes "uncheckout") read_uncheckout
+    ∷ change (codes "rmname") read_rmname
+    ∷ change (codes "mv") read_mv
     ∷ types_on
 
 -- what the line of this word says, of these lines

@@ -1,5 +1,6 @@
 -- The form of a session: what its names, paths, numbers and lists keep. What is read has it.
-use Rattle.std.specs.Prelude.{◌≡◌, ◌≢◌, ℕ, ◌<◌, ◌≤◌, ◌^◌, ◌||◌, ◌&&◌, ◌==◌, nat_le, Bool, true, List, [], map, length, IfSome, IsOk}
+use Rattle.std.specs.Prelude.{◌≡◌, ◌≢◌, ℕ, ◌<◌, ◌≤◌, ◌^◌, ◌||◌, ◌&&◌, ◌==◌, nat_le, Bool, true, List, [], map, length, IfSome}
+use Rattle.std.specs.Prelude.{IsOk}
 use Rattle.std.specs.List.{AllByRecursion, IsDistinct, list_all}
 use Rattle.std.specs.Str.{bytes_eq}
 use Rattle.cc_names.specs.Names.{IsName}
@@ -42,12 +43,12 @@ abbrev pub macro_name : Macro → List ℕ
 macro_name macro = macro.name
 
 -- a list with no more members than the limit, each of which is so
-abbrev pub AreAtMost : {A : Type 0} → ℕ → (A → Type 0) → List A → Type 0
-AreAtMost limit P xs = (length xs ≤ limit) × AllByRecursion P xs
+abbrev pub HasAtMost : {A : Type 0} → ℕ → (A → Type 0) → List A → Type 0
+HasAtMost limit P xs = (length xs ≤ limit) × AllByRecursion P xs
 
 -- the macros of a command line, each name once
 abbrev pub AreMacros : ℕ → List Macro → Type 0
-AreMacros limit macros = AreAtMost limit (IsMacro limit) macros × IsDistinct bytes_eq (map macro_name macros)
+AreMacros limit macros = HasAtMost limit (IsMacro limit) macros × IsDistinct bytes_eq (map macro_name macros)
 
 -- in this directory a name makes a path
 abbrev pub MakesPath : List ℕ → List ℕ → Type 0
@@ -99,7 +100,7 @@ IsQuery (queries.Findmerge view path branch) = IsName view × IsPath path × IsT
 abbrev pub IsClearmake : ℕ → Clearmake → Type 0
 IsClearmake limit asked =
     IsName asked.view × IfSome asked.file IsPath × (1 ≤ asked.jobs) × (asked.jobs ≤ 64) × AreMacros limit asked.macros
-    × AreAtMost limit IsPath asked.goals
+    × HasAtMost limit IsPath asked.goals
 
 -- The form of a command, with a limit on the bytes of its texts and the members of its lists.
 abbrev pub IsCommand : ℕ → Command → Type 0
@@ -109,12 +110,12 @@ IsCommand limit (commands.Build asked) = IsClearmake limit asked
 
 -- the form of a lane, whose commands are within the limit
 abbrev pub IsLane : ℕ → Lane → Type 0
-IsLane limit lane = IsName lane.name × AreAtMost limit (IsCommand limit) lane.commands
+IsLane limit lane = IsName lane.name × HasAtMost limit (IsCommand limit) lane.commands
 
 -- the form of a phase, which has at most 64 lanes
 abbrev pub IsPhase : ℕ → Phase → Type 0
-IsPhase limit phase = AreAtMost 64 (IsLane limit) phase.lanes
+IsPhase limit phase = HasAtMost 64 (IsLane limit) phase.lanes
 
 -- The form of a session, whose texts and lists are within the limit.
 abbrev pub IsFormedSession : ℕ → Session → Type 0
-IsFormedSession limit session = AreAtMost limit (IsPhase limit) session.phases
+IsFormedSession limit session = HasAtMost limit (IsPhase limit) session.phases

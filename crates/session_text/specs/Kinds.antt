@@ -14,13 +14,13 @@ kind_of_words (word ∷ words) =
     else Command word words
 
 -- the kind of a line: skipped where it is empty or begins with `#`, a body line behind `|`, and else words
-abbrev pub line_kind : List ℕ → Kind
-line_kind [] = Skipped
-line_kind (b ∷ bs) = if b == 35 then Skipped else if b == 124 then Body bs else kind_of_words (words_of (b ∷ bs))
+abbrev pub session_line_kind : List ℕ → Kind
+session_line_kind [] = Skipped
+session_line_kind (b ∷ bs) = if b == 35 then Skipped else if b == 124 then Body bs else kind_of_words (words_of (b ∷ bs))
 
 -- The lines of a text, each as its kind.
 abbrev pub kinds_of : List ℕ → List Kind
-kinds_of text = map line_kind (lines_of text)
+kinds_of text = map session_line_kind (lines_of text)
 
 -- the bytes that are left of a text, and how many lines stood before them
 pub record Rest : Type 0 where

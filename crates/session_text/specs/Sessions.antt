@@ -1,5 +1,6 @@
 -- What a session is, and why a text is none.
-use Rattle.std.specs.Prelude.{ℕ, ◌+◌, Bool, true, false, not, nat_le, Option, Some, None, Result, Ok, Err, List, [], ◌∷◌, ◌++◌, length, if◌then◌else◌}
+use Rattle.std.specs.Prelude.{ℕ, ◌+◌, Bool, true, false, not, nat_le, Option, Some, None, Result, Ok, Err, List, [], ◌∷◌, ◌++◌}
+use Rattle.std.specs.Prelude.{length, if◌then◌else◌}
 use Rattle.std.specs.List.{list_any}
 use Rattle.std.specs.Str.{bytes_eq}
 use Rattle.cc_names.specs.declared.commands.Command.{Command}
@@ -77,9 +78,9 @@ is_empty [] = true
 is_empty (x ∷ xs) = false
 
 -- one cause where the test holds, and else another, where there is one
-abbrev pub cause_or : Bool → SessionCause → Option SessionCause → Option SessionCause
-cause_or true cause later = Some cause
-cause_or false cause later = later
+abbrev pub cause_where_or : Bool → SessionCause → Option SessionCause → Option SessionCause
+cause_where_or true cause later = Some cause
+cause_where_or false cause later = later
 
 -- the cause for which words say nothing
 abbrev pub cause_in : {X : Type 0} → Said X → Option SessionCause
@@ -102,15 +103,15 @@ lane_of lanes words =
 abbrev pub cause_of : Above → Kind → List ℕ → Option SessionCause
 cause_of above kinds.Skipped text = None
 cause_of above (kinds.Body bytes) text =
-    cause_or (not above.in_phase) causes.NoPhase
-    (cause_or (is_empty above.lanes) causes.NoLane
-    (cause_or (not above.takes_body) causes.NoBody None))
-cause_of above (kinds.Phase words) text = cause_or (not (is_empty words)) causes.BadWord None
+    cause_where_or (not above.in_phase) causes.NoPhase
+    (cause_where_or (is_empty above.lanes) causes.NoLane
+    (cause_where_or (not above.takes_body) causes.NoBody None))
+cause_of above (kinds.Phase words) text = cause_where_or (not (is_empty words)) causes.BadWord None
 cause_of above (kinds.Lane words) text =
-    cause_or (not above.in_phase) causes.NoPhase (cause_in (lane_of above.lanes words))
+    cause_where_or (not above.in_phase) causes.NoPhase (cause_in (lane_of above.lanes words))
 cause_of above (kinds.Command word words) text =
-    cause_or (not above.in_phase) causes.NoPhase
-    (cause_or (is_empty above.lanes) causes.NoLane (cause_in (command_of word words text)))
+    cause_where_or (not above.in_phase) causes.NoPhase
+    (cause_where_or (is_empty above.lanes) causes.NoLane (cause_in (command_of word words text)))
 
 -- the lanes with one more, where a line names one
 abbrev pub with_lane : List (List ℕ) → Said (List ℕ) → List (List ℕ)
@@ -149,11 +150,11 @@ abbrev pub error_in : List Kind → Option SessionError
 error_in lines = first_error 0 nothing lines
 
 -- what was read, unless something is wrong
-abbrev pub unless_wrong : Option SessionError → Session → Result Session SessionError
-unless_wrong None session = Ok session
-unless_wrong (Some error) session = Err error
+abbrev pub unless_wrong_line : Option SessionError → Session → Result Session SessionError
+unless_wrong_line None session = Ok session
+unless_wrong_line (Some error) session = Err error
 
 -- A text read as a session: each line `phase` with the lanes behind it, each line `lane` with the commands behind it,
 -- each command with the body lines behind it; or the line that is wrong, counted from 1, with its cause.
 abbrev pub session_of : List ℕ → Result Session SessionError
-session_of text = unless_wrong (error_in (kinds_of text)) (record { phases = phases_of (kinds_of text) })
+session_of text = unless_wrong_line (error_in (kinds_of text)) (record { phases = phases_of (kinds_of text) })

@@ -18,9 +18,9 @@ without_flag flag [] = []
 without_flag flag (word ∷ words) = if bytes_eq word flag then words else word ∷ words
 
 -- the first word as a name
-abbrev pub first_name : List (List ℕ) → Said (List ℕ)
-first_name [] = Err BadWord
-first_name (word ∷ words) = name_word word
+abbrev pub read_first_name : List (List ℕ) → Said (List ℕ)
+read_first_name [] = Err BadWord
+read_first_name (word ∷ words) = name_word word
 
 -- the words behind the first
 abbrev pub behind_first : List (List ℕ) → List (List ℕ)

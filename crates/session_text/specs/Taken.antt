@@ -1,4 +1,4 @@
--- What a call takes in that reads words.
+-- What a call adds that reads words.
 use Rattle.std.specs.Prelude.{◌≡◌, Result, Ok, Err}
 use Rattle.cc_names.specs.declared.memory.Or.{Or}
 use Rattle.cc_names.specs.declared.memory.Or.TheVariants.{NoMemory, Is}
@@ -6,11 +6,11 @@ use Rattle.cc_names.specs.declared.refusals.SessionCause.{SessionCause}
 use Rattle.session_text.specs.Words.{Said}
 
 -- unless memory ran out, the fault is the one that was said
-abbrev pub FaultIs : {X : Type 0} → Or SessionCause → Said X → Type 0
-FaultIs NoMemory said = Unit {0}
-FaultIs (Is cause) said = said ≡ Err cause
+abbrev pub SaidFaultIs : {X : Type 0} → Or SessionCause → Said X → Type 0
+SaidFaultIs NoMemory said = Unit {0}
+SaidFaultIs (Is cause) said = said ≡ Err cause
 
 -- unless memory ran out, a call took in what words said
 abbrev pub Takes : {X : Type 0} → Result (Unit {0}) (Or SessionCause) → Said X → X → Type 0
 Takes (Ok _) said new = said ≡ Ok new
-Takes (Err fault) said new = FaultIs fault said
+Takes (Err fault) said new = SaidFaultIs fault said

@@ -1,5 +1,6 @@
 -- What single words say.
-use Rattle.std.specs.Prelude.{ℕ, ◌-◌, Bool, true, false, ◌&&◌, nat_le, Option, Some, None, Result, Ok, Err, List, [], ◌∷◌, ◌++◌, codes, take, drop, length, if◌then◌else◌}
+use Rattle.std.specs.Prelude.{ℕ, ◌-◌, Bool, true, false, ◌&&◌, nat_le, Option, Some, None, Result, Ok, Err, List, [], ◌∷◌, ◌++◌}
+use Rattle.std.specs.Prelude.{codes, take, drop, length, if◌then◌else◌}
 use Rattle.std.specs.List.{position, slice_split}
 use Rattle.std.specs.Result.{result_ok}
 use Rattle.std.specs.Str.{bytes_eq}
@@ -42,17 +43,17 @@ abbrev pub type_word : List ℕ → Said (List ℕ)
 type_word word = or_bad (type_name_of word)
 
 -- a number, where it is within limits
-abbrev pub within : ℕ → ℕ → Option ℕ → Said ℕ
-within least most (Some n) = if nat_le least n && nat_le n most then Ok n else Err BadWord
-within least most None = Err BadWord
+abbrev pub within_limits : ℕ → ℕ → Option ℕ → Said ℕ
+within_limits least most (Some n) = if nat_le least n && nat_le n most then Ok n else Err BadWord
+within_limits least most None = Err BadWord
 
 -- an age in seconds, at most 2^63 - 1
 abbrev pub age_word : List ℕ → Said ℕ
-age_word word = within 0 9223372036854775807 (number_of word)
+age_word word = within_limits 0 9223372036854775807 (number_of word)
 
 -- a number of jobs, 1 to 64
 abbrev pub jobs_word : List ℕ → Said ℕ
-jobs_word word = within 1 64 (number_of word)
+jobs_word word = within_limits 1 64 (number_of word)
 
 -- a version of these branches behind `main`, where there is a number
 abbrev pub version_of_parts : List (List ℕ) → Option ℕ → Said VersionName
@@ -64,16 +65,17 @@ abbrev pub with_branch : (List (List ℕ) → Said VersionName) → List (List �
 with_branch more branches (Ok branch) = more (branches ++ branch ∷ [])
 with_branch more branches (Err cause) = Err cause
 
--- what stands behind `/main/`: the names of branch types, and then a number. `branches` are those that stand before
-abbrev pub behind_main : List (List ℕ) → List (List ℕ) → Said VersionName
-behind_main [] branches = Err BadWord
-behind_main (number ∷ []) branches = version_of_parts branches (number_of number)
-behind_main (branch ∷ next ∷ parts) branches = with_branch (behind_main (next ∷ parts)) branches (type_word branch)
+-- what follows `/main/`: the names of branch types, and then a number. `branches` are those that stand before
+abbrev pub version_behind_main : List (List ℕ) → List (List ℕ) → Said VersionName
+version_behind_main [] branches = Err BadWord
+version_behind_main (number ∷ []) branches = version_of_parts branches (number_of number)
+version_behind_main (branch ∷ next ∷ parts) branches = with_branch (version_behind_main (next ∷ parts)) branches
+    (type_word branch)
 
 -- a version by its name, as `/main/fix/3`
 abbrev pub version_word : List ℕ → Said VersionName
 version_word word =
-    where_so (bytes_eq (take 6 word) (codes "/main/")) (behind_main (slice_split is_slash (drop 6 word)) [])
+    where_so (bytes_eq (take 6 word) (codes "/main/")) (version_behind_main (slice_split is_slash (drop 6 word)) [])
 
 -- two readings, where both gave something
 abbrev pub both : {X Y : Type 0} → Said X → Said Y → Said (X × Y)

@@ -4,9 +4,9 @@ ghost use Rattle.std.specs.Prelude.{◌≡◌, ◌<◌, [], OnOk, IfSome, IfOk, 
 ghost use Rattle.std.specs.List.{list_all, position};
 ghost use Rattle.cc_names.specs.Answers.{Gives};
 ghost use Rattle.session_text.specs.Formed.{is_macro_byte, is_word_byte};
-ghost use Rattle.session_text.specs.Clearmake.{is_equals, is_macro_name, with_macro, nothing_asked, with_goal, with_definition, with_word, with_one, with_jobs, with_file, is_option, with_option, asked_by, build_of, clearmake};
+ghost use Rattle.session_text.specs.Clearmake.{is_equals, is_macro_name, with_macro, nothing_asked, with_goal, with_asked_macro, with_word, with_one, with_jobs, with_file, is_option, with_option, asked_by, build_of, clearmake};
 
-use crate::shapes::first_name;
+use crate::shapes::read_first_name;
 use crate::words::{jobs_word, path_word};
 use cc_names::commands::{Clearmake, Macro};
 use cc_names::cuts::Words;
@@ -149,7 +149,7 @@ impl Asked {
     }
 
     fn define(&mut self, alloc: Global, name: &[u8], text: &[u8]) -> Result<(), Or<SessionCause>>
-        ensures { Takes result (with_definition self.old name.now text.now) self.new }
+        ensures { Takes result (with_asked_macro self.old name.now text.now) self.new }
     {
         if !is_macro_name(name) || !is_macro_text(text) {
             return Err(Or::Is(SessionCause::BadWord));
@@ -283,7 +283,7 @@ pub(crate) fn clearmake(
 ) -> Result<Clearmake, Or<SessionCause>>
     ensures { Gives result (clearmake words.entry) }
 {
-    let view = first_name(alloc, &mut words)?;
+    let view = read_first_name(alloc, &mut words)?;
     let asked = asked_by(alloc, hashing, words)?;
     Ok(asked.build_of(alloc, view)?)
 }

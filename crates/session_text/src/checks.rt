@@ -6,7 +6,7 @@ ghost use Rattle.std.specs.Str.{bytes_eq};
 ghost use Rattle.cc_names.specs.Answers.{Gives};
 ghost use Rattle.session_text.specs.Commands.{command_of};
 ghost use Rattle.session_text.specs.Kinds.{kinds_of};
-ghost use Rattle.session_text.specs.Reading.{IsWrong, fault_at};
+ghost use Rattle.session_text.specs.Reading.{IsWrong, fault_of_line};
 ghost use Rattle.session_text.specs.Sessions.{error_in, is_empty, is_taken, lane_of};
 
 use crate::commands::{command_of, let_go, takes_body};
@@ -35,8 +35,8 @@ fn error_at(number: u32, cause: SessionCause) -> SessionError
 }
 
 /// A fault of the line with this number.
-fn fault_at(number: u32, fault: Or<SessionCause>) -> Or<SessionError>
-    ensures { result ≡ fault_at number fault }
+fn fault_of_line(number: u32, fault: Or<SessionCause>) -> Or<SessionError>
+    ensures { result ≡ fault_of_line number fault }
 {
     match fault {
         Or::NoMemory => Or::NoMemory,
@@ -118,7 +118,7 @@ impl Model for Above {
 impl Above {
     ghost use Rattle.std.specs.Prelude.{◌≡◌};
     ghost use Rattle.session_text.specs.declared.kinds.Kind.TheVariants as kinds;
-    ghost use Rattle.session_text.specs.Reading.{Stands};
+    ghost use Rattle.session_text.specs.Reading.{StandsRight};
     ghost use Rattle.session_text.specs.Sessions.{nothing};
 
     fn nothing(alloc: Global) -> Above
@@ -132,7 +132,7 @@ impl Above {
     }
 
     fn take_body(&mut self) -> Result<(), Or<SessionCause>>
-        ensures { Stands result self.old (kinds.Body []) [] self.new }
+        ensures { StandsRight result self.old (kinds.Body []) [] self.new }
     {
         if !self.in_phase {
             return Err(Or::Is(SessionCause::NoPhase));
@@ -147,7 +147,7 @@ impl Above {
     }
 
     fn take_phase(&mut self, mut words: Words<'_>) -> Result<(), Or<SessionCause>>
-        ensures { Stands result self.old (kinds.Phase words.entry) [] self.new }
+        ensures { StandsRight result self.old (kinds.Phase words.entry) [] self.new }
     {
         if words.next().is_some() {
             return Err(Or::Is(SessionCause::BadWord));
@@ -159,7 +159,7 @@ impl Above {
     }
 
     fn take_lane(&mut self, alloc: Global, words: Words<'_>) -> Result<(), Or<SessionCause>>
-        ensures { Stands result self.old (kinds.Lane words.entry) [] self.new }
+        ensures { StandsRight result self.old (kinds.Lane words.entry) [] self.new }
     {
         if !self.in_phase {
             return Err(Or::Is(SessionCause::NoPhase));
@@ -178,7 +178,7 @@ impl Above {
         word: &Bytes<'_>,
         words: Words<'_>,
     ) -> Result<(), Or<SessionCause>>
-        ensures { Stands result self.old (kinds.Command word.now words.entry) [] self.new }
+        ensures { StandsRight result self.old (kinds.Command word.now words.entry) [] self.new }
     {
         if !self.in_phase {
             return Err(Or::Is(SessionCause::NoPhase));
@@ -203,7 +203,7 @@ impl Above {
         hashing: RandomState,
         kind: Kind<'_>,
     ) -> Result<(), Or<SessionCause>>
-        ensures { Stands result self.old kind.entry [] self.new }
+        ensures { StandsRight result self.old kind.entry [] self.new }
     {
         match kind {
             Kind::Skipped => Ok(()),
@@ -217,7 +217,7 @@ impl Above {
 
 /// Finds the first line of a text that stands wrong. Takes time linear in the text, and for each lane in those of its phase above
 /// it; and memory for one command line.
-pub(crate) fn check(
+pub(crate) fn check_lines(
     alloc: Global,
     hashing: RandomState,
     text: &[u8],
@@ -231,7 +231,7 @@ pub(crate) fn check(
     'lines: while let Some(kind) = rest.next() {
         match above.take(alloc, hashing, kind) {
             Ok(()) => {}
-            Err(fault) => return Err(fault_at(rest.number(), fault)),
+            Err(fault) => return Err(fault_of_line(rest.number(), fault)),
         }
     }
     Ok(())

@@ -8,14 +8,14 @@ ghost use Rattle.cc_names.specs.declared.commands.Command.TheVariants as command
 ghost use Rattle.session_text.specs.Kinds.{kinds_of};
 ghost use Rattle.session_text.specs.Sessions.{body_of};
 ghost use Rattle.session_text.specs.Shapes.{fits_beside};
-ghost use Rattle.session_text.specs.Commands.{mkview, rmview, setcs, mkelem, mkdir, checkout, mkbranch, save, rm, checkin, uncheckout, rmname, mv, mklbtype, mkbrtype, mklabel, rmlabel, rmdo, scrub, catcs, lsdo, ls, cat, describe, lsvtree, lshistory, catcr, diffcr, covers, mkarrow, findmerge, by_record, labels, query_lines, types_on, GivesAs, said_in, command_of, takes_body};
+ghost use Rattle.session_text.specs.Commands.{read_mkview, read_rmview, read_setcs, read_mkelem, read_mkdir, read_checkout, read_mkbranch, read_save, read_rm, read_checkin, read_uncheckout, read_rmname, read_mv, read_mklbtype, read_mkbrtype, read_mklabel, read_rmlabel, read_rmdo, read_scrub, read_catcs, read_lsdo, read_ls, read_cat, read_describe, read_lsvtree, read_lshistory, read_catcr, read_diffcr, read_covers, read_mkarrow, read_findmerge, by_record, read_labels, query_lines, types_on, GivesAs, said_in, command_of, takes_body};
 
 use crate::bodies::body_of;
 use crate::builds::clearmake;
 use crate::kinds::Rest;
 use crate::shapes::{
-    first_name, flag_below, flag_path, maybe_path, named_below, named_path, only_type, path_type,
-    take_flag, type_path, view, view_below, view_path,
+    flag_below, flag_path, maybe_path, named_below, named_path, only_type, path_type,
+    read_first_name, take_flag, type_path, view, view_below, view_path,
 };
 use crate::words::{age_word, cat_word, latest_word, name_word, version_word};
 use cc_names::commands::{Change, Clearmake, Command, Query};
@@ -27,51 +27,55 @@ use cc_names::refusals::SessionCause;
 use std::alloc::Global;
 use std::hash::RandomState;
 
-/// `mkview V`
-fn mkview(alloc: Global, words: Words<'_>) -> Result<Change, Or<SessionCause>>
-    ensures { Gives result (mkview words.entry) }
+/// `read_mkview V`
+fn read_mkview(alloc: Global, words: Words<'_>) -> Result<Change, Or<SessionCause>>
+    ensures { Gives result (read_mkview words.entry) }
 {
     let view = view(alloc, words)?;
     Ok(Change::Mkview { view })
 }
 
-/// `rmview V`, `rmview -force V`
-fn rmview(alloc: Global, mut words: Words<'_>) -> Result<Change, Or<SessionCause>>
-    ensures { Gives result (rmview words.entry) }
+/// `read_rmview V`, `read_rmview -force V`
+fn read_rmview(alloc: Global, mut words: Words<'_>) -> Result<Change, Or<SessionCause>>
+    ensures { Gives result (read_rmview words.entry) }
 {
     let force = take_flag(&mut words, b"-force");
     let view = view(alloc, words)?;
     Ok(Change::Rmview { view, force })
 }
 
-/// `setcs V`, with a body
-fn setcs(alloc: Global, words: Words<'_>, behind: &Rest<'_>) -> Result<Change, Or<SessionCause>>
-    ensures { Gives result (setcs words.entry (body_of (kinds_of behind.now.bytes))) }
+/// `read_setcs V`, with a body
+fn read_setcs(
+    alloc: Global,
+    words: Words<'_>,
+    behind: &Rest<'_>,
+) -> Result<Change, Or<SessionCause>>
+    ensures { Gives result (read_setcs words.entry (body_of (kinds_of behind.now.bytes))) }
 {
     let view = view(alloc, words)?;
     let text = body_of(alloc, behind)?;
     Ok(Change::Setcs { view, text })
 }
 
-/// `mkelem V [-nco] P`
-fn mkelem(alloc: Global, words: Words<'_>) -> Result<Change, Or<SessionCause>>
-    ensures { Gives result (mkelem words.entry) }
+/// `read_mkelem V [-nco] P`
+fn read_mkelem(alloc: Global, words: Words<'_>) -> Result<Change, Or<SessionCause>>
+    ensures { Gives result (read_mkelem words.entry) }
 {
     let (view, nco, path) = flag_below(alloc, b"-nco", words)?;
     Ok(Change::Mkelem { view, nco, path })
 }
 
-/// `mkdir V [-nco] P`
-fn mkdir(alloc: Global, words: Words<'_>) -> Result<Change, Or<SessionCause>>
-    ensures { Gives result (mkdir words.entry) }
+/// `read_mkdir V [-nco] P`
+fn read_mkdir(alloc: Global, words: Words<'_>) -> Result<Change, Or<SessionCause>>
+    ensures { Gives result (read_mkdir words.entry) }
 {
     let (view, nco, path) = flag_below(alloc, b"-nco", words)?;
     Ok(Change::Mkdir { view, nco, path })
 }
 
-/// `checkout V [-unreserved] P`
-fn checkout(alloc: Global, words: Words<'_>) -> Result<Change, Or<SessionCause>>
-    ensures { Gives result (checkout words.entry) }
+/// `read_checkout V [-unreserved] P`
+fn read_checkout(alloc: Global, words: Words<'_>) -> Result<Change, Or<SessionCause>>
+    ensures { Gives result (read_checkout words.entry) }
 {
     let (view, unreserved, path) = flag_path(alloc, b"-unreserved", words)?;
     Ok(Change::Checkout {
@@ -81,11 +85,11 @@ fn checkout(alloc: Global, words: Words<'_>) -> Result<Change, Or<SessionCause>>
     })
 }
 
-/// `mkbranch V [-nco] B P`
-fn mkbranch(alloc: Global, mut words: Words<'_>) -> Result<Change, Or<SessionCause>>
-    ensures { Gives result (mkbranch words.entry) }
+/// `read_mkbranch V [-nco] B P`
+fn read_mkbranch(alloc: Global, mut words: Words<'_>) -> Result<Change, Or<SessionCause>>
+    ensures { Gives result (read_mkbranch words.entry) }
 {
-    let view = first_name(alloc, &mut words)?;
+    let view = read_first_name(alloc, &mut words)?;
     let nco = take_flag(&mut words, b"-nco");
     let (branch, path) = type_path(alloc, words)?;
     Ok(Change::Mkbranch {
@@ -96,26 +100,26 @@ fn mkbranch(alloc: Global, mut words: Words<'_>) -> Result<Change, Or<SessionCau
     })
 }
 
-/// `save V P`, with a body
-fn save(alloc: Global, words: Words<'_>, behind: &Rest<'_>) -> Result<Change, Or<SessionCause>>
-    ensures { Gives result (save words.entry (body_of (kinds_of behind.now.bytes))) }
+/// `read_save V P`, with a body
+fn read_save(alloc: Global, words: Words<'_>, behind: &Rest<'_>) -> Result<Change, Or<SessionCause>>
+    ensures { Gives result (read_save words.entry (body_of (kinds_of behind.now.bytes))) }
 {
     let (view, path) = view_below(alloc, words)?;
     let text = body_of(alloc, behind)?;
     Ok(Change::Save { view, path, text })
 }
 
-/// `rm V P`
-fn rm(alloc: Global, words: Words<'_>) -> Result<Change, Or<SessionCause>>
-    ensures { Gives result (rm words.entry) }
+/// `read_rm V P`
+fn read_rm(alloc: Global, words: Words<'_>) -> Result<Change, Or<SessionCause>>
+    ensures { Gives result (read_rm words.entry) }
 {
     let (view, path) = view_below(alloc, words)?;
     Ok(Change::Rm { view, path })
 }
 
-/// `checkin V [-identical] P`
-fn checkin(alloc: Global, words: Words<'_>) -> Result<Change, Or<SessionCause>>
-    ensures { Gives result (checkin words.entry) }
+/// `read_checkin V [-identical] P`
+fn read_checkin(alloc: Global, words: Words<'_>) -> Result<Change, Or<SessionCause>>
+    ensures { Gives result (read_checkin words.entry) }
 {
     let (view, identical, path) = flag_path(alloc, b"-identical", words)?;
     Ok(Change::Checkin {
@@ -125,17 +129,17 @@ fn checkin(alloc: Global, words: Words<'_>) -> Result<Change, Or<SessionCause>>
     })
 }
 
-/// `uncheckout V P`
-fn uncheckout(alloc: Global, words: Words<'_>) -> Result<Change, Or<SessionCause>>
-    ensures { Gives result (uncheckout words.entry) }
+/// `read_uncheckout V P`
+fn read_uncheckout(alloc: Global, words: Words<'_>) -> Result<Change, Or<SessionCause>>
+    ensures { Gives result (read_uncheckout words.entry) }
 {
     let (view, path) = view_path(alloc, words)?;
     Ok(Change::Uncheckout { view, path })
 }
 
-/// `rmname V P`
-fn rmname(alloc: Global, words: Words<'_>) -> Result<Change, Or<SessionCause>>
-    ensures { Gives result (rmname words.entry) }
+/// `read_rmname V P`
+fn read_rmname(alloc: Global, words: Words<'_>) -> Result<Change, Or<SessionCause>>
+    ensures { Gives result (read_rmname words.entry) }
 {
     let (view, path) = view_below(alloc, words)?;
     Ok(Change::Rmname { view, path })
@@ -155,9 +159,9 @@ fn fits_beside(alloc: Global, path: &Path, name: &Name) -> Result<bool, NoMemory
     }
 }
 
-/// `mv V P NAME`, where NAME beside P makes a path
-fn mv(alloc: Global, mut words: Words<'_>) -> Result<Change, Or<SessionCause>>
-    ensures { Gives result (mv words.entry) }
+/// `read_mv V P NAME`, where NAME beside P makes a path
+fn read_mv(alloc: Global, mut words: Words<'_>) -> Result<Change, Or<SessionCause>>
+    ensures { Gives result (read_mv words.entry) }
 {
     let (Some(view), Some(path), Some(name), None) = (
         words.next(),
@@ -175,24 +179,24 @@ fn mv(alloc: Global, mut words: Words<'_>) -> Result<Change, Or<SessionCause>>
     Ok(Change::Mv { view, path, name })
 }
 
-/// `mklbtype L`
-fn mklbtype(alloc: Global, words: Words<'_>) -> Result<Change, Or<SessionCause>>
-    ensures { Gives result (mklbtype words.entry) }
+/// `read_mklbtype L`
+fn read_mklbtype(alloc: Global, words: Words<'_>) -> Result<Change, Or<SessionCause>>
+    ensures { Gives result (read_mklbtype words.entry) }
 {
     let name = only_type(alloc, words)?;
     Ok(Change::Mklbtype { name })
 }
 
-/// `mkbrtype B`
-fn mkbrtype(alloc: Global, words: Words<'_>) -> Result<Change, Or<SessionCause>>
-    ensures { Gives result (mkbrtype words.entry) }
+/// `read_mkbrtype B`
+fn read_mkbrtype(alloc: Global, words: Words<'_>) -> Result<Change, Or<SessionCause>>
+    ensures { Gives result (read_mkbrtype words.entry) }
 {
     let name = only_type(alloc, words)?;
     Ok(Change::Mkbrtype { name })
 }
 
-/// `mklabel V [-replace] -config P L`, by the words behind `-config`
-fn mklabel_config(
+/// `read_mklabel V [-replace] -config P L`, by the words behind `-config`
+fn read_mklabel_config(
     alloc: Global,
     view: Name,
     replace: bool,
@@ -209,17 +213,17 @@ fn mklabel_config(
     })
 }
 
-/// `mklabel V [-replace] L P`, and with `-config`, by the words behind the flag
-fn labels(
+/// `read_mklabel V [-replace] L P`, and with `-config`, by the words behind the flag
+fn read_labels(
     alloc: Global,
     view: Name,
     replace: bool,
     mut words: Words<'_>,
 ) -> Result<Change, Or<SessionCause>>
-    ensures { Gives result (labels replace words.entry view) }
+    ensures { Gives result (read_labels replace words.entry view) }
 {
     if take_flag(&mut words, b"-config") {
-        return mklabel_config(alloc, view, replace, words);
+        return read_mklabel_config(alloc, view, replace, words);
     }
     let (label, path) = type_path(alloc, words)?;
     Ok(Change::Mklabel {
@@ -230,27 +234,27 @@ fn labels(
     })
 }
 
-/// `mklabel V [-replace] L P`, `mklabel V [-replace] -config P L`
-fn mklabel(alloc: Global, mut words: Words<'_>) -> Result<Change, Or<SessionCause>>
-    ensures { Gives result (mklabel words.entry) }
+/// `read_mklabel V [-replace] L P`, `read_mklabel V [-replace] -config P L`
+fn read_mklabel(alloc: Global, mut words: Words<'_>) -> Result<Change, Or<SessionCause>>
+    ensures { Gives result (read_mklabel words.entry) }
 {
-    let view = first_name(alloc, &mut words)?;
+    let view = read_first_name(alloc, &mut words)?;
     let replace = take_flag(&mut words, b"-replace");
-    labels(alloc, view, replace, words)
+    read_labels(alloc, view, replace, words)
 }
 
-/// `rmlabel V L P`
-fn rmlabel(alloc: Global, mut words: Words<'_>) -> Result<Change, Or<SessionCause>>
-    ensures { Gives result (rmlabel words.entry) }
+/// `read_rmlabel V L P`
+fn read_rmlabel(alloc: Global, mut words: Words<'_>) -> Result<Change, Or<SessionCause>>
+    ensures { Gives result (read_rmlabel words.entry) }
 {
-    let view = first_name(alloc, &mut words)?;
+    let view = read_first_name(alloc, &mut words)?;
     let (label, path) = type_path(alloc, words)?;
     Ok(Change::Rmlabel { view, label, path })
 }
 
-/// `mkarrow V P VERSION`
-fn mkarrow(alloc: Global, mut words: Words<'_>) -> Result<Change, Or<SessionCause>>
-    ensures { Gives result (mkarrow words.entry) }
+/// `read_mkarrow V P VERSION`
+fn read_mkarrow(alloc: Global, mut words: Words<'_>) -> Result<Change, Or<SessionCause>>
+    ensures { Gives result (read_mkarrow words.entry) }
 {
     let (Some(view), Some(path), Some(version), None) = (
         words.next(),
@@ -269,17 +273,17 @@ fn mkarrow(alloc: Global, mut words: Words<'_>) -> Result<Change, Or<SessionCaus
     })
 }
 
-/// `rmdo V P`
-fn rmdo(alloc: Global, words: Words<'_>) -> Result<Change, Or<SessionCause>>
-    ensures { Gives result (rmdo words.entry) }
+/// `read_rmdo V P`
+fn read_rmdo(alloc: Global, words: Words<'_>) -> Result<Change, Or<SessionCause>>
+    ensures { Gives result (read_rmdo words.entry) }
 {
     let (view, path) = view_below(alloc, words)?;
     Ok(Change::Rmdo { view, path })
 }
 
-/// `scrub AGE`
-fn scrub(mut words: Words<'_>) -> Result<Change, Or<SessionCause>>
-    ensures { Gives result (scrub words.entry) }
+/// `read_scrub AGE`
+fn read_scrub(mut words: Words<'_>) -> Result<Change, Or<SessionCause>>
+    ensures { Gives result (read_scrub words.entry) }
 {
     let (Some(age), None) = (words.next(), words.next()) else {
         return Err(Or::Is(SessionCause::BadWord));
@@ -290,34 +294,34 @@ fn scrub(mut words: Words<'_>) -> Result<Change, Or<SessionCause>>
     }
 }
 
-/// `catcs V`
-fn catcs(alloc: Global, words: Words<'_>) -> Result<Query, Or<SessionCause>>
-    ensures { Gives result (catcs words.entry) }
+/// `read_catcs V`
+fn read_catcs(alloc: Global, words: Words<'_>) -> Result<Query, Or<SessionCause>>
+    ensures { Gives result (read_catcs words.entry) }
 {
     let view = view(alloc, words)?;
     Ok(Query::Catcs { view })
 }
 
-/// `lsdo V`
-fn lsdo(alloc: Global, words: Words<'_>) -> Result<Query, Or<SessionCause>>
-    ensures { Gives result (lsdo words.entry) }
+/// `read_lsdo V`
+fn read_lsdo(alloc: Global, words: Words<'_>) -> Result<Query, Or<SessionCause>>
+    ensures { Gives result (read_lsdo words.entry) }
 {
     let view = view(alloc, words)?;
     Ok(Query::Lsdo { view })
 }
 
-/// `ls V`, `ls V P`
-fn ls(alloc: Global, mut words: Words<'_>) -> Result<Query, Or<SessionCause>>
-    ensures { Gives result (ls words.entry) }
+/// `read_ls V`, `read_ls V P`
+fn read_ls(alloc: Global, mut words: Words<'_>) -> Result<Query, Or<SessionCause>>
+    ensures { Gives result (read_ls words.entry) }
 {
-    let view = first_name(alloc, &mut words)?;
+    let view = read_first_name(alloc, &mut words)?;
     let path = maybe_path(alloc, words)?;
     Ok(Query::Ls { view, path })
 }
 
-/// `cat V P`, `cat V P@@VERSION`
-fn cat(alloc: Global, mut words: Words<'_>) -> Result<Query, Or<SessionCause>>
-    ensures { Gives result (cat words.entry) }
+/// `read_cat V P`, `read_cat V P@@VERSION`
+fn read_cat(alloc: Global, mut words: Words<'_>) -> Result<Query, Or<SessionCause>>
+    ensures { Gives result (read_cat words.entry) }
 {
     let (Some(view), Some(word), None) = (words.next(), words.next(), words.next()) else {
         return Err(Or::Is(SessionCause::BadWord));
@@ -331,41 +335,41 @@ fn cat(alloc: Global, mut words: Words<'_>) -> Result<Query, Or<SessionCause>>
     })
 }
 
-/// `describe V P`
-fn describe(alloc: Global, words: Words<'_>) -> Result<Query, Or<SessionCause>>
-    ensures { Gives result (describe words.entry) }
+/// `read_describe V P`
+fn read_describe(alloc: Global, words: Words<'_>) -> Result<Query, Or<SessionCause>>
+    ensures { Gives result (read_describe words.entry) }
 {
     let (view, path) = view_path(alloc, words)?;
     Ok(Query::Describe { view, path })
 }
 
-/// `lsvtree V P`
-fn lsvtree(alloc: Global, words: Words<'_>) -> Result<Query, Or<SessionCause>>
-    ensures { Gives result (lsvtree words.entry) }
+/// `read_lsvtree V P`
+fn read_lsvtree(alloc: Global, words: Words<'_>) -> Result<Query, Or<SessionCause>>
+    ensures { Gives result (read_lsvtree words.entry) }
 {
     let (view, path) = view_path(alloc, words)?;
     Ok(Query::Lsvtree { view, path })
 }
 
-/// `lshistory V P`
-fn lshistory(alloc: Global, words: Words<'_>) -> Result<Query, Or<SessionCause>>
-    ensures { Gives result (lshistory words.entry) }
+/// `read_lshistory V P`
+fn read_lshistory(alloc: Global, words: Words<'_>) -> Result<Query, Or<SessionCause>>
+    ensures { Gives result (read_lshistory words.entry) }
 {
     let (view, path) = view_path(alloc, words)?;
     Ok(Query::Lshistory { view, path })
 }
 
-/// `catcr V P`
-fn catcr(alloc: Global, words: Words<'_>) -> Result<Query, Or<SessionCause>>
-    ensures { Gives result (catcr words.entry) }
+/// `read_catcr V P`
+fn read_catcr(alloc: Global, words: Words<'_>) -> Result<Query, Or<SessionCause>>
+    ensures { Gives result (read_catcr words.entry) }
 {
     let (view, path) = view_below(alloc, words)?;
     Ok(Query::Catcr { view, path })
 }
 
-/// `diffcr V P W Q`
-fn diffcr(alloc: Global, mut words: Words<'_>) -> Result<Query, Or<SessionCause>>
-    ensures { Gives result (diffcr words.entry) }
+/// `read_diffcr V P W Q`
+fn read_diffcr(alloc: Global, mut words: Words<'_>) -> Result<Query, Or<SessionCause>>
+    ensures { Gives result (read_diffcr words.entry) }
 {
     let (Some(view), Some(path)) = (words.next(), words.next()) else {
         return Err(Or::Is(SessionCause::BadWord));
@@ -380,18 +384,18 @@ fn diffcr(alloc: Global, mut words: Words<'_>) -> Result<Query, Or<SessionCause>
     })
 }
 
-/// `covers W V P`
-fn covers(alloc: Global, mut words: Words<'_>) -> Result<Query, Or<SessionCause>>
-    ensures { Gives result (covers words.entry) }
+/// `read_covers W V P`
+fn read_covers(alloc: Global, mut words: Words<'_>) -> Result<Query, Or<SessionCause>>
+    ensures { Gives result (read_covers words.entry) }
 {
-    let seer = first_name(alloc, &mut words)?;
+    let seer = read_first_name(alloc, &mut words)?;
     let (view, path) = view_path(alloc, words)?;
     Ok(Query::Covers { seer, view, path })
 }
 
-/// `findmerge V P -fversion .../B/LATEST`
-fn findmerge(alloc: Global, mut words: Words<'_>) -> Result<Query, Or<SessionCause>>
-    ensures { Gives result (findmerge words.entry) }
+/// `read_findmerge V P -fversion .../B/LATEST`
+fn read_findmerge(alloc: Global, mut words: Words<'_>) -> Result<Query, Or<SessionCause>>
+    ensures { Gives result (read_findmerge words.entry) }
 {
     let (Some(view), Some(path)) = (words.next(), words.next()) else {
         return Err(Or::Is(SessionCause::BadWord));
@@ -443,17 +447,17 @@ fn said_of_queries(
     ensures { Gives result (said_in query_lines word.now words.entry []) }
 {
     match word {
-        _ if is(word, b"catcs") => of_query(catcs(alloc, words)),
-        _ if is(word, b"lsdo") => of_query(lsdo(alloc, words)),
-        _ if is(word, b"ls") => of_query(ls(alloc, words)),
-        _ if is(word, b"cat") => of_query(cat(alloc, words)),
-        _ if is(word, b"describe") => of_query(describe(alloc, words)),
-        _ if is(word, b"lsvtree") => of_query(lsvtree(alloc, words)),
-        _ if is(word, b"lshistory") => of_query(lshistory(alloc, words)),
-        _ if is(word, b"catcr") => of_query(catcr(alloc, words)),
-        _ if is(word, b"diffcr") => of_query(diffcr(alloc, words)),
-        _ if is(word, b"covers") => of_query(covers(alloc, words)),
-        _ if is(word, b"findmerge") => of_query(findmerge(alloc, words)),
+        _ if is(word, b"catcs") => of_query(read_catcs(alloc, words)),
+        _ if is(word, b"lsdo") => of_query(read_lsdo(alloc, words)),
+        _ if is(word, b"ls") => of_query(read_ls(alloc, words)),
+        _ if is(word, b"cat") => of_query(read_cat(alloc, words)),
+        _ if is(word, b"describe") => of_query(read_describe(alloc, words)),
+        _ if is(word, b"lsvtree") => of_query(read_lsvtree(alloc, words)),
+        _ if is(word, b"lshistory") => of_query(read_lshistory(alloc, words)),
+        _ if is(word, b"catcr") => of_query(read_catcr(alloc, words)),
+        _ if is(word, b"diffcr") => of_query(read_diffcr(alloc, words)),
+        _ if is(word, b"covers") => of_query(read_covers(alloc, words)),
+        _ if is(word, b"findmerge") => of_query(read_findmerge(alloc, words)),
         _ => Err(Or::Is(SessionCause::UnknownCommand)),
     }
 }
@@ -469,13 +473,13 @@ fn said_of_types_on(
     ensures { Gives result (said_in types_on word.now words.entry []) }
 {
     match word {
-        _ if is(word, b"mklbtype") => of_change(mklbtype(alloc, words)),
-        _ if is(word, b"mkbrtype") => of_change(mkbrtype(alloc, words)),
-        _ if is(word, b"mklabel") => of_change(mklabel(alloc, words)),
-        _ if is(word, b"rmlabel") => of_change(rmlabel(alloc, words)),
-        _ if is(word, b"mkarrow") => of_change(mkarrow(alloc, words)),
-        _ if is(word, b"rmdo") => of_change(rmdo(alloc, words)),
-        _ if is(word, b"scrub") => of_change(scrub(words)),
+        _ if is(word, b"mklbtype") => of_change(read_mklbtype(alloc, words)),
+        _ if is(word, b"mkbrtype") => of_change(read_mkbrtype(alloc, words)),
+        _ if is(word, b"mklabel") => of_change(read_mklabel(alloc, words)),
+        _ if is(word, b"rmlabel") => of_change(read_rmlabel(alloc, words)),
+        _ if is(word, b"mkarrow") => of_change(read_mkarrow(alloc, words)),
+        _ if is(word, b"rmdo") => of_change(read_rmdo(alloc, words)),
+        _ if is(word, b"scrub") => of_change(read_scrub(words)),
         _ if is(word, b"clearmake") => of_build(clearmake(alloc, hashing, words)),
         _ => said_of_queries(alloc, word, words),
     }
@@ -492,19 +496,19 @@ pub(crate) fn command_of(
     ensures { Gives result (command_of word.now words.entry (body_of (kinds_of behind.now.bytes))) }
 {
     match word {
-        _ if is(word, b"mkview") => of_change(mkview(alloc, words)),
-        _ if is(word, b"rmview") => of_change(rmview(alloc, words)),
-        _ if is(word, b"setcs") => of_change(setcs(alloc, words, behind)),
-        _ if is(word, b"mkelem") => of_change(mkelem(alloc, words)),
-        _ if is(word, b"mkdir") => of_change(mkdir(alloc, words)),
-        _ if is(word, b"checkout") => of_change(checkout(alloc, words)),
-        _ if is(word, b"mkbranch") => of_change(mkbranch(alloc, words)),
-        _ if is(word, b"save") => of_change(save(alloc, words, behind)),
-        _ if is(word, b"rm") => of_change(rm(alloc, words)),
-        _ if is(word, b"checkin") => of_change(checkin(alloc, words)),
-        _ if is(word, b"uncheckout") => of_change(uncheckout(alloc, words)),
-        _ if is(word, b"rmname") => of_change(rmname(alloc, words)),
-        _ if is(word, b"mv") => of_change(mv(alloc, words)),
+        _ if is(word, b"mkview") => of_change(read_mkview(alloc, words)),
+        _ if is(word, b"rmview") => of_change(read_rmview(alloc, words)),
+        _ if is(word, b"setcs") => of_change(read_setcs(alloc, words, behind)),
+        _ if is(word, b"mkelem") => of_change(read_mkelem(alloc, words)),
+        _ if is(word, b"mkdir") => of_change(read_mkdir(alloc, words)),
+        _ if is(word, b"checkout") => of_change(read_checkout(alloc, words)),
+        _ if is(word, b"mkbranch") => of_change(read_mkbranch(alloc, words)),
+        _ if is(word, b"save") => of_change(read_save(alloc, words, behind)),
+        _ if is(word, b"rm") => of_change(read_rm(alloc, words)),
+        _ if is(word, b"checkin") => of_change(read_checkin(alloc, words)),
+        _ if is(word, b"uncheckout") => of_change(read_uncheckout(alloc, words)),
+        _ if is(word, b"rmname") => of_change(read_rmname(alloc, words)),
+        _ if is(word, b"mv") => of_change(read_mv(alloc, words)),
         _ => said_of_types_on(alloc, hashing, word, words),
     }
 }

@@ -1,7 +1,7 @@
 //! Where the next line of a kind stands.
 
 ghost use Rattle.std.specs.Prelude.{◌≡◌, [], MatchOption};
-ghost use Rattle.session_text.specs.Reading.{FindsPhase, FindsLane, FindsCommand, IsPast, PassesCommand};
+ghost use Rattle.session_text.specs.Reading.{FindsPhase, FindsLane, FindsCommand, PassesLines, PassesCommand};
 ghost use Rattle.session_text.specs.Kinds.{kinds_of};
 ghost use Rattle.session_text.specs.Sessions.{commands_of, lanes_of, phases_of};
 
@@ -60,7 +60,7 @@ pub(crate) fn find_command<'a>(rest: &mut Rest<'a>) -> Option<(Bytes<'a>, Words<
 
 /// Goes past the body lines, and past lines that are skipped, to the next line that is neither.
 fn pass_body(rest: &mut Rest<'_>)
-    ensures { IsPast commands_of rest.old rest.new }
+    ensures { PassesLines commands_of rest.old rest.new }
 {
     let mut behind = rest.again();
     'lines: while let Some(Kind::Skipped | Kind::Body(_)) = behind.next() {

@@ -2,8 +2,8 @@
 
 ghost use Rattle.std.specs.Prelude.{◌≡◌, ◌<◌, ◌^◌, ◌∷◌, length, MatchOption};
 ghost use Rattle.cc_names.specs.Cuts.{lines_of, words_of};
-ghost use Rattle.session_text.specs.Kinds.{line_kind, kind_of_words};
-ghost use Rattle.session_text.specs.Reading.{IsEnd, IsNext, IsAtEnd};
+ghost use Rattle.session_text.specs.Kinds.{session_line_kind, kind_of_words};
+ghost use Rattle.session_text.specs.Reading.{IsTextEnd, IsNextLine, HasNoLine};
 
 use cc_names::cuts::{Words, first_newline};
 use std::marker::Model;
@@ -70,8 +70,8 @@ fn kind_of_words(line: &[u8]) -> Kind<'_>
     }
 }
 
-fn line_kind(line: &[u8]) -> Kind<'_>
-    ensures { result ≡ line_kind line.now }
+fn session_line_kind(line: &[u8]) -> Kind<'_>
+    ensures { result ≡ session_line_kind line.now }
 {
     match line.split_first() {
         None | Some((b'#', _)) => Kind::Skipped,
@@ -107,12 +107,12 @@ impl Drop for Rest<'_> {
     }
 }
 
-/// The first line, and what stands behind its newline.
-fn cut_line(bytes: &[u8]) -> (&[u8], &[u8])
+/// The first line, and what follows its newline.
+fn cut_session_line(bytes: &[u8]) -> (&[u8], &[u8])
     requires { 0 < length bytes.now }
     ensures lines { lines_of bytes.now ≡ result.0.now ∷ lines_of result.1.now }
     ensures fewer { length result.1.now < length bytes.now }
-    ensures end { IsEnd result.1.now bytes.now }
+    ensures end { IsTextEnd result.1.now bytes.now }
 {
     match first_newline(bytes) {
         Some(end) => (&bytes[..end], &bytes[end + 1..]),
@@ -158,15 +158,15 @@ impl<'a> Rest<'a> {
 
     /// The next line. Takes time linear in it.
     pub(crate) fn next(&mut self) -> Option<Kind<'a>>
-        ensures { MatchOption result (IsAtEnd self.old self.new)
-            (λ kind. IsNext self.old kind self.new) }
+        ensures { MatchOption result (HasNoLine self.old self.new)
+            (λ kind. IsNextLine self.old kind self.new) }
     {
         if self.bytes.is_empty() {
             return None;
         }
-        let (line, behind) = cut_line(self.bytes);
+        let (line, behind) = cut_session_line(self.bytes);
         self.bytes = behind;
         self.number += 1;
-        Some(line_kind(line))
+        Some(session_line_kind(line))
     }
 }

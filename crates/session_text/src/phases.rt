@@ -1,7 +1,7 @@
 //! A phase, kept as its text, and its lanes.
 
 ghost use Rattle.std.specs.Prelude.{◌≡◌, Ok, IfOk};
-ghost use Rattle.session_text.specs.Reading.{Names};
+ghost use Rattle.session_text.specs.Reading.{LaneNames};
 ghost use Rattle.session_text.specs.Shapes.{view};
 
 use crate::finding::find_lane;
@@ -34,7 +34,7 @@ impl Model for PhaseText {
 
 impl PhaseText {
     ghost use Rattle.std.specs.Prelude.{◌≡◌, IfOk};
-    ghost use Rattle.cc_names.specs.CommandWords.{words_of};
+    ghost use Rattle.cc_names.specs.CommandWords.{words_of_command};
     ghost use Rattle.session_text.specs.Reading.{lines_at};
     ghost use Rattle.session_text.specs.Sessions.{lanes_of};
 
@@ -55,7 +55,7 @@ impl PhaseText {
 
     /// The names of its lanes and the words of their commands. Takes time linear in its text, and memory for each name and word.
     pub fn words(&self, alloc: Global) -> Result<PhaseWords, NoMemory>
-        ensures { IfOk result (λ words. words ≡ words_of self.now) }
+        ensures { IfOk result (λ words. words ≡ words_of_command self.now) }
     {
         let mut left = self.lanes()?;
         let mut lanes = Vec::new(alloc);
@@ -87,7 +87,7 @@ impl Model for LanesLeft {
 
 /// The name that the words behind `lane` say, where they say one.
 fn name_said(alloc: Global, words: Words<'_>) -> Result<Name, NoMemory>
-    requires { Names words }
+    requires { LaneNames words }
     ensures { IfOk result (λ name. view words.entry ≡ Ok name) }
 {
     match view(alloc, words) {
@@ -100,7 +100,8 @@ fn name_said(alloc: Global, words: Words<'_>) -> Result<Name, NoMemory>
 impl LanesLeft {
     ghost use Rattle.std.specs.Prelude.{◌≡◌, [], ◌∷◌, OnErr, IfOk, MatchOption};
 
-    /// The next lane. Takes time linear in the lines before it and those up to its first command, and memory for its name. An `Err`
+    /// The next lane. Takes time linear in the lines before it and those up to its first command, and memory for its name. An
+    /// `Err`
     /// changes nothing.
     pub fn next(&mut self, alloc: Global) -> Result<Option<LaneText>, NoMemory>
         ensures ok { IfOk result

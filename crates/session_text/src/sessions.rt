@@ -5,7 +5,7 @@ ghost use Rattle.cc_names.specs.Answers.{Gives};
 ghost use Rattle.session_text.specs.Formed.{IsFormedSession};
 ghost use Rattle.session_text.specs.Sessions.{session_of};
 
-use crate::checks::check;
+use crate::checks::check_lines;
 use crate::finding::find_phase;
 use crate::phases::PhaseText;
 use crate::places::Place;
@@ -107,7 +107,7 @@ pub fn read(
     ensures session { Gives result (session_of text) }
     ensures formed { IfOk result (IsFormedSession (length text)) }
 {
-    check(alloc, hashing, text.as_bytes())?;
+    check_lines(alloc, hashing, text.as_bytes())?;
     let place = Place::first(alloc, hashing, text)?;
     Ok(SessionText { place })
 }

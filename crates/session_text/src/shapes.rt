@@ -2,7 +2,7 @@
 
 ghost use Rattle.std.specs.Prelude.{◌≡◌};
 ghost use Rattle.cc_names.specs.Answers.{Gives};
-ghost use Rattle.session_text.specs.Shapes.{has_flag, without_flag, view, only_type, view_path, view_below, type_path, path_type, maybe_path, first_name, behind_first, flag_path, flag_below};
+ghost use Rattle.session_text.specs.Shapes.{has_flag, without_flag, view, only_type, view_path, view_below, type_path, path_type, maybe_path, read_first_name, behind_first, flag_path, flag_below};
 ghost use Rattle.session_text.specs.Words.{both, below_root, name_word, path_word};
 
 use crate::words::{below_root, name_word, path_word, type_word};
@@ -29,8 +29,11 @@ pub(crate) fn take_flag(words: &mut Words<'_>, flag: &[u8]) -> bool
 }
 
 /// The first word as a name.
-pub(crate) fn first_name(alloc: Global, words: &mut Words<'_>) -> Result<Name, Or<SessionCause>>
-    ensures name { Gives result (first_name words.old) }
+pub(crate) fn read_first_name(
+    alloc: Global,
+    words: &mut Words<'_>,
+) -> Result<Name, Or<SessionCause>>
+    ensures name { Gives result (read_first_name words.old) }
     ensures left { words.new ≡ behind_first words.old }
 {
     match words.next() {

@@ -4,7 +4,7 @@ ghost use Rattle.std.specs.Prelude.{◌≡◌, ◌<◌, ◌+◌, [], length, IfS
 ghost use Rattle.std.specs.List.{position, slice_split};
 ghost use Rattle.cc_names.specs.Answers.{Gives};
 ghost use Rattle.cc_names.specs.Paths.{is_root, is_slash, is_at};
-ghost use Rattle.session_text.specs.Words.{name_word, path_word, below_root, type_word, age_word, jobs_word, version_of_parts, behind_main, version_word, cat_word, latest_word};
+ghost use Rattle.session_text.specs.Words.{name_word, path_word, below_root, type_word, age_word, jobs_word, version_of_parts, version_behind_main, version_word, cat_word, latest_word};
 
 use cc_names::commands::VersionName;
 use cc_names::lists::List;
@@ -37,7 +37,7 @@ pub(crate) fn path_word(alloc: Global, word: &[u8]) -> Result<Path, Or<SessionCa
     }
 }
 
-fn is_root(word: &[u8]) -> bool
+fn is_root_word(word: &[u8]) -> bool
     ensures { result ≡ is_root word.now }
 {
     matches!(word, [b'.'])
@@ -47,7 +47,7 @@ fn is_root(word: &[u8]) -> bool
 pub(crate) fn below_root(alloc: Global, word: &[u8]) -> Result<Path, Or<SessionCause>>
     ensures { Gives result (below_root word.now) }
 {
-    if is_root(word) {
+    if is_root_word(word) {
         return Err(Or::Is(SessionCause::BadWord));
     }
     path_word(alloc, word)
@@ -96,8 +96,8 @@ fn version_of_parts(
     }
 }
 
-fn behind_main(alloc: Global, bytes: &[u8]) -> Result<VersionName, Or<SessionCause>>
-    ensures { Gives result (behind_main (slice_split is_slash bytes.now) []) }
+fn version_behind_main(alloc: Global, bytes: &[u8]) -> Result<VersionName, Or<SessionCause>>
+    ensures { Gives result (version_behind_main (slice_split is_slash bytes.now) []) }
 {
     let mut branches = Vec::new(alloc);
     let mut rest = bytes;
@@ -116,7 +116,7 @@ pub(crate) fn version_word(alloc: Global, word: &[u8]) -> Result<VersionName, Or
     ensures { Gives result (version_word word.now) }
 {
     match word.strip_prefix(b"/main/") {
-        Some(rest) => behind_main(alloc, rest),
+        Some(rest) => version_behind_main(alloc, rest),
         None => Err(Or::Is(SessionCause::BadWord)),
     }
 }

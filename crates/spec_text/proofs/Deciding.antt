@@ -1,5 +1,6 @@
 -- The first rule that decides.
-use Rattle.std.proofs.Common.{◌≡◌, ◌↔◌, ℕ, Bool, true, false, cond, ◌||◌, Option, Some, None, is_some, IsSome, IfSome, List, [], ◌∷◌, ◌++◌, find, refl, ap}
+use Rattle.std.proofs.Common.{◌≡◌, ◌↔◌, ℕ, Bool, true, false, cond, ◌||◌, Option, Some, None, is_some, IsSome, IfSome, List, []}
+use Rattle.std.proofs.Common.{◌∷◌, ◌++◌, find, refl, ap}
 use Rattle.std.specs.Option.{option_map, option_and_then}
 use Rattle.std.proofs.lemmas.Bool.{and_parts}
 use Rattle.cc_names.specs.declared.selection.Rule.{Rule}
@@ -13,7 +14,8 @@ found_before : {A : Type 0} (test : A → Bool) (xs ys : List A) → IsSome (fin
 found_before test [] ys h = cc
 found_before {A} test (x ∷ xs) ys h = by_test (test x) h (found_before test xs ys)
   where
-    by_test : (b : Bool) → IsSome (cond b (Some x) (find test xs)) → (IsSome (find test xs) → find test (xs ++ ys) ≡ find test xs) → cond b (Some x) (find test (xs ++ ys)) ≡ cond b (Some x) (find test xs)
+    by_test : (b : Bool) → IsSome (cond b (Some x) (find test xs)) → (IsSome (find test xs) → find test (xs ++ ys) ≡ find test xs)
+        → cond b (Some x) (find test (xs ++ ys)) ≡ cond b (Some x) (find test xs)
     by_test true some behind = refl
     by_test false some behind = behind some
 
@@ -25,11 +27,13 @@ found_passes : {A : Type 0} (test : A → Bool) (xs : List A) (x : A) → find t
 found_passes test [] x h = cc
 found_passes {A} test (y ∷ xs) x h = by_test (test y) refl h (found_passes test xs x)
   where
-    by_test : (b : Bool) → test y ≡ b → cond b (Some y) (find test xs) ≡ Some x → (find test xs ≡ Some x → test x ≡ true) → test x ≡ true
+    by_test : (b : Bool) → test y ≡ b → cond b (Some y) (find test xs) ≡ Some x → (find test xs ≡ Some x → test x ≡ true)
+        → test x ≡ true
     by_test true e some behind = let same : y ≡ x = cc in rw (← same) e
     by_test false e some behind = behind some
 
-ends_none : (sources : Selectables) (element : ℕ) (before : Option ℕ) (selector : Selector) → ends_scan selector ≡ true → finds sources element before selector ≡ None
+ends_none : (sources : Selectables) (element : ℕ) (before : Option ℕ) (selector : Selector) → ends_scan selector ≡ true
+    → finds sources element before selector ≡ None
 ends_none sources element before CheckedOut h = cc
 ends_none sources element before (Label name) h = cc
 ends_none sources element before (Latest names) h = cc
@@ -38,19 +42,24 @@ ends_none sources element before (Numbered names number) h = cc
 ends_none sources element before (Config target object) h = cc
 ends_none sources element before Nothing h = refl
 
-none_of : {A B : Type 0} (f : A → B) (found : Option A) (ends : Bool) → (ends || is_some found) ≡ true → option_map f found ≡ None → ends ≡ true
+none_of : {A B : Type 0} (f : A → B) (found : Option A) (ends : Bool) → (ends || is_some found) ≡ true → option_map f found ≡ None
+    → ends ≡ true
 none_of f found true h e = refl
 none_of f (Some a) false h e = cc
 none_of f None false h e = cc
 
-by_rule : (sources : Selectables) (element : ℕ) (names : List (List ℕ)) (found : Option Rule) → ((rule : Rule) → found ≡ Some rule → decides sources element names rule ≡ true) → (option_and_then (picked_by sources element) found ≡ None) ↔ IfSome found (λ rule. ends_scan rule.selector ≡ true)
+by_rule : (sources : Selectables) (element : ℕ) (names : List (List ℕ)) (found : Option Rule)
+    → ((rule : Rule) → found ≡ Some rule → decides sources element names rule ≡ true)
+    → (option_and_then (picked_by sources element) found ≡ None) ↔ IfSome found (λ rule. ends_scan rule.selector ≡ true)
 by_rule sources element names None holds = (λ h. tt, λ h. refl)
 by_rule sources element names (Some rule) holds =
-    let tests = and_parts (matches rule.pattern names) (ends_scan rule.selector || is_some (found_by sources element rule)) (holds rule refl) in (
+    let tests = and_parts (matches rule.pattern names) (ends_scan rule.selector || is_some (found_by sources element rule))
+    (holds rule refl) in (
       λ h. none_of _ (found_by sources element rule) (ends_scan rule.selector) tests.1 h,
       λ e. let none = ends_none sources element rule.before rule.selector e in rw none refl,
     )
 
 pub picks_nothing : PicksNothing
 picks_nothing sources element names rules =
-    by_rule sources element names (deciding sources element names rules) (λ rule e. found_passes (decides sources element names) rules rule e)
+    by_rule sources element names (deciding sources element names rules)
+    (λ rule e. found_passes (decides sources element names) rules rule e)

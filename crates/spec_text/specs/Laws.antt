@@ -51,6 +51,8 @@ StaysAtRows =
     (rows : ℕ) (tree : List TreeChange) (labels : List LabelChange) (listed : ℕ → List ℕ → ℕ → Option ℕ) (out : Option ℕ)
     (element : ℕ) (names : List (List ℕ)) (rules : List Rule) →
     ((change : TreeChange) → rows ≤ row_of_change change →
-    pick (selectables_at rows (change ∷ tree) labels listed out) element names rules ≡ pick (selectables_at rows tree labels listed out) element names rules)
+    pick (selectables_at rows (change ∷ tree) labels listed out) element names rules
+    ≡ pick (selectables_at rows tree labels listed out) element names rules)
     × ((change : LabelChange) → rows ≤ row_of_label_change change →
-    pick (selectables_at rows tree (change ∷ labels) listed out) element names rules ≡ pick (selectables_at rows tree labels listed out) element names rules)
+    pick (selectables_at rows tree (change ∷ labels) listed out) element names rules
+    ≡ pick (selectables_at rows tree labels listed out) element names rules)

@@ -15,8 +15,8 @@ pub record State : Type 0 where
   pub blocks : List ℕ
 
 -- no rule and no open block
-abbrev pub nothing_read : State
-nothing_read = record { rules = []; blocks = [] }
+abbrev pub no_rule_read : State
+no_rule_read = record { rules = []; blocks = [] }
 
 -- the state when the innermost block has ended
 abbrev pub state_after_block : List Rule → List ℕ → Result State SpecCause
@@ -24,15 +24,15 @@ state_after_block rules [] = Err NoBlock
 state_after_block rules (innermost ∷ blocks) = Ok (record { rules = rules; blocks = blocks })
 
 -- the state behind a line
-abbrev pub after_line : Line → State → Result State SpecCause
-after_line Skipped state = Ok state
-after_line (BeginsBlock moment) state = Ok (record { rules = state.rules; blocks = moment ∷ state.blocks })
-after_line EndsBlock state = state_after_block state.rules state.blocks
-after_line (Gives rule) state = Ok (record { rules = state.rules ++ rule ∷ []; blocks = state.blocks })
+abbrev pub rules_after_line : Line → State → Result State SpecCause
+rules_after_line Skipped state = Ok state
+rules_after_line (BeginsBlock moment) state = Ok (record { rules = state.rules; blocks = moment ∷ state.blocks })
+rules_after_line EndsBlock state = state_after_block state.rules state.blocks
+rules_after_line (Gives rule) state = Ok (record { rules = state.rules ++ rule ∷ []; blocks = state.blocks })
 
 -- the state behind what a line says, where it says something
 abbrev pub after_read : Result Line SpecCause → State → Result State SpecCause
-after_read (Ok line) state = after_line line state
+after_read (Ok line) state = rules_after_line line state
 after_read (Err cause) state = Err cause
 
 -- a cause with the line on which it stands

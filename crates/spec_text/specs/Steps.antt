@@ -14,17 +14,18 @@ pub record IsDotsBefore (segments behind : List Segment) : Type 0 where
   pub wild : is_dots segment ≡ true
 
 -- the first segment is another one and matches the first name; these are behind them
-pub record IsNameBefore (segments : List Segment) (names : List (List ℕ)) (behind : List Segment) (rest : List (List ℕ)) : Type 0 where
-  pub segment : Segment
-  pub name : List ℕ
-  pub prefix : segments ≡ segment ∷ behind
-  pub first : names ≡ name ∷ rest
-  pub plain : is_dots segment ≡ false
-  pub fit : fits_name segment name ≡ true
+pub record IsNameBefore (segments : List Segment) (names : List (List ℕ)) (behind : List Segment) (rest : List (List ℕ)) : Type 0
+  where
+    pub segment : Segment
+    pub name : List ℕ
+    pub prefix : segments ≡ segment ∷ behind
+    pub first : names ≡ name ∷ rest
+    pub plain : is_dots segment ≡ false
+    pub fit : fits_name segment name ≡ true
 
 -- what each step says of the segments and the names
-abbrev pub IsStep : List Segment → List (List ℕ) → Step → Type 0
-IsStep segments names (AnyNames behind) = IsDotsBefore segments behind.now
-IsStep segments names (OneName behind rest) = IsNameBefore segments names behind.now (parts_left 47 (option_copied rest))
-IsStep segments names End = (segments ≡ []) × (names ≡ [])
-IsStep segments names Mismatch = matches_names segments names ≡ false
+abbrev pub IsSegmentStep : List Segment → List (List ℕ) → Step → Type 0
+IsSegmentStep segments names (AnyNames behind) = IsDotsBefore segments behind.now
+IsSegmentStep segments names (OneName behind rest) = IsNameBefore segments names behind.now (parts_left 47 (option_copied rest))
+IsSegmentStep segments names End = (segments ≡ []) × (names ≡ [])
+IsSegmentStep segments names Mismatch = matches_names segments names ≡ false

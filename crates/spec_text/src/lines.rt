@@ -149,7 +149,7 @@ fn is_comment(word: &[u8]) -> bool
 }
 
 /// What a line says, or why it is none, in time linear in its bytes.
-pub(crate) fn read_line(
+pub(crate) fn read_spec_line(
     alloc: Global,
     context: LineContext,
     bytes: &[u8],

@@ -1,13 +1,13 @@
 //! Matching with wild cards in time of one list's length times the other's, without memory.
 //!
-//! The cards are compared with what they stand for from the front. A wild card stands for nothing at first; where the
+//! The cards are compared with what they stand for from the start. A wild card stands for nothing at first; where the
 //! comparison fails behind it, it takes one member more, and the comparison begins again behind it. Only the last wild
 //! card met is ever tried again: what an earlier one could take, the last one can take too.
 
 ghost use Rattle.std.specs.Prelude.{◌≡◌};
 ghost use Rattle.std.specs.Option.{option_copied};
 ghost use Rattle.base_model.specs.ConfigSpecs.Patterns.{matches_name, matches_where, fits_byte, fits_name, is_dots};
-ghost use Rattle.spec_text.specs.Steps.{IsStep};
+ghost use Rattle.spec_text.specs.Steps.{IsSegmentStep};
 ghost use Rattle.spec_text.specs.Parts.{parts_left};
 
 use crate::parts::split_part;
@@ -88,7 +88,7 @@ enum Step<'a> {
 }
 
 fn next_step<'a>(segments: &'a [Segment], names: Option<&'a [u8]>) -> Step<'a>
-    ensures { IsStep segments.now (parts_left 47 (option_copied names.entry)) result }
+    ensures { IsSegmentStep segments.now (parts_left 47 (option_copied names.entry)) result }
 {
     let Some((segment, behind)) = segments.split_first() else {
         return match split_part(names, b'/') {

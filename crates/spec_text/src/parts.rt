@@ -1,4 +1,4 @@
-//! Bytes taken apart from the front, without memory.
+//! Bytes taken apart from the start, without memory.
 
 ghost use Rattle.std.specs.Prelude.{◌≡◌, ◌==◌, ◌<◌, ◌+◌, [], ◌∷◌, length, drop, MatchOption, IfSome};
 ghost use Rattle.std.specs.List.{position};

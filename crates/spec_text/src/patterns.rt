@@ -19,7 +19,7 @@ use cc_names::selection::{Pattern, Segment};
 use cc_names::texts::Text;
 use std::alloc::Global;
 
-/// The names of a path as they are taken from its front.
+/// The names of a path as they are taken from its start.
 fn names(path: &[u8]) -> Option<&[u8]>
     ensures names { parts_left 47 (option_copied result) ≡ names_of path.now }
     ensures root { is_none (option_copied result) ≡ has_none (names_of path.now) }
@@ -40,7 +40,7 @@ fn is_lone_star(segments: &[Segment]) -> bool
     }
 }
 
-/// What a rule of a config spec bears on.
+/// What a rule of a config spec affects.
 pub trait Matches {
     ghost matches_path: { Self → List (List ℕ) → Bool };
 

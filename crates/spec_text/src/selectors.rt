@@ -31,7 +31,7 @@ fn on_branch(names: Vec<Name>, end: &[u8]) -> Option<Selector>
     }
 }
 
-/// The selector by what stands behind `/main/`.
+/// The selector by what follows `/main/`.
 fn behind_main(alloc: Global, parts: Option<&[u8]>) -> Result<Option<Selector>, NoMemory>
     ensures { IfOk result
         (λ selector. selector ≡ behind_main (parts_left 47 (option_copied parts.entry)) []) }
@@ -51,7 +51,7 @@ fn behind_main(alloc: Global, parts: Option<&[u8]>) -> Result<Option<Selector>, 
     Ok(None)
 }
 
-/// The selector by what stands behind `.../`.
+/// The selector by what follows `.../`.
 fn behind_dots(alloc: Global, parts: Option<&[u8]>) -> Result<Option<Selector>, NoMemory>
     ensures { IfOk result
         (λ selector. selector ≡ behind_dots (parts_left 47 (option_copied parts.entry))) }
@@ -157,7 +157,7 @@ pub(crate) fn read_selector(
     }
 }
 
-/// Reads what stands behind `-mkbranch`, where it is there, as the name of a branch type.
+/// Reads what follows `-mkbranch`, where it is there, as the name of a branch type.
 pub(crate) fn read_branch_type(
     alloc: Global,
     word: Option<&[u8]>,

@@ -5,7 +5,7 @@ ghost use Rattle.cc_names.specs.Answers.{Gives};
 ghost use Rattle.spec_text.specs.Reading.{at_line};
 ghost use Rattle.base_model.specs.ConfigSpecs.Specs.{rules_of};
 
-use crate::lines::{LineContext, read_line};
+use crate::lines::{LineContext, read_spec_line};
 use base_model::config_specs::Line;
 use cc_names::cuts::Lines;
 use cc_names::memory::Or;
@@ -35,10 +35,10 @@ impl Model for Reader {
 
 impl Reader {
     ghost use Rattle.base_model.specs.ConfigSpecs.Lines.{line_of};
-    ghost use Rattle.spec_text.specs.Reading.{nothing_read, after_line, after_read};
+    ghost use Rattle.spec_text.specs.Reading.{no_rule_read, rules_after_line, after_read};
 
     fn new(alloc: Global) -> Reader
-        ensures { result ≡ nothing_read }
+        ensures { result ≡ no_rule_read }
     {
         Reader {
             rules: Vec::new(alloc),
@@ -55,7 +55,7 @@ impl Reader {
 
     /// Takes in what a line says, or answers why it cannot stand there.
     fn take(self, line: Line) -> Result<Reader, Or<SpecCause>>
-        ensures { Gives result (after_line line self) }
+        ensures { Gives result (rules_after_line line self) }
     {
         let Reader {
             mut rules,
@@ -74,7 +74,7 @@ impl Reader {
         Ok(Reader { rules, blocks })
     }
 
-    /// Reads the line of this number and takes in what it says.
+    /// Reads the line of this number and adds what it says.
     fn next(self, alloc: Global, number: u32, bytes: &[u8]) -> Result<Reader, Or<SpecCause>>
         ensures { Gives result
             (after_read (line_of number (slice_get self.blocks 0) bytes.now) self) }
@@ -83,7 +83,7 @@ impl Reader {
             line: number,
             block: self.innermost(),
         };
-        let line = read_line(alloc, context, bytes)?;
+        let line = read_spec_line(alloc, context, bytes)?;
         self.take(line)
     }
 

@@ -10,7 +10,8 @@ use std::alloc::Global;
 use std::marker::{Model, PhantomData};
 
 /// The story of a session with the rows and phases that it names, the phases kept as their text. Contracts see it as the story,
-/// each commit told with its row and each beginning of a phase with that phase. A session that opened no base has the empty story. Whether the
+/// each commit told with its row and each beginning of a phase with that phase. A session that opened no base has the empty
+/// story. Whether the
 /// disk told its device is a part of the story, and known by the disk's type alone.
 #[derive(Drop)]
 pub struct History<D: Disk> {
@@ -24,19 +25,19 @@ pub struct History<D: Disk> {
 impl<D: Disk> Model for History<D> {
     ghost use Rattle.std.specs.Prelude.{List};
     ghost use Rattle.cc_names.specs.declared.steps.StoryStep.{StoryStep};
-    ghost use Rattle.story_log.specs.Story.Handed.{handed_in};
+    ghost use Rattle.story_log.specs.Story.Handed.{handed_disk};
     ghost use Rattle.story_log.specs.Story.Telling.{story_of, AreNamedBySteps};
 
     ghost Value = { List StoryStep };
 
     ghost view = { λ h.
-        story_of (handed_in h.handed D.tells) h.steps.items h.rows.items h.phases.items };
+        story_of (handed_disk h.handed D.tells) h.steps.items h.rows.items h.phases.items };
 
     ghost invariant = { λ h. AreNamedBySteps 1 0 h.steps.items h.rows.items h.phases.items };
 }
 
 impl<D: Disk> History<D> {
-    ghost use Rattle.story_log.specs.Story.Handed.{handed_in};
+    ghost use Rattle.story_log.specs.Story.Handed.{handed_disk};
     ghost use Rattle.story_log.specs.Story.Telling.{story_of, AreNamedBySteps, rows_named, TellsStory};
 
     /// The history of a session that opened no base. Takes no memory.
@@ -63,7 +64,7 @@ impl<D: Disk> History<D> {
         handed: Counts,
     ) -> History<D>
         requires { AreNamedBySteps 1 0 steps.items rows.items phases.items }
-        ensures { result ≡ story_of (handed_in handed D.tells) steps.items rows.items phases.items }
+        ensures { result ≡ story_of (handed_disk handed D.tells) steps.items rows.items phases.items }
     {
         History {
             rows,

@@ -4,7 +4,7 @@
 //! keeps rows, phases, steps and the journal; it takes all memory for a row before it appends it, and the row joins the base once
 //! the journal has acknowledged it.
 //!
-//! What it promises, of the disk's content where the disk tells its device: `open_log` opens the base that a disk stands for,
+//! What it promises, of the disk's content where the disk models its device: `open_log` opens the base that a disk stands for,
 //! or says why not. `append` adds the step of a commit or of a fault, with what the disk's counts were; `tell` and
 //! `begin_phase` add a step and touch no disk. A stop at any call of the disk since the base was opened finds the rows
 //! committed before it, and besides at most the row that was under way or that a fault left; `settle` leaves the rows and no

@@ -42,7 +42,7 @@ pub struct Log<D: Disk> {
 }
 
 impl<D: Disk> Model for Log<D> {
-    ghost use Rattle.story_log.specs.Story.Handed.{handed_in};
+    ghost use Rattle.story_log.specs.Story.Handed.{handed_disk};
     ghost use Rattle.story_log.specs.Logging.Logs.{Logged, IsLogged};
     ghost use Rattle.story_log.specs.Story.Telling.{story_of};
     ghost use Rattle.base_rows.specs.Order.{oldest_first};
@@ -50,7 +50,7 @@ impl<D: Disk> Model for Log<D> {
     ghost Value = { Logged };
 
     ghost view = { λ log. record {
-      story = story_of (handed_in log.handed D.tells) log.steps.items
+      story = story_of (handed_disk log.handed D.tells) log.steps.items
           (oldest_first log.rows.base) log.phases.items;
       base = log.rows.base;
       phases = log.phases.items;
@@ -58,7 +58,7 @@ impl<D: Disk> Model for Log<D> {
     } };
 
     ghost invariant = { λ log.
-        IsLogged (handed_in log.handed D.tells) log.steps.items log.rows.base log.phases.items
+        IsLogged (handed_disk log.handed D.tells) log.steps.items log.rows.base log.phases.items
         (D.ghost_state log.journal.disk) log.journal.list log.journal.leftover log.journal.ended
         log.journal.left log.journal.settled };
 }
@@ -129,7 +129,7 @@ impl<D: Disk> Log<D> {
     ghost use Rattle.cc_names.specs.Counts.{rises};
     ghost use Rattle.story_log.specs.Logging.Appending.{Appends, IsQuiet};
     ghost use Rattle.story_log.specs.Stopping.Backed.{IsBacked, IsSettled, IsAccounted, may_be_open};
-    ghost use Rattle.story_log.specs.Story.Handed.{handed_in};
+    ghost use Rattle.story_log.specs.Story.Handed.{handed_disk};
     ghost use Rattle.story_log.specs.Story.Faults.{is_fault};
     ghost use Rattle.story_log.specs.Logging.Logs.{opened_log, with_phase, with_step, with_ghost_state};
     ghost use Rattle.story_log.specs.Story.Telling.{stands_alone};
@@ -150,7 +150,7 @@ impl<D: Disk> Log<D> {
             (D.ghost_state journal.disk) journal.list journal.leftover journal.ended journal.left
             journal.settled }
         ensures ok { IfOk result
-            (λ log. log ≡ opened_log rows.base (handed_in handed D.tells) (D.ghost_state journal.disk)) }
+            (λ log. log ≡ opened_log rows.base (handed_disk handed D.tells) (D.ghost_state journal.disk)) }
         ensures err { IfErr result (λ back. back ≡ journal) }
     {
         let mut steps = Vec::new(alloc);
@@ -278,7 +278,8 @@ impl<D: Disk> Log<D> {
         self.rows.all()
     }
 
-    /// Has at hand what a view sees in the first rows where a unit of these targets is likely to ask, as `remember` of `view_lookup` does.
+    /// Has at hand what a view sees in the first rows where a unit of these targets is likely to ask, as `remember` of
+    /// `view_lookup` does.
     pub fn remember(&mut self, view: &Name, count: u64, targets: &[Path])
         ensures { self.new ≡ self.old }
     {

@@ -2,7 +2,7 @@
 
 ghost use Rattle.std.specs.Prelude.{◌≡◌, [], ◌∷◌, true, IfSome, IfNone, IfOk, IfErr, OnOk};
 ghost use Rattle.base_model.specs.Fits.{fits};
-ghost use Rattle.disk_model.specs.Devices.{file_of, bytes_of};
+ghost use Rattle.disk_model.specs.Devices.{file_of, bytes_now};
 ghost use Rattle.disk_model.specs.Files.{stable};
 ghost use Rattle.disk_model.specs.DiskStates.{IfModeled};
 ghost use Rattle.story_log.specs.Bases.Opening.{StopsBy, IsOpened, FailsToOpen};
@@ -35,7 +35,7 @@ pub struct OpenFault<D: Disk> {
     pub disk: D,
 }
 
-/// The next payload of a journal with nothing loose, or None at its end.
+/// The next payload of a journal with nothing left over, or None at its end.
 fn next_payload<D: Disk>(alloc: Global, journal: &mut Journal<D>) -> Result<Option<Text>, OpenCause>
     requires { journal.old.leftover ≡ [] }
     ensures reads { OnlyReads D.ghost_state journal.old journal.new }
@@ -85,7 +85,7 @@ fn next_row(
 }
 
 /// The next row of a journal behind those that were read, or None at its end.
-fn read_row<D: Disk>(
+fn read_next_row<D: Disk>(
     alloc: Global,
     hashing: RandomState,
     journal: &mut Journal<D>,
@@ -143,7 +143,7 @@ fn read_rows<D: Disk>(
         return Err(OpenCause::NoMemory);
     };
     'frames: loop {
-        match read_row(alloc, hashing, journal, &rows.all()) {
+        match read_next_row(alloc, hashing, journal, &rows.all()) {
             Ok(Some(row)) => {
                 if add_row(alloc, &mut rows, row).is_err() {
                     return Err(OpenCause::NoMemory);
@@ -162,7 +162,7 @@ pub fn open_log<D: Disk>(
     hashing: RandomState,
     disk: D,
 ) -> Result<Log<D>, OpenFault<D>>
-    requires { IfModeled (D.ghost_state disk).modeled (λ d. file_of 0 d ≡ stable (bytes_of 0 d)) }
+    requires { IfModeled (D.ghost_state disk).modeled (λ d. file_of 0 d ≡ stable (bytes_now 0 d)) }
     ensures ok { IfOk result (λ log. IsOpened (D.ghost_state disk) log) }
     ensures err { IfErr result
         (λ fault. FailsToOpen (D.ghost_state disk) fault.cause (D.ghost_state fault.disk)) }

@@ -1,5 +1,6 @@
 -- Beginnings of lists.
-use Rattle.std.proofs.Common.{◌≡◌, ◌≤◌, ◌<◌, Bool, true, false, List, [], ◌∷◌, ◌++◌, length, nat_lt, if◌then◌else◌, refl, ap, sym, ◌∙◌, inl, inr, arith, append_assoc, length-append}
+use Rattle.std.proofs.Common.{◌≡◌, ◌≤◌, ◌<◌, Bool, true, false, List, [], ◌∷◌, ◌++◌, length, nat_lt, if◌then◌else◌, refl, ap}
+use Rattle.std.proofs.Common.{sym, ◌∙◌, inl, inr, arith, append_assoc, length-append}
 use Rattle.std.proofs.lemmas.Bool.Decides.{nat_tests}
 use mathlib.Core.List.{IsPrefix}
 use Rattle.turn_lock.specs.PassState.{IsLongerOf}
@@ -31,16 +32,21 @@ module _ {D : Type 0} where
   whole_begins (x ∷ xs) (z ∷ zs) p le = let rest = whole_begins xs zs (p.0, cc (p.1)) (omega arith) in cc (p.1, rest)
 
   longer_by : (b : Bool) (xs ys zs : List D) → nat_lt (length xs) (length ys) ≡ b → IsPrefix xs zs → IsPrefix ys zs
-      → IsPrefix (if b then ys else xs) zs × IsPrefix (if b then xs else ys) zs × IsPrefix (if b then xs else ys) (if b then ys else xs)
-  longer_by true xs ys zs e p q = let le : length xs < length ys = grind (arith, nat_tests) in (q, p, shorter_begins xs ys zs p q (omega arith))
-  longer_by false xs ys zs e p q = let le : length ys ≤ length xs = grind (arith, nat_tests) in (p, q, shorter_begins ys xs zs q p le)
+      → IsPrefix (if b then ys else xs) zs × IsPrefix (if b then xs else ys) zs
+      × IsPrefix (if b then xs else ys) (if b then ys else xs)
+  longer_by true xs ys zs e p q = let le : length xs < length ys = grind (arith, nat_tests) in
+      (q, p, shorter_begins xs ys zs p q (omega arith))
+  longer_by false xs ys zs e p q = let le : length ys ≤ length xs = grind (arith, nat_tests) in
+      (p, q, shorter_begins ys xs zs q p le)
 
   -- of two beginnings of one list
-  pub longer_begins : (xs ys zs : List D) → IsPrefix xs zs → IsPrefix ys zs → IsPrefix (longer xs ys) zs × IsPrefix (shorter xs ys) zs × IsPrefix (shorter xs ys) (longer xs ys)
+  pub longer_begins : (xs ys zs : List D) → IsPrefix xs zs → IsPrefix ys zs → IsPrefix (longer xs ys) zs
+      × IsPrefix (shorter xs ys) zs × IsPrefix (shorter xs ys) (longer xs ys)
   longer_begins xs ys zs p q = longer_by (nat_lt (length xs) (length ys)) xs ys zs refl p q
 
   whole_by : (b : Bool) (xs ys : List D) → nat_lt (length xs) (length ys) ≡ b → IsPrefix ys xs → ((if b then ys else xs) ≡ xs)
-  whole_by true xs ys e p = let le : length xs < length ys = grind (arith, nat_tests) in let n : length ys ≤ length xs = omega (arith, length-append ys p.0, ap length p.1) in absurd (omega arith)
+  whole_by true xs ys e p = let le : length xs < length ys = grind (arith, nat_tests) in let n : length ys ≤ length xs =
+      omega (arith, length-append ys p.0, ap length p.1) in absurd (omega arith)
   whole_by false xs ys e p = refl
 
   whole_by' : (b : Bool) (xs ys : List D) → nat_lt (length xs) (length ys) ≡ b → IsPrefix xs ys → ((if b then ys else xs) ≡ ys)
@@ -54,7 +60,8 @@ module _ {D : Type 0} where
   pub longer_whole_right : (xs ys : List D) → IsPrefix xs ys → longer xs ys ≡ ys
   longer_whole_right xs ys p = whole_by' (nat_lt (length xs) (length ys)) xs ys refl p
 
-  is_longer_by : (b : Bool) (xs ys : List D) → IsPrefix (if b then xs else ys) (if b then ys else xs) → IsLongerOf xs ys (if b then ys else xs)
+  is_longer_by : (b : Bool) (xs ys : List D) → IsPrefix (if b then xs else ys) (if b then ys else xs)
+      → IsLongerOf xs ys (if b then ys else xs)
   is_longer_by true xs ys p = inr (refl, p)
   is_longer_by false xs ys p = inl (refl, p)
 

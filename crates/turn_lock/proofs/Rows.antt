@@ -22,7 +22,7 @@ wraps = refl
 halves_of_seven : (greater_half (idle two 7) ≡ idle two 4) × (lesser_half (idle two 7) ≡ idle two 3)
 halves_of_seven = (refl, refl)
 
--- a pass that has seen two steps takes in one that has seen three
+-- a pass that has seen two steps adds one that has seen three
 joins_three : joined (idle two 4) (idle three 3) ≡ record { stage = Joined two; seen = three; weight = 7 }
 joins_three = refl
 

@@ -1,5 +1,6 @@
 -- What holds of each pass, after one of them has changed or a new one has come.
-use Rattle.std.proofs.Common.{◌≡◌, ◌≢◌, ℕ, zero, suc, ◌+◌, ◌<◌, ◌≤◌, List, [], ◌∷◌, ◌++◌, set, refl, sym, ap, ◌∙◌, subst, ⊎_elim, arith, Some, None}
+use Rattle.std.proofs.Common.{◌≡◌, ◌≢◌, ℕ, zero, suc, ◌+◌, ◌<◌, ◌≤◌, List, [], ◌∷◌, ◌++◌, set, refl, sym, ap, ◌∙◌, subst, ⊎_elim}
+use Rattle.std.proofs.Common.{arith, Some, None}
 use Rattle.std.proofs.lemmas.List.Sums.{sum_by_push}
 use mathlib.Core.Option.{some, some-ne-none}
 use lib.ListN.{get_elem?}
@@ -28,15 +29,18 @@ module _ {D : Type 0} where
 
   -- no other pass has the new ticket
   pub apart_set : (views : List (View D)) (id : ℕ) (w : View D) → IsApart views
-      → ((seat : ℕ) (v : View D) (ticket : ℕ) → seat ≢ id → get_elem? views seat ≡ some v → ticket_of w.stage ≡ Some ticket → ticket_of v.stage ≡ Some ticket → ⊥) → IsApart (set views id w)
+      → ((seat : ℕ) (v : View D) (ticket : ℕ) → seat ≢ id → get_elem? views seat ≡ some v → ticket_of w.stage ≡ Some ticket
+      → ticket_of v.stage ≡ Some ticket → ⊥) → IsApart (set views id w)
   apart_set views id w apart fresh seat other u v at_u at_v ticket of_u of_v =
       ⊎_elim
       (λ (s : (seat ≡ id) × (w ≡ u)). ⊎_elim
       (λ (t : (other ≡ id) × (w ≡ v)). s.0 ∙ sym t.0)
-      (λ (t : (other ≢ id) × (get_elem? views other ≡ some v)). absurd (fresh other v ticket t.0 t.1 (ap (λ (x : View D). ticket_of x.stage) s.1 ∙ of_u) of_v))
+      (λ (t : (other ≢ id) × (get_elem? views other ≡ some v)). absurd
+      (fresh other v ticket t.0 t.1 (ap (λ (x : View D). ticket_of x.stage) s.1 ∙ of_u) of_v))
       (at_set views id other w v at_v))
       (λ (s : (seat ≢ id) × (get_elem? views seat ≡ some u)). ⊎_elim
-      (λ (t : (other ≡ id) × (w ≡ v)). absurd (fresh seat u ticket s.0 s.1 (ap (λ (x : View D). ticket_of x.stage) t.1 ∙ of_v) of_u))
+      (λ (t : (other ≡ id) × (w ≡ v)). absurd (fresh seat u ticket s.0 s.1 (ap (λ (x : View D). ticket_of x.stage) t.1
+      ∙ of_v) of_u))
       (λ (t : (other ≢ id) × (get_elem? views other ≡ some v)). apart seat other u v s.1 t.1 ticket of_u of_v)
       (at_set views id other w v at_v))
       (at_set views id seat w u at_u)
@@ -45,10 +49,13 @@ module _ {D : Type 0} where
   no_ticket stage free ticket of = cc
 
   -- one pass changes
-  pub counted_set : (served drawn whole served' drawn' whole' : ℕ) (views : List (View D)) (id : ℕ) (v w : View D) → get_elem? views id ≡ some v
-      → served' + tickets_of w + drawn ≡ served + tickets_of v + drawn' → whole' + v.weight ≡ whole + w.weight → (w.weight ≡ 0 → w ≡ spent) → IsInLine served' drawn' w.stage
+  pub counted_set : (served drawn whole served' drawn' whole' : ℕ) (views : List (View D)) (id : ℕ) (v w : View D)
+      → get_elem? views id ≡ some v
+      → served' + tickets_of w + drawn ≡ served + tickets_of v + drawn' → whole' + v.weight ≡ whole + w.weight
+      → (w.weight ≡ 0 → w ≡ spent) → IsInLine served' drawn' w.stage
       → ((seat : ℕ) (u : View D) → seat ≢ id → get_elem? views seat ≡ some u → IsInLine served' drawn' u.stage)
-      → ((seat : ℕ) (u : View D) (ticket : ℕ) → seat ≢ id → get_elem? views seat ≡ some u → ticket_of w.stage ≡ Some ticket → ticket_of u.stage ≡ Some ticket → ⊥)
+      → ((seat : ℕ) (u : View D) (ticket : ℕ) → seat ≢ id → get_elem? views seat ≡ some u → ticket_of w.stage ≡ Some ticket
+      → ticket_of u.stage ≡ Some ticket → ⊥)
       → IsCounted served drawn whole views → IsCounted served' drawn' whole' (set views id w)
   counted_set served drawn whole served' drawn' whole' views id v w at counts weighs weighty mine others fresh c = record {
     count = omega (arith, sum_by-at_set tickets_of views id v w at, c.count);
@@ -59,14 +66,18 @@ module _ {D : Type 0} where
   }
 
   -- one pass changes, and has no ticket before or after
-  pub counted_free : (served drawn whole whole' : ℕ) (views : List (View D)) (id : ℕ) (v w : View D) → get_elem? views id ≡ some v → tickets_of v ≡ 0 → tickets_of w ≡ 0 → ticket_of w.stage ≡ None
-      → IsInLine served drawn w.stage → whole' + v.weight ≡ whole + w.weight → (w.weight ≡ 0 → w ≡ spent) → IsCounted served drawn whole views → IsCounted served drawn whole' (set views id w)
+  pub counted_free : (served drawn whole whole' : ℕ) (views : List (View D)) (id : ℕ) (v w : View D) → get_elem? views id ≡ some v
+      → tickets_of v ≡ 0 → tickets_of w ≡ 0 → ticket_of w.stage ≡ None
+      → IsInLine served drawn w.stage → whole' + v.weight ≡ whole + w.weight → (w.weight ≡ 0 → w ≡ spent)
+      → IsCounted served drawn whole views → IsCounted served drawn whole' (set views id w)
   counted_free served drawn whole whole' views id v w at before after free in_line weighs weighty c =
-      counted_set served drawn whole served drawn whole' views id v w at (omega arith) weighs weighty in_line (λ seat u _ at_u. c.in_line seat u at_u)
+      counted_set served drawn whole served drawn whole' views id v w at (omega arith) weighs weighty in_line
+      (λ seat u _ at_u. c.in_line seat u at_u)
       (λ seat u ticket _ _ of _. no_ticket w.stage free ticket of) c
 
   -- a new pass comes, which has no ticket
-  pub counted_snoc : (served drawn whole : ℕ) (views : List (View D)) (seen : List D) (weight : ℕ) → 0 < weight → IsCounted served drawn whole views
+  pub counted_snoc : (served drawn whole : ℕ) (views : List (View D)) (seen : List D) (weight : ℕ) → 0 < weight
+      → IsCounted served drawn whole views
       → IsCounted served drawn (whole + weight) (views ++ idle seen weight ∷ [])
   counted_snoc served drawn whole views seen weight some_weight c = let w : View D = idle seen weight in record {
     count = omega (arith, sum_by_push tickets_of views w, c.count);
@@ -87,7 +98,8 @@ module _ {D : Type 0} where
           (at_snoc views w u seat at_u)
 
   -- a pass holds no more tickets than it has weight
-  light : (stage : Stage D) (seen : List D) (weight : ℕ) → (weight ≡ 0 → record { stage = stage; seen = seen; weight = weight } ≡ spent) → tickets_at stage ≤ weight
+  light : (stage : Stage D) (seen : List D) (weight : ℕ) → (weight ≡ 0
+      → record { stage = stage; seen = seen; weight = weight } ≡ spent) → tickets_at stage ≤ weight
   light Idle seen weight e = omega arith
   light (Joined shorter) seen weight e = omega arith
   light (Waits ticket) seen zero e = absurd (cc (ap (λ (v : View D). v.stage) (e refl)))
@@ -97,7 +109,13 @@ module _ {D : Type 0} where
 
   -- fewer tickets are drawn and not served than a word has numbers
   pub few : (served drawn whole : ℕ) (views : List (View D)) → IsCounted served drawn whole views → drawn ≤ served + whole
-  few served drawn whole views c = omega (arith, sum_by-le_at tickets_of weight_of views (λ seat v at. light v.stage v.seen v.weight (c.weighty seat v at)), c.count, c.sum)
+  few served drawn whole views c = omega (
+    arith,
+    sum_by-le_at tickets_of weight_of views
+        (λ seat v at. light v.stage v.seen v.weight (c.weighty seat v at)),
+    c.count,
+    c.sum,
+  )
 
   -- one more ticket is drawn
   pub in_line_more : (served drawn : ℕ) (stage : Stage D) → IsInLine served drawn stage → IsInLine served (drawn + 1) stage
@@ -107,19 +125,23 @@ module _ {D : Type 0} where
   in_line_more served drawn (Turn ticket story) d = (d.0, omega arith)
 
   -- the ticket served is another's
-  pub in_line_later : (served drawn : ℕ) (stage : Stage D) → (ticket_of stage ≡ Some served → ⊥) → IsInLine served drawn stage → IsInLine (served + 1) drawn stage
+  pub in_line_later : (served drawn : ℕ) (stage : Stage D) → (ticket_of stage ≡ Some served → ⊥) → IsInLine served drawn stage
+      → IsInLine (served + 1) drawn stage
   in_line_later served drawn Idle other d = tt
   in_line_later served drawn (Joined shorter) other d = tt
-  in_line_later served drawn (Waits ticket) other d = let differ : ticket ≢ served = λ e. other (ap (λ (t : ℕ). Some t) e) in (omega arith, d.1)
+  in_line_later served drawn (Waits ticket) other d = let differ : ticket ≢ served = λ e. other (ap (λ (t : ℕ). Some t) e) in
+      (omega arith, d.1)
   in_line_later served drawn (Turn ticket story) other d = absurd (other (ap (λ (t : ℕ). Some t) d.0))
 
-  pub no_turn : (served drawn : ℕ) (stage : Stage D) → (ticket_of stage ≡ Some served → ⊥) → IsInLine served drawn stage → HasNoTurn stage
+  pub no_turn : (served drawn : ℕ) (stage : Stage D) → (ticket_of stage ≡ Some served → ⊥) → IsInLine served drawn stage
+      → HasNoTurn stage
   no_turn served drawn Idle other d = tt
   no_turn served drawn (Joined shorter) other d = tt
   no_turn served drawn (Waits ticket) other d = tt
   no_turn served drawn (Turn ticket story) other d = other (ap (λ (t : ℕ). Some t) d.0)
 
-  pub in_line_below : (served drawn ticket : ℕ) (stage : Stage D) → ticket_of stage ≡ Some ticket → IsInLine served drawn stage → ticket < drawn
+  pub in_line_below : (served drawn ticket : ℕ) (stage : Stage D) → ticket_of stage ≡ Some ticket → IsInLine served drawn stage
+      → ticket < drawn
   in_line_below served drawn ticket Idle of d = absurd (cc)
   in_line_below served drawn ticket (Joined shorter) of d = absurd (cc)
   in_line_below served drawn ticket (Waits own) of d = let e : own ≡ ticket = cc in omega arith

@@ -62,7 +62,8 @@ abbrev pub Homes : Type 0 → Type 0
 Homes T = List (maybe.Option (Option T))
 
 module _ {T D : Type 0} (story : T → List D) where
-  -- The value is at home, and no pass has the turn. The value's story begins with all that was seen, and some pass has seen it whole.
+  -- The value is at home, and no pass has the turn. The value's story begins with all that was seen, and some pass has seen it
+  -- whole.
   pub record IsHome (homes : Homes T) (views : List (View D)) : Type 0 where
     pub value : T
     pub home : homes ≡ some (Some value) ∷ []

@@ -36,7 +36,7 @@ module _ {D : Type 0} where
   abbrev pub idle : List D → ℕ → View D
   idle seen weight = record { stage = Idle; seen = seen; weight = weight }
 
-  -- a pass that another has taken in
+  -- a pass that another has joined
   abbrev pub spent : View D
   spent = idle [] 0
 

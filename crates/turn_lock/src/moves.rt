@@ -50,7 +50,7 @@ impl<D> Join<View<D>> for Unite {
     ghost spent = { spent };
 }
 
-/// Learns, after another pass was taken in, that the shorter story begins the longer.
+/// Learns, after another pass was joined, that the shorter story begins the longer.
 pub(crate) struct Settle;
 
 impl<T, D> Play<Option<T>, View<D>> for Settle {

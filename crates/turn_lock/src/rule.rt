@@ -18,7 +18,7 @@ pub(crate) const VALUE: usize = 0;
 /// How far a pass has come. No value of it is made.
 pub enum Stage<D> {
     Idle,
-    /// It has just taken in another pass, which had seen the shorter story.
+    /// It has just joined another pass, which had seen the shorter story.
     Joined(LinkedList<D>),
     /// It has drawn this ticket.
     Waits(u64),

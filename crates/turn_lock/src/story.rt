@@ -1,4 +1,4 @@
-//! Values whose past can be told.
+//! Values whose past can be known.
 
 /// A value with a story: a list that its type defines, and that only proofs read.
 ///

@@ -1,5 +1,7 @@
 -- The fields of a tree stay in step as changes are added.
-use Rattle.std.proofs.Common.{◌≡◌, ◌≢◌, ℕ, zero, suc, ◌<◌, Bool, true, false, cond, ◌||◌, eqb, ltb, List, [], ◌∷◌, ◌++◌, length, get_or, set, map, reverse, Some, None, slice_get, vec_len, vec_capacity, refl, inl, inr, sym, ap, ◌∙◌, arith}
+use Rattle.std.proofs.Common.{◌≡◌, ◌≢◌, ℕ, zero, suc, ◌<◌, Bool, true, false, cond, ◌||◌, eqb, ltb, List, [], ◌∷◌, ◌++◌, length}
+use Rattle.std.proofs.Common.{get_or, set, map, reverse, Some, None, slice_get, vec_len, vec_capacity, refl, inl, inr, sym, ap}
+use Rattle.std.proofs.Common.{◌∙◌, arith}
 use Rattle.std.specs.Prelude.{find}
 use Rattle.std.specs.List.{list_any}
 use Rattle.std.proofs.lemmas.List.{reverse-append, length-set, get_or-set_same, get_or-set_other}
@@ -25,7 +27,8 @@ rows_of_made (m ∷ made) = ap (λ rows. row_of_made m ∷ rows) (rows_of_made m
 -- no branch has a row that is above all
 pub no_branch : (row : ℕ) (branches : List Branch) → IsAbove row (map row_of_branch branches) → branch_at branches row ≡ None
 no_branch row [] above = refl
-no_branch row (b ∷ branches) above = let other : eqb b.row row ≡ false = grind (arith, nat_tests, above.0) in rw other (no_branch row branches above.1)
+no_branch row (b ∷ branches) above = let other : eqb b.row row ≡ false = grind (arith, nat_tests, above.0) in
+    rw other (no_branch row branches above.1)
 
 -- version 0 of a branch
 abbrev version_of : ℕ → ℕ → ℕ → Version
@@ -34,7 +37,8 @@ version_of row moment branch = record { row = row; moment = moment; branch = bra
 -- a change that begins a branch, and the branch with version 0 alone
 pub branch_added : (m : Made) (b : Branch) (made : List Made) (branches : List Branch)
     → InStep made branches
-    → row_of_change m.change ≡ b.row → branch_of_change m.change ≡ b.row → moment_of_change m.change ≡ b.moment → b.later.items ≡ []
+    → row_of_change m.change ≡ b.row → branch_of_change m.change ≡ b.row → moment_of_change m.change ≡ b.moment
+    → b.later.items ≡ []
     → IsAbove b.row (map row_of_made made)
     → InStep (m ∷ made) (b ∷ branches)
 branch_added m b made branches step rows on moments empty above = record {
@@ -55,26 +59,31 @@ branch_added m b made branches step rows on moments empty above = record {
 
 module _ (branches : List Branch) (p : ℕ) (b' : Branch) (within : p < length branches) where
   -- rows stay where a branch is put back with more versions
-  pub rows_set : ((d : Branch) → (get_or branches p d).row ≡ b'.row) → map row_of_branch (set branches p b') ≡ map row_of_branch branches
+  pub rows_set : ((d : Branch) → (get_or branches p d).row ≡ b'.row) → map row_of_branch (set branches p b')
+      ≡ map row_of_branch branches
   rows_set same = over branches p within same
     where
-      over : (xs : List Branch) (i : ℕ) → i < length xs → ((d : Branch) → (get_or xs i d).row ≡ b'.row) → map row_of_branch (set xs i b') ≡ map row_of_branch xs
+      over : (xs : List Branch) (i : ℕ) → i < length xs → ((d : Branch) → (get_or xs i d).row ≡ b'.row)
+          → map row_of_branch (set xs i b') ≡ map row_of_branch xs
       over [] i lt same = absurd (omega arith)
       over (x ∷ xs) zero lt same = ap (λ r. r ∷ map row_of_branch xs) (sym (same x))
       over (x ∷ xs) (suc i) lt same = ap (λ rs. x.row ∷ rs) (over xs i (omega arith) same)
 
   -- branches of other rows are found as before
-  pub find_set_other : (q : ℕ) → ((d : Branch) → (get_or branches p d).row ≡ b'.row) → eqb b'.row q ≡ false → find (λ b. eqb b.row q) (set branches p b') ≡ find (λ b. eqb b.row q) branches
+  pub find_set_other : (q : ℕ) → ((d : Branch) → (get_or branches p d).row ≡ b'.row) → eqb b'.row q ≡ false
+      → find (λ b. eqb b.row q) (set branches p b') ≡ find (λ b. eqb b.row q) branches
   find_set_other q same other = over branches p within same
     where
-      over : (xs : List Branch) (i : ℕ) → i < length xs → ((d : Branch) → (get_or xs i d).row ≡ b'.row) → find (λ b. eqb b.row q) (set xs i b') ≡ find (λ b. eqb b.row q) xs
+      over : (xs : List Branch) (i : ℕ) → i < length xs → ((d : Branch) → (get_or xs i d).row ≡ b'.row)
+          → find (λ b. eqb b.row q) (set xs i b') ≡ find (λ b. eqb b.row q) xs
       over [] i lt same = absurd (omega arith)
       over (x ∷ xs) zero lt same = rw (same x, other) refl
       over (x ∷ xs) (suc i) lt same = ap (λ o. cond (eqb x.row q) (Some x) o) (over xs i (omega arith) same)
 
 map-reverse : {X Y : Type 0} (f : X → Y) (xs : List X) → map f (reverse xs) ≡ reverse (map f xs)
 map-reverse f [] = refl
-map-reverse f (x ∷ xs) = rw (reverse-append (x ∷ []) xs, reverse-append (f x ∷ []) (map f xs)) (map-append f (reverse xs) (x ∷ []) ∙ ap (λ ys. ys ++ f x ∷ []) (map-reverse f xs))
+map-reverse f (x ∷ xs) = rw (reverse-append (x ∷ []) xs, reverse-append (f x ∷ []) (map f xs)) (map-append f (reverse xs) (x ∷ [])
+    ∙ ap (λ ys. ys ++ f x ∷ []) (map-reverse f xs))
   where
     map-append : {A B : Type 0} (g : A → B) (ys zs : List A) → map g (ys ++ zs) ≡ map g ys ++ map g zs
     map-append g [] zs = refl
@@ -107,7 +116,8 @@ module _ (items : List Branch) (branch p : ℕ) (falls : Falls (map row_of_branc
       ∙ ap Some there
 
   -- a branch that is ready has room at its place
-  pub has_room : (d : Branch) → list_any (λ b. eqb b branch) (ready_branches items) ≡ true → ltb (vec_len (get_or items p d).later) (vec_capacity (get_or items p d).later) ≡ true
+  pub has_room : (d : Branch) → list_any (λ b. eqb b branch) (ready_branches items) ≡ true
+      → ltb (vec_len (get_or items p d).later) (vec_capacity (get_or items p d).later) ≡ true
   has_room d ready = room items p within (λ k e in_range apart. unique k e in_range apart) ready
     where
       unique : (k : ℕ) (e : Branch) → k < length items → k ≢ p → eqb (get_or items k e).row branch ≡ false
@@ -118,28 +128,36 @@ module _ (items : List Branch) (branch p : ℕ) (falls : Falls (map row_of_branc
             grind (arith, nat_tests, row_there e, rises_below row_of_branch items falls p k e lt in_range)
       ]
 
-      none_ready : (xs : List Branch) → ((k : ℕ) (e : Branch) → k < length xs → eqb (get_or xs k e).row branch ≡ false) → list_any (λ b. eqb b branch) (ready_branches xs) ≡ false
+      none_ready : (xs : List Branch) → ((k : ℕ) (e : Branch) → k < length xs → eqb (get_or xs k e).row branch ≡ false)
+          → list_any (λ b. eqb b branch) (ready_branches xs) ≡ false
       none_ready [] others = refl
-      none_ready (x ∷ xs) others = over_put (ltb (vec_len x.later) (vec_capacity x.later)) (others 0 x (omega arith)) (none_ready xs (λ k e lt. others (suc k) e (omega arith)))
+      none_ready (x ∷ xs) others = over_put (ltb (vec_len x.later) (vec_capacity x.later)) (others 0 x (omega arith))
+          (none_ready xs (λ k e lt. others (suc k) e (omega arith)))
         where
-          over_put : (t : Bool) → eqb x.row branch ≡ false → list_any (λ b. eqb b branch) (ready_branches xs) ≡ false → list_any (λ b. eqb b branch) (put_if t x.row (ready_branches xs)) ≡ false
+          over_put : (t : Bool) → eqb x.row branch ≡ false → list_any (λ b. eqb b branch) (ready_branches xs) ≡ false
+              → list_any (λ b. eqb b branch) (put_if t x.row (ready_branches xs)) ≡ false
           over_put true fails rest = rw fails rest
           over_put false fails rest = rest
 
-      room : (xs : List Branch) (i : ℕ) → i < length xs → ((k : ℕ) (e : Branch) → k < length xs → k ≢ i → eqb (get_or xs k e).row branch ≡ false)
-          → list_any (λ b. eqb b branch) (ready_branches xs) ≡ true → ltb (vec_len (get_or xs i d).later) (vec_capacity (get_or xs i d).later) ≡ true
+      room : (xs : List Branch) (i : ℕ) → i < length xs → ((k : ℕ) (e : Branch) → k < length xs → k ≢ i
+          → eqb (get_or xs k e).row branch ≡ false)
+          → list_any (λ b. eqb b branch) (ready_branches xs) ≡ true → ltb (vec_len (get_or xs i d).later)
+          (vec_capacity (get_or xs i d).later) ≡ true
       room [] i lt others listed = absurd (omega arith)
       room (x ∷ xs) zero lt others listed =
-          at_head (ltb (vec_len x.later) (vec_capacity x.later)) (none_ready xs (λ k e in_range. others (suc k) e (omega arith) (λ same. cc same))) listed
+          at_head (ltb (vec_len x.later) (vec_capacity x.later)) (none_ready xs
+          (λ k e in_range. others (suc k) e (omega arith) (λ same. cc same))) listed
         where
-          at_head : (t : Bool) → list_any (λ b. eqb b branch) (ready_branches xs) ≡ false → list_any (λ b. eqb b branch) (put_if t x.row (ready_branches xs)) ≡ true → t ≡ true
+          at_head : (t : Bool) → list_any (λ b. eqb b branch) (ready_branches xs) ≡ false
+              → list_any (λ b. eqb b branch) (put_if t x.row (ready_branches xs)) ≡ true → t ≡ true
           at_head true none any = refl
           at_head false none any = cc
       room (x ∷ xs) (suc i) lt others listed =
           room xs i (omega arith) (λ k e in_range apart. others (suc k) e (omega arith) (λ same. apart (omega arith)))
           (passed (ltb (vec_len x.later) (vec_capacity x.later)) (others 0 x (omega arith) (λ same. cc same)) listed)
         where
-          passed : (t : Bool) → eqb x.row branch ≡ false → list_any (λ b. eqb b branch) (put_if t x.row (ready_branches xs)) ≡ true → list_any (λ b. eqb b branch) (ready_branches xs) ≡ true
+          passed : (t : Bool) → eqb x.row branch ≡ false → list_any (λ b. eqb b branch) (put_if t x.row (ready_branches xs))
+              ≡ true → list_any (λ b. eqb b branch) (ready_branches xs) ≡ true
           passed true fails any = rw fails at any
           passed false fails any = any
 
@@ -148,13 +166,20 @@ abbrev version_behind : ℕ → Later → List Version → Version
 version_behind branch l vs = record { row = l.row; moment = l.moment; branch = branch; number = length vs }
 
 -- one version more on a branch
-stored_more : (b b' : Branch) (l : Later) (branch : ℕ) → b.row ≡ branch → b'.row ≡ branch → b'.moment ≡ b.moment → b'.later.items ≡ b.later.items ++ l ∷ []
+stored_more : (b b' : Branch) (l : Later) (branch : ℕ) → b.row ≡ branch → b'.row ≡ branch → b'.moment ≡ b.moment
+    → b'.later.items ≡ b.later.items ++ l ∷ []
     → (version_behind branch l (versions_stored b) ∷ versions_stored b) ≡ versions_stored b'
 stored_more b b' l branch row row' moments more =
-    let older : versions_stored b ≡ versions_from branch b.moment (reverse b.later.items) = ap (λ r. versions_from r b.moment (reverse b.later.items)) row in
-    let by_row : versions_stored b' ≡ versions_from branch b'.moment (reverse b'.later.items) = ap (λ r. versions_from r b'.moment (reverse b'.later.items)) row' in
-    let by_moment : versions_from branch b'.moment (reverse b'.later.items) ≡ versions_from branch b.moment (reverse b'.later.items) = ap (λ t. versions_from branch t (reverse b'.later.items)) moments in
-    let by_items : versions_from branch b.moment (reverse b'.later.items) ≡ versions_from branch b.moment (l ∷ reverse b.later.items) = ap (versions_from branch b.moment) (ap reverse more ∙ reverse-append b.later.items (l ∷ [])) in
+    let older : versions_stored b ≡ versions_from branch b.moment (reverse b.later.items) =
+    ap (λ r. versions_from r b.moment (reverse b.later.items)) row in
+    let by_row : versions_stored b' ≡ versions_from branch b'.moment (reverse b'.later.items) =
+    ap (λ r. versions_from r b'.moment (reverse b'.later.items)) row' in
+    let by_moment : versions_from branch b'.moment (reverse b'.later.items)
+    ≡ versions_from branch b.moment (reverse b'.later.items) = ap (λ t. versions_from branch t (reverse b'.later.items))
+    moments in
+    let by_items : versions_from branch b.moment (reverse b'.later.items)
+    ≡ versions_from branch b.moment (l ∷ reverse b.later.items) = ap (versions_from branch b.moment) (ap reverse more
+    ∙ reverse-append b.later.items (l ∷ [])) in
     ap (λ vs. version_behind branch l vs ∷ vs) older ∙ sym (by_row ∙ by_moment ∙ by_items)
 
 -- the next version on a branch that is there
@@ -163,18 +188,21 @@ pub version_added : (m : Made) (made : List Made) (items : List Branch) (p : ℕ
     → m.change ≡ VersionMade row moment branch
     → IsAbove row (map row_of_made made)
     → p < length items → slice_get items p ≡ find (λ b. eqb b.row branch) items
-    → b'.row ≡ branch → ((d : Branch) → b'.moment ≡ (get_or items p d).moment) → ((d : Branch) → b'.later.items ≡ (get_or items p d).later.items ++ record { row = row; moment = moment } ∷ [])
+    → b'.row ≡ branch → ((d : Branch) → b'.moment ≡ (get_or items p d).moment)
+    → ((d : Branch) → b'.later.items ≡ (get_or items p d).later.items ++ record { row = row; moment = moment } ∷ [])
     → InStep (m ∷ made) (reverse (set items p b'))
 version_added m made items p b' row moment branch step is above within found same_row same_moment more =
     let there = row_there items branch p step.branches_fall within found in
     let old = get_or items p b' in
     let rows : map row_of_branch (reverse (set items p b')) ≡ map row_of_branch (reverse items) =
-    map-reverse row_of_branch (set items p b') ∙ ap reverse (rows_set items p b' within (λ d. there d ∙ sym same_row)) ∙ sym (map-reverse row_of_branch items) in
+    map-reverse row_of_branch (set items p b') ∙ ap reverse (rows_set items p b' within (λ d. there d ∙ sym same_row))
+    ∙ sym (map-reverse row_of_branch items) in
     let fall_after : Falls (map row_of_branch (reverse (set items p b'))) = rw rows step.branches_fall in
     let old_found : branch_at (reverse items) branch ≡ Some old =
     find-reverse row_of_branch branch items step.branches_fall ∙ sym found ∙ slice_get-get_or items p b' within in
     let new_found : branch_at (reverse (set items p b')) branch ≡ Some b' =
-    find-reverse row_of_branch branch (set items p b') fall_after ∙ find_set_here items branch p step.branches_fall within found b' same_row in
+    find-reverse row_of_branch branch (set items p b') fall_after ∙ find_set_here items branch p step.branches_fall within found
+    b' same_row in
     record {
       falls = (rw is above, step.falls);
       branches_fall = fall_after;
@@ -184,41 +212,48 @@ version_added m made items p b' row moment branch step is above within found sam
             let here : branch ≡ q = (Decides-eqb branch q).0 same in
             let old_there : branch_at (reverse items) q ≡ Some old = rw (← here) old_found in
             let before : versions_on (changes_of made) q ≡ versions_stored old = step.kept q ∙ ap versions_by old_there in
-            rw (is, same, before, ← here, new_found) (stored_more old b' (record { row = row; moment = moment }) branch (there b') same_row (same_moment b') (more b'))
+            rw (is, same, before, ← here, new_found) (stored_more old b' (record { row = row; moment = moment }) branch (there b')
+            same_row (same_moment b') (more b'))
         | inr other ↦
             let others : branch_at (reverse (set items p b')) q ≡ branch_at (reverse items) q =
-            find-reverse row_of_branch q (set items p b') fall_after ∙ find_set_other items p b' within q (λ d. there d ∙ sym same_row) (rw same_row other) ∙ sym (find-reverse row_of_branch q items step.branches_fall) in
+            find-reverse row_of_branch q (set items p b') fall_after ∙ find_set_other items p b' within q (λ d. there d
+            ∙ sym same_row) (rw same_row other) ∙ sym (find-reverse row_of_branch q items step.branches_fall) in
             rw (is, other, others) (step.kept q)
       ];
     }
 
 -- a branch that is not there is not ready
-pub not_ready : (branch : ℕ) (items : List Branch) → find (λ b. eqb b.row branch) items ≡ None → list_any (λ b. eqb b branch) (ready_branches items) ≡ false
+pub not_ready : (branch : ℕ) (items : List Branch) → find (λ b. eqb b.row branch) items ≡ None
+    → list_any (λ b. eqb b branch) (ready_branches items) ≡ false
 not_ready branch [] none = refl
 not_ready branch (x ∷ items) none = elim (bool_cases (eqb x.row branch)) [
   | inl same ↦ cc (rw same at none)
   | inr other ↦ over_put (ltb (vec_len x.later) (vec_capacity x.later)) other (not_ready branch items (rw other at none))
 ]
   where
-    over_put : (t : Bool) → eqb x.row branch ≡ false → list_any (λ b. eqb b branch) (ready_branches items) ≡ false → list_any (λ b. eqb b branch) (put_if t x.row (ready_branches items)) ≡ false
+    over_put : (t : Bool) → eqb x.row branch ≡ false → list_any (λ b. eqb b branch) (ready_branches items) ≡ false
+        → list_any (λ b. eqb b branch) (put_if t x.row (ready_branches items)) ≡ false
     over_put true fails rest = rw fails rest
     over_put false fails rest = rest
 
 -- a branch with more room
 pub room_made : (made : List Made) (items : List Branch) (p : ℕ) (b' : Branch) (branch : ℕ)
     → InStep made (reverse items) → p < length items → slice_get items p ≡ find (λ b. eqb b.row branch) items
-    → b'.row ≡ branch → ((d : Branch) → b'.moment ≡ (get_or items p d).moment) → ((d : Branch) → b'.later.items ≡ (get_or items p d).later.items)
+    → b'.row ≡ branch → ((d : Branch) → b'.moment ≡ (get_or items p d).moment)
+    → ((d : Branch) → b'.later.items ≡ (get_or items p d).later.items)
     → InStep made (reverse (set items p b'))
 room_made made items p b' branch step within found same_row same_moment same_later =
     let there = row_there items branch p step.branches_fall within found in
     let old = get_or items p b' in
     let rows : map row_of_branch (reverse (set items p b')) ≡ map row_of_branch (reverse items) =
-    map-reverse row_of_branch (set items p b') ∙ ap reverse (rows_set items p b' within (λ d. there d ∙ sym same_row)) ∙ sym (map-reverse row_of_branch items) in
+    map-reverse row_of_branch (set items p b') ∙ ap reverse (rows_set items p b' within (λ d. there d ∙ sym same_row))
+    ∙ sym (map-reverse row_of_branch items) in
     let fall_after : Falls (map row_of_branch (reverse (set items p b'))) = rw rows step.branches_fall in
     let old_found : branch_at (reverse items) branch ≡ Some old =
     find-reverse row_of_branch branch items step.branches_fall ∙ sym found ∙ slice_get-get_or items p b' within in
     let new_found : branch_at (reverse (set items p b')) branch ≡ Some b' =
-    find-reverse row_of_branch branch (set items p b') fall_after ∙ find_set_here items branch p step.branches_fall within found b' same_row in
+    find-reverse row_of_branch branch (set items p b') fall_after ∙ find_set_here items branch p step.branches_fall within found
+    b' same_row in
     let same_versions : versions_stored old ≡ versions_stored b' =
     ap (λ r. versions_from r old.moment (reverse old.later.items)) (there b' ∙ sym same_row)
     ∙ ap (λ t. versions_from b'.row t (reverse old.later.items)) (sym (same_moment b'))
@@ -235,21 +270,25 @@ room_made made items p b' branch step within found same_row same_moment same_lat
             step.kept q ∙ ap versions_by old_there ∙ same_versions ∙ sym (ap versions_by new_there)
         | inr other ↦
             let others : branch_at (reverse (set items p b')) q ≡ branch_at (reverse items) q =
-            find-reverse row_of_branch q (set items p b') fall_after ∙ find_set_other items p b' within q (λ d. there d ∙ sym same_row) (rw same_row other) ∙ sym (find-reverse row_of_branch q items step.branches_fall) in
+            find-reverse row_of_branch q (set items p b') fall_after ∙ find_set_other items p b' within q (λ d. there d
+            ∙ sym same_row) (rw same_row other) ∙ sym (find-reverse row_of_branch q items step.branches_fall) in
             step.kept q ∙ ap versions_by (sym others)
       ];
     }
 
 -- a branch that has room is ready
-pub set_ready : (items : List Branch) (p : ℕ) (b' : Branch) (branch : ℕ) → p < length items → b'.row ≡ branch → ltb (vec_len b'.later) (vec_capacity b'.later) ≡ true
+pub set_ready : (items : List Branch) (p : ℕ) (b' : Branch) (branch : ℕ) → p < length items → b'.row ≡ branch
+    → ltb (vec_len b'.later) (vec_capacity b'.later) ≡ true
     → list_any (λ b. eqb b branch) (ready_branches (set items p b')) ≡ true
 set_ready [] p b' branch within same room = absurd (omega arith)
 set_ready (x ∷ items) zero b' branch within same room =
     let here : eqb b'.row branch ≡ true = (Decides-eqb b'.row branch).1 same in
     rw (room, here) refl
-set_ready (x ∷ items) (suc p) b' branch within same room = put_any (ltb (vec_len x.later) (vec_capacity x.later)) (set_ready items p b' branch (omega arith) same room)
+set_ready (x ∷ items) (suc p) b' branch within same room = put_any (ltb (vec_len x.later) (vec_capacity x.later))
+    (set_ready items p b' branch (omega arith) same room)
   where
-    put_any : (t : Bool) → list_any (λ b. eqb b branch) (ready_branches (set items p b')) ≡ true → list_any (λ b. eqb b branch) (put_if t x.row (ready_branches (set items p b'))) ≡ true
+    put_any : (t : Bool) → list_any (λ b. eqb b branch) (ready_branches (set items p b')) ≡ true
+        → list_any (λ b. eqb b branch) (put_if t x.row (ready_branches (set items p b'))) ≡ true
     put_any true any = rw any (or_true (eqb x.row branch))
       where
         or_true : (t : Bool) → (t || true) ≡ true

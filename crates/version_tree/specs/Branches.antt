@@ -1,5 +1,6 @@
 -- The versions that a branch keeps.
-use Rattle.std.specs.Prelude.{ℕ, zero, suc, Bool, cond, nat_lt, Option, Some, None, option_map, List, [], ◌∷◌, length, reverse, filter, slice_get}
+use Rattle.std.specs.Prelude.{ℕ, zero, suc, Bool, cond, nat_lt, Option, Some, None, option_map, List, [], ◌∷◌, length, reverse}
+use Rattle.std.specs.Prelude.{filter, slice_get}
 use Rattle.cc_names.specs.Versions.{Version}
 use Rattle.version_tree.specs.declared.branches.Later.{Later}
 use Rattle.version_tree.specs.declared.branches.Branch.{Branch}
@@ -12,7 +13,8 @@ row_of_later later = later.row
 abbrev pub versions_from : ℕ → ℕ → List Later → List Version
 versions_from b moment [] = record { row = b; moment = moment; branch = b; number = 0 } ∷ []
 versions_from b moment (later ∷ older) =
-    record { row = later.row; moment = later.moment; branch = b; number = length (versions_from b moment older) } ∷ versions_from b moment older
+    record { row = later.row; moment = later.moment; branch = b; number = length (versions_from b moment older) }
+    ∷ versions_from b moment older
 
 -- the versions on a branch, newest first
 abbrev pub versions_stored : Branch → List Version

@@ -23,13 +23,13 @@ NumbersHaveNoGap = (changes : List TreeChange) (branch : ℕ)
     → map number_of_version (versions_on changes branch)
     ≡ numbers_below (length (versions_on changes branch))
 
--- What a row made is told by no later change. So kinds, origins, names and branches stay as they are.
+-- What a row made is changed by no later change. So kinds, origins, names and branches stay as they are.
 abbrev pub WhatWasMadeStaysMade : Type 0
 WhatWasMadeStaysMade = (change : TreeChange) (older : List TreeChange) (row : ℕ)
     → row < row_of_change change
     → change_at (change ∷ older) row ≡ change_at older row
 
--- The same law, its part *placed*: where a version stands is told by no later change either. So version ids stay as they are.
+-- The same law, its part *placed*: where a version stands is changed by no later change either. So version ids stay as they are.
 abbrev pub WhatWasMadeStaysPlaced : Type 0
 WhatWasMadeStaysPlaced = (change : TreeChange) (older : List TreeChange) (row : ℕ) (at : VersionId)
     → IsAbove (row_of_change change) (map row_of_change older)

@@ -10,12 +10,12 @@ use Rattle.version_tree.specs.declared.branches.Branch.{Branch}
 use Rattle.version_tree.specs.declared.Tree.TheInside.{Inside}
 
 -- the change alone
-abbrev pub change_of : Made → TreeChange
-change_of made = made.change
+abbrev pub change_alone : Made → TreeChange
+change_alone made = made.change
 
 -- the changes alone
 abbrev pub changes_of : List Made → List TreeChange
-changes_of made = map change_of made
+changes_of made = map change_alone made
 
 -- the row of a change
 abbrev pub row_of_made : Made → ℕ

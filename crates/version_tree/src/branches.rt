@@ -61,7 +61,7 @@ fn last_before(later: &[Later], before: Option<u64>) -> Option<u64>
 }
 
 /// A row, where it is among the first `rows` rows.
-fn within(row: Option<u64>, rows: u64) -> Option<u64>
+fn among_first_rows(row: Option<u64>, rows: u64) -> Option<u64>
     ensures { result ≡ row_within rows row }
 {
     row.filter(|row| *row < rows)
@@ -102,7 +102,7 @@ impl Branch {
             ≡ option_map row_of_version
             (find (λ v. v.number == number) (stored_of_first_rows rows self.now)) }
     {
-        within(self.row_numbered(number), rows)
+        among_first_rows(self.row_numbered(number), rows)
     }
 
     // The row of the version with the number.

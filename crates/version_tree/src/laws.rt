@@ -14,7 +14,7 @@ pub fn numbers_have_no_gap()
     ensures { NumbersHaveNoGap }
 {}
 
-/// Promises `WhatWasMadeStaysMade` and `WhatWasMadeStaysPlaced`: what a row made is told by no later change, nor where its
+/// Promises `WhatWasMadeStaysMade` and `WhatWasMadeStaysPlaced`: what a row made is changed by no later change, nor where its
 /// version stands. So kinds, origins, names, branches and version ids stay as they are.
 pub fn what_was_made_stays()
     ensures made { WhatWasMadeStaysMade }

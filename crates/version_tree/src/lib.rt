@@ -53,7 +53,7 @@ impl Model for Tree {
 }
 
 /// The branch on which a change made a version.
-fn branch_of(change: &TreeChange) -> u64
+fn branch_changed(change: &TreeChange) -> u64
     ensures { result ≡ branch_of_change change.now }
 {
     match change {
@@ -267,7 +267,7 @@ impl Tree {
     pub fn version_id(&self, version: u64) -> Option<VersionId>
         ensures { result ≡ version_id self.now.changes version }
     {
-        let branch = branch_of(self.change_at(version)?);
+        let branch = branch_changed(self.change_at(version)?);
         let element = self.element_of(branch)?;
         let number = self.branch_at(branch)?.number_of(version)?;
         Some(VersionId {
@@ -281,6 +281,6 @@ impl Tree {
     pub fn branch(&self, version: u64) -> Option<u64>
         ensures { result ≡ branch_of_version self.now.changes version }
     {
-        Some(branch_of(self.change_at(version)?))
+        Some(branch_changed(self.change_at(version)?))
     }
 }

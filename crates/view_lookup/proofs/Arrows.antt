@@ -7,7 +7,8 @@ use Rattle.base_model.specs.Rows.{Base, only_where, size}
 use Rattle.base_rows.specs.Effects.{merge_effect}
 use Rattle.base_rows.specs.LookUps.{last_of}
 
-by_test : (is : Bool) (n : ℕ) (before : Option ℕ) → option_or (only_where is (Some n)) before ≡ value_after (only_if is (Sets n)) before
+by_test : (is : Bool) (n : ℕ) (before : Option ℕ) → option_or (only_where is (Some n)) before
+    ≡ value_after (only_if is (Sets n)) before
 by_test true n before = refl
 by_test false n before = refl
 

@@ -1,5 +1,6 @@
 -- An object is held by some view where the view that made it, or one that winked it in, holds it at one of its targets.
-use Rattle.std.proofs.Common.{◌≡◌, ℕ, ◌<◌, Bool, true, false, ◌&&◌, ◌||◌, ◌==◌, cond, Option, Some, None, List, [], ◌∷◌, length, refl, ap, sym, ◌∙◌, arith, bytes_eq}
+use Rattle.std.proofs.Common.{◌≡◌, ℕ, ◌<◌, Bool, true, false, ◌&&◌, ◌||◌, ◌==◌, cond, Option, Some, None, List, [], ◌∷◌, length}
+use Rattle.std.proofs.Common.{refl, ap, sym, ◌∙◌, arith, bytes_eq}
 use Rattle.std.specs.Prelude.{T, is_some}
 use Rattle.std.specs.Cmp.{tied_itself}
 use Rattle.std.specs.declared.cmp.Ordering.{Ordering}
@@ -10,7 +11,7 @@ use Rattle.std.proofs.lemmas.Bool.Decides.{nat_tests}
 use Rattle.std.proofs.lemmas.Slice.Eq.{bytes_eq-Decides}
 use Rattle.cc_names.specs.Formed.{Plain}
 use Rattle.cc_names.specs.Last.{Keeps, Ends, Sets, only_if, value_after}
-use Rattle.cc_names.specs.References.{Held, ViewPath, view_path_cmp, held_at, is_held}
+use Rattle.cc_names.specs.References.{ReferencesByPath, ViewPath, view_path_cmp, held_at, is_held}
 use Rattle.cc_names.specs.Versions.{is_number}
 use Rattle.cc_names.specs.declared.rows.Deed.{Deed}
 use Rattle.cc_names.specs.declared.rows.Deed.TheVariants as deeds
@@ -55,32 +56,40 @@ or_second true b h = refl
 or_second false b h = h
 
 -- a view path at which an object is found, behind all that come before those of the table
-record Found (objects_held : Held) (id : ℕ) : Type 0 where
+record Found (objects_held : ReferencesByPath) (id : ℕ) : Type 0 where
   at : ViewPath
   is : find view_path_cmp at objects_held ≡ Some id
   behind : (q : ViewPath) → T (below_all view_path_cmp q objects_held) → view_path_cmp q at ≡ Less
 
 -- what a table in order holds is found at its view path
-found_in : (objects_held : Held) (id : ℕ) → T (is_sorted view_path_cmp objects_held) → is_held objects_held id ≡ true → Found objects_held id
+found_in : (objects_held : ReferencesByPath) (id : ℕ) → T (is_sorted view_path_cmp objects_held) → is_held objects_held id ≡ true
+    → Found objects_held id
 found_in [] id sorted h = absurd (cc)
-found_in (entry ∷ objects_held) id sorted h = by (entry.1 == id) refl (found_in objects_held id (second (below_all view_path_cmp entry.0 objects_held) (is_sorted view_path_cmp objects_held) sorted)) h
+found_in (entry ∷ objects_held) id sorted h = by (entry.1 == id) refl (found_in objects_held id
+    (second (below_all view_path_cmp entry.0 objects_held) (is_sorted view_path_cmp objects_held) sorted)) h
   where
-    by : (t : Bool) → (entry.1 == id) ≡ t → (is_held objects_held id ≡ true → Found objects_held id) → (t || is_held objects_held id) ≡ true → Found (entry ∷ objects_held) id
+    by : (t : Bool) → (entry.1 == id) ≡ t → (is_held objects_held id ≡ true → Found objects_held id)
+        → (t || is_held objects_held id) ≡ true → Found (entry ∷ objects_held) id
     by true here older is =
         let number : entry.1 ≡ id = grind (arith, nat_tests) in
         record {
           at = entry.0;
-          is = ap (λ o. cond (is_eq o) (Some entry.1) (find view_path_cmp entry.0 objects_held)) (tied_itself view_paths_total entry.0) ∙ ap Some number;
-          behind = λ q below. less (view_path_cmp q entry.0) (first (is_lt (view_path_cmp q entry.0)) (below_all view_path_cmp q objects_held) below);
+          is = ap (λ o. cond (is_eq o) (Some entry.1) (find view_path_cmp entry.0 objects_held))
+              (tied_itself view_paths_total entry.0) ∙ ap Some number;
+          behind = λ q below. less (view_path_cmp q entry.0) (first (is_lt (view_path_cmp q entry.0))
+              (below_all view_path_cmp q objects_held) below);
         }
     by false other older is =
         let there = older is in
         let later : view_path_cmp there.at entry.0 ≡ Greater =
-        view_paths_total.antisymm there.at entry.0 ∙ ap ordering_reverse (there.behind entry.0 (first (below_all view_path_cmp entry.0 objects_held) (is_sorted view_path_cmp objects_held) sorted)) in
+        view_paths_total.antisymm there.at entry.0 ∙ ap ordering_reverse
+        (there.behind entry.0 (first (below_all view_path_cmp entry.0 objects_held) (is_sorted view_path_cmp objects_held)
+        sorted)) in
         record {
           at = there.at;
           is = ap (λ o. cond (is_eq o) (Some entry.1) (find view_path_cmp there.at objects_held)) later ∙ there.is;
-          behind = λ q below. there.behind q (second (is_lt (view_path_cmp q entry.0)) (below_all view_path_cmp q objects_held) below);
+          behind = λ q below. there.behind q (second (is_lt (view_path_cmp q entry.0)) (below_all view_path_cmp q objects_held)
+              below);
         }
 
 module _ (b : Base) (id : ℕ) where
@@ -88,17 +97,21 @@ module _ (b : Base) (id : ℕ) where
   number_is m same = grind (arith, nat_tests)
 
   -- a view that holds the object at a target holds it at one of them
-  pub holds_target : (v path w : List ℕ) (targets : List (List ℕ)) → held_at (objects_held b) v path ≡ Some id → bytes_eq w v ≡ true → is_target path targets ≡ true → holds_one b w id targets ≡ true
+  pub holds_target : (v path w : List ℕ) (targets : List (List ℕ)) → held_at (objects_held b) v path ≡ Some id
+      → bytes_eq w v ≡ true → is_target path targets ≡ true → holds_one b w id targets ≡ true
   holds_target v path w [] is same among = absurd (cc)
-  holds_target v path w (target ∷ targets) is same among = by (bytes_eq target path) refl (holds_target v path w targets is same) among
+  holds_target v path w (target ∷ targets) is same among = by (bytes_eq target path) refl (holds_target v path w targets is same)
+      among
     where
-      by : (t : Bool) → bytes_eq target path ≡ t → (is_target path targets ≡ true → holds_one b w id targets ≡ true) → (t || is_target path targets) ≡ true
+      by : (t : Bool) → bytes_eq target path ≡ t → (is_target path targets ≡ true → holds_one b w id targets ≡ true)
+          → (t || is_target path targets) ≡ true
           → (is_number id (held_at (objects_held b) w target) || holds_one b w id targets) ≡ true
       by true here rest one =
           let view : w ≡ v = (bytes_eq-Decides w v).0 same in
           let at : target ≡ path = (bytes_eq-Decides target path).0 here in
           or_first (is_number id (held_at (objects_held b) w target)) (holds_one b w id targets)
-          (ap (λ x. is_number id (held_at (objects_held b) x target)) view ∙ ap (λ x. is_number id (held_at (objects_held b) v x)) at ∙ ap (is_number id) is ∙ number_is id refl)
+          (ap (λ x. is_number id (held_at (objects_held b) x target)) view
+          ∙ ap (λ x. is_number id (held_at (objects_held b) v x)) at ∙ ap (is_number id) is ∙ number_is id refl)
       by false other rest one = or_second (is_number id (held_at (objects_held b) w target)) (holds_one b w id targets) (rest one)
 
   -- an object that a view holds at one of some paths is held
@@ -110,7 +123,9 @@ module _ (b : Base) (id : ℕ) where
   one_held v [] h = absurd (cc)
   one_held v (target ∷ targets) h = by (is_number id (held_at (objects_held b) v target)) refl (one_held v targets) h
     where
-      by : (t : Bool) → is_number id (held_at (objects_held b) v target) ≡ t → (holds_one b v id targets ≡ true → is_held (objects_held b) id ≡ true) → (t || holds_one b v id targets) ≡ true → is_held (objects_held b) id ≡ true
+      by : (t : Bool) → is_number id (held_at (objects_held b) v target) ≡ t
+          → (holds_one b v id targets ≡ true → is_held (objects_held b) id ≡ true) → (t || holds_one b v id targets) ≡ true
+          → is_held (objects_held b) id ≡ true
       by true here rest one = is_held_there b v target id (number_of (held_at (objects_held b) v target) here)
       by false other rest one = rest one
 
@@ -118,7 +133,8 @@ module _ (b : Base) (id : ℕ) where
   maker_held (Some (deeds.Publish v targets script entries outputs)) h = one_held v targets h
   maker_held deed h = absurd (cc)
 
-  set_or : (t : Bool) (n : ℕ) (older : Option ℕ) → is_some (value_after (only_if t (Sets n)) older) ≡ true → (t || is_some older) ≡ true
+  set_or : (t : Bool) (n : ℕ) (older : Option ℕ) → is_some (value_after (only_if t (Sets n)) older) ≡ true
+      → (t || is_some older) ≡ true
   set_or true n older h = refl
   set_or false n older h = h
 
@@ -126,13 +142,17 @@ module _ (b : Base) (id : ℕ) where
   wink_held [] h = absurd (cc)
   wink_held (row ∷ older) h = by row.deed h (wink_held older)
     where
-      here_or : (v : List ℕ) (other : ℕ) (t : Bool) → ((other == id) && holds_one b v id (targets_of older other)) ≡ t → (t || is_some (last_of (winked_effect b id) older)) ≡ true
-          → (is_some (last_of (winked_effect b id) older) ≡ true → is_held (objects_held b) id ≡ true) → is_held (objects_held b) id ≡ true
-      here_or v other true here is rest = one_held v (targets_of older other) (and_both (other == id) (holds_one b v id (targets_of older other)) here).1
+      here_or : (v : List ℕ) (other : ℕ) (t : Bool) → ((other == id) && holds_one b v id (targets_of older other)) ≡ t
+          → (t || is_some (last_of (winked_effect b id) older)) ≡ true
+          → (is_some (last_of (winked_effect b id) older) ≡ true → is_held (objects_held b) id ≡ true)
+          → is_held (objects_held b) id ≡ true
+      here_or v other true here is rest = one_held v (targets_of older other)
+          (and_both (other == id) (holds_one b v id (targets_of older other)) here).1
       here_or v other false not is rest = rest is
 
       by : (deed : Deed) → is_some (value_after (winked_effect b id older deed) (last_of (winked_effect b id) older)) ≡ true
-          → (is_some (last_of (winked_effect b id) older) ≡ true → is_held (objects_held b) id ≡ true) → is_held (objects_held b) id ≡ true
+          → (is_some (last_of (winked_effect b id) older) ≡ true → is_held (objects_held b) id ≡ true)
+          → is_held (objects_held b) id ≡ true
       by (deeds.Wink v other) is rest =
           here_or v other ((other == id) && holds_one b v id (targets_of older other)) refl
           (set_or ((other == id) && holds_one b v id (targets_of older other)) other (last_of (winked_effect b id) older) is) rest
@@ -142,10 +162,15 @@ module _ (b : Base) (id : ℕ) where
   record IsBelow (rows : Base) : Type 0 where
     same : (n : ℕ) (deed : Deed) → deed_at rows n ≡ Some deed → deed_at b n ≡ Some deed
 
-  deed_older : (row : Plain) (older : Base) (n : ℕ) (deed : Deed) → deed_at older n ≡ Some deed → deed_at (row ∷ older) n ≡ Some deed
+  deed_older : (row : Plain) (older : Base) (n : ℕ) (deed : Deed) → deed_at older n ≡ Some deed
+      → deed_at (row ∷ older) n ≡ Some deed
   deed_older row older n deed is = by (size older == n) refl
     where
-      by : (t : Bool) → (size older == n) ≡ t → deed_of (elim t as (λ _. Option Plain) [ true ↦ Some row | false ↦ row_at older n ]) ≡ Some deed
+      by : (t : Bool) → (size older == n) ≡ t → deed_of (elim t as (λ _. Option Plain) [
+        | true ↦ Some row
+        | false ↦
+            row_at older n
+      ]) ≡ Some deed
       by true here =
           let later : length older < n = grind (arith, nat_tests) in
           let none : deed_at older n ≡ None = ap deed_of (no_later older n later) in
@@ -158,7 +183,11 @@ module _ (b : Base) (id : ℕ) where
   newest_deed : (row : Plain) (older : Base) → IsBelow (row ∷ older) → deed_at b (size older) ≡ Some row.deed
   newest_deed row older below =
       let here : (size older == size older) ≡ true = grind (arith, nat_tests) in
-      below.same (size older) row.deed (ap (λ is. deed_of (elim is as (λ _. Option Plain) [ true ↦ Some row | false ↦ row_at older (size older) ])) here)
+      below.same (size older) row.deed (ap (λ is. deed_of (elim is as (λ _. Option Plain) [
+        | true ↦ Some row
+        | false ↦
+            row_at older (size older)
+      ])) here)
 
   -- whether the object is held by its maker, or by a view that winked it in by one of some rows
   abbrev IsTraced : Base → Type 0
@@ -172,14 +201,17 @@ module _ (b : Base) (id : ℕ) where
   drops true older h = absurd (cc)
   drops false older h = h
 
-  still : (t maker : Bool) (n : ℕ) (older : Option ℕ) → (maker || is_some older) ≡ true → (maker || is_some (value_after (only_if t (Sets n)) older)) ≡ true
+  still : (t maker : Bool) (n : ℕ) (older : Option ℕ) → (maker || is_some older) ≡ true
+      → (maker || is_some (value_after (only_if t (Sets n)) older)) ≡ true
   still t true n older h = refl
   still true false n older h = refl
   still false false n older h = h
 
-  traced : (v path : List ℕ) → held_at (objects_held b) v path ≡ Some id → (rows : Base) → IsBelow rows → last_of (held_effect v path) rows ≡ Some id → IsTraced rows
+  traced : (v path : List ℕ) → held_at (objects_held b) v path ≡ Some id → (rows : Base) → IsBelow rows
+      → last_of (held_effect v path) rows ≡ Some id → IsTraced rows
   traced v path there [] below h = absurd (cc)
-  traced v path there (row ∷ older) below h = by row.deed (newest_deed row older below) h (traced v path there older (below_older row older below))
+  traced v path there (row ∷ older) below h = by row.deed (newest_deed row older below) h
+      (traced v path there older (below_older row older below))
     where
       before : Option ℕ
       before = last_of (held_effect v path) older
@@ -190,30 +222,40 @@ module _ (b : Base) (id : ℕ) where
       winked : Option ℕ
       winked = last_of (winked_effect b id) older
 
-      published : (w : List ℕ) (targets : List (List ℕ)) (script : List ℕ) (entries : List ReadOf) (outputs : List (List ℕ)) (t : Bool) → deed_at b (size older) ≡ Some (deeds.Publish w targets script entries outputs)
-          → (bytes_eq w v && is_target path targets) ≡ t → value_after (only_if t (Sets (size older))) before ≡ Some id → (before ≡ Some id → IsTraced older) → IsTraced older
+      published : (w : List ℕ) (targets : List (List ℕ)) (script : List ℕ) (entries : List ReadOf) (outputs : List (List ℕ))
+          (t : Bool) → deed_at b (size older) ≡ Some (deeds.Publish w targets script entries outputs)
+          → (bytes_eq w v && is_target path targets) ≡ t → value_after (only_if t (Sets (size older))) before ≡ Some id
+          → (before ≡ Some id → IsTraced older) → IsTraced older
       published w targets script entries outputs true at test is rest =
           let number : size older ≡ id = cc in
           let parts = and_both (bytes_eq w v) (is_target path targets) test in
-          or_first maker (is_some winked) (ap (held_by_maker b id) (ap (deed_at b) (sym number) ∙ at) ∙ holds_target v path w targets there parts.0 parts.1)
+          or_first maker (is_some winked) (ap (held_by_maker b id) (ap (deed_at b) (sym number) ∙ at)
+          ∙ holds_target v path w targets there parts.0 parts.1)
       published w targets script entries outputs false at test is rest = rest is
 
-      winks : (w : List ℕ) (other : ℕ) (t : Bool) → (bytes_eq w v && is_target path (targets_of older other)) ≡ t → value_after (only_if t (Sets other)) before ≡ Some id → (before ≡ Some id → IsTraced older)
-          → (maker || is_some (value_after (only_if ((other == id) && holds_one b w id (targets_of older other)) (Sets other)) winked)) ≡ true
+      winks : (w : List ℕ) (other : ℕ) (t : Bool) → (bytes_eq w v && is_target path (targets_of older other)) ≡ t
+          → value_after (only_if t (Sets other)) before ≡ Some id → (before ≡ Some id → IsTraced older)
+          → (maker || is_some (value_after (only_if ((other == id) && holds_one b w id (targets_of older other)) (Sets other))
+          winked)) ≡ true
       winks w other true test is rest =
           let number : other ≡ id = cc in
           let one : (other == id) ≡ true = grind (arith, nat_tests) in
           let parts = and_both (bytes_eq w v) (is_target path (targets_of older other)) test in
           let holds = holds_target v path w (targets_of older other) there parts.0 parts.1 in
-          or_second maker (is_some (value_after (only_if ((other == id) && holds_one b w id (targets_of older other)) (Sets other)) winked))
-          (ap (λ here. is_some (value_after (only_if (here && holds_one b w id (targets_of older other)) (Sets other)) winked)) one
+          or_second maker (is_some (value_after (only_if ((other == id) && holds_one b w id (targets_of older other))
+          (Sets other)) winked))
+          (ap (λ here. is_some (value_after (only_if (here && holds_one b w id (targets_of older other)) (Sets other)) winked))
+          one
           ∙ ap (λ here. is_some (value_after (only_if here (Sets other)) winked)) holds)
-      winks w other false test is rest = still ((other == id) && holds_one b w id (targets_of older other)) maker other winked (rest is)
+      winks w other false test is rest = still ((other == id) && holds_one b w id (targets_of older other)) maker other winked
+          (rest is)
 
-      by : (deed : Deed) → deed_at b (size older) ≡ Some deed → value_after (held_effect v path older deed) before ≡ Some id → (before ≡ Some id → IsTraced older)
+      by : (deed : Deed) → deed_at b (size older) ≡ Some deed → value_after (held_effect v path older deed) before ≡ Some id
+          → (before ≡ Some id → IsTraced older)
           → (maker || is_some (value_after (winked_effect b id older deed) winked)) ≡ true
       by (deeds.Rmview w) at is rest = rest (ends (bytes_eq w v) before is)
-      by (deeds.Publish w targets script entries outputs) at is rest = published w targets script entries outputs (bytes_eq w v && is_target path targets) at refl is rest
+      by (deeds.Publish w targets script entries outputs) at is rest =
+          published w targets script entries outputs (bytes_eq w v && is_target path targets) at refl is rest
       by (deeds.Wink w other) at is rest = winks w other (bytes_eq w v && is_target path (targets_of older other)) refl is rest
       by (deeds.Drop w q) at is rest = rest (drops (bytes_eq w v && bytes_eq q path) before is)
       by deed at is rest = rest is
@@ -221,9 +263,11 @@ module _ (b : Base) (id : ℕ) where
   one_way : is_held (objects_held b) id ≡ true → IsTraced b
   one_way is =
       let found = found_in (objects_held b) id (as_true (is_sorted view_path_cmp (objects_held b)) (held_in_order b)) is in
-      traced found.at.0 found.at.1 found.is b (record { same = λ n deed here. here }) (sym (held_by_last b found.at.0 found.at.1) ∙ found.is)
+      traced found.at.0 found.at.1 found.is b (record { same = λ n deed here. here }) (sym (held_by_last b found.at.0 found.at.1)
+      ∙ found.is)
 
-  other_way : (maker winked : Bool) → held_by_maker b id (deed_at b id) ≡ maker → is_some (last_of (winked_effect b id) b) ≡ winked → (maker || winked) ≡ true → is_held (objects_held b) id ≡ true
+  other_way : (maker winked : Bool) → held_by_maker b id (deed_at b id) ≡ maker
+      → is_some (last_of (winked_effect b id) b) ≡ winked → (maker || winked) ≡ true → is_held (objects_held b) id ≡ true
   other_way true winked made w h = maker_held (deed_at b id) made
   other_way false winked made w h = wink_held b (w ∙ h)
 
@@ -233,7 +277,8 @@ module _ (b : Base) (id : ℕ) where
   same_test false false there back = refl
 
   -- An object is held where its maker or one that winked it in holds it.
-  pub held_somewhere : (held_by_maker b id (deed_at b id) || is_some (last_of (winked_effect b id) b)) ≡ is_held (objects_held b) id
+  pub held_somewhere : (held_by_maker b id (deed_at b id) || is_some (last_of (winked_effect b id) b))
+      ≡ is_held (objects_held b) id
   held_somewhere =
       same_test (held_by_maker b id (deed_at b id) || is_some (last_of (winked_effect b id) b)) (is_held (objects_held b) id)
       (other_way (held_by_maker b id (deed_at b id)) (is_some (last_of (winked_effect b id) b)) refl refl) one_way

@@ -1,5 +1,6 @@
 -- The least path of an object's closure of which a test holds, by the entries of its record.
-use Rattle.std.proofs.Common.{◌≡◌, refl, ap, sym, subst, ◌∙◌, ℕ, suc, ◌<◌, ◌≤◌, Bool, true, false, cond, ◌&&◌, ◌==◌, max, Option, Some, None, List, [], ◌∷◌, ◌++◌, length, drop, get_or, ◌+◌, arith}
+use Rattle.std.proofs.Common.{◌≡◌, refl, ap, sym, subst, ◌∙◌, ℕ, suc, ◌<◌, ◌≤◌, Bool, true, false, cond, ◌&&◌, ◌==◌, max, Option}
+use Rattle.std.proofs.Common.{Some, None, List, [], ◌∷◌, ◌++◌, length, drop, get_or, ◌+◌, arith}
 use Rattle.std.proofs.lemmas.Bool.Decides.{nat_tests}
 use Rattle.std.proofs.lemmas.Cmp.{nat_list_cmp_total, then_total, on_total, nat_cmp_total, ranked}
 use Rattle.std.proofs.lemmas.List.Elements.{recursion_from_All}
@@ -17,7 +18,8 @@ use Rattle.std.specs.declared.cmp.Ordering.{Ordering}
 use Rattle.std.specs.declared.cmp.Ordering.TheVariants.{Less, Equal, Greater}
 use Rattle.cc_names.specs.Formed.{Plain}
 use Rattle.cc_names.specs.declared.rows.ReadOf.{ReadOf}
-use Rattle.base_model.specs.Closures.{Input, Inputs, closure, entries_of_deed, is_publish, joined_inputs, input_cmp, inputs_of, inputs_of_entry}
+use Rattle.base_model.specs.Closures.{Input, Inputs, closure, entries_of_deed, is_publish, joined_inputs, input_cmp, inputs_of}
+use Rattle.base_model.specs.Closures.{inputs_of_entry}
 use Rattle.base_model.specs.Conditions.{is_entry}
 use Rattle.base_model.specs.Fits.{is_base}
 use Rattle.base_model.specs.Rows.{Base, only_where, size}
@@ -26,17 +28,21 @@ use Rattle.base_model.proofs.Owned.{and_first, and_second, row_fits, rows_below}
 use Rattle.base_model.proofs.Covered.{Keyed, closure_keyed, entries_keyed, entry_keyed, one_input, put_keyed}
 use Rattle.base_model.proofs.EntriesBelow.{entry_below, entries_fit}
 use Rattle.base_model.proofs.Tables.{same_number}
-use Rattle.view_lookup.specs.FirstInputs.{Test, first_among, first_input}
-use Rattle.view_lookup.specs.LeastInputs.{above, above_entries, least_in, least_of, least_of_all, least_of_entries, least_of_entry, lesser, lower, path_if_passed}
+use Rattle.view_lookup.specs.FirstInputs.{PathTest, first_among, first_input}
+use Rattle.view_lookup.specs.LeastInputs.{above, above_entries, least_in, least_of, least_of_all, least_of_entries}
+use Rattle.view_lookup.specs.LeastInputs.{least_of_entry, lesser, lower, path_if_passed}
 use Rattle.view_lookup.proofs.LesserPaths.{lesser_join, lesser_swap, lesser_twice}
 
 -- one input put in its place, each under its own row
-one_put : (passes : Test) (s : Input) (row : ℕ) (inputs : Inputs) → row ≡ s.1 → Keyed inputs → least_in passes (put input_cmp s row inputs) ≡ lesser (path_if_passed passes s.0 row) (least_in passes inputs)
+one_put : (passes : PathTest) (s : Input) (row : ℕ) (inputs : Inputs) → row ≡ s.1 → Keyed inputs
+    → least_in passes (put input_cmp s row inputs) ≡ lesser (path_if_passed passes s.0 row) (least_in passes inputs)
 one_put passes s row [] own keyed = refl
 one_put passes s row (input ∷ inputs) own keyed = by (input_cmp s input.0) refl (one_put passes s row inputs own keyed.1)
   where
-    by : (o : Ordering) → input_cmp s input.0 ≡ o → least_in passes (put input_cmp s row inputs) ≡ lesser (path_if_passed passes s.0 row) (least_in passes inputs) →
-        least_in passes (by_order o ((s, row) ∷ input ∷ inputs) ((input.0, row) ∷ inputs) (input ∷ put input_cmp s row inputs)) ≡ lesser (path_if_passed passes s.0 row) (least_in passes (input ∷ inputs))
+    by : (o : Ordering) → input_cmp s input.0 ≡ o → least_in passes (put input_cmp s row inputs)
+        ≡ lesser (path_if_passed passes s.0 row) (least_in passes inputs) →
+        least_in passes (by_order o ((s, row) ∷ input ∷ inputs) ((input.0, row) ∷ inputs) (input ∷ put input_cmp s row inputs))
+        ≡ lesser (path_if_passed passes s.0 row) (least_in passes (input ∷ inputs))
     by Less place before = refl
     by Equal place before =
         let one = one_input s input.0 (ap is_eq place) in
@@ -51,7 +57,8 @@ one_put passes s row (input ∷ inputs) own keyed = by (input_cmp s input.0) ref
         ∙ lesser_swap (path_if_passed passes input.0.0 input.1) (path_if_passed passes s.0 row) (least_in passes inputs)
 
 -- inputs that are joined to others have the lesser of both
-both_least : (passes : Test) (one others : Inputs) → Keyed one → Keyed others → least_in passes (joined_inputs one others) ≡ lesser (least_in passes one) (least_in passes others)
+both_least : (passes : PathTest) (one others : Inputs) → Keyed one → Keyed others
+    → least_in passes (joined_inputs one others) ≡ lesser (least_in passes one) (least_in passes others)
 both_least passes [] others own keyed = refl
 both_least passes (input ∷ one) others own keyed =
     both_least passes one (put input_cmp input.0 input.1 others) own.1 (put_keyed input.0 input.1 others own.0 keyed)
@@ -60,11 +67,13 @@ both_least passes (input ∷ one) others own keyed =
     ∙ sym (lesser_join (path_if_passed passes input.0.0 input.1) (least_in passes one) (least_in passes others))
 
 -- the inputs of entries have the least of them all
-entries_least : (b : Base) (passes : Test) (entries : List ReadOf) → least_in passes (inputs_of b (closure b) entries) ≡ least_of_entries b passes entries
+entries_least : (b : Base) (passes : PathTest) (entries : List ReadOf)
+    → least_in passes (inputs_of b (closure b) entries) ≡ least_of_entries b passes entries
 entries_least b passes [] = refl
 entries_least b passes (entry ∷ entries) =
     both_least passes (inputs_of_entry (is_publish b entry.row) (closure b) entry) (inputs_of b (closure b) entries)
-    (entry_keyed (is_publish b entry.row) (closure b) entry (closure_keyed b)) (entries_keyed b (closure b) entries (closure_keyed b))
+    (entry_keyed (is_publish b entry.row) (closure b) entry (closure_keyed b))
+    (entries_keyed b (closure b) entries (closure_keyed b))
     ∙ ap (lesser (least_of_entry b passes entry)) (entries_least b passes entries)
 
 -- entries that name rows below a number
@@ -74,8 +83,10 @@ AreBelow n (entry ∷ entries) = (entry.row < n) × AreBelow n entries
 
 entries_below : (b : Base) (entries : List ReadOf) → list_all (is_entry b) entries ≡ true → AreBelow (size b) entries
 entries_below b [] fit = tt
-entries_below b (entry ∷ entries) fit =
-    (entry_below b entry (and_first (is_entry b entry) (list_all (is_entry b) entries) fit), entries_below b entries (and_second (is_entry b entry) (list_all (is_entry b) entries) fit))
+entries_below b (entry ∷ entries) fit = (
+  entry_below b entry (and_first (is_entry b entry) (list_all (is_entry b) entries) fit),
+  entries_below b entries (and_second (is_entry b entry) (list_all (is_entry b) entries) fit),
+)
 
 below_wider : (n m : ℕ) (entries : List ReadOf) → n ≤ m → AreBelow n entries → AreBelow m entries
 below_wider n m [] wide h = tt
@@ -89,7 +100,8 @@ record_below (row ∷ older) id base = by (size older == id) refl (record_below 
     by : (t : Bool) → (size older == id) ≡ t → AreBelow id (record_of older id) → AreBelow id (record_of (row ∷ older) id)
     by true here rest =
         subst (λ (entries : List ReadOf). AreBelow id entries) (sym (newest here))
-        (subst (λ n. AreBelow n (entries_of_deed (Some row.deed))) (same_number (size older) id here) (entries_below older (entries_of_deed (Some row.deed)) (entries_fit older row.deed (row_fits row older base))))
+        (subst (λ n. AreBelow n (entries_of_deed (Some row.deed))) (same_number (size older) id here)
+        (entries_below older (entries_of_deed (Some row.deed)) (entries_fit older row.deed (row_fits row older base))))
       where
         newest : (size older == id) ≡ true → record_of (row ∷ older) id ≡ entries_of_deed (Some row.deed)
         newest here = grind (arith, nat_tests)
@@ -105,37 +117,46 @@ older_closure row older id low = grind (arith, nat_tests)
 older_publish : (row : Plain) (older : Base) (id : ℕ) → id < size older → is_publish (row ∷ older) id ≡ is_publish older id
 older_publish row older id low = grind (arith, nat_tests)
 
-same_entry : (row : Plain) (older : Base) (entry : ReadOf) → entry.row < size older → (t : Bool) → inputs_of_entry t (closure (row ∷ older)) entry ≡ inputs_of_entry t (closure older) entry
+same_entry : (row : Plain) (older : Base) (entry : ReadOf) → entry.row < size older → (t : Bool)
+    → inputs_of_entry t (closure (row ∷ older)) entry ≡ inputs_of_entry t (closure older) entry
 same_entry row older entry low true = older_closure row older entry.row low
 same_entry row older entry low false = refl
 
-inputs_stay : (row : Plain) (older : Base) (entries : List ReadOf) → AreBelow (size older) entries → inputs_of (row ∷ older) (closure (row ∷ older)) entries ≡ inputs_of older (closure older) entries
+inputs_stay : (row : Plain) (older : Base) (entries : List ReadOf) → AreBelow (size older) entries
+    → inputs_of (row ∷ older) (closure (row ∷ older)) entries ≡ inputs_of older (closure older) entries
 inputs_stay row older [] low = refl
 inputs_stay row older (entry ∷ entries) low =
-    ap (λ t. joined_inputs (inputs_of_entry t (closure (row ∷ older)) entry) (inputs_of (row ∷ older) (closure (row ∷ older)) entries)) (older_publish row older entry.row low.0)
-    ∙ ap (λ (own : Inputs). joined_inputs own (inputs_of (row ∷ older) (closure (row ∷ older)) entries)) (same_entry row older entry low.0 (is_publish older entry.row))
-    ∙ ap (joined_inputs (inputs_of_entry (is_publish older entry.row) (closure older) entry)) (inputs_stay row older entries low.1)
+    ap (λ t. joined_inputs (inputs_of_entry t (closure (row ∷ older)) entry)
+    (inputs_of (row ∷ older) (closure (row ∷ older)) entries)) (older_publish row older entry.row low.0)
+    ∙ ap (λ (own : Inputs). joined_inputs own (inputs_of (row ∷ older) (closure (row ∷ older)) entries))
+    (same_entry row older entry low.0 (is_publish older entry.row))
+    ∙ ap (joined_inputs (inputs_of_entry (is_publish older entry.row) (closure older) entry))
+    (inputs_stay row older entries low.1)
 
 -- the entries of a record are below the base
 record_within : (b : Base) (id : ℕ) → is_base b ≡ true → AreBelow (size b) (record_of b id)
 record_within [] id base = tt
 record_within (row ∷ older) id base = by (size older == id) refl (record_within older id (rows_below row older base))
   where
-    by : (t : Bool) → (size older == id) ≡ t → AreBelow (size older) (record_of older id) → AreBelow (suc (size older)) (record_of (row ∷ older) id)
+    by : (t : Bool) → (size older == id) ≡ t → AreBelow (size older) (record_of older id)
+        → AreBelow (suc (size older)) (record_of (row ∷ older) id)
     by true here rest =
         let recorded : record_of (row ∷ older) id ≡ entries_of_deed (Some row.deed) = grind (arith, nat_tests) in
         subst (λ (entries : List ReadOf). AreBelow (suc (size older)) entries) (sym recorded)
-        (below_wider (size older) (suc (size older)) (entries_of_deed (Some row.deed)) (omega arith) (entries_below older (entries_of_deed (Some row.deed)) (entries_fit older row.deed (row_fits row older base))))
+        (below_wider (size older) (suc (size older)) (entries_of_deed (Some row.deed)) (omega arith)
+        (entries_below older (entries_of_deed (Some row.deed)) (entries_fit older row.deed (row_fits row older base))))
     by false apart rest =
         let recorded : record_of (row ∷ older) id ≡ record_of older id = grind (arith, nat_tests) in
-        subst (λ (entries : List ReadOf). AreBelow (suc (size older)) entries) (sym recorded) (below_wider (size older) (suc (size older)) (record_of older id) (omega arith) rest)
+        subst (λ (entries : List ReadOf). AreBelow (suc (size older)) entries) (sym recorded)
+        (below_wider (size older) (suc (size older)) (record_of older id) (omega arith) rest)
 
 -- the closure of an object, by its entries in the whole base
 closure_made : (b : Base) (id : ℕ) → is_base b ≡ true → closure b id ≡ inputs_of b (closure b) (record_of b id)
 closure_made [] id base = refl
 closure_made (row ∷ older) id base = by (size older == id) refl (closure_made older id (rows_below row older base))
   where
-    by : (t : Bool) → (size older == id) ≡ t → closure older id ≡ inputs_of older (closure older) (record_of older id) → closure (row ∷ older) id ≡ inputs_of (row ∷ older) (closure (row ∷ older)) (record_of (row ∷ older) id)
+    by : (t : Bool) → (size older == id) ≡ t → closure older id ≡ inputs_of older (closure older) (record_of older id)
+        → closure (row ∷ older) id ≡ inputs_of (row ∷ older) (closure (row ∷ older)) (record_of (row ∷ older) id)
     by true here rest =
         let entries = entries_of_deed (Some row.deed) in
         let closed : closure (row ∷ older) id ≡ inputs_of older (closure older) entries = grind (arith, nat_tests) in
@@ -151,7 +172,8 @@ closure_made (row ∷ older) id base = by (size older == id) refl (closure_made 
         ∙ ap (inputs_of (row ∷ older) (closure (row ∷ older))) (sym recorded)
 
 -- what an object rests on has the least path of its entries
-pub object_least : (b : Base) (passes : Test) (id : ℕ) → is_base b ≡ true → least_of b passes id ≡ least_of_entries b passes (record_of b id)
+pub object_least : (b : Base) (passes : PathTest) (id : ℕ) → is_base b ≡ true
+    → least_of b passes id ≡ least_of_entries b passes (record_of b id)
 object_least b passes id base = ap (least_in passes) (closure_made b id base) ∙ entries_least b passes (record_of b id)
 
 above_below : (n : ℕ) (entries : List ReadOf) → AreBelow n entries → above_entries entries ≤ n
@@ -167,24 +189,29 @@ abbrev NotBelow : List ℕ → Inputs → Type 0
 NotBelow path [] = ⊤
 NotBelow path (input ∷ inputs) = (is_lt (slice_cmp nat_cmp input.0.0 path) ≡ false) × NotBelow path inputs
 
-lower_not_below : (path one two : List ℕ) → is_lt (slice_cmp nat_cmp one path) ≡ false → is_lt (slice_cmp nat_cmp two path) ≡ false → is_lt (slice_cmp nat_cmp (lower one two) path) ≡ false
+lower_not_below : (path one two : List ℕ) → is_lt (slice_cmp nat_cmp one path) ≡ false
+    → is_lt (slice_cmp nat_cmp two path) ≡ false → is_lt (slice_cmp nat_cmp (lower one two) path) ≡ false
 lower_not_below path one two h g = by (is_lt (slice_cmp nat_cmp two one))
   where
     by : (t : Bool) → is_lt (slice_cmp nat_cmp (cond t two one) path) ≡ false
     by true = g
     by false = h
 
-least_not_below : (passes : Test) (path : List ℕ) (inputs : Inputs) → NotBelow path inputs → IfSome (least_in passes inputs) (λ q. is_lt (slice_cmp nat_cmp q path) ≡ false)
+least_not_below : (passes : PathTest) (path : List ℕ) (inputs : Inputs) → NotBelow path inputs
+    → IfSome (least_in passes inputs) (λ q. is_lt (slice_cmp nat_cmp q path) ≡ false)
 least_not_below passes path [] h = tt
-least_not_below passes path (input ∷ inputs) h = by (passes input.0.0 input.1) (least_in passes inputs) (least_not_below passes path inputs h.1)
+least_not_below passes path (input ∷ inputs) h = by (passes input.0.0 input.1) (least_in passes inputs)
+    (least_not_below passes path inputs h.1)
   where
-    by : (t : Bool) (rest : Option (List ℕ)) → IfSome rest (λ q. is_lt (slice_cmp nat_cmp q path) ≡ false) → IfSome (lesser (only_where t (Some input.0.0)) rest) (λ q. is_lt (slice_cmp nat_cmp q path) ≡ false)
+    by : (t : Bool) (rest : Option (List ℕ)) → IfSome rest (λ q. is_lt (slice_cmp nat_cmp q path) ≡ false)
+        → IfSome (lesser (only_where t (Some input.0.0)) rest) (λ q. is_lt (slice_cmp nat_cmp q path) ≡ false)
     by false rest g = g
     by true None g = h.0
     by true (Some q) g = lower_not_below path input.0.0 q h.0 g
 
 inputs_total : IsTotalOrder input_cmp
-inputs_total = then_total (on_total (λ (input : Input). input.0) nat_list_cmp_total) (on_total (λ (input : Input). input.1) nat_cmp_total)
+inputs_total = then_total (on_total (λ (input : Input). input.0) nat_list_cmp_total)
+    (on_total (λ (input : Input). input.1) nat_cmp_total)
 
 -- the path of an input behind another is not below that one's
 path_not_below : (one two : Input) → T (is_lt (input_cmp one two)) → is_lt (slice_cmp nat_cmp two.0 one.0) ≡ false
@@ -193,7 +220,8 @@ path_not_below one two low = by (slice_cmp nat_cmp one.0 two.0) refl low
     turned : (o : Ordering) → slice_cmp nat_cmp one.0 two.0 ≡ o → slice_cmp nat_cmp two.0 one.0 ≡ ordering_reverse o
     turned o e = nat_list_cmp_total.antisymm two.0 one.0 ∙ ap ordering_reverse e
 
-    by : (o : Ordering) → slice_cmp nat_cmp one.0 two.0 ≡ o → T (is_lt (ordering_then o (nat_cmp one.1 two.1))) → is_lt (slice_cmp nat_cmp two.0 one.0) ≡ false
+    by : (o : Ordering) → slice_cmp nat_cmp one.0 two.0 ≡ o → T (is_lt (ordering_then o (nat_cmp one.1 two.1)))
+        → is_lt (slice_cmp nat_cmp two.0 one.0) ≡ false
     by Less e low = ap is_lt (turned Less e)
     by Equal e low = ap is_lt (turned Equal e)
     by Greater e low = absurd low
@@ -211,37 +239,47 @@ not_below_all s [] h = tt
 not_below_all s (input ∷ inputs) h = (path_not_below s input.0 (t_first _ _ h), not_below_all s inputs (t_second _ _ h))
 
 -- in order, the first path of which the test holds is the least
-first_is_least : (passes : Test) (inputs : Inputs) → T (is_sorted input_cmp inputs) → first_among passes inputs ≡ least_in passes inputs
+first_is_least : (passes : PathTest) (inputs : Inputs) → T (is_sorted input_cmp inputs)
+    → first_among passes inputs ≡ least_in passes inputs
 first_is_least passes [] sorted = refl
 first_is_least passes (input ∷ inputs) sorted =
     ap (option_or (path_if_passed passes input.0.0 input.1)) (first_is_least passes inputs (t_second _ _ sorted))
-    ∙ by (passes input.0.0 input.1) (least_in passes inputs) (least_not_below passes input.0.0 inputs (not_below_all input.0 inputs (t_first _ _ sorted)))
+    ∙ by (passes input.0.0 input.1) (least_in passes inputs) (least_not_below passes input.0.0 inputs
+    (not_below_all input.0 inputs (t_first _ _ sorted)))
   where
-    by : (t : Bool) (rest : Option (List ℕ)) → IfSome rest (λ q. is_lt (slice_cmp nat_cmp q input.0.0) ≡ false) → option_or (only_where t (Some input.0.0)) rest ≡ lesser (only_where t (Some input.0.0)) rest
+    by : (t : Bool) (rest : Option (List ℕ)) → IfSome rest (λ q. is_lt (slice_cmp nat_cmp q input.0.0) ≡ false)
+        → option_or (only_where t (Some input.0.0)) rest ≡ lesser (only_where t (Some input.0.0)) rest
     by false rest g = refl
     by true None g = refl
     by true (Some q) g = sym (ap (λ t. Some (cond t q input.0.0)) g)
 
 joined_sorted : (one others : Inputs) → T (is_sorted input_cmp others) → T (is_sorted input_cmp (joined_inputs one others))
 joined_sorted [] others h = h
-joined_sorted (input ∷ one) others h = joined_sorted one (put input_cmp input.0 input.1 others) (is_sorted-put input_cmp inputs_total input.0 input.1 others h)
+joined_sorted (input ∷ one) others h = joined_sorted one (put input_cmp input.0 input.1 others)
+    (is_sorted-put input_cmp inputs_total input.0 input.1 others h)
 
-inputs_sorted : (b : Base) (of_object : ℕ → Inputs) (entries : List ReadOf) → T (is_sorted input_cmp (inputs_of b of_object entries))
+inputs_sorted : (b : Base) (of_object : ℕ → Inputs) (entries : List ReadOf)
+    → T (is_sorted input_cmp (inputs_of b of_object entries))
 inputs_sorted b of_object [] = tt
-inputs_sorted b of_object (entry ∷ entries) = joined_sorted (inputs_of_entry (is_publish b entry.row) of_object entry) (inputs_of b of_object entries) (inputs_sorted b of_object entries)
+inputs_sorted b of_object (entry ∷ entries) = joined_sorted (inputs_of_entry (is_publish b entry.row) of_object entry)
+    (inputs_of b of_object entries) (inputs_sorted b of_object entries)
 
 -- the first path is the least
-pub first_least : (b : Base) (passes : Test) (id : ℕ) → is_base b ≡ true → first_input b passes id ≡ least_of b passes id
+pub first_least : (b : Base) (passes : PathTest) (id : ℕ) → is_base b ≡ true → first_input b passes id ≡ least_of b passes id
 first_least b passes id base =
-    first_is_least passes (closure b id) (subst (λ (inputs : Inputs). T (is_sorted input_cmp inputs)) (sym (closure_made b id base)) (inputs_sorted b (closure b) (record_of b id)))
+    first_is_least passes (closure b id) (subst (λ (inputs : Inputs). T (is_sorted input_cmp inputs))
+    (sym (closure_made b id base)) (inputs_sorted b (closure b) (record_of b id)))
 
 -- one object more is left
-pub one_left : (b : Base) (passes : Test) (ids : List ℕ) (id : ℕ) → least_of_all b passes (insert_key nat_cmp ids id) ≡ lesser (least_of b passes id) (least_of_all b passes ids)
+pub one_left : (b : Base) (passes : PathTest) (ids : List ℕ) (id : ℕ) → least_of_all b passes (insert_key nat_cmp ids id)
+    ≡ lesser (least_of b passes id) (least_of_all b passes ids)
 one_left b passes [] id = refl
 one_left b passes (first ∷ ids) id = by (nat_cmp id first) refl (one_left b passes ids id)
   where
-    by : (o : Ordering) → nat_cmp id first ≡ o → least_of_all b passes (insert_key nat_cmp ids id) ≡ lesser (least_of b passes id) (least_of_all b passes ids) →
-        least_of_all b passes (match_ordering o (id ∷ first ∷ ids) (first ∷ ids) (first ∷ insert_key nat_cmp ids id)) ≡ lesser (least_of b passes id) (least_of_all b passes (first ∷ ids))
+    by : (o : Ordering) → nat_cmp id first ≡ o → least_of_all b passes (insert_key nat_cmp ids id)
+        ≡ lesser (least_of b passes id) (least_of_all b passes ids) →
+        least_of_all b passes (match_ordering o (id ∷ first ∷ ids) (first ∷ ids) (first ∷ insert_key nat_cmp ids id))
+        ≡ lesser (least_of b passes id) (least_of_all b passes (first ∷ ids))
     by Less e rest = refl
     by Equal e rest =
         sym (lesser_twice (least_of b passes first) (least_of_all b passes ids))
@@ -249,21 +287,26 @@ one_left b passes (first ∷ ids) id = by (nat_cmp id first) refl (one_left b pa
       where
         tied : nat_cmp id first ≡ Equal → (id == first) ≡ true
         tied e = sym (unsigned_tied id first) ∙ ap is_eq e
-    by Greater e rest = ap (lesser (least_of b passes first)) rest ∙ lesser_swap (least_of b passes first) (least_of b passes id) (least_of_all b passes ids)
+    by Greater e rest = ap (lesser (least_of b passes first)) rest ∙ lesser_swap (least_of b passes first) (least_of b passes id)
+        (least_of_all b passes ids)
 
 pub one_above : (ids : List ℕ) (id : ℕ) → above (insert_key nat_cmp ids id) ≤ max (suc id) (above ids)
 one_above [] id = omega arith
 one_above (first ∷ ids) id = by (nat_cmp id first) (one_above ids id)
   where
-    by : (o : Ordering) → above (insert_key nat_cmp ids id) ≤ max (suc id) (above ids) → above (match_ordering o (id ∷ first ∷ ids) (first ∷ ids) (first ∷ insert_key nat_cmp ids id)) ≤ max (suc id) (above (first ∷ ids))
+    by : (o : Ordering) → above (insert_key nat_cmp ids id) ≤ max (suc id) (above ids)
+        → above (match_ordering o (id ∷ first ∷ ids) (first ∷ ids) (first ∷ insert_key nat_cmp ids id))
+        ≤ max (suc id) (above (first ∷ ids))
     by Less rest = omega arith
     by Equal rest = omega arith
     by Greater rest = omega arith
 
 -- the last object that was left
-pub last_left : (b : Base) (passes : Test) (ids : List ℕ) (id : ℕ) → least_of_all b passes (ids ++ id ∷ []) ≡ lesser (least_of b passes id) (least_of_all b passes ids)
+pub last_left : (b : Base) (passes : PathTest) (ids : List ℕ) (id : ℕ)
+    → least_of_all b passes (ids ++ id ∷ []) ≡ lesser (least_of b passes id) (least_of_all b passes ids)
 last_left b passes [] id = refl
-last_left b passes (first ∷ ids) id = ap (lesser (least_of b passes first)) (last_left b passes ids id) ∙ lesser_swap (least_of b passes first) (least_of b passes id) (least_of_all b passes ids)
+last_left b passes (first ∷ ids) id = ap (lesser (least_of b passes first)) (last_left b passes ids id)
+    ∙ lesser_swap (least_of b passes first) (least_of b passes id) (least_of_all b passes ids)
 
 pub last_above : (ids : List ℕ) (id : ℕ) → id < above (ids ++ id ∷ [])
 last_above [] id = omega arith
@@ -277,16 +320,19 @@ pub all_above : (ids : List ℕ) (id : ℕ) → All (λ n. nat_cmp n id ≡ Less
 all_above ids id h = rising_above ids id (recursion_from_All (λ n. nat_cmp n id ≡ Less) ids h)
 
 -- an entry that names an object, which is left then
-pub entry_object : (b : Base) (passes : Test) (least : Option (List ℕ)) (entry : ReadOf) (old new : List ℕ) → is_publish b entry.row ≡ true → new ≡ insert_key nat_cmp old entry.row →
+pub entry_object : (b : Base) (passes : PathTest) (least : Option (List ℕ)) (entry : ReadOf) (old new : List ℕ)
+    → is_publish b entry.row ≡ true → new ≡ insert_key nat_cmp old entry.row →
     lesser least (least_of_all b passes new) ≡ lesser (least_of_entry b passes entry) (lesser least (least_of_all b passes old))
 entry_object b passes least entry old new object more =
     ap (λ (ids : List ℕ). lesser least (least_of_all b passes ids)) more
     ∙ ap (lesser least) (one_left b passes old entry.row)
     ∙ lesser_swap least (least_of b passes entry.row) (least_of_all b passes old)
-    ∙ sym (ap (λ t. lesser (least_in passes (inputs_of_entry t (closure b) entry)) (lesser least (least_of_all b passes old))) object)
+    ∙ sym (ap (λ t. lesser (least_in passes (inputs_of_entry t (closure b) entry)) (lesser least (least_of_all b passes old)))
+    object)
 
 -- an entry of which the test holds
-pub entry_passed : (b : Base) (passes : Test) (entry : ReadOf) (least found rest : Option (List ℕ)) → is_publish b entry.row ≡ false → passes entry.path entry.row ≡ true → found ≡ lesser (Some entry.path) least →
+pub entry_passed : (b : Base) (passes : PathTest) (entry : ReadOf) (least found rest : Option (List ℕ))
+    → is_publish b entry.row ≡ false → passes entry.path entry.row ≡ true → found ≡ lesser (Some entry.path) least →
     lesser found rest ≡ lesser (least_of_entry b passes entry) (lesser least rest)
 entry_passed b passes entry least found rest other holds is =
     ap (λ (p : Option (List ℕ)). lesser p rest) is
@@ -294,8 +340,9 @@ entry_passed b passes entry least found rest other holds is =
     ∙ sym (ap (λ t. lesser (least_in passes (inputs_of_entry t (closure b) entry)) (lesser least rest)) other
     ∙ ap (λ t. lesser (lesser (only_where t (Some entry.path)) None) (lesser least rest)) holds)
 
--- one entry after the other is taken in
-pub entry_taken : (b : Base) (passes : Test) (entry : ReadOf) (entries : List ReadOf) (old new all : Option (List ℕ)) → new ≡ lesser (least_of_entry b passes entry) old → lesser (least_of_entries b passes (entry ∷ entries)) old ≡ all →
+-- one entry after the other is added
+pub entry_taken : (b : Base) (passes : PathTest) (entry : ReadOf) (entries : List ReadOf) (old new all : Option (List ℕ))
+    → new ≡ lesser (least_of_entry b passes entry) old → lesser (least_of_entries b passes (entry ∷ entries)) old ≡ all →
     lesser (least_of_entries b passes entries) new ≡ all
 entry_taken b passes entry entries old new all taken before =
     ap (lesser (least_of_entries b passes entries)) taken
@@ -304,8 +351,11 @@ entry_taken b passes entry entries old new all taken before =
     ∙ before
 
 -- the object that was taken from those that are left, and its entries in its place
-pub object_taken : (b : Base) (passes : Test) (id : ℕ) (old new more : List ℕ) (entries : List ReadOf) (least found all : Option (List ℕ)) → is_base b ≡ true → old ≡ new ++ id ∷ [] → entries ≡ record_of b id →
-    lesser found (least_of_all b passes more) ≡ lesser (least_of_entries b passes entries) (lesser least (least_of_all b passes new)) → lesser least (least_of_all b passes old) ≡ all → lesser found (least_of_all b passes more) ≡ all
+pub object_taken : (b : Base) (passes : PathTest) (id : ℕ) (old new more : List ℕ) (entries : List ReadOf)
+    (least found all : Option (List ℕ)) → is_base b ≡ true → old ≡ new ++ id ∷ [] → entries ≡ record_of b id →
+    lesser found (least_of_all b passes more) ≡ lesser (least_of_entries b passes entries)
+    (lesser least (least_of_all b passes new)) → lesser least (least_of_all b passes old) ≡ all
+    → lesser found (least_of_all b passes more) ≡ all
 object_taken b passes id old new more entries least found all base left recorded taken before =
     taken
     ∙ ap (λ (es : List ReadOf). lesser (least_of_entries b passes es) (lesser least (least_of_all b passes new))) recorded
@@ -316,24 +366,29 @@ object_taken b passes id old new more entries least found all base left recorded
     ∙ before
 
 -- what is left lies lower with each object that is taken
-pub walk_falls : (b : Base) (id : ℕ) (old new more : List ℕ) (entries : List ReadOf) → is_base b ≡ true → old ≡ new ++ id ∷ [] → All (λ n. nat_cmp n id ≡ Less) new → entries ≡ record_of b id →
+pub walk_falls : (b : Base) (id : ℕ) (old new more : List ℕ) (entries : List ReadOf) → is_base b ≡ true → old ≡ new ++ id ∷ []
+    → All (λ n. nat_cmp n id ≡ Less) new → entries ≡ record_of b id →
     above more ≤ max (above_entries entries) (above new) → above more < above old
 walk_falls b id old new more entries base left below recorded taken =
-    let low : above_entries entries ≤ id = subst (λ (es : List ReadOf). above_entries es ≤ id) (sym recorded) (record_above b id base) in
+    let low : above_entries entries ≤ id = subst (λ (es : List ReadOf). above_entries es ≤ id) (sym recorded)
+    (record_above b id base) in
     let under = all_above new id below in
     let last : id < above old = subst (λ (ids : List ℕ). id < above ids) (sym left) (last_above new id) in
     omega arith
 
 -- one entry more is below the same number
-pub entries_above : (entries : List ReadOf) (i : ℕ) (entry : ReadOf) (old new all : ℕ) → i < length entries → entry ≡ get_or entries i entry → new ≤ max (suc entry.row) old → max (above_entries (drop i entries)) old ≤ all →
+pub entries_above : (entries : List ReadOf) (i : ℕ) (entry : ReadOf) (old new all : ℕ) → i < length entries
+    → entry ≡ get_or entries i entry → new ≤ max (suc entry.row) old → max (above_entries (drop i entries)) old ≤ all →
     max (above_entries (drop (i + 1) entries)) new ≤ all
 entries_above entries i entry old new all within at low before =
     let same : above_entries (drop i entries) ≡ max (suc entry.row) (above_entries (drop (i + 1) entries)) =
-    at_drop_more above_entries entries i entry within ∙ ap (λ (e : ReadOf). max (suc e.row) (above_entries (drop (i + 1) entries))) (sym at) in
+    at_drop_more above_entries entries i entry within ∙ ap (λ (e : ReadOf). max (suc e.row)
+    (above_entries (drop (i + 1) entries))) (sym at) in
     omega arith
 
 -- the entries that are left begin with this one
-pub entries_left : (b : Base) (passes : Test) (entries : List ReadOf) (i : ℕ) (entry : ReadOf) (old all : Option (List ℕ)) → i < length entries → entry ≡ get_or entries i entry → lesser (least_of_entries b passes (drop i entries)) old ≡ all →
+pub entries_left : (b : Base) (passes : PathTest) (entries : List ReadOf) (i : ℕ) (entry : ReadOf) (old all : Option (List ℕ))
+    → i < length entries → entry ≡ get_or entries i entry → lesser (least_of_entries b passes (drop i entries)) old ≡ all →
     lesser (least_of_entries b passes (entry ∷ drop (i + 1) entries)) old ≡ all
 entries_left b passes entries i entry old all within at before =
     ap (λ (e : ReadOf). lesser (least_of_entries b passes (e ∷ drop (i + 1) entries)) old) at

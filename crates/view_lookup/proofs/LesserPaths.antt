@@ -20,7 +20,8 @@ lower_swap one two = by (slice_cmp nat_cmp one two) refl
 
     by : (o : Ordering) → slice_cmp nat_cmp one two ≡ o → lower one two ≡ lower two one
     by Less e = ap (λ r. cond (is_lt r) two one) (turned Less e) ∙ sym (ap (λ r. cond (is_lt r) one two) e)
-    by Equal e = ap (λ r. cond (is_lt r) two one) (turned Equal e) ∙ same_path one two e ∙ sym (ap (λ r. cond (is_lt r) one two) e)
+    by Equal e = ap (λ r. cond (is_lt r) two one) (turned Equal e) ∙ same_path one two e
+        ∙ sym (ap (λ r. cond (is_lt r) one two) e)
     by Greater e = ap (λ r. cond (is_lt r) two one) (turned Greater e) ∙ sym (ap (λ r. cond (is_lt r) one two) e)
 
 is_less : (o : Ordering) → is_lt o ≡ true → o ≡ Less
@@ -29,26 +30,31 @@ is_less Equal h = absurd (cc)
 is_less Greater h = absurd (cc)
 
 -- what is below what is below is below
-below_both : (a b c : List ℕ) → is_lt (slice_cmp nat_cmp c b) ≡ true → is_lt (slice_cmp nat_cmp b a) ≡ true → is_lt (slice_cmp nat_cmp c a) ≡ true
+below_both : (a b c : List ℕ) → is_lt (slice_cmp nat_cmp c b) ≡ true → is_lt (slice_cmp nat_cmp b a) ≡ true
+    → is_lt (slice_cmp nat_cmp c a) ≡ true
 below_both a b c low lower_still = ap is_lt (nat_list_cmp_total.trans c b a (is_less _ low) (is_less _ lower_still))
 
 -- what is below a path is below what is not below that path
-below_other : (a b c : List ℕ) → is_lt (slice_cmp nat_cmp c a) ≡ true → is_lt (slice_cmp nat_cmp b a) ≡ false → is_lt (slice_cmp nat_cmp c b) ≡ true
+below_other : (a b c : List ℕ) → is_lt (slice_cmp nat_cmp c a) ≡ true → is_lt (slice_cmp nat_cmp b a) ≡ false
+    → is_lt (slice_cmp nat_cmp c b) ≡ true
 below_other a b c low high = by (slice_cmp nat_cmp b a) refl
   where
     by : (o : Ordering) → slice_cmp nat_cmp b a ≡ o → is_lt (slice_cmp nat_cmp c b) ≡ true
     by Less e = absurd (cc (ap is_lt e, high))
     by Equal e = ap (λ p. is_lt (slice_cmp nat_cmp c p)) (same_path b a e) ∙ low
-    by Greater e = ap is_lt (nat_list_cmp_total.trans c a b (is_less _ low) (nat_list_cmp_total.antisymm a b ∙ ap ordering_reverse e))
+    by Greater e = ap is_lt (nat_list_cmp_total.trans c a b (is_less _ low) (nat_list_cmp_total.antisymm a b
+        ∙ ap ordering_reverse e))
 
 lower_join : (a b c : List ℕ) → lower (lower a b) c ≡ lower a (lower b c)
 lower_join a b c = by (is_lt (slice_cmp nat_cmp b a)) (is_lt (slice_cmp nat_cmp c b)) refl refl
   where
-    not_below : (t : Bool) → is_lt (slice_cmp nat_cmp c a) ≡ t → is_lt (slice_cmp nat_cmp b a) ≡ false → is_lt (slice_cmp nat_cmp c b) ≡ false → t ≡ false
+    not_below : (t : Bool) → is_lt (slice_cmp nat_cmp c a) ≡ t → is_lt (slice_cmp nat_cmp b a) ≡ false
+        → is_lt (slice_cmp nat_cmp c b) ≡ false → t ≡ false
     not_below true e first second = absurd (cc (below_other a b c e first, second))
     not_below false e first second = refl
 
-    by : (x y : Bool) → is_lt (slice_cmp nat_cmp b a) ≡ x → is_lt (slice_cmp nat_cmp c b) ≡ y → lower (lower a b) c ≡ lower a (lower b c)
+    by : (x y : Bool) → is_lt (slice_cmp nat_cmp b a) ≡ x → is_lt (slice_cmp nat_cmp c b) ≡ y
+        → lower (lower a b) c ≡ lower a (lower b c)
     by true true first second =
         ap (λ t. lower (cond t b a) c) first ∙ ap (λ t. cond t c b) second
         ∙ sym (ap (λ t. lower a (cond t c b)) second ∙ ap (λ t. cond t c a) (below_both a b c second first))

@@ -1,5 +1,6 @@
--- The fronts of a path: up to the end of each name, its bytes are the path of its first names.
-use Rattle.std.proofs.Common.{◌≡◌, ℕ, zero, suc, ◌+◌, ◌<◌, ◌≤◌, Bool, true, false, Some, None, List, [], ◌∷◌, ◌++◌, length, take, drop, get_or, refl, ap, sym, ◌∙◌, subst, arith, add-one}
+-- The prefixes of a path: up to the end of each name, its bytes are the path of its first names.
+use Rattle.std.proofs.Common.{◌≡◌, ℕ, zero, suc, ◌+◌, ◌<◌, ◌≤◌, Bool, true, false, Some, None, List, [], ◌∷◌, ◌++◌, length, take}
+use Rattle.std.proofs.Common.{drop, get_or, refl, ap, sym, ◌∙◌, subst, arith, add-one}
 use borrow.Author.Tests.{eqb-true, ltb-true}
 use Rattle.std.specs.Prelude.{nat_lt}
 use Rattle.std.specs.List.{All, AllByRecursion, position, position_or_len, slice_split}
@@ -13,7 +14,7 @@ use Rattle.cc_names.proofs.NamesOfPaths.{is_root-root}
 use Rattle.cc_names.proofs.PathParts.{cut_at, names_of-below, names_of-names}
 use Rattle.cc_names.proofs.Splits.{Some-given, slice_split-last}
 
--- a name begins at the front of a path, and behind a slash
+-- a name begins at the start of a path, and behind a slash
 abbrev pub BeginsName : List ℕ → ℕ → Type 0
 BeginsName path zero = Unit {0}
 BeginsName path (suc slash) = (slash < length path) × (get_or path slash 0 ≡ 47)
@@ -28,7 +29,8 @@ abbrev pub IsUncut : List ℕ → Type 0
 IsUncut bytes = All (λ b. is_slash b ≡ false) bytes
 
 -- a slash parts what is taken up to a place behind it
-take_behind : (path : List ℕ) (slash len : ℕ) → slash < length path → get_or path slash 0 ≡ 47 → take (suc slash + len) path ≡ take slash path ++ 47 ∷ take len (drop (suc slash) path)
+take_behind : (path : List ℕ) (slash len : ℕ) → slash < length path → get_or path slash 0 ≡ 47
+    → take (suc slash + len) path ≡ take slash path ++ 47 ∷ take len (drop (suc slash) path)
 take_behind [] slash len inside here = absurd (omega arith)
 take_behind (b ∷ bytes) zero len inside here =
     let one : suc zero + len ≡ suc len = omega arith in
@@ -38,7 +40,8 @@ take_behind (b ∷ bytes) (suc slash) len inside here =
     ap (λ n. take n (b ∷ bytes)) more ∙ ap (λ rest. b ∷ rest) (take_behind bytes slash len (omega arith) here)
 
 -- up to the end of a name the path has the names before it, and the name
-pub split_prefix : (path : List ℕ) (start len : ℕ) → BeginsName path start → IsUncut (take len (drop start path)) → slice_split is_slash (take (start + len) path) ≡ names_before path start ++ (take len (drop start path) ∷ [])
+pub split_prefix : (path : List ℕ) (start len : ℕ) → BeginsName path start → IsUncut (take len (drop start path))
+    → slice_split is_slash (take (start + len) path) ≡ names_before path start ++ (take len (drop start path) ∷ [])
 split_prefix path zero len begins uncut =
     let none : zero + len ≡ len = omega arith in
     ap (λ n. slice_split is_slash (take n path)) none ∙ slice_split_none is_slash (take len path) uncut
@@ -47,7 +50,8 @@ split_prefix path (suc slash) len begins uncut =
     ∙ slice_split-last is_slash (take slash path) 47 (take len (drop (suc slash) path)) refl uncut
 
 -- the same of the last name
-pub split_whole : (path : List ℕ) (start : ℕ) → BeginsName path start → IsUncut (drop start path) → slice_split is_slash path ≡ names_before path start ++ (drop start path ∷ [])
+pub split_whole : (path : List ℕ) (start : ℕ) → BeginsName path start → IsUncut (drop start path)
+    → slice_split is_slash path ≡ names_before path start ++ (drop start path ∷ [])
 split_whole path zero begins uncut = slice_split_none is_slash path uncut
 split_whole path (suc slash) begins uncut =
     let behind : drop (slash + 1) path ≡ drop (suc slash) path = ap (λ n. drop n path) (add-one slash) in
@@ -77,24 +81,30 @@ first_slash bytes place found =
     })
 
 -- the next name begins behind the slash
-pub begins_behind : (path : List ℕ) (start len : ℕ) → FirstSlash (drop start path) len → start ≤ length path → BeginsName path (start + len + 1)
+pub begins_behind : (path : List ℕ) (start len : ℕ) → FirstSlash (drop start path) len → start ≤ length path
+    → BeginsName path (start + len + 1)
 begins_behind path start len slash inside =
     subst (BeginsName path) (sym (add-one (start + len)))
     (omega (arith, slash.within, length-drop start path), sym (get_or-drop start path len 0) ∙ slash.here)
 
 -- the bytes before a slash of a path are not the root
-not_root : (path : List ℕ) (slash : ℕ) → IsPath path → is_root path ≡ false → slash < length path → get_or path slash 0 ≡ 47 → is_root (take slash path) ≡ false
+not_root : (path : List ℕ) (slash : ℕ) → IsPath path → is_root path ≡ false → slash < length path → get_or path slash 0 ≡ 47
+    → is_root (take slash path) ≡ false
 not_root path slash is_path below inside here = by (is_root (take slash path)) refl
   where
     by : (rooted : Bool) → is_root (take slash path) ≡ rooted → rooted ≡ false
     by false is = refl
     by true is =
-        let cut = cut_at path slash inside here ∙ ap (λ prefix. prefix ++ 47 ∷ drop (slash + 1) path) (is_root-root (take slash path) is) in
-        let named = subst (λ p. AllByRecursion IsName (slice_split is_slash p)) cut (subst (AllByRecursion IsName) (names_of-below path below) (names_of-names path is_path)) in
+        let cut = cut_at path slash inside here ∙ ap (λ prefix. prefix ++ 47 ∷ drop (slash + 1) path)
+        (is_root-root (take slash path) is) in
+        let named = subst (λ p. AllByRecursion IsName (slice_split is_slash p)) cut
+        (subst (AllByRecursion IsName) (names_of-below path below) (names_of-names path is_path)) in
         let wrong : Some (BadByte 0) ≡ None = named.0.no_fault in cc
 
 -- so their names are those that they are cut into
-pub names_of_prefix : (path : List ℕ) (start len : ℕ) → IsPath path → is_root path ≡ false → start ≤ length path → FirstSlash (drop start path) len → names_of (take (start + len) path) ≡ slice_split is_slash (take (start + len) path)
+pub names_of_prefix : (path : List ℕ) (start len : ℕ) → IsPath path → is_root path ≡ false → start ≤ length path
+    → FirstSlash (drop start path) len → names_of (take (start + len) path) ≡ slice_split is_slash (take (start + len) path)
 names_of_prefix path start len is_path below inside slash =
     names_of-below (take (start + len) path)
-    (not_root path (start + len) is_path below (omega (arith, slash.within, length-drop start path)) (sym (get_or-drop start path len 0) ∙ slash.here))
+    (not_root path (start + len) is_path below (omega (arith, slash.within, length-drop start path))
+    (sym (get_or-drop start path len 0) ∙ slash.here))

@@ -15,7 +15,8 @@ published script = deeds.Publish (codes "v") targets script [] []
 
 -- rows 2, 3 and 4 make an object each
 abbrev pooled : Base
-pooled = base_of (deeds.Mkview (codes "v") ∷ published (codes "one") ∷ published (codes "two") ∷ published (codes "one") ∷ deeds.Scrub (4 ∷ []) ∷ [])
+pooled = base_of (deeds.Mkview (codes "v") ∷ published (codes "one") ∷ published (codes "two") ∷ published (codes "one")
+    ∷ deeds.Scrub (4 ∷ []) ∷ [])
 
 abbrev any_record : Test
 any_record script entries = true

@@ -16,4 +16,5 @@ catalog_in b (OfCheckout v d) = own_of b v.now d
 abbrev pub Resolves : Base → List ℕ → Catalog → Resolution → Type 0
 Resolves b name catalog (Is found) = element_named name catalog ≡ found
 Resolves b name catalog (As count place other) =
-    (length (first_rows count b) < length b) × (element_named name catalog ≡ element_named other.now (catalog_in (first_rows count b) place))
+    (length (first_rows count b) < length b) × (element_named name catalog
+    ≡ element_named other.now (catalog_in (first_rows count b) place))

@@ -22,7 +22,7 @@ struct BranchOf<'a> {
 impl LookUp for BranchOf<'_> {
     type Item = u64;
 
-    ghost use Rattle.base_rows.specs.AffectedSubjects.{branch_named_affects};
+    ghost use Rattle.base_rows.specs.Laws.AffectedSubjects.{branch_named_affects};
     ghost use Rattle.base_rows.specs.Effects.{branch_named_effect};
     ghost use Rattle.base_rows.specs.Subjects as model;
 

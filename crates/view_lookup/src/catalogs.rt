@@ -77,7 +77,7 @@ fn entry_of_version<'a>(rows: &FirstRows<'a>, version: u64, name: &'a [u8]) -> R
     }
 }
 
-/// A name in the catalog of a view's checkout of a directory, by the newest row that bears on it there.
+/// A name in the catalog of a view's checkout of a directory, by the newest row that affects it there.
 fn entry_by<'a>(
     rows: &FirstRows<'a>,
     view: &'a Name,

@@ -17,9 +17,9 @@ use std::collections::BTreeSet;
 /// A test of what an object rests on.
 pub trait InputTest {
     ghost use Rattle.std.specs.Prelude.{◌≡◌};
-    ghost use Rattle.view_lookup.specs.FirstInputs.{Test};
+    ghost use Rattle.view_lookup.specs.FirstInputs.{PathTest};
 
-    ghost passes: { Self → Test };
+    ghost passes: { Self → PathTest };
 
     /// Whether a path passes with the row there; row 0 says that nothing was there.
     fn passes(&self, path: &Path, row: u64) -> bool

@@ -31,7 +31,7 @@ pub fn has_name(rows: &FirstRows<'_>, view: &Name, directory: u64, name: &Name) 
     named_by_checkout(rows, view, directory, name).is_some()
 }
 
-/// Whether the view has out the element that the catalog of its checkout of a directory names so. Takes the time of
+/// Whether the view has checked out the element that the catalog of its checkout of a directory names so. Takes the time of
 /// `named_by_checkout` and of `checked_out`.
 pub fn has_out_by_name(rows: &FirstRows<'_>, view: &Name, directory: u64, name: &Name) -> bool
     ensures { result ≡ has_out_by_name rows.now view.now directory name.now }

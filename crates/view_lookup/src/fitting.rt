@@ -5,7 +5,7 @@ ghost use Rattle.std.specs.List.{list_all};
 ghost use Rattle.cc_names.specs.Formed.{IsDeedFormed, IsText};
 ghost use Rattle.cc_names.specs.declared.rows.Deed.TheVariants as deeds;
 ghost use Rattle.base_model.specs.Changes.{targets_of_deed};
-ghost use Rattle.base_model.specs.Closures.{is_among};
+ghost use Rattle.base_model.specs.Closures.{is_path_among};
 ghost use Rattle.base_model.specs.Conditions.{element_of_text, is_entry, is_some_file, makes_file_text, may_be_scrubbed};
 ghost use Rattle.base_model.specs.Rows.{Base};
 ghost use Rattle.base_model.specs.Fits.{deed_fits, fits};
@@ -57,7 +57,7 @@ fn is_some_file(rows: &FirstRows<'_>, element: Option<u64>) -> bool
 fn makes_text(rows: &FirstRows<'_>, path: &Path, row: u64, deed: &Deed) -> bool
     ensures { result
         ≡ (makes_file_text rows.now row (Some deed.now)
-        || is_among path.now (targets_of_deed (Some deed.now))) }
+        || is_path_among path.now (targets_of_deed (Some deed.now))) }
 {
     match deed {
         Deed::Put { .. } => true,

@@ -20,7 +20,7 @@ struct NamingIn {
 impl LookUp for NamingIn {
     type Item = u64;
 
-    ghost use Rattle.base_rows.specs.AffectedSubjects.{naming_affects};
+    ghost use Rattle.base_rows.specs.Laws.AffectedSubjects.{naming_affects};
     ghost use Rattle.base_rows.specs.Giving.{naming_effect};
     ghost use Rattle.base_rows.specs.Subjects as model;
 

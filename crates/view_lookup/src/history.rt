@@ -20,7 +20,7 @@ struct HistoryOf {
 impl LookUp for HistoryOf {
     type Item = u64;
 
-    ghost use Rattle.base_rows.specs.AffectedSubjects.{history_affects};
+    ghost use Rattle.base_rows.specs.Laws.AffectedSubjects.{history_affects};
     ghost use Rattle.base_rows.specs.Histories.{history_effect};
     ghost use Rattle.base_rows.specs.Subjects as model;
 

@@ -20,7 +20,7 @@ struct LeavingOf {
 impl LookUp for LeavingOf {
     type Item = u64;
 
-    ghost use Rattle.base_rows.specs.AffectedSubjects.{leaving_affects};
+    ghost use Rattle.base_rows.specs.Laws.AffectedSubjects.{leaving_affects};
     ghost use Rattle.base_rows.specs.Effects.{leaving_effect};
     ghost use Rattle.base_rows.specs.Subjects as model;
 

@@ -8,7 +8,8 @@
 //! the model's definition over the base, with no condition on it. `first_rows` gives the base as it was at an earlier moment,
 //! over which every look-up answers as of then.
 //!
-//! What it stands on: `cc_names` for rows, `base_model` and `legal_history` for the definitions, `version_tree` and `label_book` for the trees and
+//! What it stands on: `cc_names` for rows, `base_model` and `legal_history` for the definitions, `version_tree` and `label_book`
+//! for the trees and
 //! the labels, and `spec_text` for the rules of config specs and how they select.
 #![tactic(auto)]
 

@@ -20,7 +20,7 @@ struct MergedInto {
 impl LookUp for MergedInto {
     type Item = u64;
 
-    ghost use Rattle.base_rows.specs.AffectedSubjects.{merged_affects};
+    ghost use Rattle.base_rows.specs.Laws.AffectedSubjects.{merged_affects};
     ghost use Rattle.base_rows.specs.Effects.{merged_effect};
     ghost use Rattle.base_rows.specs.Subjects as model;
 

@@ -19,7 +19,7 @@ struct MergeOf {
 impl LookUp for MergeOf {
     type Item = u64;
 
-    ghost use Rattle.base_rows.specs.AffectedSubjects.{merge_affects};
+    ghost use Rattle.base_rows.specs.Laws.AffectedSubjects.{merge_affects};
     ghost use Rattle.base_rows.specs.Effects.{merge_effect};
     ghost use Rattle.base_rows.specs.Subjects as model;
 

@@ -22,7 +22,7 @@ struct OwnOf<'a> {
 impl LookUp for OwnOf<'_> {
     type Item = u64;
 
-    ghost use Rattle.base_rows.specs.AffectedSubjects.{own_affects};
+    ghost use Rattle.base_rows.specs.Laws.AffectedSubjects.{own_affects};
     ghost use Rattle.base_rows.specs.Giving.{own_effect};
     ghost use Rattle.base_rows.specs.Subjects as model;
 

@@ -60,7 +60,7 @@ struct PoolOf<'a, T> {
 impl<T: RecordTest> LookUp for PoolOf<'_, T> {
     type Item = u64;
 
-    ghost use Rattle.base_rows.specs.AffectedSubjects.{pool_affects};
+    ghost use Rattle.base_rows.specs.Laws.AffectedSubjects.{pool_affects};
     ghost use Rattle.base_rows.specs.Effects.{pool_effect};
     ghost use Rattle.base_rows.specs.Subjects as model;
 
@@ -84,7 +84,8 @@ impl<T: RecordTest> LookUp for PoolOf<'_, T> {
 }
 
 /// The newest live object with these targets whose record passes. Takes time linear in the targets, and for each object with
-/// these targets, live or scrubbed, from the newest on as far as the one that is found, the time of `live_row` and, where it is live,
+/// these targets, live or scrubbed, from the newest on as far as the one that is found, the time of `live_row` and, where it is
+/// live,
 /// that of `publishes`.
 pub fn newest_object<T: RecordTest>(rows: &FirstRows<'_>, targets: &[Path], test: &T) -> Option<u64>
     ensures { result ≡ newest_object rows.now targets.now (T.passes test.now) }

@@ -24,7 +24,7 @@ struct ReservingOf {
 impl LookUp for ReservingOf {
     type Item = u64;
 
-    ghost use Rattle.base_rows.specs.AffectedSubjects.{reserving_affects};
+    ghost use Rattle.base_rows.specs.Laws.AffectedSubjects.{reserving_affects};
     ghost use Rattle.base_rows.specs.Effects.{reserving_effect};
     ghost use Rattle.base_rows.specs.Subjects as subjects;
 

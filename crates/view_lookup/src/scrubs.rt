@@ -36,7 +36,7 @@ struct WinkedOf<'a> {
 impl LookUp for WinkedOf<'_> {
     type Item = u64;
 
-    ghost use Rattle.base_rows.specs.AffectedSubjects.{winked_affects};
+    ghost use Rattle.base_rows.specs.Laws.AffectedSubjects.{winked_affects};
     ghost use Rattle.base_rows.specs.Effects.{winked_effect};
     ghost use Rattle.base_rows.specs.Subjects as subjects;
 
@@ -88,7 +88,8 @@ fn is_held_by_maker(rows: &FirstRows<'_>, object: u64) -> bool
     }
 }
 
-/// Whether some view holds the object. Takes for each of its targets the time of `held_object`: once for the view that made it, and once
+/// Whether some view holds the object. Takes for each of its targets the time of `held_object`: once for the view that made it,
+/// and once
 /// for each wink behind the last one whose view holds it still.
 pub fn is_held(rows: &FirstRows<'_>, object: u64) -> bool
     ensures { result ≡ is_held (objects_held rows.now) object }

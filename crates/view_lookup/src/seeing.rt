@@ -42,7 +42,7 @@ fn entries_ahead<'a>(rows: &FirstRows<'a>, targets: &[Path]) -> &'a [ReadOf] {
 }
 
 /// Keeps the file that a view sees at a path, where that is not kept yet.
-fn see(
+fn see_file(
     alloc: Global,
     rows: &FirstRows<'_>,
     view: &Name,
@@ -72,7 +72,7 @@ fn see_each(
     ensures { OnOk result (AreFiles rows.now view.now files.new) }
 {
     for entry in entries {
-        see(alloc, rows, view, files, &entry.path)?;
+        see_file(alloc, rows, view, files, &entry.path)?;
     }
     Ok(())
 }

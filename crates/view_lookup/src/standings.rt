@@ -32,7 +32,7 @@ struct StandingOf<'a> {
 impl LookUp for StandingOf<'_> {
     type Item = u64;
 
-    ghost use Rattle.base_rows.specs.AffectedSubjects.{standing_affects};
+    ghost use Rattle.base_rows.specs.Laws.AffectedSubjects.{standing_affects};
     ghost use Rattle.base_rows.specs.Effects.{standing_effect};
     ghost use Rattle.base_rows.specs.Subjects as subjects;
 

@@ -20,7 +20,7 @@ struct NamedOf<'a> {
 impl LookUp for NamedOf<'_> {
     type Item = TypeKind;
 
-    ghost use Rattle.base_rows.specs.AffectedSubjects.{named_affects};
+    ghost use Rattle.base_rows.specs.Laws.AffectedSubjects.{named_affects};
     ghost use Rattle.base_rows.specs.Effects.{named_effect};
     ghost use Rattle.base_rows.specs.Subjects as model;
 

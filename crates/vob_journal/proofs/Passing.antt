@@ -1,7 +1,9 @@
 -- How stops are told along calls.
-use Rattle.std.proofs.Common.{◌≡◌, ℕ, Option, Result, Ok, Err, MatchResult, List, length, refl, sym, ◌∙◌, ap, subst, inl, inr, arith}
+use Rattle.std.proofs.Common.{◌≡◌, ℕ, Option, Result, Ok, Err, MatchResult, List, length, refl, sym, ◌∙◌, ap, subst, inl, inr}
+use Rattle.std.proofs.Common.{arith}
 use Rattle.disk_model.specs.Files.{File, IsImage, IsTorn, overwritten}
-use Rattle.disk_model.specs.Devices.{Device, Event, Wrote, Tore, Synced, Failed, with_call, file_of, bytes_of, written_to, during, LeavesNow, Writes, Syncs, Idles}
+use Rattle.disk_model.specs.Devices.{Device, Event, Wrote, Tore, Synced, Failed, with_call, file_of, bytes_now, written_to}
+use Rattle.disk_model.specs.Devices.{during, LeavesNow, Writes, Syncs, Idles}
 use Rattle.disk_model.specs.DiskStates.{Both}
 use Rattle.disk_model.proofs.Torn.{torn_overwritten}
 use Rattle.vob_journal.specs.Calls.{put_down}
@@ -10,7 +12,12 @@ use Rattle.vob_journal.specs.Phases.{PutsDown, FailsToPut}
 use Rattle.vob_journal.proofs.Telling.{both_then}
 
 pub passes_none : (d : Device) (P : List ℕ → Type 0) → Passes d d P
-passes_none d P = record { no_fewer = omega arith; each = λ k image left. inl left; others = λ k image left. inl left; objects = refl }
+passes_none d P = record {
+  no_fewer = omega arith;
+  each = λ k image left. inl left;
+  others = λ k image left. inl left;
+  objects = refl;
+}
 
 pub passes_then : (d e f : Device) (P : List ℕ → Type 0) → Passes d e P → Passes e f P → Passes d f P
 passes_then d e f P one two = record {
@@ -54,13 +61,17 @@ module _ (T : File → Type 0) (P : List ℕ → Type 0) (place size : ℕ)
   failed_passes : (d : Device) → T (file_of 0 d) → Passes d (with_call Failed d) P
   failed_passes d t = passes_call Failed d P (images (file_of 0 d) t) (λ image h. h) refl
 
-  wrote_passes : (d : Device) (left : List ℕ) → T (file_of 0 d) → IsTorn place size (bytes_of 0 d) left → Passes d (with_call (Wrote 0 place size left) d) P
+  wrote_passes : (d : Device) (left : List ℕ) → T (file_of 0 d) → IsTorn place size (bytes_now 0 d) left
+      → Passes d (with_call (Wrote 0 place size left) d) P
   wrote_passes d left t h =
-      passes_call (Wrote 0 place size left) d P (images (written_to (file_of 0 d) place size left) (torn (file_of 0 d) left t h)) (λ image i. i) refl
+      passes_call (Wrote 0 place size left) d P (images (written_to (file_of 0 d) place size left) (torn (file_of 0 d) left t h))
+      (λ image i. i) refl
 
-  tore_passes : (d : Device) (left : List ℕ) → T (file_of 0 d) → IsTorn place size (bytes_of 0 d) left → Passes d (with_call (Tore 0 place size left) d) P
+  tore_passes : (d : Device) (left : List ℕ) → T (file_of 0 d) → IsTorn place size (bytes_now 0 d) left
+      → Passes d (with_call (Tore 0 place size left) d) P
   tore_passes d left t h =
-      passes_call (Tore 0 place size left) d P (images (written_to (file_of 0 d) place size left) (torn (file_of 0 d) left t h)) (λ image i. i) refl
+      passes_call (Tore 0 place size left) d P (images (written_to (file_of 0 d) place size left) (torn (file_of 0 d) left t h))
+      (λ image i. i) refl
 
   pub failed_put : (d e : Device) → T (file_of 0 d) → FailsToPut place size d e → Passes d e P × T (file_of 0 e)
   failed_put d e t h = elim h [
@@ -76,7 +87,8 @@ module _ (T : File → Type 0) (P : List ℕ → Type 0) (place size : ℕ)
             | inl tore ↦ subst (λ f. Passes d f P × T (file_of 0 f)) (sym tore) (tore_passes d left t wrote.1, kept)
             | inr put ↦ elim put [
               | inl whole ↦ subst (λ f. Passes d f P × T (file_of 0 f)) (sym whole) (one, kept)
-              | inr missed ↦ subst (λ f. Passes d f P × T (file_of 0 f)) (sym missed) (passes_then d mid (with_call Failed mid) P one (failed_passes mid kept), kept)
+              | inr missed ↦ subst (λ f. Passes d f P × T (file_of 0 f)) (sym missed)
+                  (passes_then d mid (with_call Failed mid) P one (failed_passes mid kept), kept)
             ]
           ]
     ]
@@ -84,8 +96,8 @@ module _ (T : File → Type 0) (P : List ℕ → Type 0) (place size : ℕ)
 
   pub put_passes : (d : Device) (piece : List ℕ) → length piece ≡ size → T (file_of 0 d) → Passes d (put_down place piece d) P
   put_passes d piece is t =
-      let left = overwritten place piece (bytes_of 0 d) in
-      let whole : IsTorn place size (bytes_of 0 d) left = torn_overwritten place size piece (bytes_of 0 d) (omega arith) in
+      let left = overwritten place piece (bytes_now 0 d) in
+      let whole : IsTorn place size (bytes_now 0 d) left = torn_overwritten place size piece (bytes_now 0 d) (omega arith) in
       let mid = with_call (Wrote 0 place size left) d in
       let kept = torn (file_of 0 d) left t whole in
       subst (λ n. Passes d (with_call (Synced 0) (with_call (Wrote 0 place n left) d)) P) (sym is)
@@ -93,16 +105,27 @@ module _ (T : File → Type 0) (P : List ℕ → Type 0) (place size : ℕ)
       (passes_call (Synced 0) mid P (images (file_of 0 mid) kept) (λ image i. i) refl))
 
 -- a piece was written, and then synced or not
-unsynced : (place : ℕ) (piece : List ℕ) (d e f : Device) → Writes 0 place piece d e → Idles e f → FailsToPut place (length piece) d f
+unsynced : (place : ℕ) (piece : List ℕ) (d e f : Device) → Writes 0 place piece d e → Idles e f
+    → FailsToPut place (length piece) d f
 unsynced place piece d e f wrote (inl same) =
-    inr (inr (overwritten place piece (bytes_of 0 d), torn_overwritten place (length piece) piece (bytes_of 0 d) (omega arith), inr (inl (same ∙ wrote))))
+    inr (inr (
+      overwritten place piece (bytes_now 0 d),
+      torn_overwritten place (length piece) piece (bytes_now 0 d) (omega arith),
+      inr (inl (same ∙ wrote)),
+    ))
 unsynced place piece d e f wrote (inr missed) =
-    inr (inr (overwritten place piece (bytes_of 0 d), torn_overwritten place (length piece) piece (bytes_of 0 d) (omega arith), inr (inr (missed ∙ ap (with_call Failed) wrote))))
+    inr (inr (
+      overwritten place piece (bytes_now 0 d),
+      torn_overwritten place (length piece) piece (bytes_now 0 d) (omega arith),
+      inr (inr (missed ∙ ap (with_call Failed) wrote)),
+    ))
 
-pub modeled_put : {T E : Type 0} (r : Result T E) (place : ℕ) (piece : List ℕ) (old mid new : Option Device) → Both (Writes 0 place piece) old mid
+pub modeled_put : {T E : Type 0} (r : Result T E) (place : ℕ) (piece : List ℕ) (old mid new : Option Device)
+    → Both (Writes 0 place piece) old mid
     → MatchResult r (λ _. Both (Syncs 0) mid new) (λ _. Both Idles mid new)
     → MatchResult r (λ _. Both (PutsDown place piece) old new) (λ _. Both (FailsToPut place (length piece)) old new)
 modeled_put (Ok done) place piece old mid new wrote synced =
-    both_then (Writes 0 place piece) (Syncs 0) (PutsDown place piece) old mid new (λ d e f w s. s ∙ ap (with_call (Synced 0)) w) wrote synced
+    both_then (Writes 0 place piece) (Syncs 0) (PutsDown place piece) old mid new (λ d e f w s. s
+    ∙ ap (with_call (Synced 0)) w) wrote synced
 modeled_put (Err fault) place piece old mid new wrote idles =
     both_then (Writes 0 place piece) Idles (FailsToPut place (length piece)) old mid new (unsynced place piece) wrote idles

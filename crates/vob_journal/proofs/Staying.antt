@@ -33,7 +33,11 @@ fetched_rests place size d e made = subst (Rests d) (sym made) (record {
 })
 
 pub idle_rests : (d e : Device) → Idles d e → Rests d e
-idle_rests d e (inl same) = subst (Rests d) (sym same) (record { adds = adds_none may_read d; same = refl; passes = passes_none d (LeavesNow 0 d) })
+idle_rests d e (inl same) = subst (Rests d) (sym same) (record {
+  adds = adds_none may_read d;
+  same = refl;
+  passes = passes_none d (LeavesNow 0 d);
+})
 idle_rests d e (inr missed) = subst (Rests d) (sym missed) (record {
   adds = adds_one may_read Failed d refl;
   same = refl;

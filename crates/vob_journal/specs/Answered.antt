@@ -1,14 +1,14 @@
 -- What the calls of a journal answer.
 use Rattle.std.specs.Prelude.{◌≡◌, ◌+◌, ℕ, Bool, true, false, Option, Some, None, Result, Ok, Err, is_ok, List, [], ◌∷◌, drop}
 use Rattle.disk_model.specs.Counting.{next_count}
-use Rattle.disk_model.specs.Devices.{Device, bytes_of}
+use Rattle.disk_model.specs.Devices.{Device, bytes_now}
 use Rattle.disk_model.specs.DiskStates.{DiskState}
 use Rattle.vob_journal.specs.Frames.{is_shut}
 
 -- the next payload of those that were still to be read, or the end of them
-abbrev pub Gives : Option (List ℕ) → List (List ℕ) → List (List ℕ) → Type 0
-Gives None rest rest' = (rest ≡ []) × (rest' ≡ [])
-Gives (Some payload) rest rest' = rest ≡ payload ∷ rest'
+abbrev pub GivesNext : Option (List ℕ) → List (List ℕ) → List (List ℕ) → Type 0
+GivesNext None rest rest' = (rest ≡ []) × (rest' ≡ [])
+GivesNext (Some payload) rest rest' = rest ≡ payload ∷ rest'
 
 -- the end of the list was read exactly where None was answered
 abbrev pub Ends : {E : Type 0} → Result (Option (List ℕ)) E → Bool → Bool → Type 0
@@ -18,7 +18,7 @@ Ends (Err fault) old new = new ≡ old
 
 -- at the end a tail is settled exactly where a gate byte other than 1 stands
 abbrev pub SettledAtEnd : Option (List ℕ) → Bool → Bool → ℕ → Device → Type 0
-SettledAtEnd None false settled tail d = settled ≡ is_shut (drop tail (bytes_of 0 d))
+SettledAtEnd None false settled tail d = settled ≡ is_shut (drop tail (bytes_now 0 d))
 SettledAtEnd None true settled tail d = Unit {0}
 SettledAtEnd (Some payload) ended settled tail d = Unit {0}
 

@@ -1,7 +1,7 @@
 -- The device calls that write a journal.
 use Rattle.std.specs.Prelude.{◌≡◌, ℕ, ◌+◌, Bool, true, false, List, [], ◌∷◌, ◌++◌, length}
 use Rattle.disk_model.specs.Files.{overwritten}
-use Rattle.disk_model.specs.Devices.{Device, Wrote, Synced, with_call, bytes_of}
+use Rattle.disk_model.specs.Devices.{Device, Wrote, Synced, with_call, bytes_now}
 use Rattle.vob_journal.specs.Added.{Adds, may_write}
 use Rattle.vob_journal.specs.declared.left.Left.{Left}
 use Rattle.vob_journal.specs.Frames.{frame_after_gate}
@@ -11,7 +11,7 @@ use Rattle.vob_journal.specs.Tails.{list_at, leftover_at, IsTail}
 
 -- a piece was written to the journal
 abbrev pub put : ℕ → List ℕ → Device → Device
-put place piece d = with_call (Wrote 0 place (length piece) (overwritten place piece (bytes_of 0 d))) d
+put place piece d = with_call (Wrote 0 place (length piece) (overwritten place piece (bytes_now 0 d))) d
 
 -- a piece was written to the journal, and the journal was synced
 abbrev pub put_down : ℕ → List ℕ → Device → Device
@@ -25,7 +25,8 @@ settled_first false tail d = put_down tail (0 ∷ []) d
 -- The device calls of a commit: where the tail is not settled, its gate is shut and synced; length, payload and the next
 -- gate, shut, are written behind the gate and synced; then the gate is opened and synced.
 abbrev pub device_after_commit : Bool → ℕ → List ℕ → Device → Device
-device_after_commit settled tail payload d = put_down tail (1 ∷ []) (put_down (tail + 1) (frame_after_gate payload) (settled_first settled tail d))
+device_after_commit settled tail payload d = put_down tail (1 ∷ []) (put_down (tail + 1) (frame_after_gate payload)
+    (settled_first settled tail d))
 
 -- a settling call, or a phase of it, keeps the list
 pub record KeepsFrames (settled settled' : Bool) (tail : ℕ) (d e : Device) : Type 0 where
@@ -39,7 +40,7 @@ pub record Settles (settled : Bool) (tail : ℕ) (d e : Device) : Type 0 where
   pub keeps : KeepsFrames settled true tail d e
   pub calls : e ≡ settled_first settled tail d
 
--- settling failed: what was loose is loose
+-- settling failed: what was left over is left over
 pub record LeavesLeftover (settled : Bool) (tail : ℕ) (d e : Device) : Type 0 where
   pub was_unsettled : settled ≡ false
   pub keeps : KeepsFrames false false tail d e

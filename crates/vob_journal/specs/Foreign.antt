@@ -1,5 +1,6 @@
 -- The bytes behind the frames of a journal that no frame of it can be.
-use Rattle.std.specs.Prelude.{ℕ, zero, suc, ◌+◌, ◌&&◌, Bool, nat_le, if◌then◌else◌, Option, Some, None, List, length, drop, slice_index}
+use Rattle.std.specs.Prelude.{ℕ, zero, suc, ◌+◌, ◌&&◌, Bool, nat_le, if◌then◌else◌, Option, Some, None, List, length, drop}
+use Rattle.std.specs.Prelude.{slice_index}
 use Rattle.vob_journal.specs.Frames.{size_of, head}
 
 -- the bytes where no whole frame begins them, else what stands so many bytes on
@@ -7,12 +8,12 @@ abbrev pub past : Option (List ℕ) → List ℕ → (ℕ → List ℕ) → List
 past None bytes behind = bytes
 past (Some payload) bytes behind = behind (5 + length payload)
 
--- what stands behind at most so many frames
+-- what follows at most so many frames
 abbrev pub behind_within : ℕ → List ℕ → List ℕ
 behind_within zero bytes = bytes
 behind_within (suc most) bytes = past (head bytes) bytes (λ n. behind_within most (drop n bytes))
 
--- What stands behind the last whole frame. No journal has more frames than bytes.
+-- What follows the last whole frame. No journal has more frames than bytes.
 unfoldable pub behind : List ℕ → List ℕ
 behind bytes = behind_within (length bytes) bytes
 

@@ -9,15 +9,15 @@ use Rattle.vob_journal.specs.declared.reading.Found.{Found}
 use Rattle.vob_journal.specs.declared.reading.Found.TheVariants.{Payload, End}
 
 -- what stands at the head of the rest of a journal
-abbrev pub Tells : Head → List ℕ → Type 0
-Tells (Whole size) rest = (head rest ≡ Some (take size (drop 5 rest))) × (5 + size ≤ length rest)
-Tells Shut rest = (head rest ≡ None) × (is_shut rest ≡ true)
-Tells Cut rest = (head rest ≡ None) × (is_shut rest ≡ false)
+abbrev pub HeadTells : Head → List ℕ → Type 0
+HeadTells (Whole size) rest = (head rest ≡ Some (take size (drop 5 rest))) × (5 + size ≤ length rest)
+HeadTells Shut rest = (head rest ≡ None) × (is_shut rest ≡ true)
+HeadTells Cut rest = (head rest ≡ None) × (is_shut rest ≡ false)
 
 -- what was read at the head of the rest of a journal
-abbrev pub Finds : Found → List ℕ → Type 0
-Finds (Payload payload window) rest = head rest ≡ Some payload
-Finds (End settled) rest = (head rest ≡ None) × (settled ≡ is_shut rest)
+abbrev pub FindsAtHead : Found → List ℕ → Type 0
+FindsAtHead (Payload payload window) rest = head rest ≡ Some payload
+FindsAtHead (End settled) rest = (head rest ≡ None) × (settled ≡ is_shut rest)
 
 -- this payload was read
 abbrev pub IsPayload : Found → List ℕ → Type 0
@@ -25,9 +25,9 @@ IsPayload (Payload payload window) bytes = payload ≡ bytes
 IsPayload (End settled) bytes = ⊥
 
 -- a frame that was read lies within the journal
-abbrev pub IsWithin : ℕ → ℕ → Found → Type 0
-IsWithin tail size (Payload payload window) = tail + (5 + length payload) ≤ size
-IsWithin tail size (End settled) = Unit {0}
+abbrev pub IsFrameWithin : ℕ → ℕ → Found → Type 0
+IsFrameWithin tail size (Payload payload window) = tail + (5 + length payload) ≤ size
+IsFrameWithin tail size (End settled) = Unit {0}
 
 -- the window in which it was read shows the journal
 abbrev pub ShowsOn : Option Device → Found → Type 0

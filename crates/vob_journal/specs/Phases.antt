@@ -2,7 +2,7 @@
 use Rattle.std.specs.Prelude.{◌≡◌, ◌⊎◌, ◌≤◌, ◌+◌, ℕ, Bool, if◌then◌else◌, Result, MatchResult, List, [], ◌∷◌, ◌++◌, length, drop}
 use Rattle.disk_model.specs.Counting.{next_count}
 use Rattle.disk_model.specs.Files.{File, stable, IsTorn}
-use Rattle.disk_model.specs.Devices.{Device, Wrote, Tore, Failed, with_call, file_of, bytes_of}
+use Rattle.disk_model.specs.Devices.{Device, Wrote, Tore, Failed, with_call, file_of, bytes_now}
 use Rattle.disk_model.specs.DiskStates.{DiskState}
 use Rattle.vob_journal.specs.Added.{Adds, may_write}
 use Rattle.vob_journal.specs.Calls.{put_down}
@@ -18,7 +18,7 @@ PutsDown place piece d e = e ≡ put_down place piece d
 -- was not synced.
 abbrev pub FailsToPut : ℕ → ℕ → Device → Device → Type 0
 FailsToPut place size d e = (e ≡ d) ⊎ (e ≡ with_call Failed d)
-    ⊎ ((left : List ℕ) × IsTorn place size (bytes_of 0 d) left
+    ⊎ ((left : List ℕ) × IsTorn place size (bytes_now 0 d) left
     × ((e ≡ with_call (Tore 0 place size left) d) ⊎ (e ≡ with_call (Wrote 0 place size left) d)
     ⊎ (e ≡ with_call Failed (with_call (Wrote 0 place size left) d))))
 
@@ -38,13 +38,13 @@ pub record Stages (tail : ℕ) (payload : List ℕ) (d e : Device) : Type 0 wher
   pub staged : IsStaged (list_at tail d) payload tail (file_of 0 e)
   pub calls : e ≡ put_down (tail + 1) (frame_after_gate payload) d
 
--- the gate in front of a payload was opened
+-- the gate before a payload was opened
 pub record OpensGate (tail : ℕ) (payload : List ℕ) (d e : Device) : Type 0 where
   pub passes : Passes d e (Stands (list_at tail d) (payload ∷ []))
   pub shut : IsShut (list_at tail d ++ payload ∷ []) (tail + (5 + length payload)) (file_of 0 e)
   pub calls : e ≡ put_down tail (1 ∷ []) d
 
--- the gate in front of a payload was not opened for certain: a stop may leave it open or shut
+-- the gate before a payload was not opened for certain: a stop may leave it open or shut
 pub record MayOpen (tail : ℕ) (payload : List ℕ) (d e : Device) : Type 0 where
   pub passes : Passes d e (Stands (list_at tail d) (payload ∷ []))
   pub ajar : IsAjar (list_at tail d) (payload ∷ []) tail (file_of 0 e)

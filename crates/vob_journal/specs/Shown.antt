@@ -1,15 +1,15 @@
 -- What contracts see of a journal.
 use Rattle.std.specs.Prelude.{◌≤◌, ◌^◌, ℕ, Bool, true, false, Option, Some, None, List, [], ◌++◌, drop}
-use Rattle.disk_model.specs.Devices.{Device, bytes_of}
+use Rattle.disk_model.specs.Devices.{Device, bytes_now}
 use Rattle.vob_journal.specs.declared.left.Left.{Left}
 use Rattle.vob_journal.specs.Frames.{frames}
-use Rattle.vob_journal.specs.Tails.{list_at, leftover_at, IsTail, IsReading}
+use Rattle.vob_journal.specs.Tails.{list_at, leftover_at, IsTail, IsStillRead}
 use Rattle.vob_journal.specs.Windows.{IfShows}
 use Rattle.vob_journal.specs.declared.window.Window.{Window}
 use Rattle.disk_model.specs.DiskStates.{IfModeled}
 
 -- A journal: its disk; the place behind its last frame read or written; the whole list, what is still to be read of it,
--- and what a fault left loose behind it, each of them empty where the disk does not tell its device; whether the end
+-- and what a fault left over behind it, each of them empty where the disk does not model its device; whether the end
 -- was read, whether the tail is settled, and what the last failed call left.
 pub record Shown (D : Type 0) : Type 0 where
   pub disk : D
@@ -24,24 +24,24 @@ pub record Shown (D : Type 0) : Type 0 where
 -- what is still to be read
 abbrev pub rest_at : Bool → ℕ → Device → List (List ℕ)
 rest_at true tail d = []
-rest_at false tail d = frames (drop tail (bytes_of 0 d))
+rest_at false tail d = frames (drop tail (bytes_now 0 d))
 
--- the whole list, where the device is told
+-- the whole list, where the device is modeled
 abbrev pub modeled_list : Option Device → Bool → ℕ → List (List ℕ)
 modeled_list None ended tail = []
 modeled_list (Some d) ended tail = list_at tail d ++ rest_at ended tail d
 
--- what is still to be read, where the device is told
+-- what is still to be read, where the device is modeled
 abbrev pub modeled_rest : Option Device → Bool → ℕ → List (List ℕ)
 modeled_rest None ended tail = []
 modeled_rest (Some d) ended tail = rest_at ended tail d
 
--- nothing is loose while the list is read
+-- nothing is left over while the list is read
 abbrev pub leftover_of : Bool → Bool → ℕ → Device → List (List ℕ)
 leftover_of true settled tail d = leftover_at settled tail d
 leftover_of false settled tail d = []
 
--- what a fault left loose, where the device is told
+-- what a fault left over, where the device is modeled
 abbrev pub modeled_leftover : Option Device → Bool → Bool → ℕ → List (List ℕ)
 modeled_leftover None ended settled tail = []
 modeled_leftover (Some d) ended settled tail = leftover_of ended settled tail d
@@ -50,4 +50,4 @@ modeled_leftover (Some d) ended settled tail = leftover_of ended settled tail d
 abbrev pub JournalInvariant : Option Device → Bool → Bool → ℕ → ℕ → Option Window → Type 0
 JournalInvariant modeled true settled tail size window = (tail ≤ 2 ^ 62) × IfModeled modeled (IsTail settled tail)
 JournalInvariant modeled false settled tail size window =
-    (tail ≤ size) × (size ≤ 2 ^ 62) × IfShows window modeled × IfModeled modeled (IsReading tail size)
+    (tail ≤ size) × (size ≤ 2 ^ 62) × IfShows window modeled × IfModeled modeled (IsStillRead tail size)

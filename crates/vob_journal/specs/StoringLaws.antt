@@ -42,7 +42,8 @@ keeps_itself ghost_state journal = record {
   stores = modeled_nothing (ghost_state journal.disk).modeled;
 }
 
-pub keeps_on : {D : Type 0} (ghost_state : D → DiskState) (one two three : Shown D) → KeepsJournal ghost_state one two → KeepsJournal ghost_state two three → KeepsJournal ghost_state one three
+pub keeps_on : {D : Type 0} (ghost_state : D → DiskState) (one two three : Shown D) → KeepsJournal ghost_state one two
+    → KeepsJournal ghost_state two three → KeepsJournal ghost_state one three
 keeps_on ghost_state one two three first then = record {
   tail = then.tail ∙ first.tail;
   list = then.list ∙ first.list;
@@ -51,5 +52,6 @@ keeps_on ghost_state one two three first then = record {
   ended = then.ended ∙ first.ended;
   settled = then.settled ∙ first.settled;
   left = then.left ∙ first.left;
-  stores = modeled_then (ghost_state one.disk).modeled (ghost_state two.disk).modeled (ghost_state three.disk).modeled first.stores then.stores;
+  stores = modeled_then (ghost_state one.disk).modeled (ghost_state two.disk).modeled (ghost_state three.disk).modeled
+      first.stores then.stores;
 }

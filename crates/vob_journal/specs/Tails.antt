@@ -1,7 +1,8 @@
 -- How a journal's file ends, behind the last frame of its list.
-use Rattle.std.specs.Prelude.{◌≡◌, ◌≢◌, ◌≤◌, ◌<◌, ◌+◌, ℕ, max, Bool, true, false, List, [], ◌∷◌, ◌++◌, length, take, drop, slice_index}
+use Rattle.std.specs.Prelude.{◌≡◌, ◌≢◌, ◌≤◌, ◌<◌, ◌+◌, ℕ, max, Bool, true, false, List, [], ◌∷◌, ◌++◌, length, take, drop}
+use Rattle.std.specs.Prelude.{slice_index}
 use Rattle.disk_model.specs.Files.{File, is_written, stable}
-use Rattle.disk_model.specs.Devices.{Device, file_of, bytes_of}
+use Rattle.disk_model.specs.Devices.{Device, file_of, bytes_now}
 use Rattle.vob_journal.specs.Frames.{frames}
 
 -- bytes that end with their last frame: what follows them is read as a journal of its own
@@ -33,12 +34,12 @@ pub record IsAjar (list leftover : List (List ℕ)) (tail : ℕ) (file : File) :
 
 -- the list that ends at this tail
 abbrev pub list_at : ℕ → Device → List (List ℕ)
-list_at tail d = frames (take tail (bytes_of 0 d))
+list_at tail d = frames (take tail (bytes_now 0 d))
 
 -- what may be found behind this tail, unless it is settled
 abbrev pub leftover_at : Bool → ℕ → Device → List (List ℕ)
 leftover_at true tail d = []
-leftover_at false tail d = frames (1 ∷ drop (tail + 1) (bytes_of 0 d))
+leftover_at false tail d = frames (1 ∷ drop (tail + 1) (bytes_now 0 d))
 
 -- the journal's file ends so, settled or not
 abbrev pub IsTail : Bool → ℕ → Device → Type 0
@@ -46,8 +47,8 @@ IsTail true tail d = IsShut (list_at tail d) tail (file_of 0 d)
 IsTail false tail d = IsAjar (list_at tail d) (leftover_at false tail d) tail (file_of 0 d)
 
 -- while it is still read: the file is as it was handed in, and a frame ends at this place
-pub record IsReading (place size : ℕ) (d : Device) : Type 0 where
-  pub as_opened : file_of 0 d ≡ stable (bytes_of 0 d)
-  pub within : place ≤ length (bytes_of 0 d)
-  pub all : size ≡ length (bytes_of 0 d)
-  pub whole : IsWhole (take place (bytes_of 0 d))
+pub record IsStillRead (place size : ℕ) (d : Device) : Type 0 where
+  pub as_opened : file_of 0 d ≡ stable (bytes_now 0 d)
+  pub within : place ≤ length (bytes_now 0 d)
+  pub all : size ≡ length (bytes_now 0 d)
+  pub whole : IsWhole (take place (bytes_now 0 d))

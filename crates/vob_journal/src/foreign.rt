@@ -1,7 +1,7 @@
-//! What stands behind the frames of a journal, where it can be no frame of it.
+//! What follows the frames of a journal, where it can be no frame of it.
 
 ghost use Rattle.std.specs.Prelude.{◌≡◌, ◌≤◌, ◌^◌, List, ℕ, min, length, take, drop, IfOk};
-ghost use Rattle.disk_model.specs.Devices.{bytes_of};
+ghost use Rattle.disk_model.specs.Devices.{bytes_now};
 ghost use Rattle.disk_model.specs.DiskStates.{IfModeled, Both};
 ghost use Rattle.vob_journal.specs.Foreign.{behind, foreign, foreign_of, may_be_cut};
 ghost use Rattle.vob_journal.specs.Reads.{SameFiles, Rests, CountsOn};
@@ -17,7 +17,7 @@ use std::alloc::Global;
 /// linear in the journal. Whatever it answers, both files are as they were.
 pub fn foreign_bytes<D: Disk>(alloc: Global, disk: &mut D) -> Result<u64, Or<DiskFault>>
     ensures foreign { IfOk result
-        (λ count. IfModeled (D.ghost_state disk.old).modeled (λ d. count ≡ foreign (bytes_of 0 d))) }
+        (λ count. IfModeled (D.ghost_state disk.old).modeled (λ d. count ≡ foreign (bytes_now 0 d))) }
     ensures files { Both SameFiles (D.ghost_state disk.old).modeled (D.ghost_state disk.new).modeled }
     ensures rests { Both Rests (D.ghost_state disk.old).modeled (D.ghost_state disk.new).modeled }
     ensures counts { CountsOn result (D.ghost_state disk.old) (D.ghost_state disk.new) }
@@ -35,12 +35,12 @@ pub fn foreign_bytes<D: Disk>(alloc: Global, disk: &mut D) -> Result<u64, Or<Dis
 /// The place behind the last whole frame of a journal of so many bytes.
 fn tail_of<D: Disk>(alloc: Global, disk: &mut D, size: u64) -> Result<u64, Or<DiskFault>>
     requires small { size ≤ 2 ^ 62 }
-    requires all { IfModeled (D.ghost_state disk.old).modeled (λ d. size ≡ length (bytes_of 0 d)) }
+    requires all { IfModeled (D.ghost_state disk.old).modeled (λ d. size ≡ length (bytes_now 0 d)) }
     ensures within { IfOk result (λ tail. tail ≤ size) }
     ensures behind { IfOk result
         (λ tail.
         IfModeled (D.ghost_state disk.old).modeled
-        (λ d. behind (bytes_of 0 d) ≡ drop tail (bytes_of 0 d))) }
+        (λ d. behind (bytes_now 0 d) ≡ drop tail (bytes_now 0 d))) }
     ensures rests { Both Rests (D.ghost_state disk.old).modeled (D.ghost_state disk.new).modeled }
     ensures counts { CountsOn result (D.ghost_state disk.old) (D.ghost_state disk.new) }
 {
@@ -67,11 +67,11 @@ fn foreign_at<D: Disk>(
 ) -> Result<u64, Or<DiskFault>>
     requires within { tail ≤ size }
     requires small { size ≤ 2 ^ 62 }
-    requires all { IfModeled (D.ghost_state disk.old).modeled (λ d. size ≡ length (bytes_of 0 d)) }
+    requires all { IfModeled (D.ghost_state disk.old).modeled (λ d. size ≡ length (bytes_now 0 d)) }
     ensures foreign { IfOk result
         (λ count.
         IfModeled (D.ghost_state disk.old).modeled
-        (λ d. count ≡ foreign_of (drop tail (bytes_of 0 d)))) }
+        (λ d. count ≡ foreign_of (drop tail (bytes_now 0 d)))) }
     ensures rests { Both Rests (D.ghost_state disk.old).modeled (D.ghost_state disk.new).modeled }
     ensures counts { CountsOn result (D.ghost_state disk.old) (D.ghost_state disk.new) }
 {

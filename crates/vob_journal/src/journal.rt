@@ -1,7 +1,7 @@
 //! The journal.
 
 ghost use Rattle.std.specs.Prelude.{◌≡◌, ◌≤◌, ◌+◌, ◌^◌, ◌++◌, ◌∷◌, [], IfOk, IfErr, OnOk, OnErr, MatchResult, is_ok, if◌then◌else◌, true, false, List, ℕ, length};
-ghost use Rattle.disk_model.specs.Devices.{file_of, bytes_of, LeavesNow};
+ghost use Rattle.disk_model.specs.Devices.{file_of, bytes_now, LeavesNow};
 ghost use Rattle.disk_model.specs.Files.{stable};
 ghost use Rattle.disk_model.specs.DiskStates.{IfModeled, Both};
 
@@ -58,7 +58,7 @@ impl<D: Disk> Journal<D> {
     ghost use Rattle.disk_model.specs.Devices.{Measures, Idles};
     ghost use Rattle.vob_journal.specs.declared.left.Left.TheVariants as lefts;
     ghost use Rattle.vob_journal.specs.Added.{Adds, WritesOn, may_read};
-    ghost use Rattle.vob_journal.specs.Answered.{Gives, Ends, SettledAtEnd, OneMore, OneFault, MakesNoCall};
+    ghost use Rattle.vob_journal.specs.Answered.{GivesNext, Ends, SettledAtEnd, OneMore, OneFault, MakesNoCall};
     ghost use Rattle.vob_journal.specs.Calls.{device_after_commit, settled_first};
     ghost use Rattle.vob_journal.specs.Frames.{frames};
     ghost use Rattle.vob_journal.specs.Lefts.{FailsInPhase, leftover_after, settled_after};
@@ -69,9 +69,9 @@ impl<D: Disk> Journal<D> {
     /// The journal of a disk that was handed in. Asks its length, and reads nothing yet. Where that fails the disk
     /// comes back. Either way both files are as they were.
     pub fn open(disk: D) -> Result<Journal<D>, D>
-        requires { IfModeled (D.ghost_state disk).modeled (λ d. file_of 0 d ≡ stable (bytes_of 0 d)) }
+        requires { IfModeled (D.ghost_state disk).modeled (λ d. file_of 0 d ≡ stable (bytes_now 0 d)) }
         ensures list { IfOk result
-            (λ journal. IfModeled (D.ghost_state disk).modeled (λ d. journal.list ≡ frames (bytes_of 0 d))) }
+            (λ journal. IfModeled (D.ghost_state disk).modeled (λ d. journal.list ≡ frames (bytes_now 0 d))) }
         ensures begins { IfOk result
             (λ journal.
             (journal.rest ≡ journal.list) × (journal.leftover ≡ []) × (journal.tail ≡ 0)
@@ -111,7 +111,7 @@ impl<D: Disk> Journal<D> {
         ensures gives { IfOk result
             (λ found.
             IfModeled (D.ghost_state self.old.disk).modeled
-            (λ _. Gives found self.old.rest self.new.rest)) }
+            (λ _. GivesNext found self.old.rest self.new.rest)) }
         ensures ends { Ends result self.old.ended self.new.ended }
         ensures settled { IfOk result
             (λ found.
@@ -237,7 +237,7 @@ impl<D: Disk> Journal<D> {
         self.left
     }
 
-    /// The disk's counts. A stop now leaves the list, and what is loose behind it or not.
+    /// The disk's counts. A stop now leaves the list, and what is left over behind it or not.
     pub fn counts(&self) -> Counts
         ensures ticks { result.ticks ≡ (D.ghost_state self.now.disk).ticks }
         ensures faults { result.faults ≡ (D.ghost_state self.now.disk).faults }

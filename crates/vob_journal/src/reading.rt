@@ -1,11 +1,11 @@
 //! How the frames of a journal are read, one by one.
 
 ghost use Rattle.std.specs.Prelude.{◌≡◌, ◌≤◌, ◌<◌, ◌+◌, ◌-◌, ◌^◌, List, ℕ, min, length, take, drop, IfOk, Some};
-ghost use Rattle.disk_model.specs.Devices.{bytes_of};
+ghost use Rattle.disk_model.specs.Devices.{bytes_now};
 ghost use Rattle.disk_model.specs.DiskStates.{IfModeled, Both};
 ghost use Rattle.vob_journal.specs.Windows.{IfShows};
 ghost use Rattle.vob_journal.specs.Reads.{Rests, CountsReads};
-ghost use Rattle.vob_journal.specs.Found.{Tells, Finds, IsPayload, IsWithin, ShowsOn, FitsIn};
+ghost use Rattle.vob_journal.specs.Found.{HeadTells, FindsAtHead, IsPayload, IsFrameWithin, ShowsOn, FitsIn};
 
 use crate::window::{Window, look};
 use cc_names::memory::Or;
@@ -38,7 +38,7 @@ fn head_of(bytes: &[u8], left: u64) -> Head
     ensures tells { (rest : List ℕ)
         → length rest ≡ left
         → bytes.now ≡ take (min left 5) rest
-        → Tells result rest }
+        → HeadTells result rest }
 {
     if bytes.is_empty() {
         return Head::Cut;
@@ -67,11 +67,11 @@ pub(crate) fn read_frame<D: Disk>(
 ) -> Result<Found, Or<DiskFault>>
     requires within { tail ≤ size }
     requires small { size ≤ 2 ^ 62 }
-    requires all { IfModeled (D.ghost_state disk.old).modeled (λ d. size ≡ length (bytes_of 0 d)) }
+    requires all { IfModeled (D.ghost_state disk.old).modeled (λ d. size ≡ length (bytes_now 0 d)) }
     requires shows { IfShows window (D.ghost_state disk.old).modeled }
     ensures found { IfOk result
-        (λ found. IfModeled (D.ghost_state disk.old).modeled (λ d. Finds found (drop tail (bytes_of 0 d)))) }
-    ensures within { IfOk result (IsWithin tail size) }
+        (λ found. IfModeled (D.ghost_state disk.old).modeled (λ d. FindsAtHead found (drop tail (bytes_now 0 d)))) }
+    ensures within { IfOk result (IsFrameWithin tail size) }
     ensures shows { IfOk result (ShowsOn (D.ghost_state disk.new).modeled) }
     ensures rests { Both Rests (D.ghost_state disk.old).modeled (D.ghost_state disk.new).modeled }
     ensures counts { CountsReads 2 result (D.ghost_state disk.old) (D.ghost_state disk.new) }
@@ -102,13 +102,13 @@ fn read_payload<D: Disk>(
 ) -> Result<Found, Or<DiskFault>>
     requires within { tail + (5 + count) ≤ size }
     requires small { size ≤ 2 ^ 62 }
-    requires all { IfModeled (D.ghost_state disk.old).modeled (λ d. size ≡ length (bytes_of 0 d)) }
+    requires all { IfModeled (D.ghost_state disk.old).modeled (λ d. size ≡ length (bytes_now 0 d)) }
     requires shows { IfShows (Some window) (D.ghost_state disk.old).modeled }
     ensures found { IfOk result
         (λ found.
         IfModeled (D.ghost_state disk.old).modeled
-        (λ d. IsPayload found (take count (drop 5 (drop tail (bytes_of 0 d)))))) }
-    ensures within { IfOk result (IsWithin tail size) }
+        (λ d. IsPayload found (take count (drop 5 (drop tail (bytes_now 0 d)))))) }
+    ensures within { IfOk result (IsFrameWithin tail size) }
     ensures shows { IfOk result (ShowsOn (D.ghost_state disk.new).modeled) }
     ensures rests { Both Rests (D.ghost_state disk.old).modeled (D.ghost_state disk.new).modeled }
     ensures counts { CountsReads 1 result (D.ghost_state disk.old) (D.ghost_state disk.new) }

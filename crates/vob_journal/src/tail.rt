@@ -1,7 +1,7 @@
 //! How the tail of a journal is written, phase by phase.
 
 ghost use Rattle.std.specs.Prelude.{◌≡◌, ◌≤◌, ◌<◌, ◌+◌, ◌^◌, ◌∷◌, [], Bool, true, false, length, IfOk, IfErr, MatchResult, if◌then◌else◌};
-ghost use Rattle.disk_model.specs.Devices.{bytes_of};
+ghost use Rattle.disk_model.specs.Devices.{bytes_now};
 ghost use Rattle.disk_model.specs.DiskStates.{IfModeled, Both};
 ghost use Rattle.vob_journal.specs.Answered.{MakesNoCall};
 ghost use Rattle.vob_journal.specs.Lefts.{FailsInPhase};
@@ -19,7 +19,7 @@ const SHUT: [u8; 1] = [0];
 
 /// Writes a piece and syncs it.
 fn put_down<D: Disk>(disk: &mut D, place: u64, piece: &[u8]) -> Result<(), DiskFault>
-    requires { IfModeled (D.ghost_state disk.old).modeled (λ d. place ≤ length (bytes_of 0 d)) }
+    requires { IfModeled (D.ghost_state disk.old).modeled (λ d. place ≤ length (bytes_now 0 d)) }
     ensures most { IfOk result (λ _. place + length piece.now ≤ 2 ^ 62) }
     ensures modeled { MatchResult result
         (λ _. Both (PutsDown place piece.now) (D.ghost_state disk.old).modeled (D.ghost_state disk.new).modeled)
@@ -63,7 +63,7 @@ fn stage<D: Disk>(disk: &mut D, tail: u64, frame: &Frame) -> Result<(), DiskFaul
     put_down(disk, tail + 1, frame.as_bytes())
 }
 
-/// Opens the gate in front of a frame that was staged.
+/// Opens the gate before a frame that was staged.
 fn open_gate<D: Disk>(disk: &mut D, tail: u64, frame: &Frame) -> Result<(), DiskFault>
     requires { IfModeled (D.ghost_state disk.old).modeled (IsStagedAt tail frame.now) }
     ensures modeled { MatchResult result

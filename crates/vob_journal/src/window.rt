@@ -2,7 +2,7 @@
 
 ghost use Rattle.std.specs.Prelude.{◌≡◌, ◌≤◌, ◌+◌, ◌-◌, ◌^◌, ◌↔◌, Some, length, take, drop, IfOk, IsTrue};
 ghost use Rattle.disk_model.specs.DiskStates.{IfModeled, Both};
-ghost use Rattle.disk_model.specs.Devices.{bytes_of};
+ghost use Rattle.disk_model.specs.Devices.{bytes_now};
 ghost use Rattle.vob_journal.specs.Windows.{IfShows};
 ghost use Rattle.vob_journal.specs.Reads.{Rests, ReadsPiece, CountsReads};
 
@@ -52,7 +52,7 @@ pub(crate) fn look<D: Disk>(
 ) -> Result<Window, Or<DiskFault>>
     requires within { place + needed ≤ size }
     requires small { size ≤ 2 ^ 62 }
-    requires all { IfModeled (D.ghost_state disk.old).modeled (λ d. size ≡ length (bytes_of 0 d)) }
+    requires all { IfModeled (D.ghost_state disk.old).modeled (λ d. size ≡ length (bytes_now 0 d)) }
     requires shows { IfShows window (D.ghost_state disk.old).modeled }
     ensures from { IfOk result (λ window. window.start ≤ place) }
     ensures to { IfOk result (λ window. place + needed ≤ window.start + length window.bytes.items) }

@@ -1,7 +1,7 @@
 //! Tests of `vob_journal`, in a crate of their own so that `vob_journal` is proved apart from them.
 //!
 //! What it is for: what a journal finds in bytes, in which pieces it reads them, and what faults leave for a stop. What stops and
-//! faults leave of a session's rows is told by the tables of `session_tables`.
+//! faults leave of a session's rows is given by the tables of `session_tables`.
 //!
 //! What it promises: nothing; it is only run.
 //!

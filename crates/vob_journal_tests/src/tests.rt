@@ -85,7 +85,7 @@ fn is_fault(alloc: Global, call: u64) -> Result<bool, NoMemory> {
     Ok(foreign_bytes(alloc, &mut disk).is_err())
 }
 
-/// The calls are three: of the length, the frames, and what stands behind them.
+/// The calls are three: of the length, the frames, and what follows them.
 #[test]
 fn a_fault_is_answered_for_what_is_foreign(rt: HostRuntime) -> Result<(), Fail> {
     for (call, fault) in [(1, true), (2, true), (3, true), (4, false)] {

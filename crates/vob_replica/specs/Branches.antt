@@ -7,7 +7,7 @@ use Rattle.vob_replica.specs.declared.events.Identity.{Identity}
 use Rattle.vob_replica.specs.declared.operations.Operation.{Operation}
 use Rattle.vob_replica.specs.declared.operations.SiteDeed.{SiteDeed}
 use Rattle.vob_replica.specs.declared.operations.SiteDeed.TheVariants as deeds
-use Rattle.vob_replica.specs.Trees.{Tree, VersionMade, is_same, identity_cmp, with_version}
+use Rattle.vob_replica.specs.Trees.{Tree, VersionMade, is_same_identity, identity_cmp, with_version_put}
 
 -- the name of the branch that a deed made
 abbrev pub name_in : SiteDeed → List ℕ
@@ -25,13 +25,13 @@ abbrev pub version_by : ℕ → Operation → VersionMade
 version_by number made = record { number = number; identity = made.identity; word = word_in made.deed }
 
 -- a branch that an operation made
-abbrev pub branch_by : Operation → Identity → List Operation → List VersionMade → Tree
-branch_by made element masters versions =
+abbrev pub branch_made_by : Operation → Identity → List Operation → List VersionMade → Tree
+branch_made_by made element masters versions =
     record { identity = made.identity; element = element; name = name_in made.deed; masters = masters; versions = versions }
 
 -- a branch with one version more
 abbrev pub with_version_by : Tree → ℕ → Operation → Tree
-with_version_by tree number made = record tree { versions = with_version (version_by number made) tree.versions }
+with_version_by tree number made = record tree { versions = with_version_put (version_by number made) tree.versions }
 
 -- a branch with one operation more that gave its mastership away
 abbrev pub with_master : Tree → Operation → Tree
@@ -43,24 +43,24 @@ version_place number [] = 0
 version_place number (version ∷ versions) = if nat_lt number version.number then 0 else suc (version_place number versions)
 
 -- whether a branch stands before an identity
-abbrev pub is_before : Identity → Tree → Bool
-is_before identity tree = is_lt (identity_cmp tree.identity identity)
+abbrev pub is_branch_before : Identity → Tree → Bool
+is_branch_before identity tree = is_lt (identity_cmp tree.identity identity)
 
 -- how many branches stand before an identity, from the first on
-abbrev pub place_in : Identity → List Tree → ℕ
-place_in identity [] = 0
-place_in identity (tree ∷ trees) = if is_before identity tree then suc (place_in identity trees) else 0
+abbrev pub branch_place_in : Identity → List Tree → ℕ
+branch_place_in identity [] = 0
+branch_place_in identity (tree ∷ trees) = if is_branch_before identity tree then suc (branch_place_in identity trees) else 0
 
 -- whether the branch at a place has an identity
-abbrev pub is_at : List Tree → ℕ → Identity → Bool
-is_at trees place identity = option_map_or (λ tree. is_same tree.identity identity) (slice_get trees place) false
+abbrev pub is_branch_at : List Tree → ℕ → Identity → Bool
+is_branch_at trees place identity = option_map_or (λ tree. is_same_identity tree.identity identity) (slice_get trees place) false
 
 -- an identity stands before those of all branches
-abbrev pub IsBefore : Identity → List Tree → Type 0
-IsBefore identity [] = Unit {0}
-IsBefore identity (tree ∷ trees) = (identity_cmp identity tree.identity ≡ Less) × IsBefore identity trees
+abbrev pub IsBeforeBranches : Identity → List Tree → Type 0
+IsBeforeBranches identity [] = Unit {0}
+IsBeforeBranches identity (tree ∷ trees) = (identity_cmp identity tree.identity ≡ Less) × IsBeforeBranches identity trees
 
 -- branches stand in the order of their identities, each once
 abbrev pub IsInOrder : List Tree → Type 0
 IsInOrder [] = Unit {0}
-IsInOrder (tree ∷ trees) = IsBefore tree.identity trees × IsInOrder trees
+IsInOrder (tree ∷ trees) = IsBeforeBranches tree.identity trees × IsInOrder trees

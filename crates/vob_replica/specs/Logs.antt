@@ -10,8 +10,8 @@ use Rattle.vob_replica.specs.Tables.{first_gap, holds, number_in, table_of}
 use Rattle.vob_replica.specs.Replicas.{operations_after_import}
 
 -- an operation has the number behind those of its maker that it needs
-abbrev pub IsNext : Operation → Type 0
-IsNext operation = operation.identity.number ≡ number_in operation.needs operation.identity.site + 1
+abbrev pub HasNextNumber : Operation → Type 0
+HasNextNumber operation = operation.identity.number ≡ number_in operation.needs operation.identity.site + 1
 
 -- A table is that of operations. No number is above how many these are, since the operations of each site are known without gaps.
 pub record IsTableOf (table : List Identity) (known : List Operation) : Type 0 where

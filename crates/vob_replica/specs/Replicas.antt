@@ -14,7 +14,8 @@ use Rattle.vob_replica.specs.declared.operations.SiteFault.TheVariants.{NoBranch
 use Rattle.vob_replica.specs.Tables.{holds, number_in, raised_by, table_of, first_gap}
 use Rattle.vob_replica.specs.Trees.{Tree, trees_of, tree_at, named_tree, master_of, next_number, has_version}
 
--- a site: its name, the operations that it knows in the order in which it came to know them, and an estimated table for each site,
+-- a site: its name, the operations that it knows in the order in which it came to know them, and an estimated table for each
+-- site,
 -- where not all is zero
 pub record Site : Type 0 where
   pub name : List ℕ
@@ -44,9 +45,9 @@ with_estimate (estimate ∷ others) site table =
     else estimate ∷ with_estimate others site table
 
 -- the first of two faults
-abbrev pub first_fault : Option SiteFault → Option SiteFault → Option SiteFault
-first_fault (Some fault) other = Some fault
-first_fault None other = other
+abbrev pub either_fault : Option SiteFault → Option SiteFault → Option SiteFault
+either_fault (Some fault) other = Some fault
+either_fault None other = other
 
 -- V5: another site has the mastership of the branch
 abbrev pub master_fault : List ℕ → Tree → Option SiteFault
@@ -57,8 +58,8 @@ abbrev pub version_fault : Tree → ℕ → Option SiteFault
 version_fault tree number = if has_version tree number then None else Some (NoVersion number)
 
 -- V7: a branch of the element has the name
-abbrev pub name_fault : List Tree → Identity → List ℕ → Option SiteFault
-name_fault trees element name = option_map (λ tree. BranchExists tree.identity) (named_tree trees element name)
+abbrev pub branch_name_fault : List Tree → Identity → List ℕ → Option SiteFault
+branch_name_fault trees element name = option_map (λ tree. BranchExists tree.identity) (named_tree trees element name)
 
 -- V4: the branch is not known; else what is wrong with it
 abbrev pub branch_fault : List Tree → Identity → (Tree → Option SiteFault) → Option SiteFault
@@ -70,25 +71,25 @@ change_fault site trees changes.Element = None
 change_fault site trees (changes.Branch branch number name) =
     branch_fault trees branch (λ tree.
     branch_fault trees tree.element (λ main.
-    first_fault (master_fault site main)
-    (first_fault (version_fault tree number) (name_fault trees tree.element name))))
+    either_fault (master_fault site main)
+    (either_fault (version_fault tree number) (branch_name_fault trees tree.element name))))
 change_fault site trees (changes.Version branch word) = branch_fault trees branch (master_fault site)
 change_fault site trees (changes.Master branch to) = branch_fault trees branch (master_fault site)
 
 -- what a change does
-abbrev pub deed_of : List Tree → Change → SiteDeed
-deed_of trees changes.Element = deeds.Element
-deed_of trees (changes.Branch branch number name) = deeds.Branch branch number name
-deed_of trees (changes.Version branch word) =
+abbrev pub site_deed_of : List Tree → Change → SiteDeed
+site_deed_of trees changes.Element = deeds.Element
+site_deed_of trees (changes.Branch branch number name) = deeds.Branch branch number name
+site_deed_of trees (changes.Version branch word) =
     deeds.Version branch (option_map_or next_number (tree_at trees branch) 0) word
-deed_of trees (changes.Master branch to) = deeds.Master branch to
+site_deed_of trees (changes.Master branch to) = deeds.Master branch to
 
 -- the operation by which a site makes a change
 abbrev pub operation_by : Site → Change → Operation
 operation_by site change = record {
   identity = record { site = site.name; number = number_in (table_of site.known) site.name + 1 };
   needs = table_of site.known;
-  deed = deed_of (trees_of site.known) change;
+  deed = site_deed_of (trees_of site.known) change;
 }
 
 -- a site that made a change

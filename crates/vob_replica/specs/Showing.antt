@@ -24,7 +24,8 @@ epoch_line entry = codes "epoch " ++ entry.site ++ codes " " ++ decimal entry.nu
 -- the line of a version behind version 0
 abbrev pub version_line : VersionMade → List ℕ
 version_line version =
-    codes "version " ++ decimal version.number ++ codes " " ++ identity_text version.identity ++ codes " " ++ version.word ++ codes "\n"
+    codes "version " ++ decimal version.number ++ codes " " ++ identity_text version.identity ++ codes " " ++ version.word
+    ++ codes "\n"
 
 -- the first line of a branch
 abbrev pub branch_line : Tree → List ℕ
@@ -57,40 +58,40 @@ fault_text (faults.NoPacket packet) = codes "V9 NoPacket " ++ packet
 fault_text (faults.Gap missing) = codes "V10 Gap " ++ identity_text missing
 
 -- the word of an event
-abbrev pub word_of : Event → List ℕ
-word_of (events.Site site) = codes "site"
-word_of (events.Mkelem site) = codes "mkelem"
-word_of (events.Mkbranch site branch number name) = codes "mkbranch"
-word_of (events.Checkin site branch word) = codes "checkin"
-word_of (events.Chmaster site branch to) = codes "chmaster"
-word_of (events.Export site to packet) = codes "export"
-word_of (events.Import site packet) = codes "import"
-word_of (events.Recover site to) = codes "recover"
-word_of (events.Show site) = codes "show"
+abbrev pub event_word : Event → List ℕ
+event_word (events.Site site) = codes "site"
+event_word (events.Mkelem site) = codes "mkelem"
+event_word (events.Mkbranch site branch number name) = codes "mkbranch"
+event_word (events.Checkin site branch word) = codes "checkin"
+event_word (events.Chmaster site branch to) = codes "chmaster"
+event_word (events.Export site to packet) = codes "export"
+event_word (events.Import site packet) = codes "import"
+event_word (events.Recover site to) = codes "recover"
+event_word (events.Show site) = codes "show"
 
--- what stands behind `ok`: nothing, or a word
+-- what follows `ok`: nothing, or a word
 abbrev pub behind_ok : List ℕ → List ℕ
 behind_ok [] = codes "\n"
 behind_ok (b ∷ bs) = codes " " ++ b ∷ bs ++ codes "\n"
 
 -- a line behind a `|`
-abbrev pub barred : List ℕ → List ℕ
-barred line = codes "|" ++ line ++ codes "\n"
+abbrev pub bar_before : List ℕ → List ℕ
+bar_before line = codes "|" ++ line ++ codes "\n"
 
 -- each line of a text behind a `|`
 abbrev pub with_bars : List ℕ → List ℕ
-with_bars text = flat_map barred (lines_of text)
+with_bars text = flat_map bar_before (lines_of text)
 
--- what stands behind `ok` of an event: the text of `show` in lines of its own
+-- what follows `ok` of an event: the text of `show` in lines of its own
 abbrev pub done_text : Event → List ℕ → List ℕ
 done_text (events.Show site) text = codes "\n" ++ with_bars text
 done_text _ text = behind_ok text
 
--- what stands behind the word of an event
+-- what follows the word of an event
 abbrev pub answer_text : Event → Answer → List ℕ
 answer_text event (Done text) = codes " ok" ++ done_text event text
 answer_text event (Refused fault) = codes " refused " ++ fault_text fault ++ codes "\n"
 
 -- the reply to the event of this number
 abbrev pub reply_text : ℕ → Event → Answer → List ℕ
-reply_text number event answer = decimal number ++ codes " " ++ word_of event ++ answer_text event answer
+reply_text number event answer = decimal number ++ codes " " ++ event_word event ++ answer_text event answer

@@ -1,6 +1,7 @@
 -- Epoch tables: of each site the highest number of its operations that is known, in byte order of sites, without the sites of
 -- which none is known.
-use Rattle.std.specs.Prelude.{ℕ, suc, ◌+◌, max, Bool, false, ◌&&◌, nat_lt, nat_le, Option, Some, None, List, [], ◌∷◌, fold, map, find, slice_get, ◌≡◌, if◌then◌else◌}
+use Rattle.std.specs.Prelude.{ℕ, suc, ◌+◌, max, Bool, false, ◌&&◌, nat_lt, nat_le, Option, Some, None, List, [], ◌∷◌, fold, map}
+use Rattle.std.specs.Prelude.{find, slice_get, ◌≡◌, if◌then◌else◌}
 use Rattle.std.specs.Option.{option_map_or}
 use Rattle.std.specs.Str.{bytes_eq}
 use Rattle.std.specs.Ordering.{nat_cmp, match_ordering, is_lt}
@@ -50,24 +51,24 @@ abbrev pub is_below : List ℕ → Identity → Bool
 is_below site entry = is_lt (slice_cmp nat_cmp entry.site site)
 
 -- how many entries stand before a site, from the first on
-abbrev pub place_in : List ℕ → List Identity → ℕ
-place_in site [] = 0
-place_in site (entry ∷ others) = if is_below site entry then suc (place_in site others) else 0
+abbrev pub entry_place_in : List ℕ → List Identity → ℕ
+entry_place_in site [] = 0
+entry_place_in site (entry ∷ others) = if is_below site entry then suc (entry_place_in site others) else 0
 
 -- whether the entry at a place is that of a site
-abbrev pub is_at : List Identity → ℕ → List ℕ → Bool
-is_at table place site = option_map_or (λ entry. bytes_eq entry.site site) (slice_get table place) false
+abbrev pub is_entry_at : List Identity → ℕ → List ℕ → Bool
+is_entry_at table place site = option_map_or (λ entry. bytes_eq entry.site site) (slice_get table place) false
 
 -- an entry with a number that is at least this one
 abbrev pub higher_entry : Identity → ℕ → Identity
 higher_entry entry number = record { site = entry.site; number = max entry.number number }
 
 -- a site stands before all sites of a table
-abbrev pub IsBefore : List ℕ → List Identity → Type 0
-IsBefore site [] = Unit {0}
-IsBefore site (entry ∷ others) = (slice_cmp nat_cmp site entry.site ≡ Less) × IsBefore site others
+abbrev pub IsBeforeSites : List ℕ → List Identity → Type 0
+IsBeforeSites site [] = Unit {0}
+IsBeforeSites site (entry ∷ others) = (slice_cmp nat_cmp site entry.site ≡ Less) × IsBeforeSites site others
 
 -- the sites of a table stand in byte order, each once
 abbrev pub Ascends : List Identity → Type 0
 Ascends [] = Unit {0}
-Ascends (entry ∷ others) = IsBefore entry.site others × Ascends others
+Ascends (entry ∷ others) = IsBeforeSites entry.site others × Ascends others

@@ -1,5 +1,6 @@
 -- The branches that operations made, by identity, with their masters and versions.
-use Rattle.std.specs.Prelude.{ℕ, ◌+◌, Bool, ◌&&◌, ◌||◌, ◌==◌, nat_lt, Option, List, [], ◌∷◌, ◌++◌, codes, fold, map, find, length, if◌then◌else◌}
+use Rattle.std.specs.Prelude.{ℕ, ◌+◌, Bool, ◌&&◌, ◌||◌, ◌==◌, nat_lt, Option, List, [], ◌∷◌, ◌++◌, codes, fold, map, find}
+use Rattle.std.specs.Prelude.{length, if◌then◌else◌}
 use Rattle.std.specs.List.{list_all, list_any}
 use Rattle.std.specs.Option.{option_map_or}
 use Rattle.std.specs.Str.{bytes_eq}
@@ -29,8 +30,8 @@ pub record Tree : Type 0 where
   pub versions : List VersionMade
 
 -- whether two identities are the same
-abbrev pub is_same : Identity → Identity → Bool
-is_same one two = bytes_eq one.site two.site && (one.number == two.number)
+abbrev pub is_same_identity : Identity → Identity → Bool
+is_same_identity one two = bytes_eq one.site two.site && (one.number == two.number)
 
 -- the order of identities: by site in byte order, then by number
 abbrev pub identity_cmp : Identity → Identity → Ordering
@@ -46,22 +47,22 @@ with_tree tree (other ∷ others) =
     (other ∷ with_tree tree others)
 
 -- a version put among others, by number
-abbrev pub with_version : VersionMade → List VersionMade → List VersionMade
-with_version version [] = version ∷ []
-with_version version (other ∷ others) =
-    if nat_lt version.number other.number then version ∷ other ∷ others else other ∷ with_version version others
+abbrev pub with_version_put : VersionMade → List VersionMade → List VersionMade
+with_version_put version [] = version ∷ []
+with_version_put version (other ∷ others) =
+    if nat_lt version.number other.number then version ∷ other ∷ others else other ∷ with_version_put version others
 
 -- the branch of an identity
 abbrev pub tree_at : List Tree → Identity → Option Tree
-tree_at trees branch = find (λ tree. is_same tree.identity branch) trees
+tree_at trees branch = find (λ tree. is_same_identity tree.identity branch) trees
 
 -- the branches with one of them changed
-abbrev pub with_change : Identity → (Tree → Tree) → List Tree → List Tree
-with_change branch change trees = map (λ tree. if is_same tree.identity branch then change tree else tree) trees
+abbrev pub with_branch_changed : Identity → (Tree → Tree) → List Tree → List Tree
+with_branch_changed branch change trees = map (λ tree. if is_same_identity tree.identity branch then change tree else tree) trees
 
 -- the element of a branch
-abbrev pub element_of : List Tree → Identity → Identity
-element_of trees branch = option_map_or (λ tree. tree.element) (tree_at trees branch) branch
+abbrev pub element_of_branch : List Tree → Identity → Identity
+element_of_branch trees branch = option_map_or (λ tree. tree.element) (tree_at trees branch) branch
 
 -- a branch as it is made, with version 0 alone
 abbrev pub new_tree : Identity → Identity → List ℕ → Tree
@@ -71,13 +72,13 @@ new_tree identity element name = record { identity = identity; element = element
 abbrev pub after_deed : List Tree → Operation → SiteDeed → List Tree
 after_deed trees operation deeds.Element = with_tree (new_tree operation.identity operation.identity (codes "main")) trees
 after_deed trees operation (deeds.Branch branch number name) =
-    with_tree (new_tree operation.identity (element_of trees branch) name) trees
+    with_tree (new_tree operation.identity (element_of_branch trees branch) name) trees
 after_deed trees operation (deeds.Version branch number word) =
-    with_change branch (λ tree. record tree {
-      versions = with_version (record { number = number; identity = operation.identity; word = word }) tree.versions;
+    with_branch_changed branch (λ tree. record tree {
+      versions = with_version_put (record { number = number; identity = operation.identity; word = word }) tree.versions;
     }) trees
 after_deed trees operation (deeds.Master branch site) =
-    with_change branch (λ tree. record tree { masters = tree.masters ++ operation ∷ [] }) trees
+    with_branch_changed branch (λ tree. record tree { masters = tree.masters ++ operation ∷ [] }) trees
 
 -- the branches after one operation more
 abbrev pub after_operation : List Tree → Operation → List Tree
@@ -90,7 +91,7 @@ trees_of known = fold after_operation [] known
 -- whether an operation needs all others of these
 abbrev pub needs_all_others : List Operation → Operation → Bool
 needs_all_others operations operation =
-    list_all (λ other. is_same other.identity operation.identity || holds operation.needs other.identity) operations
+    list_all (λ other. is_same_identity other.identity operation.identity || holds operation.needs other.identity) operations
 
 -- the site that a deed gives the mastership to
 abbrev pub given_to : SiteDeed → List ℕ → List ℕ
@@ -115,4 +116,4 @@ has_version tree number = (number == 0) || list_any (λ version. version.number 
 
 -- the branch of an element that has a name
 abbrev pub named_tree : List Tree → Identity → List ℕ → Option Tree
-named_tree trees element name = find (λ tree. is_same tree.element element && bytes_eq tree.name name) trees
+named_tree trees element name = find (λ tree. is_same_identity tree.element element && bytes_eq tree.name name) trees

@@ -1,5 +1,6 @@
 -- What single words of a text of sites say.
-use Rattle.std.specs.Prelude.{ℕ, ◌+◌, Bool, ◌&&◌, ◌==◌, nat_le, Option, Some, None, Result, Ok, Err, List, take, drop, if◌then◌else◌}
+use Rattle.std.specs.Prelude.{ℕ, ◌+◌, Bool, ◌&&◌, ◌==◌, nat_le, Option, Some, None, Result, Ok, Err, List, take, drop}
+use Rattle.std.specs.Prelude.{if◌then◌else◌}
 use Rattle.std.specs.List.{list_all, position}
 use Rattle.cc_names.specs.Numbers.{number_of}
 use Rattle.cc_names.specs.TypeNames.{type_name_of}
@@ -28,8 +29,8 @@ says make (Ok x) = Ok (make x)
 says make (Err cause) = Err cause
 
 -- the name of a site, a packet or a branch: a name that begins with a letter
-abbrev pub name_word : List ℕ → Said (List ℕ)
-name_word word = or_bad (type_name_of word)
+abbrev pub replica_name_word : List ℕ → Said (List ℕ)
+replica_name_word word = or_bad (type_name_of word)
 
 -- a number in decimal digits without leading zeros, below 2^64
 abbrev pub number_word : List ℕ → Said ℕ
@@ -43,7 +44,8 @@ is_colon b = b == 58
 abbrev pub identity_by : List ℕ → Option ℕ → Said Identity
 identity_by word None = Err BadWord
 identity_by word (Some place) =
-    says (λ at. record { site = at.0; number = at.1 }) (both (name_word (take place word)) (number_word (drop (place + 1) word)))
+    says (λ at. record { site = at.0; number = at.1 }) (both (replica_name_word (take place word))
+    (number_word (drop (place + 1) word)))
 
 -- an identity, SITE:NUMBER
 abbrev pub identity_word : List ℕ → Said Identity

@@ -1,5 +1,6 @@
 -- The world of the sites: what each event comes to, and the replies.
-use Rattle.std.specs.Prelude.{ℕ, ◌+◌, ◌-◌, nat_lt, Option, Some, None, Result, Ok, Err, List, [], ◌∷◌, ◌++◌, length, map, if◌then◌else◌}
+use Rattle.std.specs.Prelude.{ℕ, ◌+◌, ◌-◌, nat_lt, Option, Some, None, Result, Ok, Err, List, [], ◌∷◌, ◌++◌, length, map}
+use Rattle.std.specs.Prelude.{if◌then◌else◌}
 use Rattle.std.specs.Option.{option_map_or}
 use Rattle.std.specs.Str.{bytes_eq}
 use Rattle.std.specs.Fmt.{decimal}
@@ -12,10 +13,12 @@ use Rattle.vob_replica.specs.declared.operations.Change.{Change}
 use Rattle.vob_replica.specs.declared.operations.Change.TheVariants as changes
 use Rattle.vob_replica.specs.declared.operations.Operation.{Operation}
 use Rattle.vob_replica.specs.declared.operations.SiteFault.{SiteFault}
-use Rattle.vob_replica.specs.declared.operations.SiteFault.TheVariants.{SiteExists, TooManySites, NoSite, PacketExists, NoPacket, Gap}
+use Rattle.vob_replica.specs.declared.operations.SiteFault.TheVariants.{SiteExists, TooManySites, NoSite, PacketExists, NoPacket}
+use Rattle.vob_replica.specs.declared.operations.SiteFault.TheVariants.{Gap}
 use Rattle.vob_replica.specs.Tables.{table_of}
 use Rattle.vob_replica.specs.Trees.{trees_of}
-use Rattle.vob_replica.specs.Replicas.{Site, Packet, new_site, change_fault, operation_by, site_made, packet_for, thinking, operations_after_import, site_with}
+use Rattle.vob_replica.specs.Replicas.{Site, Packet, new_site, change_fault, operation_by, site_made, packet_for, thinking}
+use Rattle.vob_replica.specs.Replicas.{operations_after_import, site_with}
 use Rattle.vob_replica.specs.Showing.{identity_text, show_text, reply_text}
 
 -- a packet by its name
@@ -100,13 +103,15 @@ export_step world name to packet =
 
 -- `import S P`
 abbrev pub takes : World → Site → Packet → Result (List Operation) Identity → Stepped
-takes world site contents (Ok known) = done_step world (site_with site contents known) (decimal (length known - length site.known))
+takes world site contents (Ok known) = done_step world (site_with site contents known)
+    (decimal (length known - length site.known))
 takes world site contents (Err missing) = refused_step world (Gap missing)
 
 abbrev pub import_step : World → List ℕ → List ℕ → Stepped
 import_step world name packet =
     at_site world name (λ site.
-    option_map_or (λ contents. takes world site contents (operations_after_import site.known contents.operations)) (packet_in world.packets packet)
+    option_map_or (λ contents. takes world site contents (operations_after_import site.known contents.operations))
+    (packet_in world.packets packet)
     (refused_step world (NoPacket packet)))
 
 -- what an event comes to
@@ -119,7 +124,8 @@ step world (events.Chmaster site branch to) =
     at_site world site (λ _. at_site world to (λ _. makes world site (changes.Master branch to)))
 step world (events.Export site to packet) = export_step world site to packet
 step world (events.Import site packet) = import_step world site packet
-step world (events.Recover site to) = at_site world site (λ from. at_site world to (λ _. done_step world (thinking from to []) []))
+step world (events.Recover site to) = at_site world site (λ from. at_site world to
+    (λ _. done_step world (thinking from to []) []))
 step world (events.Show site) = at_site world site (λ from. done_step world from (show_text from))
 
 -- the world behind events
@@ -142,5 +148,5 @@ replies_behind above world (event ∷ events) =
     reply_text (above + 1) event (step world event).answer ++ replies_behind (above + 1) (step world event).world events
 
 -- the replies to the events of a text
-abbrev pub replies_of : List Event → List ℕ
-replies_of events = replies_behind 0 no_sites events
+abbrev pub event_replies : List Event → List ℕ
+event_replies events = replies_behind 0 no_sites events

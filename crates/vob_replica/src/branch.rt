@@ -2,22 +2,22 @@
 
 ghost use Rattle.std.specs.List.{list_any};
 ghost use Rattle.std.specs.Prelude.{◌≡◌, ◌==◌, ◌≤◌, ◌||◌, [], find, length, option_copied, OnOk, OnErr};
-ghost use Rattle.vob_replica.specs.Branches.{branch_by, name_in, word_in, version_by, version_place, with_master, with_version_by};
+ghost use Rattle.vob_replica.specs.Branches.{branch_made_by, name_in, word_in, version_by, version_place, with_master, with_version_by};
 ghost use Rattle.vob_replica.specs.Tables.{holds};
-ghost use Rattle.vob_replica.specs.Trees.{is_same, needs_all_others, given_to, master_of, next_number, has_version};
+ghost use Rattle.vob_replica.specs.Trees.{is_same_identity, needs_all_others, given_to, master_of, next_number, has_version};
 
 use crate::events::Identity;
 use crate::operations::{Operation, SiteDeed};
 use crate::shared::Shared;
-use crate::tables::is_held;
+use crate::tables::is_in_table;
 use cc_names::memory::NoMemory;
 use cc_names::names::Name;
 use std::alloc::Global;
 use std::marker::Model;
 
 /// Whether two identities are the same.
-pub(crate) fn is_same(one: &Identity, other: &Identity) -> bool
-    ensures { result ≡ is_same one.now other.now }
+pub(crate) fn is_same_identity(one: &Identity, other: &Identity) -> bool
+    ensures { result ≡ is_same_identity one.now other.now }
 {
     one.site == other.site && one.number == other.number
 }
@@ -105,7 +105,7 @@ fn version_place(versions: &[Version], number: u64) -> usize
 }
 
 /// Whether one of some versions has a number.
-fn has_number(versions: &[Version], number: u64) -> bool
+fn has_version_number(versions: &[Version], number: u64) -> bool
     ensures { result ≡ list_any (λ version. version.number == number) versions.now }
 {
     for version in versions {
@@ -119,11 +119,11 @@ fn has_number(versions: &[Version], number: u64) -> bool
 /// Whether an operation is another or needs it.
 fn is_or_needs(operation: &Operation, other: &Operation) -> bool
     ensures { result
-        ≡ (is_same other.now.identity operation.now.identity
+        ≡ (is_same_identity other.now.identity operation.now.identity
         || holds operation.now.needs other.now.identity) }
 {
-    is_same(&other.identity, &operation.identity)
-        || is_held(operation.needs.as_slice(), &other.identity)
+    is_same_identity(&other.identity, &operation.identity)
+        || is_in_table(operation.needs.as_slice(), &other.identity)
 }
 
 /// Whether an operation needs all others of some.
@@ -172,17 +172,17 @@ pub struct Branch {
 
 impl Model for Branch {
     ghost use Rattle.vob_replica.specs.Trees.{Tree};
-    ghost use Rattle.vob_replica.specs.Branches.{branch_by};
+    ghost use Rattle.vob_replica.specs.Branches.{branch_made_by};
 
     ghost Value = { Tree };
 
-    ghost view = { λ branch. branch_by branch.made branch.element branch.masters.items branch.versions.items };
+    ghost view = { λ branch. branch_made_by branch.made branch.element branch.masters.items branch.versions.items };
 }
 
 impl Branch {
     /// The branch of an element that an operation made, with version 0 alone. Takes no memory.
     pub(crate) fn new(alloc: Global, made: Shared, element: Identity) -> Branch
-        ensures { result ≡ branch_by made element [] [] }
+        ensures { result ≡ branch_made_by made element [] [] }
     {
         Branch {
             made,
@@ -242,7 +242,7 @@ impl Branch {
     pub fn has_version(&self, number: u64) -> bool
         ensures { result ≡ has_version self.now number }
     {
-        number == 0 || has_number(&self.versions, number)
+        number == 0 || has_version_number(&self.versions, number)
     }
 
     /// Puts one operation more behind those that gave the mastership away.

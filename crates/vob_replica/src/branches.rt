@@ -1,10 +1,10 @@
 //! The branches that a site knows.
 
 ghost use Rattle.std.specs.Prelude.{◌≡◌, ◌<◌, ◌≤◌, [], ◌&&◌, bytes_eq, length, vec_len, option_copied, slice_index_or, slice_set, IsTrue, IfOk, OnOk, OnErr};
-ghost use Rattle.vob_replica.specs.Branches.{is_before, place_in, is_at, with_master, with_version_by, IsInOrder};
-ghost use Rattle.vob_replica.specs.Trees.{Tree, identity_cmp, is_same, tree_at, named_tree, element_of, with_tree, with_change, after_operation};
+ghost use Rattle.vob_replica.specs.Branches.{is_branch_before, branch_place_in, is_branch_at, with_master, with_version_by, IsInOrder};
+ghost use Rattle.vob_replica.specs.Trees.{Tree, identity_cmp, is_same_identity, tree_at, named_tree, element_of_branch, with_tree, with_branch_changed, after_operation};
 
-use crate::branch::{Branch, is_same};
+use crate::branch::{Branch, is_same_identity};
 use crate::events::Identity;
 use crate::operations::SiteDeed;
 use crate::shared::Shared;
@@ -41,28 +41,28 @@ fn identity_cmp(one: &Identity, other: &Identity) -> Ordering
         .then(one.number.cmp(&other.number))
 }
 
-fn is_before(tree: &Branch, identity: &Identity) -> bool
-    ensures { result ≡ is_before identity.now tree.now }
+fn is_branch_before(tree: &Branch, identity: &Identity) -> bool
+    ensures { result ≡ is_branch_before identity.now tree.now }
 {
     identity_cmp(tree.identity(), identity).is_lt()
 }
 
 /// How many branches have an identity below another: these are the first ones. Takes time logarithmic in them.
-fn place_of(trees: &[Branch], identity: &Identity) -> usize
+fn branch_place(trees: &[Branch], identity: &Identity) -> usize
     requires { IsInOrder trees.now }
-    ensures place { result ≡ place_in identity.now trees.now }
+    ensures place { result ≡ branch_place_in identity.now trees.now }
     ensures within { result ≤ length trees.now }
 {
-    trees.partition_point(|tree| is_before(tree, identity))
+    trees.partition_point(|tree| is_branch_before(tree, identity))
 }
 
 /// Whether the branch at a place has an identity.
-fn is_at(trees: &[Branch], place: usize, identity: &Identity) -> bool
-    ensures at { result ≡ is_at trees.now place identity.now }
+fn is_branch_at(trees: &[Branch], place: usize, identity: &Identity) -> bool
+    ensures at { result ≡ is_branch_at trees.now place identity.now }
     ensures within { IsTrue result → place < length trees.now }
 {
     match trees.get(place) {
-        Some(tree) => is_same(tree.identity(), identity),
+        Some(tree) => is_same_identity(tree.identity(), identity),
         None => false,
     }
 }
@@ -72,21 +72,21 @@ fn find_in<'a>(trees: &'a [Branch], identity: &Identity) -> Option<&'a Branch>
     requires { IsInOrder trees.now }
     ensures { option_copied result ≡ tree_at trees.now identity.now }
 {
-    let place = place_of(trees, identity);
-    if is_at(trees, place, identity) {
+    let place = branch_place(trees, identity);
+    if is_branch_at(trees, place, identity) {
         return Some(&trees[place]);
     }
     None
 }
 
 /// Puts a branch among others, by identity.
-fn put(trees: &mut Vec<Branch>, tree: Branch) -> Result<(), NoMemory>
+fn put_branch(trees: &mut Vec<Branch>, tree: Branch) -> Result<(), NoMemory>
     requires { IsInOrder trees.old.items }
     ensures ok { OnOk result (trees.new.items ≡ with_tree tree trees.old.items) }
     ensures err { OnErr result (trees.new.items ≡ trees.old.items) }
 {
-    let place = place_of(trees, tree.identity());
-    if is_at(trees, place, tree.identity()) {
+    let place = branch_place(trees, tree.identity());
+    if is_branch_at(trees, place, tree.identity()) {
         trees[place] = tree;
         return Ok(());
     }
@@ -124,7 +124,7 @@ fn push_master_at(trees: &mut Vec<Branch>, place: usize, operation: Shared) -> R
 }
 
 /// Puts a version on a branch, where that is there.
-fn put_version(
+fn put_on_branch(
     trees: &mut Vec<Branch>,
     branch: &Identity,
     number: u64,
@@ -133,11 +133,11 @@ fn put_version(
     requires { IsInOrder trees.old.items }
     ensures ok { OnOk result
         (trees.new.items
-        ≡ with_change branch.now (λ tree. with_version_by tree number made) trees.old.items) }
+        ≡ with_branch_changed branch.now (λ tree. with_version_by tree number made) trees.old.items) }
     ensures err { OnErr result (trees.new.items ≡ trees.old.items) }
 {
-    let place = place_of(trees, branch);
-    if is_at(trees, place, branch) {
+    let place = branch_place(trees, branch);
+    if is_branch_at(trees, place, branch) {
         return put_version_at(trees, place, number, made);
     }
     Ok(())
@@ -152,20 +152,24 @@ fn push_master(
     requires { IsInOrder trees.old.items }
     ensures ok { OnOk result
         (trees.new.items
-        ≡ with_change branch.now (λ tree. with_master tree operation) trees.old.items) }
+        ≡ with_branch_changed branch.now (λ tree. with_master tree operation) trees.old.items) }
     ensures err { OnErr result (trees.new.items ≡ trees.old.items) }
 {
-    let place = place_of(trees, branch);
-    if is_at(trees, place, branch) {
+    let place = branch_place(trees, branch);
+    if is_branch_at(trees, place, branch) {
         return push_master_at(trees, place, operation);
     }
     Ok(())
 }
 
 /// The element of a branch.
-fn element_of(alloc: Global, trees: &[Branch], branch: &Identity) -> Result<Identity, NoMemory>
+fn element_of_branch(
+    alloc: Global,
+    trees: &[Branch],
+    branch: &Identity,
+) -> Result<Identity, NoMemory>
     requires { IsInOrder trees.now }
-    ensures { IfOk result (λ element. element ≡ element_of trees.now branch.now) }
+    ensures { IfOk result (λ element. element ≡ element_of_branch trees.now branch.now) }
 {
     match find_in(trees, branch) {
         Some(tree) => tree.element().copy(alloc),
@@ -174,7 +178,11 @@ fn element_of(alloc: Global, trees: &[Branch], branch: &Identity) -> Result<Iden
 }
 
 /// Takes one operation more in.
-fn take(alloc: Global, trees: &mut Vec<Branch>, operation: &Shared) -> Result<(), NoMemory>
+fn take_operation(
+    alloc: Global,
+    trees: &mut Vec<Branch>,
+    operation: &Shared,
+) -> Result<(), NoMemory>
     requires { IsInOrder trees.old.items }
     ensures ok { OnOk result (trees.new.items ≡ after_operation trees.old.items operation.now) }
     ensures err { OnErr result (trees.new.items ≡ trees.old.items) }
@@ -183,31 +191,31 @@ fn take(alloc: Global, trees: &mut Vec<Branch>, operation: &Shared) -> Result<()
     match &operation.operation().deed {
         SiteDeed::Element => {
             let element = operation.operation().identity.copy(alloc)?;
-            put(trees, Branch::new(alloc, made, element))
+            put_branch(trees, Branch::new(alloc, made, element))
         }
         SiteDeed::Branch(branch, _, _) => {
-            let element = element_of(alloc, trees, branch)?;
-            put(trees, Branch::new(alloc, made, element))
+            let element = element_of_branch(alloc, trees, branch)?;
+            put_branch(trees, Branch::new(alloc, made, element))
         }
-        SiteDeed::Version(branch, number, _) => put_version(trees, branch, *number, made),
+        SiteDeed::Version(branch, number, _) => put_on_branch(trees, branch, *number, made),
         SiteDeed::Master(branch, _) => push_master(trees, branch, made),
     }
 }
 
 /// Whether a branch is that of an element that has a name.
-fn is_named(tree: &Branch, element: &Identity, name: &Name) -> bool
+fn is_branch_named(tree: &Branch, element: &Identity, name: &Name) -> bool
     ensures { result
-        ≡ (is_same tree.now.element element.now && bytes_eq tree.now.name name.now) }
+        ≡ (is_same_identity tree.now.element element.now && bytes_eq tree.now.name name.now) }
 {
-    is_same(tree.element(), element) && tree.name() == name.as_bytes()
+    is_same_identity(tree.element(), element) && tree.name() == name.as_bytes()
 }
 
 /// The branch of an element that has a name.
-fn named_in<'a>(trees: &'a [Branch], element: &Identity, name: &Name) -> Option<&'a Branch>
+fn branch_named<'a>(trees: &'a [Branch], element: &Identity, name: &Name) -> Option<&'a Branch>
     ensures { option_copied result ≡ named_tree trees.now element.now name.now }
 {
     for tree in trees {
-        if is_named(tree, element, name) {
+        if is_branch_named(tree, element, name) {
             return Some(tree);
         }
     }
@@ -242,14 +250,18 @@ impl Branches {
     pub fn named(&self, element: &Identity, name: &Name) -> Option<&Branch>
         ensures { option_copied result ≡ named_tree self.now element.now name.now }
     {
-        named_in(&self.trees, element, name)
+        branch_named(&self.trees, element, name)
     }
 
     /// Takes one operation more in. An `Err` changes nothing.
-    pub(crate) fn take(&mut self, alloc: Global, operation: &Shared) -> Result<(), NoMemory>
+    pub(crate) fn take_operation(
+        &mut self,
+        alloc: Global,
+        operation: &Shared,
+    ) -> Result<(), NoMemory>
         ensures ok { OnOk result (self.new ≡ after_operation self.old operation.now) }
         ensures err { OnErr result (self.new ≡ self.old) }
     {
-        take(alloc, &mut self.trees, operation)
+        take_operation(alloc, &mut self.trees, operation)
     }
 }

@@ -2,7 +2,7 @@
 
 ghost use Rattle.std.specs.Prelude.{◌≡◌, ◌≤◌, [], length, unwrap_or, option_copied, OnOk, OnErr};
 ghost use Rattle.vob_replica.specs.Replicas.{estimate_in, with_estimate};
-ghost use Rattle.vob_replica.specs.Estimates.{place_in};
+ghost use Rattle.vob_replica.specs.Estimates.{estimate_place_in};
 
 use crate::tables::Table;
 use cc_names::memory::NoMemory;
@@ -29,8 +29,8 @@ pub fn table_for<'a>(estimates: &'a [Estimate], site: &Name) -> Option<&'a Table
 }
 
 /// How many estimates stand before that of a site.
-fn place_of(estimates: &[Estimate], site: &Name) -> usize
-    ensures place { result ≡ place_in estimates.now site.now }
+fn estimate_place(estimates: &[Estimate], site: &Name) -> usize
+    ensures place { result ≡ estimate_place_in estimates.now site.now }
     ensures within { result ≤ length estimates.now }
 {
     let mut place = 0;
@@ -43,7 +43,8 @@ fn place_of(estimates: &[Estimate], site: &Name) -> usize
     place
 }
 
-/// Thinks that a site knows what a table holds. Takes time linear in the estimates, and memory for a new one. An `Err` changes nothing.
+/// Thinks that a site knows what a table holds. Takes time linear in the estimates, and memory for a new one. An `Err` changes
+/// nothing.
 pub fn set_table(
     alloc: Global,
     estimates: &mut Vec<Estimate>,
@@ -54,7 +55,7 @@ pub fn set_table(
         (estimates.new.items ≡ with_estimate estimates.old.items site.now table) }
     ensures err { OnErr result (estimates.new.items ≡ estimates.old.items) }
 {
-    let place = place_of(estimates, site);
+    let place = estimate_place(estimates, site);
     if place < estimates.len() {
         estimates[place].table = table;
         return Ok(());

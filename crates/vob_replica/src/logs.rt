@@ -2,7 +2,7 @@
 
 ghost use Rattle.std.specs.Prelude.{◌≡◌, ◌++◌, ◌∷◌, [], ◌+◌, ◌-◌, ◌≤◌, drop, true, not, None, if◌then◌else◌, List, Ok, IfOk, IfErr, OnOk, OnErr, length};
 ghost use Rattle.cc_names.specs.Answers.{FaultIs};
-ghost use Rattle.vob_replica.specs.Logs.{IsGap, IsNext, TakesNews, IsTableOf};
+ghost use Rattle.vob_replica.specs.Logs.{IsGap, HasNextNumber, TakesNews, IsTableOf};
 ghost use Rattle.vob_replica.specs.Tables.{first_gap, holds, number_in, with_operation, table_of};
 ghost use Rattle.vob_replica.specs.Replicas.{above, operations_after_import};
 ghost use Rattle.vob_replica.specs.declared.operations.Operation.{Operation};
@@ -42,7 +42,7 @@ fn push_shared(
     table: &mut Table,
     operation: Shared,
 ) -> Result<(), NoMemory>
-    ensures next { OnOk result (IsNext operation) }
+    ensures next { OnOk result (HasNextNumber operation) }
     ensures pushed { OnOk result
         (operations.new.items ≡ operations.old.items ++ operation ∷ []) }
     ensures with_operation { OnOk result (table.new ≡ with_operation table.old operation.identity) }
@@ -55,10 +55,11 @@ fn push_shared(
     Ok(())
 }
 
-/// Whether an operation is new to a site that knows what a table holds. It is taken into the table then, unless it needs an operation
+/// Whether an operation is new to a site that knows what a table holds. It is taken into the table then, unless it needs an
+/// operation
 /// that is missing.
 fn take_one(alloc: Global, table: &mut Table, operation: &Shared) -> Result<bool, Or<Identity>>
-    ensures next { IsNext operation.now }
+    ensures next { HasNextNumber operation.now }
     ensures known { IfOk result (λ new. holds table.old operation.now.identity ≡ not new) }
     ensures whole { IfOk result
         (λ new. new ≡ true → first_gap operation.now.needs table.old ≡ None) }
@@ -78,7 +79,8 @@ fn take_one(alloc: Global, table: &mut Table, operation: &Shared) -> Result<bool
     Ok(true)
 }
 
-/// Those of some operations that are new to a site that knows what a table holds, in order, which are taken into the table; or the
+/// Those of some operations that are new to a site that knows what a table holds, in order, which are taken into the table; or
+/// the
 /// first operation that is missing.
 fn news_of(
     alloc: Global,
@@ -139,7 +141,8 @@ impl Log {
         self.operations.as_slice()
     }
 
-    /// Those behind the first `from` operations that a table does not hold, in order. Takes time linear in what stands there, and in the
+    /// Those behind the first `from` operations that a table does not hold, in order. Takes time linear in what stands there, and
+    /// in the
     /// sites for each.
     pub fn above(&self, alloc: Global, from: usize, table: &Table) -> Result<Vec<Shared>, NoMemory>
         requires { from ≤ length self.now }
@@ -166,7 +169,8 @@ impl Log {
     }
 
     /// Takes in the operations of a packet that are not known yet, and answers how many; or answers the first operation that is
-    /// missing. An `Err` changes nothing. Takes time linear in the sites for each operation of the packet, and for each new one the
+    /// missing. An `Err` changes nothing. Takes time linear in the sites for each operation of the packet, and for each new one
+    /// the
     /// time of `first_gap`.
     pub fn import_operations(
         &mut self,

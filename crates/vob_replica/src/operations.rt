@@ -18,7 +18,8 @@ pub enum SiteDeed {
     Master(Identity, Name),
 }
 
-/// An operation. `needs` is the epoch table of its maker before it: in byte order of sites, without those of which no operation was
+/// An operation. `needs` is the epoch table of its maker before it: in byte order of sites, without those of which no operation
+/// was
 /// known.
 #[derive(Drop)]
 pub struct Operation {
@@ -68,7 +69,7 @@ pub enum SiteFault {
 /// What an event comes to.
 #[derive(Drop)]
 pub enum Answer {
-    /// It was done, with what stands behind `ok`: an identity, a number, the text of `show`, or nothing.
+    /// It was done, with what follows `ok`: an identity, a number, the text of `show`, or nothing.
     Done(Text),
     /// It was refused, and changed nothing.
     Refused(SiteFault),

@@ -2,11 +2,11 @@
 
 ghost use Rattle.std.specs.Prelude.{◌≡◌, ◌<◌, ◌^◌, Ok, IfOk, IfErr, length};
 ghost use Rattle.cc_names.specs.Answers.{Gives, FaultIs};
-ghost use Rattle.vob_replica.specs.Words.{both, identity_word, name_word, number_word};
-ghost use Rattle.vob_replica.specs.Reading.{site_event, mkelem_event, event_of, show_event, import_event, recover_event, export_event, checkin_event, chmaster_event, mkbranch_event, between_sites, event_by, is_comment, events_of};
+ghost use Rattle.vob_replica.specs.Words.{both, identity_word, replica_name_word, number_word};
+ghost use Rattle.vob_replica.specs.Reading.{site_event, mkelem_event, event_of_line, show_event, import_event, recover_event, export_event, checkin_event, chmaster_event, mkbranch_event, between_sites, event_by, is_skipped_line, events_of};
 
 use crate::events::{Event, Identity, SiteCause, SiteError};
-use crate::words::{identity_word, name_word, number_word, text_word};
+use crate::words::{identity_word, number_word, replica_name_word, text_word};
 use cc_names::cuts::{Lines, Words};
 use cc_names::memory::Or;
 use cc_names::names::Name;
@@ -19,7 +19,7 @@ fn site_event(alloc: Global, mut words: Words<'_>) -> Result<Event, Or<SiteCause
     let (Some(site), None) = (words.next(), words.next()) else {
         return Err(Or::Is(SiteCause::BadWord));
     };
-    let site = name_word(alloc, site)?;
+    let site = replica_name_word(alloc, site)?;
     Ok(Event::Site { site })
 }
 
@@ -30,7 +30,7 @@ fn mkelem_event(alloc: Global, mut words: Words<'_>) -> Result<Event, Or<SiteCau
     let (Some(site), None) = (words.next(), words.next()) else {
         return Err(Or::Is(SiteCause::BadWord));
     };
-    let site = name_word(alloc, site)?;
+    let site = replica_name_word(alloc, site)?;
     Ok(Event::Mkelem { site })
 }
 
@@ -41,7 +41,7 @@ fn show_event(alloc: Global, mut words: Words<'_>) -> Result<Event, Or<SiteCause
     let (Some(site), None) = (words.next(), words.next()) else {
         return Err(Or::Is(SiteCause::BadWord));
     };
-    let site = name_word(alloc, site)?;
+    let site = replica_name_word(alloc, site)?;
     Ok(Event::Show { site })
 }
 
@@ -52,8 +52,8 @@ fn import_event(alloc: Global, mut words: Words<'_>) -> Result<Event, Or<SiteCau
     let (Some(site), Some(packet), None) = (words.next(), words.next(), words.next()) else {
         return Err(Or::Is(SiteCause::BadWord));
     };
-    let site = name_word(alloc, site)?;
-    let packet = name_word(alloc, packet)?;
+    let site = replica_name_word(alloc, site)?;
+    let packet = replica_name_word(alloc, packet)?;
     Ok(Event::Import { site, packet })
 }
 
@@ -64,8 +64,8 @@ fn recover_event(alloc: Global, mut words: Words<'_>) -> Result<Event, Or<SiteCa
     let (Some(site), Some(to), None) = (words.next(), words.next(), words.next()) else {
         return Err(Or::Is(SiteCause::BadWord));
     };
-    let site = name_word(alloc, site)?;
-    let to = name_word(alloc, to)?;
+    let site = replica_name_word(alloc, site)?;
+    let to = replica_name_word(alloc, to)?;
     Ok(Event::Recover { site, to })
 }
 
@@ -81,9 +81,9 @@ fn export_event(alloc: Global, mut words: Words<'_>) -> Result<Event, Or<SiteCau
     ) else {
         return Err(Or::Is(SiteCause::BadWord));
     };
-    let site = name_word(alloc, site)?;
-    let to = name_word(alloc, to)?;
-    let packet = name_word(alloc, packet)?;
+    let site = replica_name_word(alloc, site)?;
+    let to = replica_name_word(alloc, to)?;
+    let packet = replica_name_word(alloc, packet)?;
     Ok(Event::Export { site, to, packet })
 }
 
@@ -99,7 +99,7 @@ fn checkin_event(alloc: Global, mut words: Words<'_>) -> Result<Event, Or<SiteCa
     ) else {
         return Err(Or::Is(SiteCause::BadWord));
     };
-    let site = name_word(alloc, site)?;
+    let site = replica_name_word(alloc, site)?;
     let branch = identity_word(alloc, branch)?;
     let word = text_word(alloc, word)?;
     Ok(Event::Checkin { site, branch, word })
@@ -117,9 +117,9 @@ fn chmaster_event(alloc: Global, mut words: Words<'_>) -> Result<Event, Or<SiteC
     ) else {
         return Err(Or::Is(SiteCause::BadWord));
     };
-    let site = name_word(alloc, site)?;
+    let site = replica_name_word(alloc, site)?;
     let branch = identity_word(alloc, branch)?;
-    let to = name_word(alloc, to)?;
+    let to = replica_name_word(alloc, to)?;
     Ok(Event::Chmaster { site, branch, to })
 }
 
@@ -129,19 +129,19 @@ fn site_and_branch(
     site: &[u8],
     branch: &[u8],
 ) -> Result<(Name, Identity), Or<SiteCause>>
-    ensures { Gives result (both (name_word site.now) (identity_word branch.now)) }
+    ensures { Gives result (both (replica_name_word site.now) (identity_word branch.now)) }
 {
-    let site = name_word(alloc, site)?;
+    let site = replica_name_word(alloc, site)?;
     let branch = identity_word(alloc, branch)?;
     Ok((site, branch))
 }
 
 /// Two words as a number and the name of a branch.
 fn number_and_name(alloc: Global, number: &[u8], name: &[u8]) -> Result<(u64, Name), Or<SiteCause>>
-    ensures { Gives result (both (number_word number.now) (name_word name.now)) }
+    ensures { Gives result (both (number_word number.now) (replica_name_word name.now)) }
 {
     let number = number_word(number)?;
-    let name = name_word(alloc, name)?;
+    let name = replica_name_word(alloc, name)?;
     Ok((number, name))
 }
 
@@ -210,8 +210,8 @@ fn event_by(alloc: Global, word: &[u8], words: Words<'_>) -> Result<Event, Or<Si
 }
 
 /// Whether a line is a comment.
-fn is_comment(line: &[u8]) -> bool
-    ensures { result ≡ is_comment line.now }
+fn is_skipped_line(line: &[u8]) -> bool
+    ensures { result ≡ is_skipped_line line.now }
 {
     match line {
         [] => false,
@@ -220,10 +220,10 @@ fn is_comment(line: &[u8]) -> bool
 }
 
 /// What a line says, where it says anything.
-fn event_of(alloc: Global, line: &[u8]) -> Result<Option<Event>, Or<SiteCause>>
-    ensures { Gives result (event_of line.now) }
+fn event_of_line(alloc: Global, line: &[u8]) -> Result<Option<Event>, Or<SiteCause>>
+    ensures { Gives result (event_of_line line.now) }
 {
-    if is_comment(line) {
+    if is_skipped_line(line) {
         return Ok(None);
     }
     let mut words = Words::of(line);
@@ -245,7 +245,7 @@ pub fn read(alloc: Global, text: &[u8]) -> Result<Vec<Event>, Or<SiteError>>
     let mut number: u32 = 0;
     'lines: while let Some(line) = lines.next() {
         number += 1;
-        match event_of(alloc, line) {
+        match event_of_line(alloc, line) {
             Ok(Some(event)) => events.push(event)?,
             Ok(None) => {}
             Err(Or::NoMemory) => return Err(Or::NoMemory),

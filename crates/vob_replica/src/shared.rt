@@ -1,7 +1,7 @@
 //! An operation that sites and packets share.
 
 ghost use Rattle.std.specs.Prelude.{◌≡◌, IfOk};
-ghost use Rattle.vob_replica.specs.Logs.{IsNext};
+ghost use Rattle.vob_replica.specs.Logs.{HasNextNumber};
 
 use crate::operations::Operation;
 use cc_names::memory::NoMemory;
@@ -18,19 +18,19 @@ pub struct Shared {
 
 impl Model for Shared {
     ghost use Rattle.vob_replica.specs.declared.operations.Operation.{Operation};
-    ghost use Rattle.vob_replica.specs.Logs.{IsNext};
+    ghost use Rattle.vob_replica.specs.Logs.{HasNextNumber};
 
     ghost Value = { Operation };
 
     ghost view = { λ shared. shared.operation.value };
 
-    ghost invariant = { λ shared. IsNext shared.operation.value };
+    ghost invariant = { λ shared. HasNextNumber shared.operation.value };
 }
 
 impl Shared {
     /// Shares an operation.
     pub(crate) fn new(alloc: Global, operation: Operation) -> Result<Shared, NoMemory>
-        requires { IsNext operation }
+        requires { HasNextNumber operation }
         ensures { IfOk result (λ shared. shared ≡ operation) }
     {
         let operation = Rc::new(alloc, operation)?;
@@ -48,7 +48,7 @@ impl Shared {
     /// The operation.
     pub fn operation(&self) -> &Operation
         ensures same { result.now ≡ self.now }
-        ensures next { IsNext self.now }
+        ensures next { HasNextNumber self.now }
     {
         &self.operation
     }

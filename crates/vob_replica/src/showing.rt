@@ -22,7 +22,7 @@ fn push(text: &mut Vec<u8>, bytes: &[u8]) -> Result<(), NoMemory>
 }
 
 /// Writes bytes, and more behind them.
-fn push_both(text: &mut Vec<u8>, bytes: &[u8], more: &[u8]) -> Result<(), NoMemory>
+fn push_texts(text: &mut Vec<u8>, bytes: &[u8], more: &[u8]) -> Result<(), NoMemory>
     ensures { OnOk result (text.new.items ≡ text.old.items ++ bytes.now ++ more.now) }
 {
     push(text, bytes)?;
@@ -39,13 +39,13 @@ fn push_identity(
     ensures { OnOk result
         (text.new.items ≡ text.old.items ++ bytes.now ++ identity_text identity.now) }
 {
-    push_both(text, bytes, identity.site.as_bytes())?;
+    push_texts(text, bytes, identity.site.as_bytes())?;
     push(text, b":")?;
     push_number(alloc, text, identity.number)
 }
 
 /// Writes bytes, and a number behind them.
-fn push_numbered(
+fn push_with_number(
     alloc: Global,
     text: &mut Vec<u8>,
     bytes: &[u8],
@@ -61,8 +61,8 @@ fn push_numbered(
 fn push_epoch_line(alloc: Global, text: &mut Vec<u8>, entry: &Identity) -> Result<(), NoMemory>
     ensures { OnOk result (text.new.items ≡ text.old.items ++ epoch_line entry.now) }
 {
-    push_both(text, b"epoch ", entry.site.as_bytes())?;
-    push_numbered(alloc, text, b" ", entry.number)?;
+    push_texts(text, b"epoch ", entry.site.as_bytes())?;
+    push_with_number(alloc, text, b" ", entry.number)?;
     push(text, b"\n")
 }
 
@@ -70,9 +70,9 @@ fn push_epoch_line(alloc: Global, text: &mut Vec<u8>, entry: &Identity) -> Resul
 fn push_version_line(alloc: Global, text: &mut Vec<u8>, version: &Version) -> Result<(), NoMemory>
     ensures { OnOk result (text.new.items ≡ text.old.items ++ version_line version.now) }
 {
-    push_numbered(alloc, text, b"version ", version.number())?;
+    push_with_number(alloc, text, b"version ", version.number())?;
     push_identity(alloc, text, b" ", version.identity())?;
-    push_both(text, b" ", version.word())?;
+    push_texts(text, b" ", version.word())?;
     push(text, b"\n")
 }
 
@@ -81,8 +81,8 @@ fn push_branch_line(alloc: Global, text: &mut Vec<u8>, tree: &Branch) -> Result<
     ensures { OnOk result (text.new.items ≡ text.old.items ++ branch_line tree.now) }
 {
     push_identity(alloc, text, b"branch ", tree.identity())?;
-    push_both(text, b" ", tree.name())?;
-    push_both(text, b" master ", tree.master().as_bytes())?;
+    push_texts(text, b" ", tree.name())?;
+    push_texts(text, b" master ", tree.master().as_bytes())?;
     push(text, b"\n")
 }
 

@@ -2,7 +2,7 @@
 
 ghost use Rattle.std.specs.Prelude.{◌≡◌, [], ◌<◌, ◌≤◌, length, vec_len, insert, slice_index_or, slice_set, IsTrue, IfOk, OnOk, OnErr};
 ghost use Rattle.vob_replica.specs.declared.events.Identity.{Identity};
-ghost use Rattle.vob_replica.specs.Tables.{is_below, is_at, higher_entry, place_in, number_in, holds, with_operation, raised_by, first_gap};
+ghost use Rattle.vob_replica.specs.Tables.{is_below, is_entry_at, higher_entry, entry_place_in, number_in, holds, with_operation, raised_by, first_gap};
 
 use crate::events::Identity;
 use cc_names::lists::List;
@@ -37,8 +37,8 @@ fn is_below(site: &Name, entry: &Identity) -> bool
 }
 
 /// How many entries have a site below a site: these are the first ones.
-fn place_of(entries: &[Identity], site: &Name) -> usize
-    ensures place { result ≡ place_in site.now entries.now }
+fn entry_place(entries: &[Identity], site: &Name) -> usize
+    ensures place { result ≡ entry_place_in site.now entries.now }
     ensures within { result ≤ length entries.now }
 {
     let mut place = 0;
@@ -64,8 +64,8 @@ fn number_of(entries: &[Identity], site: &Name) -> u64
 }
 
 /// Whether the entry at a place is that of a site.
-fn is_at(entries: &[Identity], place: usize, site: &Name) -> bool
-    ensures at { result ≡ is_at entries.now place site.now }
+fn is_entry_at(entries: &[Identity], place: usize, site: &Name) -> bool
+    ensures at { result ≡ is_entry_at entries.now place site.now }
     ensures within { IsTrue result → place < length entries.now }
 {
     match entries.get(place) {
@@ -102,12 +102,16 @@ fn put_entry(
 }
 
 /// Takes an operation in among entries.
-fn put(alloc: Global, entries: &mut Vec<Identity>, identity: &Identity) -> Result<(), NoMemory>
+fn put_operation(
+    alloc: Global,
+    entries: &mut Vec<Identity>,
+    identity: &Identity,
+) -> Result<(), NoMemory>
     ensures ok { OnOk result (entries.new.items ≡ with_operation entries.old.items identity.now) }
     ensures err { OnErr result (entries.new.items ≡ entries.old.items) }
 {
-    let place = place_of(entries, &identity.site);
-    if is_at(entries, place, &identity.site) {
+    let place = entry_place(entries, &identity.site);
+    if is_entry_at(entries, place, &identity.site) {
         raise_entry(entries, place, identity.number);
         return Ok(());
     }
@@ -125,7 +129,7 @@ fn copies_of(alloc: Global, entries: &[Identity]) -> Result<Vec<Identity>, NoMem
 }
 
 /// Whether an operation is among those of a table, by its entries.
-pub(crate) fn is_held(entries: &[Identity], identity: &Identity) -> bool
+pub(crate) fn is_in_table(entries: &[Identity], identity: &Identity) -> bool
     ensures { result ≡ holds entries.now identity.now }
 {
     identity.number > 0 && identity.number <= number_of(entries, &identity.site)
@@ -159,7 +163,7 @@ impl Table {
     pub fn holds(&self, identity: &Identity) -> bool
         ensures { result ≡ holds self.now identity.now }
     {
-        is_held(&self.entries, identity)
+        is_in_table(&self.entries, identity)
     }
 
     /// Takes an operation in. Takes time linear in the sites, and memory for a new one.
@@ -167,10 +171,11 @@ impl Table {
         ensures ok { OnOk result (self.new ≡ with_operation self.old identity.now) }
         ensures err { OnErr result (self.new ≡ self.old) }
     {
-        put(alloc, &mut self.entries, identity)
+        put_operation(alloc, &mut self.entries, identity)
     }
 
-    /// Takes the operations of another table in. An `Err` leaves it with some of them. Takes time linear in the sites of both, each with
+    /// Takes the operations of another table in. An `Err` leaves it with some of them. Takes time linear in the sites of both,
+    /// each with
     /// each.
     pub fn raise_all(&mut self, alloc: Global, others: &[Identity]) -> Result<(), NoMemory>
         ensures { OnOk result (self.new ≡ raised_by self.old others.now) }

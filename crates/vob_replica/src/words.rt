@@ -3,7 +3,7 @@
 ghost use Rattle.std.specs.Prelude.{◌≡◌, ◌<◌, length, IfSome};
 ghost use Rattle.std.specs.List.{list_all, position};
 ghost use Rattle.cc_names.specs.Answers.{Gives};
-ghost use Rattle.vob_replica.specs.Words.{name_word, identity_word, number_word, text_word, is_word_byte, is_colon};
+ghost use Rattle.vob_replica.specs.Words.{replica_name_word, identity_word, number_word, text_word, is_word_byte, is_colon};
 
 use crate::events::{Identity, SiteCause};
 use cc_names::memory::Or;
@@ -13,8 +13,8 @@ use cc_names::texts::Text;
 use std::alloc::Global;
 
 /// A word as the name of a site, a packet or a branch.
-pub(crate) fn name_word(alloc: Global, word: &[u8]) -> Result<Name, Or<SiteCause>>
-    ensures { Gives result (name_word word.now) }
+pub(crate) fn replica_name_word(alloc: Global, word: &[u8]) -> Result<Name, Or<SiteCause>>
+    ensures { Gives result (replica_name_word word.now) }
 {
     match type_name(alloc, word)? {
         Some(name) => Ok(name),
@@ -46,7 +46,7 @@ pub(crate) fn identity_word(alloc: Global, word: &[u8]) -> Result<Identity, Or<S
     let Some(place) = first_colon(word) else {
         return Err(Or::Is(SiteCause::BadWord));
     };
-    let site = name_word(alloc, &word[..place])?;
+    let site = replica_name_word(alloc, &word[..place])?;
     let number = number_word(&word[place + 1..])?;
     Ok(Identity { site, number })
 }

@@ -1,5 +1,6 @@
 -- What a core keeps after a fault of the disk under a command that builds nothing.
-use Rattle.std.proofs.Common.{◌≡◌, ℕ, ◌≤◌, inl, inr, true, Option, Some, None, Ok, List, [], ◌∷◌, ◌++◌, length, refl, ap, sym, subst, ◌∙◌, arith}
+use Rattle.std.proofs.Common.{◌≡◌, ℕ, ◌≤◌, inl, inr, true, Option, Some, None, Ok, List, [], ◌∷◌, ◌++◌, length, refl, ap, sym}
+use Rattle.std.proofs.Common.{subst, ◌∙◌, arith}
 use Rattle.std.specs.Prelude.{option_and_then}
 use Rattle.cc_names.specs.Formed.{Plain, IsFormed}
 use Rattle.cc_names.specs.declared.replies.Reply.TheVariants as replies
@@ -26,19 +27,32 @@ use Rattle.base_core.proofs.Keeping.PreservedSteps.{preserved_finished}
 use Rattle.story_log.proofs.Story.Naming.{left_named}
 
 -- what a fault left is what it may leave
-pub leaves_so : (s : State) (row : Plain) (left : Option Plain) → MayCommit s row → MayLeaveRow s row left → LeavesRow s row.tag left
+pub leaves_so : (s : State) (row : Plain) (left : Option Plain) → MayCommit s row → MayLeaveRow s row left
+    → LeavesRow s row.tag left
 leaves_so s row None may h = tt
 leaves_so s row (Some left) may (inl e) = inl (ap (λ r. r.tag) e, subst (MayCommit s) (sym e) may)
 leaves_so s row (Some left) may (inr e) = inr e
 
 -- what is kept then
-preserved_fault : (log : Logged) (lanes : List LaneState) (now : ℕ) (row : Plain) (left : Option Plain) (before faults tick : ℕ) (ghost_state : DiskState) → rises before faults ≡ true → faults_of (state_of log.story).opened (state_of log.story).ends ≤ before → MayLeaveRow (state_of log.story) row left
-    → rises (ticks_of (state_of log.story).opened (state_of log.story).ends) tick ≡ true → CoreInvariant log lanes now → FinishesCommand row.deed → row.moment ≡ now → decision_for (state_of log.story) row.tag ≡ Some (Ok (Makes row.deed)) → 1 ≤ row.tag.lane → row.tag.lane ≤ length lanes → IsFormed row
-    → CoreInvariant (with_step_on log (steps.Fault row.tag left before faults tick) ghost_state) (with_reply lanes row.tag.lane replies.DiskFault) now
-preserved_fault log lanes now row left before faults tick ghost_state rose later leaves ticked h finishes in_time made low high formed =
+preserved_fault : (log : Logged) (lanes : List LaneState) (now : ℕ) (row : Plain) (left : Option Plain) (before faults tick : ℕ)
+    (ghost_state : DiskState) → rises before faults ≡ true → faults_of (state_of log.story).opened (state_of log.story).ends
+    ≤ before → MayLeaveRow (state_of log.story) row left
+    → rises (ticks_of (state_of log.story).opened (state_of log.story).ends) tick ≡ true → CoreInvariant log lanes now
+    → FinishesCommand row.deed → row.moment ≡ now → decision_for (state_of log.story) row.tag ≡ Some (Ok (Makes row.deed))
+    → 1 ≤ row.tag.lane → row.tag.lane ≤ length lanes → IsFormed row
+    → CoreInvariant (with_step_on log (steps.Fault row.tag left before faults tick) ghost_state)
+    (with_reply lanes row.tag.lane replies.DiskFault) now
+preserved_fault log lanes now row left before faults tick ghost_state rose later leaves ticked h finishes in_time made low high
+    formed =
     preserved_finished log lanes now x log.base ghost_state row.tag replies.DiskFault h low high
     (record {
-      lawful = record { wanted = record { row = row; of_tag = refl; may = may }; rose = rose; later = later; leaves = leaves_so s row left may leaves; ticked = ticked };
+      lawful = record {
+        wanted = record { row = row; of_tag = refl; may = may };
+        rose = rose;
+        later = later;
+        leaves = leaves_so s row left may leaves;
+        ticked = ticked;
+      };
       names = left_named IsFormed log.story row left leaves formed h.story.formed;
       leads = h.story.base;
     })
@@ -67,19 +81,33 @@ preserved_fault log lanes now row left before faults tick ghost_state rose later
     no_build = ap (option_and_then (build_if row.tag)) free
 
 -- what is kept after a fault under a lane's next command
-pub preserved_next_fault : (log : Logged) (lanes : List LaneState) (now : ℕ) (story : List StoryStep) (row : Plain) (lane : ℕ) (left : Option Plain) (before faults tick : ℕ) (ghost_state : DiskState) → rises before faults ≡ true → faults_of (state_of log.story).opened (state_of log.story).ends ≤ before → MayLeaveRow (state_of log.story) row left
-    → rises (ticks_of (state_of log.story).opened (state_of log.story).ends) tick ≡ true → log.story ≡ story → lane ≡ row.tag.lane → CoreInvariant log lanes now → IsRowToCommit (state_of story) row → IsFormed row
-    → CoreInvariant (with_step_on log (steps.Fault row.tag left before faults tick) ghost_state) (with_reply lanes lane replies.DiskFault) now
-preserved_next_fault log lanes now story row lane left before faults tick ghost_state rose later leaves ticked same at_lane h next formed =
+pub preserved_next_fault : (log : Logged) (lanes : List LaneState) (now : ℕ) (story : List StoryStep) (row : Plain) (lane : ℕ)
+    (left : Option Plain) (before faults tick : ℕ) (ghost_state : DiskState) → rises before faults ≡ true
+    → faults_of (state_of log.story).opened (state_of log.story).ends ≤ before → MayLeaveRow (state_of log.story) row left
+    → rises (ticks_of (state_of log.story).opened (state_of log.story).ends) tick ≡ true → log.story ≡ story → lane ≡ row.tag.lane
+    → CoreInvariant log lanes now → IsRowToCommit (state_of story) row → IsFormed row
+    → CoreInvariant (with_step_on log (steps.Fault row.tag left before faults tick) ghost_state)
+    (with_reply lanes lane replies.DiskFault) now
+preserved_next_fault log lanes now story row lane left before faults tick ghost_state rose later leaves ticked same at_lane h next
+    formed =
     let here : IsRowToCommit (state_of log.story) row = subst (λ t. IsRowToCommit (state_of t) row) (sym same) next in
-    subst (λ l. CoreInvariant (with_step_on log (steps.Fault row.tag left before faults tick) ghost_state) (with_reply lanes l replies.DiskFault) now) (sym at_lane)
-    (preserved_fault log lanes now row left before faults tick ghost_state rose later leaves ticked h here.finishes (here.at_moment ∙ h.phase.moment) here.made here.of_next.from
+    subst (λ l. CoreInvariant (with_step_on log (steps.Fault row.tag left before faults tick) ghost_state)
+    (with_reply lanes l replies.DiskFault) now) (sym at_lane)
+    (preserved_fault log lanes now row left before faults tick ghost_state rose later leaves ticked h here.finishes
+    (here.at_moment ∙ h.phase.moment) here.made here.of_next.from
     (omega (arith, here.of_next.upto, h.replies.count)) formed)
 
 -- how the story went on
-pub next_faults : (old new : List StoryStep) (row : Plain) (left : Option Plain) (before faults tick : ℕ) → new ≡ old ++ story_steps.Other (steps.Fault row.tag left before faults tick) ∷ [] → IsRowToCommit (state_of old) row → Acts old new row.tag.lane Faulted
+pub next_faults : (old new : List StoryStep) (row : Plain) (left : Option Plain) (before faults tick : ℕ)
+    → new ≡ old ++ story_steps.Other (steps.Fault row.tag left before faults tick) ∷ [] → IsRowToCommit (state_of old) row
+    → Acts old new row.tag.lane Faulted
 next_faults old new row left before faults tick e next = record {
   step = story_steps.Other (steps.Fault row.tag left before faults tick);
   grows = e;
-  is = (next.of_next.next, row.deed, subst (λ t. decision_for (state_of old) t ≡ Some (Ok (Makes row.deed))) next.of_next.next next.made);
+  is = (
+    next.of_next.next,
+    row.deed,
+    subst (λ t. decision_for (state_of old) t ≡ Some (Ok (Makes row.deed))) next.of_next.next
+        next.made,
+  );
 }

@@ -14,10 +14,13 @@ use Rattle.story_log.proofs.Cases.{both}
 use Rattle.story_log.proofs.Logging.Rising.{rises_more}
 
 -- the base of the story with the row committed is a base
-pub may_fits : (story : List StoryStep) (row : Plain) → Legal story → MayCommit (state_of story) row → fits (state_of story).base row.deed ≡ true
+pub may_fits : (story : List StoryStep) (row : Plain) → Legal story → MayCommit (state_of story) row
+    → fits (state_of story).base row.deed ≡ true
 may_fits story row legal may =
     let s : State = state_of story in
     let x : StoryStep = story_steps.Commit row (ticks_of s.opened s.ends + 1) in
-    let more : Legal (story ++ x ∷ []) = legal_more start story x legal (record { may = may; ticked = rises_more (ticks_of s.opened s.ends) (ticks_of s.opened s.ends + 1) (omega arith) }) in
-    let grown : is_base (row ∷ s.base) ≡ true = ap is_base (sym (ap (λ t. t.base) (state_from-more start story x))) ∙ base_fits (story ++ x ∷ []) more in
+    let more : Legal (story ++ x ∷ []) = legal_more start story x legal
+    (record { may = may; ticked = rises_more (ticks_of s.opened s.ends) (ticks_of s.opened s.ends + 1) (omega arith) }) in
+    let grown : is_base (row ∷ s.base) ≡ true = ap is_base (sym (ap (λ t. t.base) (state_from-more start story x)))
+    ∙ base_fits (story ++ x ∷ []) more in
     (both (fits s.base row.deed) (is_base s.base) grown).0

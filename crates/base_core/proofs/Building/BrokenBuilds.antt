@@ -1,5 +1,6 @@
 -- What a core keeps, and how the story went on, where the disk failed under a lane's build, which ends with that.
-use Rattle.std.proofs.Common.{◌≡◌, ℕ, ◌-◌, ◌≤◌, true, false, Bool, ◌||◌, Option, Some, None, List, [], ◌∷◌, ◌++◌, append_assoc, drop, length, set, refl, ap, sym, subst, ◌∙◌, arith}
+use Rattle.std.proofs.Common.{◌≡◌, ℕ, ◌-◌, ◌≤◌, true, false, Bool, ◌||◌, Option, Some, None, List, [], ◌∷◌, ◌++◌, append_assoc}
+use Rattle.std.proofs.Common.{drop, length, set, refl, ap, sym, subst, ◌∙◌, arith}
 use Rattle.std.proofs.lemmas.List.{append-nil, set-set}
 use Rattle.std.specs.Ordering.{nat_cmp}
 use Rattle.std.specs.FinMap.Entries.{put}
@@ -48,28 +49,49 @@ broken build = record build { faulted = true }
 
 -- the state after a fault under a lane's build
 abbrev pub broken_state : State → ℕ → Build → Option Plain → ℕ → ℕ → State
-broken_state s lane build left faults tick = record s { active = put nat_cmp lane (broken build) s.active; ends = Faulted left faults tick ∷ s.ends }
+broken_state s lane build left faults tick = record s {
+  active = put nat_cmp lane (broken build) s.active;
+  ends = Faulted left faults tick ∷ s.ends;
+}
 
-pub after_fault : (s : State) (lane : ℕ) (build : Build) (left : Option Plain) (before faults tick : ℕ) → build_by s (next_tag s lane) ≡ Some build → after s (story_steps.Other (steps.Fault (next_tag s lane) left before faults tick)) ≡ broken_state s lane build left faults tick
-after_fault s lane build left before faults tick is = ap (λ o. record s { done = done_by_fault s.done lane o; active = faulted_in s.active lane o; ends = Faulted left faults tick ∷ s.ends }) is
+pub after_fault : (s : State) (lane : ℕ) (build : Build) (left : Option Plain) (before faults tick : ℕ)
+    → build_by s (next_tag s lane) ≡ Some build → after s (story_steps.Other
+    (steps.Fault (next_tag s lane) left before faults tick)) ≡ broken_state s lane build left faults tick
+after_fault s lane build left before faults tick is = ap (λ o. record s {
+  done = done_by_fault s.done lane o;
+  active = faulted_in s.active lane o;
+  ends = Faulted left faults tick ∷ s.ends;
+}) is
 
 -- the log after a fault under a lane's build, and after the end of it
 abbrev pub broken_log : Logged → Tag → Option Plain → ℕ → ℕ → ℕ → DiskState → Logged
-broken_log log tag left before faults tick ghost_state = with_step (with_step_on log (steps.Fault tag left before faults tick) ghost_state) (steps.End tag)
+broken_log log tag left before faults tick ghost_state = with_step (with_step_on log (steps.Fault tag left before faults tick)
+    ghost_state) (steps.End tag)
 
 -- what is kept then
-preserved_broken : (log : Logged) (lanes : List LaneState) (now lane : ℕ) (build : Build) (row : Plain) (left : Option Plain) (before faults tick : ℕ) (ghost_state : DiskState) → rises before faults ≡ true → faults_of (state_of log.story).opened (state_of log.story).ends ≤ before → MayLeaveRow (state_of log.story) row left
-    → rises (ticks_of (state_of log.story).opened (state_of log.story).ends) tick ≡ true → CoreInvariant log lanes now → 1 ≤ lane → lane ≤ length lanes → build_of (state_of log.story).active lane ≡ Some build → row.tag ≡ next_tag (state_of log.story) lane → MayCommit (state_of log.story) row → IsFormed row
-    → CoreInvariant (broken_log log (next_tag (state_of log.story) lane) left before faults tick ghost_state) (with_closed lanes lane replies.DiskFault) now
-preserved_broken log lanes now lane build row left before faults tick ghost_state rose later leaves ticked h low high is tagged may formed = record {
-  story = story_more failed end log.base ghost_state story_with_fault (record { lawful = subst (λ t. EndsBuild t tag) (sym state1) ends; names = tt; leads = story_with_fault.base });
-  phase = subst (λ t. PhaseInvariant t log.phases now) (sym state2) (phase_stays s (after s1 end) log.phases now h.phase same);
-  replies = replies_more story' end lanes tag replies.DiskFault (record (lane_state lanes lane) { commands = drop 1 (commands_at lanes lane); replies = replies_at lanes lane ++ replies.DiskFault ∷ []; build = None }) so_far low high
-      (λ l. ap (λ t. replies_of story' l ++ in_lane l tag (reply_to_end t.base (build_by t tag))) state1 ∙ ap (λ o. replies_of story' l ++ in_lane l tag (reply_to_end s.base o)) by_tag1)
-      refl refl refl refl refl;
-  builds = subst (λ t. AreBuilds t (builds_in (with_closed lanes lane replies.DiskFault))) (sym state2)
-      (builds_closed s (after s1 end) lanes lane replies.DiskFault h.builds low high same (same_rows s (after s1 end) refl) refl active);
-}
+preserved_broken : (log : Logged) (lanes : List LaneState) (now lane : ℕ) (build : Build) (row : Plain) (left : Option Plain)
+    (before faults tick : ℕ) (ghost_state : DiskState) → rises before faults ≡ true
+    → faults_of (state_of log.story).opened (state_of log.story).ends ≤ before → MayLeaveRow (state_of log.story) row left
+    → rises (ticks_of (state_of log.story).opened (state_of log.story).ends) tick ≡ true → CoreInvariant log lanes now → 1 ≤ lane
+    → lane ≤ length lanes → build_of (state_of log.story).active lane ≡ Some build
+    → row.tag ≡ next_tag (state_of log.story) lane → MayCommit (state_of log.story) row → IsFormed row
+    → CoreInvariant (broken_log log (next_tag (state_of log.story) lane) left before faults tick ghost_state)
+    (with_closed lanes lane replies.DiskFault) now
+preserved_broken log lanes now lane build row left before faults tick ghost_state rose later leaves ticked h low high is tagged
+    may formed = record {
+      story = story_more failed end log.base ghost_state story_with_fault (record
+          { lawful = subst (λ t. EndsBuild t tag) (sym state1) ends; names = tt; leads = story_with_fault.base });
+      phase = subst (λ t. PhaseInvariant t log.phases now) (sym state2) (phase_stays s (after s1 end) log.phases now h.phase same);
+      replies = replies_more story' end lanes tag replies.DiskFault (record (lane_state lanes lane)
+          { commands = drop 1 (commands_at lanes lane); replies = replies_at lanes lane ++ replies.DiskFault ∷ []; build = None })
+          so_far low high
+          (λ l. ap (λ t. replies_of story' l ++ in_lane l tag (reply_to_end t.base (build_by t tag))) state1
+          ∙ ap (λ o. replies_of story' l ++ in_lane l tag (reply_to_end s.base o)) by_tag1)
+          refl refl refl refl refl;
+      builds = subst (λ t. AreBuilds t (builds_in (with_closed lanes lane replies.DiskFault))) (sym state2)
+          (builds_closed s (after s1 end) lanes lane replies.DiskFault h.builds low high same (same_rows s (after s1 end) refl) refl
+          active);
+    }
   where
     s : State
     s = state_of log.story
@@ -103,7 +125,13 @@ preserved_broken log lanes now lane build row left before faults tick ghost_stat
 
     story_with_fault : StoryInvariant failed
     story_with_fault = story_more log fault log.base ghost_state h.story (record {
-      lawful = record { wanted = record { row = row; of_tag = tagged; may = may }; rose = rose; later = later; leaves = subst (λ t. LeavesRow s t left) tagged (leaves_so s row left may leaves); ticked = ticked };
+      lawful = record {
+        wanted = record { row = row; of_tag = tagged; may = may };
+        rose = rose;
+        later = later;
+        leaves = subst (λ t. LeavesRow s t left) tagged (leaves_so s row left may leaves);
+        ticked = ticked;
+      };
       names = left_named IsFormed log.story row left leaves formed h.story.formed;
       leads = h.story.base;
     })
@@ -127,12 +155,16 @@ preserved_broken log lanes now lane build row left before faults tick ghost_stat
 
     active : (after s1 end).active ≡ numbered_slots 1 (set (builds_in lanes) (lane - 1) None)
     active = ap (λ a. without_build (put nat_cmp lane (broken build) a) lane) h.builds.active
-        ∙ ap (λ a. without_build a lane) (put_numbered lane 1 (lane - 1) (broken build) (builds_in lanes) (omega arith) (omega (arith, high, builds_count lanes)))
+        ∙ ap (λ a. without_build a lane) (put_numbered lane 1 (lane - 1) (broken build) (builds_in lanes) (omega arith)
+        (omega (arith, high, builds_count lanes)))
         ∙ without_numbered lane 1 (lane - 1) (set (builds_in lanes) (lane - 1) (Some (broken build))) (omega arith)
         ∙ ap (numbered_slots 1) (set-set (builds_in lanes) (lane - 1) (Some (broken build)) None)
 
 -- how the story went on
-pub broken_finishes : (log : Logged) (story : List StoryStep) (lane : ℕ) (build : Build) (tag : Tag) (left : Option Plain) (before faults tick : ℕ) (ghost_state : DiskState) → log.story ≡ story → build_by (state_of story) (next_tag (state_of story) lane) ≡ Some build → tag ≡ next_tag (state_of story) lane → Finishes story (broken_log log tag left before faults tick ghost_state).story lane
+pub broken_finishes : (log : Logged) (story : List StoryStep) (lane : ℕ) (build : Build) (tag : Tag) (left : Option Plain)
+    (before faults tick : ℕ) (ghost_state : DiskState) → log.story ≡ story
+    → build_by (state_of story) (next_tag (state_of story) lane) ≡ Some build → tag ≡ next_tag (state_of story) lane
+    → Finishes story (broken_log log tag left before faults tick ghost_state).story lane
 broken_finishes log story lane build tag left before faults tick ghost_state same is tagged = record {
   steps = fault ∷ end ∷ [];
   grows = ap (λ t. (t ++ fault ∷ []) ++ end ∷ []) same ∙ append_assoc story (fault ∷ []) (end ∷ []);
@@ -154,30 +186,47 @@ broken_finishes log story lane build tag left before faults tick ghost_state sam
     s1 = broken_state s lane build left faults tick
 
     state1 : state_of (story ++ fault ∷ []) ≡ s1
-    state1 = state_from-more start story fault ∙ ap (λ t. after s (story_steps.Other (steps.Fault t left before faults tick))) tagged ∙ after_fault s lane build left before faults tick is
+    state1 = state_from-more start story fault ∙ ap (λ t. after s (story_steps.Other (steps.Fault t left before faults tick)))
+        tagged ∙ after_fault s lane build left before faults tick is
 
-    state : state_of ((log.story ++ fault ∷ []) ++ end ∷ []) ≡ record s1 { done = with_done s.done lane; active = without_build s1.active lane }
+    state : state_of ((log.story ++ fault ∷ []) ++ end ∷ []) ≡ record s1 {
+      done = with_done s.done lane;
+      active = without_build s1.active lane;
+    }
     state = ap (λ t. state_of ((t ++ fault ∷ []) ++ end ∷ [])) same ∙ state_from-more start (story ++ fault ∷ []) end
         ∙ ap (λ t. after t end) state1
         ∙ ap (λ t. record s1 { done = with_done s.done t.lane; active = without_build s1.active t.lane }) tagged
 
 -- what is kept where a row that was to give a unit an object was not committed
-pub preserved_broken_object : (log : Logged) (lanes : List LaneState) (now lane n : ℕ) (row : Plain) (object : ℕ) (tag : Tag) (left : Option Plain) (before faults tick : ℕ) (ghost_state : DiskState) → rises before faults ≡ true → faults_of (state_of log.story).opened (state_of log.story).ends ≤ before → MayLeaveRow (state_of log.story) row left
-    → rises (ticks_of (state_of log.story).opened (state_of log.story).ends) tick ≡ true → CoreInvariant log lanes now → Gives (state_of log.story) lane n row object → tag ≡ next_tag (state_of log.story) lane → IsFormed row
-    → CoreInvariant (with_step (with_step_on log (steps.Fault row.tag left before faults tick) ghost_state) (steps.End tag)) (with_closed lanes lane replies.DiskFault) now
-preserved_broken_object log lanes now lane n row object tag left before faults tick ghost_state rose later leaves ticked h g tagged formed =
+pub preserved_broken_object : (log : Logged) (lanes : List LaneState) (now lane n : ℕ) (row : Plain) (object : ℕ) (tag : Tag)
+    (left : Option Plain) (before faults tick : ℕ) (ghost_state : DiskState) → rises before faults ≡ true
+    → faults_of (state_of log.story).opened (state_of log.story).ends ≤ before → MayLeaveRow (state_of log.story) row left
+    → rises (ticks_of (state_of log.story).opened (state_of log.story).ends) tick ≡ true → CoreInvariant log lanes now
+    → Gives (state_of log.story) lane n row object → tag ≡ next_tag (state_of log.story) lane → IsFormed row
+    → CoreInvariant (with_step (with_step_on log (steps.Fault row.tag left before faults tick) ghost_state) (steps.End tag))
+    (with_closed lanes lane replies.DiskFault) now
+preserved_broken_object log lanes now lane n row object tag left before faults tick ghost_state rose later leaves ticked h g
+    tagged formed =
     let s = state_of log.story in
     let slot = lane_slot log lanes now lane g.build h g.active in
-    subst (λ t. CoreInvariant (with_step (with_step_on log (steps.Fault row.tag left before faults tick) ghost_state) (steps.End t)) (with_closed lanes lane replies.DiskFault) now) (sym tagged)
-    (subst (λ t. CoreInvariant (with_step (with_step_on log (steps.Fault t left before faults tick) ghost_state) (steps.End (next_tag s lane))) (with_closed lanes lane replies.DiskFault) now) (sym g.of_tag)
-    (preserved_broken log lanes now lane g.build row left before faults tick ghost_state rose later leaves ticked h slot.from slot.upto g.active g.of_tag g.may formed))
+    subst (λ t. CoreInvariant (with_step (with_step_on log (steps.Fault row.tag left before faults tick) ghost_state)
+    (steps.End t)) (with_closed lanes lane replies.DiskFault) now) (sym tagged)
+    (subst (λ t. CoreInvariant (with_step (with_step_on log (steps.Fault t left before faults tick) ghost_state)
+    (steps.End (next_tag s lane))) (with_closed lanes lane replies.DiskFault) now) (sym g.of_tag)
+    (preserved_broken log lanes now lane g.build row left before faults tick ghost_state rose later leaves ticked h slot.from
+    slot.upto g.active g.of_tag g.may formed))
 
 -- how the story went on
-pub broken_object_finishes : (log : Logged) (lanes : List LaneState) (now : ℕ) (story : List StoryStep) (lane n : ℕ) (row : Plain) (object : ℕ) (tag : Tag) (left : Option Plain) (before faults tick : ℕ) (ghost_state : DiskState) → log.story ≡ story → CoreInvariant log lanes now → Gives (state_of log.story) lane n row object → tag ≡ next_tag (state_of log.story) lane
-    → Finishes story (with_step (with_step_on log (steps.Fault row.tag left before faults tick) ghost_state) (steps.End tag)).story lane
+pub broken_object_finishes : (log : Logged) (lanes : List LaneState) (now : ℕ) (story : List StoryStep) (lane n : ℕ) (row : Plain)
+    (object : ℕ) (tag : Tag) (left : Option Plain) (before faults tick : ℕ) (ghost_state : DiskState) → log.story ≡ story
+    → CoreInvariant log lanes now → Gives (state_of log.story) lane n row object → tag ≡ next_tag (state_of log.story) lane
+    → Finishes story (with_step (with_step_on log (steps.Fault row.tag left before faults tick) ghost_state)
+    (steps.End tag)).story lane
 broken_object_finishes log lanes now story lane n row object tag left before faults tick ghost_state same h g tagged =
     let s = state_of log.story in
     let by_tag = build_is_by s lane g.build g.active (h.builds.kept lane g.build g.active).tag in
-    subst (λ t. Finishes t (with_step (with_step_on log (steps.Fault row.tag left before faults tick) ghost_state) (steps.End tag)).story lane) same
-    (subst (λ t. Finishes log.story (with_step (with_step_on log (steps.Fault t left before faults tick) ghost_state) (steps.End tag)).story lane) (tagged ∙ sym g.of_tag)
+    subst (λ t. Finishes t (with_step (with_step_on log (steps.Fault row.tag left before faults tick) ghost_state)
+    (steps.End tag)).story lane) same
+    (subst (λ t. Finishes log.story (with_step (with_step_on log (steps.Fault t left before faults tick) ghost_state)
+    (steps.End tag)).story lane) (tagged ∙ sym g.of_tag)
     (broken_finishes log log.story lane g.build tag left before faults tick ghost_state refl by_tag tagged))

@@ -22,12 +22,20 @@ use Rattle.base_core.proofs.Keeping.PreservedSteps.{preserved_put}
 use Rattle.base_core.proofs.Keeping.Reserving.{rows_for}
 
 -- what is kept after the begin of a build that was decided
-pub preserved_begin : (log : Logged) (lanes : List LaneState) (now : ℕ) (tag : Tag) (build : Build) → CoreInvariant log lanes now → 1 ≤ tag.lane → tag.lane ≤ length lanes → decision_for (state_of log.story) tag ≡ Some (Ok (Begins build.units)) → build_begun_by (state_of log.story) tag ≡ Some build
-    → BuildInvariant (state_of log.story) tag.lane build → rows_reserved (state_of log.story).active + length build.units ≤ row_limit
-    → CoreInvariant (with_step log (steps.Begin tag (size (state_of log.story).base) (length build.units))) (put_build lanes tag.lane (Some build)) now
+pub preserved_begin : (log : Logged) (lanes : List LaneState) (now : ℕ) (tag : Tag) (build : Build) → CoreInvariant log lanes now
+    → 1 ≤ tag.lane → tag.lane ≤ length lanes → decision_for (state_of log.story) tag ≡ Some (Ok (Begins build.units))
+    → build_begun_by (state_of log.story) tag ≡ Some build
+    → BuildInvariant (state_of log.story) tag.lane build → rows_reserved (state_of log.story).active + length build.units
+    ≤ row_limit
+    → CoreInvariant (with_step log (steps.Begin tag (size (state_of log.story).base) (length build.units)))
+    (put_build lanes tag.lane (Some build)) now
 preserved_begin log lanes now tag build h low high made begins is room =
     preserved_put log lanes now x log.base log.ghost_state tag.lane build h low high
-    (record { lawful = record { units = build.units; chosen = made; at_rows = refl; of_units = refl }; names = tt; leads = h.story.base })
+    (record {
+      lawful = record { units = build.units; chosen = made; at_rows = refl; of_units = refl };
+      names = tt;
+      leads = h.story.base;
+    })
     (record {
       same = record { phase = refl; number = refl; moment = refl };
       rows = same_rows s (after s x) refl;

@@ -23,20 +23,28 @@ use Rattle.base_core.proofs.Keeping.LaneCounts.{done_same, done_other}
 use Rattle.base_core.proofs.Keeping.LaneSlots.{lane_slot}
 
 -- what is kept
-pub preserved_ended : (log : Logged) (lanes : List LaneState) (now lane : ℕ) (story : List StoryStep) (rows : Base) (tag : Tag) (build : Build) (reply : Reply) → log.story ≡ story → CoreInvariant log lanes now → IsOver (state_of story) lane → build_of (state_of story).active lane ≡ Some build
-    → (state_of story).base ≡ rows → tag ≡ next_tag (state_of story) lane → reply ≡ reply_of rows build → CoreInvariant (with_step log (steps.End tag)) (with_closed lanes lane reply) now
+pub preserved_ended : (log : Logged) (lanes : List LaneState) (now lane : ℕ) (story : List StoryStep) (rows : Base) (tag : Tag)
+    (build : Build) (reply : Reply) → log.story ≡ story → CoreInvariant log lanes now → IsOver (state_of story) lane
+    → build_of (state_of story).active lane ≡ Some build
+    → (state_of story).base ≡ rows → tag ≡ next_tag (state_of story) lane → reply ≡ reply_of rows build
+    → CoreInvariant (with_step log (steps.End tag)) (with_closed lanes lane reply) now
 preserved_ended log lanes now lane story rows tag build reply same h over found base tagged replied =
-    let active : build_of (state_of log.story).active lane ≡ Some build = ap (λ t. build_of (state_of t).active lane) same ∙ found in
+    let active : build_of (state_of log.story).active lane ≡ Some build = ap (λ t. build_of (state_of t).active lane) same
+    ∙ found in
     let slot = lane_slot log lanes now lane build h active in
     let tag_is : next_tag (state_of log.story) lane ≡ tag = ap (λ t. next_tag (state_of t) lane) same ∙ sym tagged in
-    let reply_is : reply_of (state_of log.story).base build ≡ reply = ap (λ t. reply_of (state_of t).base build) same ∙ ap (λ b. reply_of b build) base ∙ sym replied in
-    let complete : is_complete build ≡ true = ap is_complete (sym (some_same over.build build (sym over.active ∙ found))) ∙ over.complete in
+    let reply_is : reply_of (state_of log.story).base build ≡ reply = ap (λ t. reply_of (state_of t).base build) same
+    ∙ ap (λ b. reply_of b build) base ∙ sym replied in
+    let complete : is_complete build ≡ true = ap is_complete (sym (some_same over.build build (sym over.active ∙ found)))
+    ∙ over.complete in
     subst (λ r. CoreInvariant (with_step log (steps.End tag)) (with_closed lanes lane r) now) reply_is
-    (subst (λ t. CoreInvariant (with_step log (steps.End t)) (with_closed lanes lane (reply_of (state_of log.story).base build)) now) tag_is
+    (subst (λ t. CoreInvariant (with_step log (steps.End t)) (with_closed lanes lane (reply_of (state_of log.story).base build))
+    now) tag_is
     (preserved_end log lanes now lane build h slot.from slot.upto active complete))
 
 -- how the story went on
-pub ended_finishes : (log : Logged) (story : List StoryStep) (lane : ℕ) (tag : Tag) → log.story ≡ story → tag ≡ next_tag (state_of story) lane → Finishes story (with_step log (steps.End tag)).story lane
+pub ended_finishes : (log : Logged) (story : List StoryStep) (lane : ℕ) (tag : Tag) → log.story ≡ story
+    → tag ≡ next_tag (state_of story) lane → Finishes story (with_step log (steps.End tag)).story lane
 ended_finishes log story lane tag same tagged = record {
   steps = x ∷ [];
   grows = ap (λ t. t ++ x ∷ []) same;

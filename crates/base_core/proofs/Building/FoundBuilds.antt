@@ -34,17 +34,31 @@ if_ok (Ok a) P Q f h = f a h
 if_ok (Err e) P Q f h = h
 
 -- the build of a lane is kept
-pub build_preserved : (log : Logged) (lanes : List LaneState) (now : ℕ) (story : List StoryStep) (lane : ℕ) (build : Build) → log.story ≡ story → CoreInvariant log lanes now → build_of (state_of story).active lane ≡ Some build → BuildInvariant (state_of story) lane build
-build_preserved log lanes now story lane build same h is = subst (λ t. BuildInvariant (state_of t) lane build) same (h.builds.kept lane build (ap (λ t. build_of (state_of t).active lane) same ∙ is))
+pub build_preserved : (log : Logged) (lanes : List LaneState) (now : ℕ) (story : List StoryStep) (lane : ℕ) (build : Build)
+    → log.story ≡ story → CoreInvariant log lanes now → build_of (state_of story).active lane ≡ Some build
+    → BuildInvariant (state_of story) lane build
+build_preserved log lanes now story lane build same h is = subst (λ t. BuildInvariant (state_of t) lane build) same
+    (h.builds.kept lane build (ap (λ t. build_of (state_of t).active lane) same ∙ is))
 
 -- a unit whose script was started has it still
-pub started_has : (old new : List StoryStep) (lane n : ℕ) (script : List Line) (targets : List (List ℕ)) → HasScript (state_of old) lane n script targets → Noted old new lane n Started → GoesOn old new lane × IsStarted (state_of new) lane n script targets
+pub started_has : (old new : List StoryStep) (lane n : ℕ) (script : List Line) (targets : List (List ℕ))
+    → HasScript (state_of old) lane n script targets → Noted old new lane n Started → GoesOn old new lane
+    × IsStarted (state_of new) lane n script targets
 started_has old new lane n script targets has noted =
     let still : BuildsOn (state_of new) lane has.build = noted.goes.still has.build has.active in
-    let units : noted.build.units ≡ has.build.units = ap (λ b. b.units) (some_same noted.build still.build (sym noted.active ∙ still.active)) ∙ still.units in (
+    let units : noted.build.units ≡ has.build.units = ap (λ b. b.units) (some_same noted.build still.build (sym noted.active
+    ∙ still.active)) ∙ still.units in (
       noted.goes,
       record {
-        has = record { build = noted.build; active = noted.active; unit = has.unit; is_unit = ap (λ us. slice_get us n) units ∙ has.is_unit; script_is = has.script_is; targets_are = has.targets_are };
+        has = record {
+          build = noted.build;
+          active = noted.active;
+          unit = has.unit;
+          is_unit = ap (λ us. slice_get us n) units
+              ∙ has.is_unit;
+          script_is = has.script_is;
+          targets_are = has.targets_are;
+        };
         started = ap is_some noted.came_to_it;
       },
     )
@@ -52,24 +66,37 @@ started_has old new lane n script targets has noted =
 -- a unit whose script was run is running
 runs_so : (s : State) (lane n : ℕ) (ran : Ran) (h : HasRun s lane n ran) → IsRunning s (next_tag s lane) n h.build h.unit
 runs_so s lane n ran h = record {
-  waits = record { active = build_is_by s lane h.build h.active h.kept.tag; is_unit = h.is_unit; waits = ap is_outcome h.started };
+  waits = record {
+    active = build_is_by s lane h.build h.active h.kept.tag;
+    is_unit = h.is_unit;
+    waits = ap is_outcome h.started;
+  };
   sound = h.kept.sound;
   started = h.started;
 }
 
 -- where its run failed, it may be concluded so
-pub fails_so : (s : State) (lane n : ℕ) (ran : Ran) (fault : ScriptFault) → HasRun s lane n ran → ran.result ≡ Err fault → MayConclude s lane n (ends.Failed (faults.Script fault))
+pub fails_so : (s : State) (lane n : ℕ) (ran : Ran) (fault : ScriptFault) → HasRun s lane n ran → ran.result ≡ Err fault
+    → MayConclude s lane n (ends.Failed (faults.Script fault))
 fails_so s lane n ran fault h failed = record {
   build = h.build;
   active = h.active;
   within = slice_get_within h.build.units n h.unit h.is_unit;
   kept = h.kept;
   waits = ap is_outcome h.started;
-  concludes = record { build = h.build; unit = h.unit; running = runs_so s lane n ran h; fails = ap (λ r. r.result) (sym h.run) ∙ failed };
+  concludes = record {
+    build = h.build;
+    unit = h.unit;
+    running = runs_so s lane n ran h;
+    fails = ap (λ r. r.result) (sym h.run)
+        ∙ failed;
+  };
 }
 
 -- an object that it may reuse by now may be winked in, by the law that its view does not hold it
-pub finds_so : (story : List StoryStep) (lane n object : ℕ) (ran : Ran) → Legal story → FoundAfterTheStartIsNotHeld → (h : HasRun (state_of story) lane n ran) → reusable (state_of story).base h.build n h.unit ≡ Some object → MayWink (state_of story) lane n object
+pub finds_so : (story : List StoryStep) (lane n object : ℕ) (ran : Ran) → Legal story → FoundAfterTheStartIsNotHeld
+    → (h : HasRun (state_of story) lane n ran) → reusable (state_of story).base h.build n h.unit ≡ Some object
+    → MayWink (state_of story) lane n object
 finds_so story lane n object ran legal law h chosen =
     let runs = runs_so (state_of story) lane n ran h in
     record {
@@ -88,7 +115,8 @@ pub found_is : {A E : Type 0} (r : Result A E) (a : A) (P : A → Type 0) → r 
 found_is r a P is h = subst (λ r. IfOk r P) is h
 
 -- what became of a unit that was tried, and whose outcome was at hand
-pub carried_tries : (old new : List StoryStep) (lane n : ℕ) (end : TurnEnd) → IsCarried old new lane n end → Tries old new lane n (turns.End end)
+pub carried_tries : (old new : List StoryStep) (lane n : ℕ) (end : TurnEnd) → IsCarried old new lane n end
+    → Tries old new lane n (turns.End end)
 carried_tries old new lane n turn_ends.Concluded h = h
 carried_tries old new lane n (turn_ends.NotReady m) h = absurd h
 carried_tries old new lane n turn_ends.Over h = h
@@ -101,7 +129,9 @@ started_still (Some (Concluded end)) some waits = absurd (cc)
 started_still (Some (Given id)) some waits = absurd (cc)
 
 -- and this is its run
-pub has_run : (s : State) (lane n : ℕ) (ran : Ran) (build : Build) → IsRunOfUnit s lane n ran → build_of s.active lane ≡ Some build → BuildInvariant s lane build → is_outcome (came_to build n) ≡ false → HasRun s lane n ran
+pub has_run : (s : State) (lane n : ℕ) (ran : Ran) (build : Build) → IsRunOfUnit s lane n ran
+    → build_of s.active lane ≡ Some build → BuildInvariant s lane build → is_outcome (came_to build n) ≡ false
+    → HasRun s lane n ran
 has_run s lane n ran build h active kept waits =
     let is : build ≡ h.build = some_same build h.build (sym active ∙ h.active) in
     record {

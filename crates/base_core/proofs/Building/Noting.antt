@@ -22,7 +22,8 @@ use Rattle.story_log.proofs.Story.Naming.{names_none}
 use Rattle.base_core.proofs.Keeping.Reserving.{rows_for}
 
 -- a build with what one of its units has come to is kept as it was
-pub noted_preserved : (s : State) (lane : ℕ) (build : Build) (n : ℕ) (came : Came) → BuildInvariant s lane build → BuildInvariant s lane (with_came build (Some n) came)
+pub noted_preserved : (s : State) (lane : ℕ) (build : Build) (n : ℕ) (came : Came) → BuildInvariant s lane build
+    → BuildInvariant s lane (with_came build (Some n) came)
 noted_preserved s lane build n came h = record {
   tag = h.tag;
   waits = h.waits;
@@ -33,9 +34,13 @@ noted_preserved s lane build n came h = record {
 }
 
 -- what is kept after a step by which a unit of a lane's build comes to something, without a row
-pub preserved_note : (log : Logged) (lanes : List LaneState) (now : ℕ) (step : Step) (lane n : ℕ) (build : Build) (came : Came) → CoreInvariant log lanes now → 1 ≤ lane → lane ≤ length lanes → build_of (state_of log.story).active lane ≡ Some build → Lawful (state_of log.story) (story_steps.Other step)
-    → after (state_of log.story) (story_steps.Other step) ≡ record (state_of log.story) { active = put nat_cmp lane (with_came build (Some n) came) (state_of log.story).active }
-    → ((l : ℕ) → replies_after (state_of log.story) (story_steps.Other step) (replies_of log.story) l ≡ replies_of log.story l) → is_fault (story_steps.Other step) ≡ false
+pub preserved_note : (log : Logged) (lanes : List LaneState) (now : ℕ) (step : Step) (lane n : ℕ) (build : Build) (came : Came)
+    → CoreInvariant log lanes now → 1 ≤ lane → lane ≤ length lanes → build_of (state_of log.story).active lane ≡ Some build
+    → Lawful (state_of log.story) (story_steps.Other step)
+    → after (state_of log.story) (story_steps.Other step) ≡ record (state_of log.story)
+    { active = put nat_cmp lane (with_came build (Some n) came) (state_of log.story).active }
+    → ((l : ℕ) → replies_after (state_of log.story) (story_steps.Other step) (replies_of log.story) l ≡ replies_of log.story l)
+    → is_fault (story_steps.Other step) ≡ false
     → CoreInvariant (with_step log step) (put_build lanes lane (Some (with_came build (Some n) came))) now
 preserved_note log lanes now step lane n build came h low high is lawful leaves said sound =
     preserved_put log lanes now x log.base log.ghost_state lane (with_came build (Some n) came) h low high

@@ -26,27 +26,41 @@ use Rattle.base_core.proofs.Keeping.LaneSlots.{found_put}
 use Rattle.base_core.proofs.Building.BuildBegins.{preserved_begin}
 
 -- what is kept where a build begins
-pub preserved_opened : (log : Logged) (lanes : List LaneState) (now rows count : ℕ) (story : List StoryStep) (tag : Tag) (build : Build) → log.story ≡ story → CoreInvariant log lanes now → IsNextBuild (state_of story) build → tag ≡ build.tag → rows ≡ build.rows → count ≡ length build.units
+pub preserved_opened : (log : Logged) (lanes : List LaneState) (now rows count : ℕ) (story : List StoryStep) (tag : Tag)
+    (build : Build) → log.story ≡ story → CoreInvariant log lanes now → IsNextBuild (state_of story) build → tag ≡ build.tag
+    → rows ≡ build.rows → count ≡ length build.units
     → CoreInvariant (with_step log (steps.Begin tag rows count)) (put_build lanes tag.lane (Some build)) now
 preserved_opened log lanes now rows count story tag build same h next tagged at_rows counted =
     let s = state_of log.story in
     let here : IsNextBuild s build = subst (λ t. IsNextBuild (state_of t) build) (sym same) next in
     subst (λ t. CoreInvariant (with_step log (steps.Begin t rows count)) (put_build lanes t.lane (Some build)) now) (sym tagged)
-    (subst (λ r. CoreInvariant (with_step log (steps.Begin build.tag r count)) (put_build lanes build.tag.lane (Some build)) now) (sym (at_rows ∙ here.at_rows))
-    (subst (λ c. CoreInvariant (with_step log (steps.Begin build.tag (size s.base) c)) (put_build lanes build.tag.lane (Some build)) now) (sym counted)
-    (preserved_begin log lanes now build.tag build h here.of_next.from (omega (arith, here.of_next.upto, h.replies.count)) here.made here.begins here.kept here.room)))
+    (subst (λ r. CoreInvariant (with_step log (steps.Begin build.tag r count)) (put_build lanes build.tag.lane (Some build)) now)
+    (sym (at_rows ∙ here.at_rows))
+    (subst (λ c. CoreInvariant (with_step log (steps.Begin build.tag (size s.base) c))
+    (put_build lanes build.tag.lane (Some build)) now) (sym counted)
+    (preserved_begin log lanes now build.tag build h here.of_next.from (omega (arith, here.of_next.upto, h.replies.count))
+    here.made here.begins here.kept here.room)))
 
 -- how the story went on
-pub opened_so : (log : Logged) (rows count : ℕ) (story : List StoryStep) (tag : Tag) (build : Build) → log.story ≡ story → IsNextBuild (state_of story) build → tag ≡ build.tag → GoesOn story (with_step log (steps.Begin tag rows count)).story build.tag.lane × IsBuilding (state_of (with_step log (steps.Begin tag rows count)).story) build.tag.lane (length build.units)
+pub opened_so : (log : Logged) (rows count : ℕ) (story : List StoryStep) (tag : Tag) (build : Build) → log.story ≡ story
+    → IsNextBuild (state_of story) build → tag ≡ build.tag → GoesOn story (with_step log (steps.Begin tag rows count)).story
+    build.tag.lane × IsBuilding (state_of (with_step log (steps.Begin tag rows count)).story) build.tag.lane (length build.units)
 opened_so log rows count story tag build same next tagged = (
   record {
     steps = x ∷ [];
     grows = ap (λ t. t ++ x ∷ []) same;
     phase = record { phase = ap (λ t. t.phase) state; number = ap (λ t. t.number) state; moment = ap (λ t. t.moment) state };
     done = ap (λ t. t.done) state;
-    still = λ other is. absurd (not_both (build_of s.active build.tag.lane) other (decided_is_free s build.tag (Ok (Begins build.units)) next.made) is);
+    still = λ other is. absurd (not_both (build_of s.active build.tag.lane) other
+        (decided_is_free s build.tag (Ok (Begins build.units)) next.made) is);
   },
-  record { build = build; active = ap (λ t. build_of t.active build.tag.lane) state ∙ found_put build.tag.lane build s.active; of_units = refl; few = next.kept.formed.few },
+  record {
+    build = build;
+    active = ap (λ t. build_of t.active build.tag.lane) state
+        ∙ found_put build.tag.lane build s.active;
+    of_units = refl;
+    few = next.kept.formed.few;
+  },
 )
   where
     s : State
@@ -61,21 +75,32 @@ opened_so log rows count story tag build same next tagged = (
         ∙ ap (λ o. record s { active = with_build s.active build.tag.lane o }) next.begins
 
 -- a step that finishes a command of a lane, and leaves the last phase and its other lanes as they are
-step_finishes : (old new : List StoryStep) (lane : ℕ) (step : StoryStep) → new ≡ old ++ step ∷ [] → (after (state_of old) step).phase ≡ (state_of old).phase → (after (state_of old) step).number ≡ (state_of old).number → (after (state_of old) step).moment ≡ (state_of old).moment → (after (state_of old) step).done ≡ with_done (state_of old).done lane → Finishes old new lane
+step_finishes : (old new : List StoryStep) (lane : ℕ) (step : StoryStep) → new ≡ old ++ step ∷ []
+    → (after (state_of old) step).phase ≡ (state_of old).phase → (after (state_of old) step).number ≡ (state_of old).number
+    → (after (state_of old) step).moment ≡ (state_of old).moment → (after (state_of old) step).done
+    ≡ with_done (state_of old).done lane → Finishes old new lane
 step_finishes old new lane step e phase number moment done =
     let state : state_of new ≡ after (state_of old) step = ap state_of e ∙ state_from-more start old step in
     record {
       steps = step ∷ [];
       grows = e;
-      phase = record { phase = ap (λ t. t.phase) state ∙ phase; number = ap (λ t. t.number) state ∙ number; moment = ap (λ t. t.moment) state ∙ moment };
+      phase = record {
+        phase = ap (λ t. t.phase) state ∙ phase;
+        number = ap (λ t. t.number) state
+            ∙ number;
+        moment = ap (λ t. t.moment) state ∙ moment;
+      };
       done = ap (λ t. done_of t.done lane) state ∙ ap (λ d. done_of d lane) done ∙ done_same (state_of old).done lane;
-      others = λ other differs. ap (λ t. done_of t.done other) state ∙ ap (λ d. done_of d other) done ∙ done_other (state_of old).done lane other differs;
+      others = λ other differs. ap (λ t. done_of t.done other) state ∙ ap (λ d. done_of d other) done
+          ∙ done_other (state_of old).done lane other differs;
     }
 
 -- a lane's command that was refused is finished
 pub refused_finishes : (old new : List StoryStep) (lane : ℕ) → Acts old new lane dones.Refused → Finishes old new lane
 refused_finishes old new lane acts = by acts.step acts.grows acts.is
   where
-    by : (step : StoryStep) → new ≡ old ++ step ∷ [] → IsStepOf (state_of old) (next_tag (state_of old) lane) dones.Refused step → Finishes old new lane
-    by (story_steps.Other (steps.Refused tag refusal)) e is = step_finishes old new lane (story_steps.Other (steps.Refused tag refusal)) e refl refl refl (ap (λ t. with_done (state_of old).done t.lane) is.0)
+    by : (step : StoryStep) → new ≡ old ++ step ∷ [] → IsStepOf (state_of old) (next_tag (state_of old) lane) dones.Refused step
+        → Finishes old new lane
+    by (story_steps.Other (steps.Refused tag refusal)) e is = step_finishes old new lane
+        (story_steps.Other (steps.Refused tag refusal)) e refl refl refl (ap (λ t. with_done (state_of old).done t.lane) is.0)
     by step e is = absurd is

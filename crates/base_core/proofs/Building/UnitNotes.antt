@@ -24,7 +24,8 @@ use Rattle.base_core.proofs.Keeping.LaneSlots.{lane_slot, found_put, found_else}
 use Rattle.base_core.proofs.Building.Noting.{preserved_note}
 
 -- the replies after a step that names no phase
-replies_alone : (s : State) (step : Step) (replies : ℕ → List Reply) (l : ℕ) → stands_alone step ≡ true → replies_after s (story_steps.Other step) replies l ≡ replies l ++ replies_by s l (story_steps.Other step)
+replies_alone : (s : State) (step : Step) (replies : ℕ → List Reply) (l : ℕ) → stands_alone step ≡ true
+    → replies_after s (story_steps.Other step) replies l ≡ replies l ++ replies_by s l (story_steps.Other step)
 replies_alone s step replies l h = refl
 
 -- a test does not hold and fail
@@ -32,25 +33,31 @@ true_or_false : (b : Bool) → b ≡ true → b ≡ false → ⊥
 true_or_false b t f = cc
 
 -- what is kept then
-pub preserved_noted : (log : Logged) (lanes more : List LaneState) (now : ℕ) (story : List StoryStep) (lane n : ℕ) (step : Step) (came : Came) → log.story ≡ story → CoreInvariant log lanes now → Notes (state_of story) lane n step came
-    → ((build : Build) → build_at lanes lane ≡ Some build → more ≡ put_build lanes lane (Some (with_came build (Some n) came))) → CoreInvariant (with_step log step) more now
+pub preserved_noted : (log : Logged) (lanes more : List LaneState) (now : ℕ) (story : List StoryStep) (lane n : ℕ) (step : Step)
+    (came : Came) → log.story ≡ story → CoreInvariant log lanes now → Notes (state_of story) lane n step came
+    → ((build : Build) → build_at lanes lane ≡ Some build → more ≡ put_build lanes lane (Some (with_came build (Some n) came)))
+    → CoreInvariant (with_step log step) more now
 preserved_noted log lanes more now story lane n step came same h notes set_so =
     let here : Notes (state_of log.story) lane n step came = subst (λ t. Notes (state_of t) lane n step came) (sym same) notes in
     let slot = lane_slot log lanes now lane here.build h here.active in
     subst (λ ls. CoreInvariant (with_step log step) ls now) (sym (set_so here.build slot.held))
     (preserved_note log lanes now step lane n here.build came h slot.from slot.upto here.active here.lawful here.leaves
-    (λ l. replies_alone (state_of log.story) step (replies_of log.story) l here.alone ∙ ap (λ more. replies_of log.story l ++ more) (here.silent l) ∙ append-nil (replies_of log.story l)) here.sound)
+    (λ l. replies_alone (state_of log.story) step (replies_of log.story) l here.alone
+    ∙ ap (λ more. replies_of log.story l ++ more) (here.silent l) ∙ append-nil (replies_of log.story l)) here.sound)
 
 -- a unit's outcomes after it was noted
-pub outcome_noted : (build : Build) (n m : ℕ) (came : Came) → is_outcome (came_to build n) ≡ false → is_outcome (came_to build m) ≡ true → is_outcome (came_to (with_came build (Some n) came) m) ≡ true
+pub outcome_noted : (build : Build) (n m : ℕ) (came : Came) → is_outcome (came_to build n) ≡ false
+    → is_outcome (came_to build m) ≡ true → is_outcome (came_to (with_came build (Some n) came) m) ≡ true
 outcome_noted build n m came waits over = by (one_or_two m n)
   where
     by : (m ≡ n) ⊎ (m ≢ n) → is_outcome (came_to (with_came build (Some n) came) m) ≡ true
-    by (inl e) = absurd (let here : is_outcome (came_to build n) ≡ true = ap (λ k. is_outcome (came_to build k)) (sym e) ∙ over in true_or_false (is_outcome (came_to build n)) here waits)
+    by (inl e) = absurd (let here : is_outcome (came_to build n) ≡ true = ap (λ k. is_outcome (came_to build k)) (sym e) ∙ over in
+        true_or_false (is_outcome (came_to build n)) here waits)
     by (inr differs) = ap is_outcome (found_else n m came build.comes differs) ∙ over
 
 -- how the story went on
-pub noted_so : (log : Logged) (story : List StoryStep) (lane n : ℕ) (step : Step) (came : Came) → log.story ≡ story → Notes (state_of story) lane n step came → Noted story (with_step log step).story lane n came
+pub noted_so : (log : Logged) (story : List StoryStep) (lane n : ℕ) (step : Step) (came : Came) → log.story ≡ story
+    → Notes (state_of story) lane n step came → Noted story (with_step log step).story lane n came
 noted_so log story lane n step came same notes = record {
   goes = record {
     steps = story_steps.Other step ∷ [];
@@ -71,11 +78,18 @@ noted_so log story lane n step came same notes = record {
     noted = with_came notes.build (Some n) came
 
     state : state_of (log.story ++ story_steps.Other step ∷ []) ≡ record s { active = put nat_cmp lane noted s.active }
-    state = ap (λ t. state_of (t ++ story_steps.Other step ∷ [])) same ∙ state_from-more start story (story_steps.Other step) ∙ notes.leaves
+    state = ap (λ t. state_of (t ++ story_steps.Other step ∷ [])) same ∙ state_from-more start story (story_steps.Other step)
+        ∙ notes.leaves
 
     active : build_of (state_of (log.story ++ story_steps.Other step ∷ [])).active lane ≡ Some noted
     active = ap (λ t. build_of t.active lane) state ∙ found_put lane noted s.active
 
     still : (build : Build) → notes.build ≡ build → BuildsOn (state_of (log.story ++ story_steps.Other step ∷ [])) lane build
     still build e = subst (λ b. BuildsOn (state_of (log.story ++ story_steps.Other step ∷ [])) lane b) e
-        (record { build = noted; active = active; units = refl; outcomes = λ m over. outcome_noted notes.build n m came notes.waits over })
+        (record {
+          build = noted;
+          active = active;
+          units = refl;
+          outcomes = λ m over. outcome_noted notes.build n m came
+              notes.waits over;
+        })

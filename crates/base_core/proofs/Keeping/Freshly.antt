@@ -19,27 +19,60 @@ no_lane_at : (lane : ℕ) (one : Lane) → lane_at (record { lanes = [] }) lane 
 no_lane_at zero one is = absurd (cc)
 no_lane_at (suc n) one is = absurd (cc)
 
-preserved_base : (old : DiskState) (base : Base) (handed : Handed) (ghost_state : DiskState) → IsBaseOn old base handed → CoreInvariant (opened_log base handed ghost_state) [] 0
+preserved_base : (old : DiskState) (base : Base) (handed : Handed) (ghost_state : DiskState) → IsBaseOn old base handed
+    → CoreInvariant (opened_log base handed ghost_state) [] 0
 preserved_base old base handed ghost_state h = record {
   story = record {
-    legal = (record { first = refl; formed = subst AreFormed (sym (oldest_back base)) h.formed; fits = ap is_base (oldest_back base) ∙ h.fits }, tt);
+    legal = (
+      record {
+        first = refl;
+        formed = subst AreFormed (sym (oldest_back base)) h.formed;
+        fits = ap is_base (oldest_back base) ∙ h.fits;
+      },
+      tt,
+    );
     opened = refl;
     base = oldest_back base;
     formed = (subst AreFormed (sym (oldest_back base)) h.formed, tt);
   };
-  phase = record { phase = refl; number = refl; moment = refl; formed = (omega arith, tt); few = omega arith; in_time = omega arith };
-  replies = record { count = refl; replies = λ lane low high. absurd (omega (arith, low, high)); done = λ lane. refl; room = λ lane one is. absurd (no_lane_at lane one is); left = λ lane one is. absurd (no_lane_at lane one is) };
+  phase = record {
+    phase = refl;
+    number = refl;
+    moment = refl;
+    formed = (omega arith, tt);
+    few = omega arith;
+    in_time = omega arith;
+  };
+  replies = record {
+    count = refl;
+    replies = λ lane low high. absurd (omega (arith, low, high));
+    done = λ lane. refl;
+    room = λ lane one is. absurd (no_lane_at lane one is);
+    left = λ lane one is. absurd (no_lane_at lane one is);
+  };
   builds = record { count = refl; active = refl; kept = λ lane build is. absurd (cc); reserves = omega arith };
 }
 
 pub preserved_opened : (old : DiskState) (log : Logged) → IsOpened old log → CoreInvariant log [] 0
-preserved_opened old log h = subst (λ l. CoreInvariant l [] 0) (sym h.is) (preserved_base old h.base h.handed log.ghost_state h.on)
+preserved_opened old log h = subst (λ l. CoreInvariant l [] 0) (sym h.is)
+    (preserved_base old h.base h.handed log.ghost_state h.on)
 
 pub opens_so : (old : DiskState) (log : Logged) → IsOpened old log → OpensCore old log.story log.ghost_state
-opens_so old log h = record { base = h.base; handed = h.handed; on = h.on; undamaged = undamaged_on old h.base h.handed h.on; story_is = ap (λ l. l.story) h.is; sound = h.sound; fit = h.fit; adds = h.adds; files = h.files }
+opens_so old log h = record {
+  base = h.base;
+  handed = h.handed;
+  on = h.on;
+  undamaged = undamaged_on old h.base h.handed h.on;
+  story_is = ap (λ l. l.story) h.is;
+  sound = h.sound;
+  fit = h.fit;
+  adds = h.adds;
+  files = h.files;
+}
 
 -- the disk changes nothing of what is kept beside it
-pub preserved_ghost_state : (log : Logged) (lanes : List LaneState) (now : ℕ) (ghost_state : DiskState) → CoreInvariant log lanes now → CoreInvariant (with_ghost_state log ghost_state) lanes now
+pub preserved_ghost_state : (log : Logged) (lanes : List LaneState) (now : ℕ) (ghost_state : DiskState)
+    → CoreInvariant log lanes now → CoreInvariant (with_ghost_state log ghost_state) lanes now
 preserved_ghost_state log lanes now ghost_state h = record {
   story = record { legal = h.story.legal; opened = h.story.opened; base = h.story.base; formed = h.story.formed };
   phase = h.phase;

@@ -1,5 +1,6 @@
 -- How many commands the lanes have finished, and the reply to one more.
-use Rattle.std.proofs.Common.{◌≡◌, ◌≢◌, ℕ, ◌+◌, ◌==◌, ◌⊎◌, inl, inr, Bool, true, false, cond, Some, List, [], ◌∷◌, refl, ap, ◌∙◌, arith}
+use Rattle.std.proofs.Common.{◌≡◌, ◌≢◌, ℕ, ◌+◌, ◌==◌, ◌⊎◌, inl, inr, Bool, true, false, cond, Some, List, [], ◌∷◌, refl, ap, ◌∙◌}
+use Rattle.std.proofs.Common.{arith}
 use Rattle.std.specs.Ordering.{nat_cmp, eq_by_cmp}
 use Rattle.std.specs.FinMap.Entries.{find, find-put}
 use Rattle.std.specs.Prelude.{unwrap_or}
@@ -15,13 +16,15 @@ use Rattle.base_core.specs.Story.Replying.{in_lane}
 pub done_same : (done : List (ℕ × ℕ)) (lane : ℕ) → done_of (with_done done lane) lane ≡ done_of done lane + 1
 done_same done lane =
     let same : eq_by_cmp nat_cmp lane lane ≡ true = grind (arith, nat_tests) in
-    ap (λ found. unwrap_or found 0) (find-put nat_cmp nat_cmp_total lane lane (done_of done lane + 1) done ∙ ap (λ is. cond is (Some (done_of done lane + 1)) (find nat_cmp lane done)) same)
+    ap (λ found. unwrap_or found 0) (find-put nat_cmp nat_cmp_total lane lane (done_of done lane + 1) done
+    ∙ ap (λ is. cond is (Some (done_of done lane + 1)) (find nat_cmp lane done)) same)
 
 -- the other lanes have finished what they had
 pub done_other : (done : List (ℕ × ℕ)) (lane other : ℕ) → other ≢ lane → done_of (with_done done lane) other ≡ done_of done other
 done_other done lane other differs =
     let apart : eq_by_cmp nat_cmp other lane ≡ false = grind (arith, nat_tests) in
-    ap (λ found. unwrap_or found 0) (find-put nat_cmp nat_cmp_total other lane (done_of done lane + 1) done ∙ ap (λ is. cond is (Some (done_of done lane + 1)) (find nat_cmp other done)) apart)
+    ap (λ found. unwrap_or found 0) (find-put nat_cmp nat_cmp_total other lane (done_of done lane + 1) done
+    ∙ ap (λ is. cond is (Some (done_of done lane + 1)) (find nat_cmp other done)) apart)
 
 -- the lane of a tag has the reply, and no other lane has it
 pub in_same : (tag : Tag) (lane : ℕ) (reply : Reply) → tag.lane ≡ lane → in_lane lane tag (Some reply) ≡ reply ∷ []

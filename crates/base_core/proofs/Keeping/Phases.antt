@@ -10,7 +10,8 @@ last_phase-more (one ∷ []) phase = refl
 last_phase-more (one ∷ two ∷ phases) phase = last_phase-more (two ∷ phases) phase
 
 -- it is the one at the last place
-pub last_phase-get_or : (phases : List Phase) (d : Phase) → 0 < length phases → last_phase phases ≡ get_or phases (length phases - 1) d
+pub last_phase-get_or : (phases : List Phase) (d : Phase) → 0 < length phases
+    → last_phase phases ≡ get_or phases (length phases - 1) d
 last_phase-get_or [] d h = absurd (omega arith)
 last_phase-get_or (phase ∷ []) d h = refl
 last_phase-get_or (one ∷ two ∷ phases) d h =

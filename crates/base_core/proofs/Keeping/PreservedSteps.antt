@@ -1,5 +1,6 @@
 -- What a core keeps after one more step of its story: one lemma for each kind of step.
-use Rattle.std.proofs.Common.{◌≡◌, ℕ, ◌+◌, ◌-◌, ◌≤◌, true, Some, None, List, [], ◌∷◌, ◌++◌, drop, length, set, refl, ap, sym, subst, ◌∙◌, arith}
+use Rattle.std.proofs.Common.{◌≡◌, ℕ, ◌+◌, ◌-◌, ◌≤◌, true, Some, None, List, [], ◌∷◌, ◌++◌, drop, length, set, refl, ap, sym}
+use Rattle.std.proofs.Common.{subst, ◌∙◌, arith}
 use Rattle.std.specs.FinMap.Entries.{put}
 use Rattle.std.specs.Ordering.{nat_cmp}
 use Rattle.std.specs.Prelude.{is_some}
@@ -39,7 +40,12 @@ use Rattle.base_core.proofs.Keeping.Reserving.{rows_for}
 
 -- the log with one more step, which leads to this base
 abbrev pub log_more : Logged → StoryStep → Base → DiskState → Logged
-log_more log x base ghost_state = record { story = log.story ++ x ∷ []; base = base; phases = log.phases; ghost_state = ghost_state }
+log_more log x base ghost_state = record {
+  story = log.story ++ x ∷ [];
+  base = base;
+  phases = log.phases;
+  ghost_state = ghost_state;
+}
 
 -- a lawful step that leads to this base, and names formed rows alone
 pub record MayTell (s : State) (x : StoryStep) (base : Base) : Type 0 where
@@ -53,7 +59,8 @@ opened_more s (story_steps.Other (steps.Fault tag left before faults tick)) h = 
 opened_more s x h = h
 
 -- the story
-pub story_more : (log : Logged) (x : StoryStep) (base : Base) (ghost_state : DiskState) → StoryInvariant log → MayTell (state_of log.story) x base → StoryInvariant (log_more log x base ghost_state)
+pub story_more : (log : Logged) (x : StoryStep) (base : Base) (ghost_state : DiskState) → StoryInvariant log
+    → MayTell (state_of log.story) x base → StoryInvariant (log_more log x base ghost_state)
 story_more log x base ghost_state h may =
     let more : state_of (log.story ++ x ∷ []) ≡ after (state_of log.story) x = state_from-more start log.story x in
     record {
@@ -64,7 +71,8 @@ story_more log x base ghost_state h may =
     }
 
 -- the last phase
-pub phase_stays : (s t : State) (phases : List Phase) (now : ℕ) → PhaseInvariant s phases now → SamePhase s t → PhaseInvariant t phases now
+pub phase_stays : (s t : State) (phases : List Phase) (now : ℕ) → PhaseInvariant s phases now → SamePhase s t
+    → PhaseInvariant t phases now
 phase_stays s t phases now h same = record {
   phase = same.phase ∙ h.phase;
   number = same.number ∙ h.number;
@@ -83,27 +91,36 @@ pub record FinishesOne (story : List StoryStep) (x : StoryStep) (tag : Tag) (rep
   pub done : (after (state_of story) x).done ≡ with_done (state_of story).done tag.lane
   pub said : (l : ℕ) → replies_after (state_of story) x (replies_of story) l ≡ replies_of story l ++ in_lane l tag (Some reply)
 
-pub preserved_finished : (log : Logged) (lanes : List LaneState) (now : ℕ) (x : StoryStep) (base : Base) (ghost_state : DiskState) (tag : Tag) (reply : Reply) → CoreInvariant log lanes now → 1 ≤ tag.lane → tag.lane ≤ length lanes
-    → MayTell (state_of log.story) x base → FinishesOne log.story x tag reply → CoreInvariant (log_more log x base ghost_state) (with_reply lanes tag.lane reply) now
+pub preserved_finished : (log : Logged) (lanes : List LaneState) (now : ℕ) (x : StoryStep) (base : Base) (ghost_state : DiskState)
+    (tag : Tag) (reply : Reply) → CoreInvariant log lanes now → 1 ≤ tag.lane → tag.lane ≤ length lanes
+    → MayTell (state_of log.story) x base → FinishesOne log.story x tag reply
+    → CoreInvariant (log_more log x base ghost_state) (with_reply lanes tag.lane reply) now
 preserved_finished log lanes now x base ghost_state tag reply h low high may finishes = record {
   story = story_more log x base ghost_state h.story may;
-  phase = subst (λ t. PhaseInvariant t log.phases now) (sym more) (phase_stays s (after s x) log.phases now h.phase finishes.same);
-  replies = replies_more log.story x lanes tag reply kept h.replies low high finishes.said finishes.done finishes.same.phase refl refl refl;
+  phase = subst (λ t. PhaseInvariant t log.phases now) (sym more) (phase_stays s (after s x) log.phases now h.phase
+      finishes.same);
+  replies = replies_more log.story x lanes tag reply kept h.replies low high finishes.said finishes.done finishes.same.phase refl
+      refl refl;
   builds = subst (AreBuilds (state_of (log.story ++ x ∷ []))) (sym (builds_same lanes (tag.lane - 1) kept refl))
-      (subst (λ t. AreBuilds t (builds_in lanes)) (sym more) (builds_stay s (after s x) (builds_in lanes) h.builds finishes.same finishes.rows finishes.active still));
+      (subst (λ t. AreBuilds t (builds_in lanes)) (sym more) (builds_stay s (after s x) (builds_in lanes) h.builds finishes.same
+      finishes.rows finishes.active still));
 }
   where
     s : State
     s = state_of log.story
 
     kept : LaneState
-    kept = record (lane_state lanes tag.lane) { commands = drop 1 (commands_at lanes tag.lane); replies = replies_at lanes tag.lane ++ reply ∷ [] }
+    kept = record (lane_state lanes tag.lane) {
+      commands = drop 1 (commands_at lanes tag.lane);
+      replies = replies_at lanes tag.lane ++ reply ∷ [];
+    }
 
     more : state_of (log.story ++ x ∷ []) ≡ after s x
     more = state_from-more start log.story x
 
     still : (lane : ℕ) (build : Build) → build_of s.active lane ≡ Some build → done_of (after s x).done lane ≡ done_of s.done lane
-    still lane build is = ap (λ d. done_of d lane) finishes.done ∙ done_other s.done tag.lane lane (λ e. not_both (build_of s.active lane) build (ap (build_of s.active) e ∙ finishes.free) is)
+    still lane build is = ap (λ d. done_of d lane) finishes.done ∙ done_other s.done tag.lane lane
+        (λ e. not_both (build_of s.active lane) build (ap (build_of s.active) e ∙ finishes.free) is)
 
 -- A step by which a lane has this build, and replies nothing.
 pub record PutsBuild (story : List StoryStep) (x : StoryStep) (lane : ℕ) (build : Build) : Type 0 where
@@ -113,17 +130,22 @@ pub record PutsBuild (story : List StoryStep) (x : StoryStep) (lane : ℕ) (buil
   pub done : (after (state_of story) x).done ≡ (state_of story).done
   pub said : (l : ℕ) → replies_after (state_of story) x (replies_of story) l ≡ replies_of story l
   pub kept : BuildInvariant (state_of story) lane build
-  pub room : rows_reserved (state_of story).active + length build.units ≤ row_limit + rows_for (build_of (state_of story).active lane)
+  pub room : rows_reserved (state_of story).active + length build.units
+      ≤ row_limit + rows_for (build_of (state_of story).active lane)
 
-pub preserved_put : (log : Logged) (lanes : List LaneState) (now : ℕ) (x : StoryStep) (base : Base) (ghost_state : DiskState) (lane : ℕ) (build : Build) → CoreInvariant log lanes now → 1 ≤ lane → lane ≤ length lanes
-    → MayTell (state_of log.story) x base → PutsBuild log.story x lane build → CoreInvariant (log_more log x base ghost_state) (put_build lanes lane (Some build)) now
+pub preserved_put : (log : Logged) (lanes : List LaneState) (now : ℕ) (x : StoryStep) (base : Base) (ghost_state : DiskState)
+    (lane : ℕ) (build : Build) → CoreInvariant log lanes now → 1 ≤ lane → lane ≤ length lanes
+    → MayTell (state_of log.story) x base → PutsBuild log.story x lane build
+    → CoreInvariant (log_more log x base ghost_state) (put_build lanes lane (Some build)) now
 preserved_put log lanes now x base ghost_state lane build h low high may puts = record {
   story = story_more log x base ghost_state h.story may;
   phase = subst (λ t. PhaseInvariant t log.phases now) (sym more) (phase_stays s (after s x) log.phases now h.phase puts.same);
-  replies = replies_stay log.story x lanes (put_build lanes lane (Some build)) h.replies (same_where_set lanes lane kept low high refl refl refl) puts.said puts.done puts.same.phase;
+  replies = replies_stay log.story x lanes (put_build lanes lane (Some build)) h.replies
+      (same_where_set lanes lane kept low high refl refl refl) puts.said puts.done puts.same.phase;
   builds = subst (AreBuilds (state_of (log.story ++ x ∷ []))) (sym (builds_set lanes (lane - 1) kept))
       (subst (λ t. AreBuilds t (set (builds_in lanes) (lane - 1) (Some build))) (sym more)
-      (builds_put s (after s x) (builds_in lanes) lane (Some build) h.builds low within puts.same puts.rows (λ other differs. ap (λ d. done_of d other) puts.done) active there
+      (builds_put s (after s x) (builds_in lanes) lane (Some build) h.builds low within puts.same puts.rows
+      (λ other differs. ap (λ d. done_of d other) puts.done) active there
       (omega (arith, puts.room, ap rows_for (slot_of s (builds_in lanes) lane low h.builds.active)))));
 }
   where
@@ -140,7 +162,9 @@ preserved_put log lanes now x base ghost_state lane build h low high may puts = 
     within = omega (arith, high, builds_count lanes)
 
     active : (after s x).active ≡ numbered_slots 1 (set (builds_in lanes) (lane - 1) (Some build))
-    active = puts.active ∙ ap (put nat_cmp lane build) h.builds.active ∙ put_numbered lane 1 (lane - 1) build (builds_in lanes) (omega arith) (omega (arith, within))
+    active = puts.active ∙ ap (put nat_cmp lane build) h.builds.active
+        ∙ put_numbered lane 1 (lane - 1) build (builds_in lanes) (omega arith) (omega (arith, within))
 
     there : (one : Build) → Some build ≡ Some one → BuildInvariant (after s x) lane one
-    there one e = subst (BuildInvariant (after s x) lane) (some_same build one e) (stays s (after s x) lane build puts.same puts.rows (ap (λ d. done_of d lane) puts.done) puts.kept)
+    there one e = subst (BuildInvariant (after s x) lane) (some_same build one e)
+        (stays s (after s x) lane build puts.same puts.rows (ap (λ d. done_of d lane) puts.done) puts.kept)

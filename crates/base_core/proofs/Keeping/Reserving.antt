@@ -1,5 +1,6 @@
 -- The builds in the slots of the lanes, after one slot is set: who is found, and what is reserved.
-use Rattle.std.proofs.Common.{◌≡◌, ◌≢◌, ℕ, zero, suc, ◌+◌, ◌-◌, ◌<◌, ◌≤◌, Option, Some, None, List, [], ◌∷◌, length, set, refl, sym, ◌∙◌, arith}
+use Rattle.std.proofs.Common.{◌≡◌, ◌≢◌, ℕ, zero, suc, ◌+◌, ◌-◌, ◌<◌, ◌≤◌, Option, Some, None, List, [], ◌∷◌, length, set, refl}
+use Rattle.std.proofs.Common.{sym, ◌∙◌, arith}
 use Rattle.build_core.specs.Slots.{numbered_slots, held_in}
 use Rattle.legal_history.specs.Builds.Active.{Build, build_of, rows_reserved}
 use Rattle.build_core.proofs.SlotLaws.{find_numbered, find_below}
@@ -18,11 +19,15 @@ held_other (slot ∷ slots) (suc i) zero a differs = refl
 held_other (slot ∷ slots) (suc i) (suc j) a differs = held_other slots i j a (λ e. differs (omega arith))
 
 -- the build of the lane whose slot was set, and of another lane
-pub found_set : (slots : List (Option Build)) (lane : ℕ) (a : Option Build) → 1 ≤ lane → lane ≤ length slots → build_of (numbered_slots 1 (set slots (lane - 1) a)) lane ≡ a
-found_set slots lane a low high = find_numbered lane 1 (lane - 1) (set slots (lane - 1) a) (omega arith) ∙ held_set slots (lane - 1) a (omega arith)
+pub found_set : (slots : List (Option Build)) (lane : ℕ) (a : Option Build) → 1 ≤ lane → lane ≤ length slots
+    → build_of (numbered_slots 1 (set slots (lane - 1) a)) lane ≡ a
+found_set slots lane a low high = find_numbered lane 1 (lane - 1) (set slots (lane - 1) a) (omega arith)
+    ∙ held_set slots (lane - 1) a (omega arith)
 
-pub found_other : (slots : List (Option Build)) (lane other : ℕ) (a : Option Build) → 1 ≤ lane → other ≢ lane → build_of (numbered_slots 1 (set slots (lane - 1) a)) other ≡ build_of (numbered_slots 1 slots) other
-found_other slots lane zero a low differs = find_below 0 1 (set slots (lane - 1) a) (omega arith) ∙ sym (find_below 0 1 slots (omega arith))
+pub found_other : (slots : List (Option Build)) (lane other : ℕ) (a : Option Build) → 1 ≤ lane → other ≢ lane
+    → build_of (numbered_slots 1 (set slots (lane - 1) a)) other ≡ build_of (numbered_slots 1 slots) other
+found_other slots lane zero a low differs = find_below 0 1 (set slots (lane - 1) a) (omega arith)
+    ∙ sym (find_below 0 1 slots (omega arith))
 found_other slots lane (suc j) a low differs =
     find_numbered (suc j) 1 j (set slots (lane - 1) a) (omega arith)
     ∙ held_other slots (lane - 1) j a (λ e. differs (omega arith))
@@ -34,7 +39,9 @@ rows_for None = 0
 rows_for (Some build) = length build.units
 
 -- what is reserved, with what the slot reserved before, is what was reserved, with what the slot reserves now
-pub reserved_set : (k i : ℕ) (slots : List (Option Build)) (a : Option Build) → i < length slots → rows_reserved (numbered_slots k (set slots i a)) + rows_for (held_in slots i) ≡ rows_reserved (numbered_slots k slots) + rows_for a
+pub reserved_set : (k i : ℕ) (slots : List (Option Build)) (a : Option Build) → i < length slots
+    → rows_reserved (numbered_slots k (set slots i a)) + rows_for (held_in slots i)
+    ≡ rows_reserved (numbered_slots k slots) + rows_for a
 reserved_set k i [] a h = absurd (omega arith)
 reserved_set k zero (None ∷ slots) None h = refl
 reserved_set k zero (None ∷ slots) (Some build) h = omega arith

@@ -1,9 +1,10 @@
 -- What the slots of the lanes say, slot by slot.
-use Rattle.std.proofs.Common.{◌≡◌, ℕ, zero, suc, ◌+◌, ◌-◌, ◌<◌, ◌≤◌, Bool, true, false, cond, Option, Some, None, List, [], ◌∷◌, ◌++◌, length, get_or, refl, ap, ◌∙◌, arith}
+use Rattle.std.proofs.Common.{◌≡◌, ℕ, zero, suc, ◌+◌, ◌-◌, ◌<◌, ◌≤◌, Bool, true, false, cond, Option, Some, None, List, [], ◌∷◌}
+use Rattle.std.proofs.Common.{◌++◌, length, get_or, refl, ap, ◌∙◌, arith}
 use Rattle.std.specs.Prelude.{option_map, find, bytes_eq}
 use Rattle.cc_names.specs.declared.rows.Tag.{Tag}
 use Rattle.build_core.specs.Slots.{numbered_slots, held_in}
-use Rattle.legal_history.specs.Builds.Active.{Build, build_of, building, is_of_view, tag_of, rows_reserved}
+use Rattle.legal_history.specs.Builds.Active.{Build, build_of, building, is_of_view, build_tag, rows_reserved}
 use Rattle.build_core.proofs.SlotLaws.{find_below, find_numbered}
 
 -- the rows that the builds in some slots reserve
@@ -23,7 +24,8 @@ tag_in [] v = None
 tag_in (None ∷ slots) v = tag_in slots v
 tag_in (Some build ∷ slots) v = cond (bytes_eq build.view v) (Some build.tag) (tag_in slots v)
 
-tag_of_found : (b : Bool) (k : ℕ) (build : Build) (found : Option (ℕ × Build)) → option_map tag_of (cond b (Some (k, build)) found) ≡ cond b (Some build.tag) (option_map tag_of found)
+tag_of_found : (b : Bool) (k : ℕ) (build : Build) (found : Option (ℕ × Build))
+    → option_map build_tag (cond b (Some (k, build)) found) ≡ cond b (Some build.tag) (option_map build_tag found)
 tag_of_found true k build found = refl
 tag_of_found false k build found = refl
 
@@ -35,13 +37,15 @@ building_tag k (Some build ∷ slots) v =
     ∙ ap (cond (bytes_eq build.view v) (Some build.tag)) (building_tag (k + 1) slots v)
 
 -- one more slot that holds nothing has no number
-pub numbered_slots-none : {A : Type 0} (k : ℕ) (slots : List (Option A)) → numbered_slots k (slots ++ None ∷ []) ≡ numbered_slots k slots
+pub numbered_slots-none : {A : Type 0} (k : ℕ) (slots : List (Option A))
+    → numbered_slots k (slots ++ None ∷ []) ≡ numbered_slots k slots
 numbered_slots-none k [] = refl
 numbered_slots-none k (None ∷ slots) = numbered_slots-none (k + 1) slots
 numbered_slots-none k (Some a ∷ slots) = ap (λ rest. (k, a) ∷ rest) (numbered_slots-none (k + 1) slots)
 
 -- what a slot holds
-pub held_there : {A : Type 0} (slots : List (Option A)) (i : ℕ) (d : Option A) → i < length slots → held_in slots i ≡ get_or slots i d
+pub held_there : {A : Type 0} (slots : List (Option A)) (i : ℕ) (d : Option A) → i < length slots
+    → held_in slots i ≡ get_or slots i d
 held_there [] i d h = absurd (omega arith)
 held_there (slot ∷ slots) zero d h = refl
 held_there (slot ∷ slots) (suc i) d h = held_there slots i d (omega arith)
@@ -52,8 +56,10 @@ held_past (slot ∷ slots) zero h = absurd (omega arith)
 held_past (slot ∷ slots) (suc i) h = held_past slots i (omega arith)
 
 -- the build of a lane
-pub build_there : (slots : List (Option Build)) (lane : ℕ) (d : Option Build) → 1 ≤ lane → lane ≤ length slots → build_of (numbered_slots 1 slots) lane ≡ get_or slots (lane - 1) d
-build_there slots lane d low high = find_numbered lane 1 (lane - 1) slots (omega arith) ∙ held_there slots (lane - 1) d (omega arith)
+pub build_there : (slots : List (Option Build)) (lane : ℕ) (d : Option Build) → 1 ≤ lane → lane ≤ length slots
+    → build_of (numbered_slots 1 slots) lane ≡ get_or slots (lane - 1) d
+build_there slots lane d low high = find_numbered lane 1 (lane - 1) slots (omega arith)
+    ∙ held_there slots (lane - 1) d (omega arith)
 
 pub build_nowhere : (slots : List (Option Build)) (lane : ℕ) → length slots < lane → build_of (numbered_slots 1 slots) lane ≡ None
 build_nowhere slots lane h = find_numbered lane 1 (lane - 1) slots (omega arith) ∙ held_past slots (lane - 1) (omega arith)
@@ -71,5 +77,7 @@ rows_none [] h = refl
 rows_none (slot ∷ slots) h = absurd (omega arith)
 
 -- the first slot's build is in the view
-pub tag_first : (slots more : List (Option Build)) (slot : Option Build) (build : Build) (v : List ℕ) → slots ≡ slot ∷ more → slot ≡ Some build → bytes_eq build.view v ≡ true → tag_in slots v ≡ Some build.tag
-tag_first slots more slot build v e is same = ap (λ xs. tag_in xs v) e ∙ ap (λ s. tag_in (s ∷ more) v) is ∙ ap (λ b. cond b (Some build.tag) (tag_in more v)) same
+pub tag_first : (slots more : List (Option Build)) (slot : Option Build) (build : Build) (v : List ℕ) → slots ≡ slot ∷ more
+    → slot ≡ Some build → bytes_eq build.view v ≡ true → tag_in slots v ≡ Some build.tag
+tag_first slots more slot build v e is same = ap (λ xs. tag_in xs v) e ∙ ap (λ s. tag_in (s ∷ more) v) is
+    ∙ ap (λ b. cond b (Some build.tag) (tag_in more v)) same

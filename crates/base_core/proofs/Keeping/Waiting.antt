@@ -1,5 +1,6 @@
 -- A lane's next command, by what is kept for it.
-use Rattle.std.proofs.Common.{◌≡◌, Bor, ℕ, zero, suc, ◌-◌, ◌<◌, ◌≤◌, inl, inr, Option, Some, None, IfSome, List, [], ◌∷◌, drop, length, get_or, refl, ap, sym, subst, ◌∙◌, arith}
+use Rattle.std.proofs.Common.{◌≡◌, Bor, ℕ, zero, suc, ◌-◌, ◌<◌, ◌≤◌, inl, inr, Option, Some, None, IfSome, List, [], ◌∷◌, drop}
+use Rattle.std.proofs.Common.{length, get_or, refl, ap, sym, subst, ◌∙◌, arith}
 use Rattle.std.specs.Prelude.{option_and_then, is_some, IsSome, nat_lt, slice_get}
 use Rattle.std.specs.Option.{option_copied}
 use Rattle.std.proofs.lemmas.Bool.Decides.{nat_tests}
@@ -15,18 +16,19 @@ use Rattle.session_text.specs.declared.lanes.Ahead.{Ahead}
 use Rattle.session_text.specs.declared.lanes.Ahead.TheVariants as aheads
 use Rattle.session_text.specs.Ahead.{ahead_of}
 use Rattle.session_text.specs.Formed.{IsCommand, IsPhase}
-use Rattle.legal_history.specs.Stories.Commanded.{command_of}
+use Rattle.legal_history.specs.Stories.Commanded.{next_command_of}
 use Rattle.legal_history.specs.Stories.States.{State, done_of, command_behind, next_tag}
 use Rattle.legal_history.specs.Stories.Steps.{state_of}
 use Rattle.base_core.specs.Keeping.CoreInvariants.{command_limit, CoreInvariant}
 use Rattle.base_core.specs.Keeping.Lanes.{LaneState, no_lane, next_of_lane_state, next_in}
-use Rattle.clearmake.specs.Nexts.{next_by, next_of}
+use Rattle.clearmake.specs.Nexts.{next_by, next_of_lane}
 use Rattle.story_log.specs.Logging.Logs.{Logged}
 use Rattle.base_core.proofs.Acting.Commanded.{next_is_formed}
 use Rattle.base_core.proofs.Keeping.Idle.{not_both}
 
 -- what a look-up in a slice gives
-pub looked_up : {X : Type 0} (xs : List X) (i : ℕ) (found : Option (Bor X)) → is_some found ≡ nat_lt i (length xs) → IfSome found (λ x. x.now ≡ get_or xs i x.now) → option_copied found ≡ slice_get xs i
+pub looked_up : {X : Type 0} (xs : List X) (i : ℕ) (found : Option (Bor X)) → is_some found ≡ nat_lt i (length xs)
+    → IfSome found (λ x. x.now ≡ get_or xs i x.now) → option_copied found ≡ slice_get xs i
 looked_up xs i None there known =
     let past : length xs ≤ i = grind (arith, nat_tests) in
     sym (slice_get_past xs i past)
@@ -42,7 +44,8 @@ first_left (suc n) [] = refl
 first_left (suc n) (x ∷ xs) = first_left n xs
 
 -- a lane's next command by the commands that are kept is that by the story
-pub next_preserved : (log : Logged) (lanes : List LaneState) (now lane : ℕ) → CoreInvariant log lanes now → next_in lanes lane ≡ command_of (state_of log.story) lane
+pub next_preserved : (log : Logged) (lanes : List LaneState) (now lane : ℕ) → CoreInvariant log lanes now
+    → next_in lanes lane ≡ next_command_of (state_of log.story) lane
 next_preserved log lanes now zero h = refl
 next_preserved log lanes now (suc n) h = by (slice_get s.phase.lanes n) refl
   where
@@ -52,19 +55,25 @@ next_preserved log lanes now (suc n) h = by (slice_get s.phase.lanes n) refl
     here : suc n - 1 ≡ n
     here = omega arith
 
-    by : (found : Option Lane) → slice_get s.phase.lanes n ≡ found → next_in lanes (suc n) ≡ option_and_then (command_behind (done_of s.done (suc n))) found
+    by : (found : Option Lane) → slice_get s.phase.lanes n ≡ found → next_in lanes (suc n)
+        ≡ option_and_then (command_behind (done_of s.done (suc n))) found
     by None is = elim (slice_get_cases s.phase.lanes n).1 [
       | inl there ↦ absurd (not_both (slice_get s.phase.lanes n) there.0 is there.2)
       | inr past ↦ ap (option_and_then next_of_lane_state) (slice_get_past lanes n (omega (arith, past.0, h.replies.count)))
     ]
     by (Some one) is =
         let within = slice_get_within s.phase.lanes n one is in
-        let there : slice_get lanes n ≡ Some (get_or lanes n no_lane) = slice_get-get_or lanes n no_lane (omega (arith, within, h.replies.count)) in
-        let left : (get_or lanes n no_lane).commands ≡ drop (done_of s.done (suc n)) one.commands = ap (λ i. (get_or lanes i no_lane).commands) (sym here) ∙ h.replies.left (suc n) one is in
-        ap (option_and_then next_of_lane_state) there ∙ ap (λ (v : List Command). slice_get v 0) left ∙ first_left (done_of s.done (suc n)) one.commands
+        let there : slice_get lanes n ≡ Some (get_or lanes n no_lane) =
+        slice_get-get_or lanes n no_lane (omega (arith, within, h.replies.count)) in
+        let left : (get_or lanes n no_lane).commands ≡ drop (done_of s.done (suc n)) one.commands =
+        ap (λ i. (get_or lanes i no_lane).commands) (sym here) ∙ h.replies.left (suc n) one is in
+        ap (option_and_then next_of_lane_state) there ∙ ap (λ (v : List Command). slice_get v 0) left
+        ∙ first_left (done_of s.done (suc n)) one.commands
 
-pub waits_preserved : (log : Logged) (lanes : List LaneState) (now lane : ℕ) (story : List StoryStep) → log.story ≡ story → CoreInvariant log lanes now → command_of (state_of story) lane ≡ next_in lanes lane
-waits_preserved log lanes now lane story same h = ap (λ t. command_of (state_of t) lane) (sym same) ∙ sym (next_preserved log lanes now lane h)
+pub waits_preserved : (log : Logged) (lanes : List LaneState) (now lane : ℕ) (story : List StoryStep) → log.story ≡ story
+    → CoreInvariant log lanes now → next_command_of (state_of story) lane ≡ next_in lanes lane
+waits_preserved log lanes now lane story same h = ap (λ t. next_command_of (state_of t) lane) (sym same)
+    ∙ sym (next_preserved log lanes now lane h)
 
 -- what a lane has to do by what its next command asks for
 abbrev pub next_ahead : Ahead → Tag → Next
@@ -77,10 +86,12 @@ by_ahead None tag = refl
 by_ahead (Some (commands.Build asked)) tag = refl
 by_ahead (Some command) tag = refl
 
-pub next_so : (log : Logged) (lanes : List LaneState) (now lane : ℕ) (story : List StoryStep) (ahead : Ahead) → log.story ≡ story → CoreInvariant log lanes now → ahead ≡ ahead_of (next_in lanes lane) → next_of (state_of story) lane ≡ next_ahead ahead (next_tag (state_of story) lane)
+pub next_so : (log : Logged) (lanes : List LaneState) (now lane : ℕ) (story : List StoryStep) (ahead : Ahead) → log.story ≡ story
+    → CoreInvariant log lanes now → ahead ≡ ahead_of (next_in lanes lane)
+    → next_of_lane (state_of story) lane ≡ next_ahead ahead (next_tag (state_of story) lane)
 next_so log lanes now lane story ahead same h is =
     let tag : Tag = next_tag (state_of story) lane in
-    by_ahead (command_of (state_of story) lane) tag
+    by_ahead (next_command_of (state_of story) lane) tag
     ∙ ap (λ found. next_ahead (ahead_of found) tag) (waits_preserved log lanes now lane story same h)
     ∙ ap (λ a. next_ahead a tag) (sym is)
 
@@ -89,10 +100,14 @@ some_builds None e = cc
 some_builds (Some command) e = refl
 
 -- a lane whose next command builds waits with it
-pub waits_to_build : (log : Logged) (lanes : List LaneState) (now lane : ℕ) (story : List StoryStep) → log.story ≡ story → CoreInvariant log lanes now → ahead_of (next_in lanes lane) ≡ aheads.Build → IsSome (command_of (state_of story) lane)
-waits_to_build log lanes now lane story same h is = subst IsSome (sym (waits_preserved log lanes now lane story same h)) (some_builds (next_in lanes lane) is)
+pub waits_to_build : (log : Logged) (lanes : List LaneState) (now lane : ℕ) (story : List StoryStep) → log.story ≡ story
+    → CoreInvariant log lanes now → ahead_of (next_in lanes lane) ≡ aheads.Build → IsSome (next_command_of (state_of story) lane)
+waits_to_build log lanes now lane story same h is = subst IsSome (sym (waits_preserved log lanes now lane story same h))
+    (some_builds (next_in lanes lane) is)
 
 -- the command that is kept as the next one has its form
-pub preserved_is_formed : (log : Logged) (lanes : List LaneState) (now lane : ℕ) (command : Command) → CoreInvariant log lanes now → Some command ≡ next_in lanes lane → IsCommand command_limit command
+pub preserved_is_formed : (log : Logged) (lanes : List LaneState) (now lane : ℕ) (command : Command) → CoreInvariant log lanes now
+    → Some command ≡ next_in lanes lane → IsCommand command_limit command
 preserved_is_formed log lanes now lane command h e =
-    next_is_formed (state_of log.story).phase lane (done_of (state_of log.story).done lane) command (subst (IsPhase command_limit) (sym h.phase.phase) h.phase.formed) (sym (e ∙ next_preserved log lanes now lane h))
+    next_is_formed (state_of log.story).phase lane (done_of (state_of log.story).done lane) command
+    (subst (IsPhase command_limit) (sym h.phase.phase) h.phase.formed) (sym (e ∙ next_preserved log lanes now lane h))

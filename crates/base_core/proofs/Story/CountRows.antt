@@ -23,21 +23,41 @@ commit_early : (row : Plain) → CountsStep (story_steps.Commit row 10) (counted
 commit_early row h = absurd (omega (arith, h.0))
 
 -- a fault at the third call of a commit
-fault_row : (tag : Tag) (left : Option Plain) → CountsStep (story_steps.Other (steps.Fault tag left 2 3 10)) (counted 7 2) (counted 10 3)
+fault_row : (tag : Tag) (left : Option Plain) → CountsStep (story_steps.Other (steps.Fault tag left 2 3 10)) (counted 7 2)
+    (counted 10 3)
 fault_row tag left = (refl, refl, refl, refl, refl, fit 10 3 (omega arith) (omega arith), tt)
 
--- a fault is of one call: one that takes in the failed call of the command behind it is refused
-fault_of_two : (tag : Tag) (left : Option Plain) → CountsStep (story_steps.Other (steps.Fault tag left 2 4 10)) (counted 7 2) (counted 10 4) → ⊥
+-- a fault is of one call: one that adds the failed call of the command behind it is refused
+fault_of_two : (tag : Tag) (left : Option Plain) → CountsStep (story_steps.Other (steps.Fault tag left 2 4 10)) (counted 7 2)
+    (counted 10 4) → ⊥
 fault_of_two tag left h = absurd (omega (arith, h.2))
 
 -- a count that stands at its last number is there before and after
-fault_last : (tag : Tag) → CountsStep (story_steps.Other (steps.Fault tag None 18446744073709551615 18446744073709551615 10)) (counted 7 18446744073709551615) (counted 10 18446744073709551615)
+fault_last : (tag : Tag) → CountsStep (story_steps.Other (steps.Fault tag None 18446744073709551615 18446744073709551615 10))
+    (counted 7 18446744073709551615) (counted 10 18446744073709551615)
 fault_last tag = (refl, refl, refl, refl, refl, fit 10 18446744073709551615 (omega arith) (omega arith), tt)
 
 -- a refusal, a commit and a fault, one after the other
-three_rows : (tag : Tag) (refusal : Refusal) (row : Plain) → CountsSteps (story_steps.Other (steps.Refused tag refusal) ∷ story_steps.Commit row 11 ∷ story_steps.Other (steps.Fault tag None 2 3 12) ∷ []) (counted 7 2) (counted 12 3)
-three_rows tag refusal row = (counted 7 2, refl, (counted 11 2, (refl, omega arith, refl, fit 11 2 (omega arith) (omega arith), tt, tt), (counted 12 3, (refl, refl, refl, refl, refl, fit 12 3 (omega arith) (omega arith), tt), refl)))
+three_rows : (tag : Tag) (refusal : Refusal) (row : Plain) → CountsSteps (story_steps.Other (steps.Refused tag refusal)
+    ∷ story_steps.Commit row 11 ∷ story_steps.Other (steps.Fault tag None 2 3 12) ∷ []) (counted 7 2) (counted 12 3)
+three_rows tag refusal row = (
+  counted 7 2,
+  refl,
+  (
+    counted 11 2,
+    (
+      refl,
+      omega arith,
+      refl,
+      fit 11 2 (omega arith) (omega arith),
+      tt,
+      tt,
+    ),
+    (counted 12 3, (refl, refl, refl, refl, refl, fit 12 3 (omega arith) (omega arith), tt), refl),
+  ),
+)
 
 -- no call is made under a refusal
-refusal_idle : (tag : Tag) (refusal : Refusal) → CountsStep (story_steps.Other (steps.Refused tag refusal)) (counted 7 2) (counted 8 2) → ⊥
+refusal_idle : (tag : Tag) (refusal : Refusal) → CountsStep (story_steps.Other (steps.Refused tag refusal)) (counted 7 2)
+    (counted 8 2) → ⊥
 refusal_idle tag refusal h = let e : 8 ≡ 7 = ap (λ s. s.ticks) h in absurd (omega (arith, e))

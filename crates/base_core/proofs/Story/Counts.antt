@@ -8,7 +8,8 @@ use Rattle.story_log.specs.Logging.Logs.{Logged}
 use Rattle.base_core.specs.Story.Shown.{Shown}
 
 -- steps, and then more steps
-counts_further : (xs ys : List StoryStep) (old mid new : DiskState) → CountsSteps xs old mid → CountsSteps ys mid new → CountsSteps (xs ++ ys) old new
+counts_further : (xs ys : List StoryStep) (old mid new : DiskState) → CountsSteps xs old mid → CountsSteps ys mid new
+    → CountsSteps (xs ++ ys) old new
 counts_further [] ys old mid new h g = subst (λ s. CountsSteps ys s new) h g
 counts_further (x ∷ xs) ys old mid new h g = (h.0, h.1, counts_further xs ys h.0 mid new h.2 g)
 

@@ -27,7 +27,8 @@ use Rattle.legal_history.specs.Stories.States.{all_done}
 use Rattle.legal_history.specs.Stories.Steps.{state_of}
 use Rattle.legal_history.specs.Queries.VersionNames.{line}
 use Rattle.legal_history.specs.Worked.{tag, row, base_of}
-use Rattle.legal_history.proofs.Worked.TwoViews.{v, w, hi, script, first_commands, first_deeds, all_deeds, two_views, clearmake, publish}
+use Rattle.legal_history.proofs.Worked.TwoViews.{v, w, hi, script, first_commands, first_deeds, all_deeds, two_views, clearmake}
+use Rattle.legal_history.proofs.Worked.TwoViews.{publish}
 use Rattle.base_core.specs.Story.Replying.{reply_to_row, reply_to_answer, replies_of}
 
 -- the replies to the rows of a base, newest first; a row of a build has none
@@ -60,13 +61,15 @@ bar = line (codes "bar")
 -- two views, elements that are made and brought in, a publish and a wink
 two_views_are_replied :
     reverse (newest_first two_views)
-    ≡ ok ∷ ok_version (codes "/main/0") ∷ ok ∷ ok ∷ ok_version (codes "/main/1") ∷ ok ∷ ok ∷ ok_version (codes "/main/1") ∷ ok_version (codes "/main/1")
+    ≡ ok ∷ ok_version (codes "/main/0") ∷ ok ∷ ok ∷ ok_version (codes "/main/1") ∷ ok ∷ ok ∷ ok_version (codes "/main/1")
+    ∷ ok_version (codes "/main/1")
     ∷ None ∷ ok ∷ None ∷ []
 unfolding digits
 two_views_are_replied = refl
 
 -- an object that is dropped twice and scrubbed, and one more; the scrub before found nothing
-a_scrub_counts : replies_behind (deeds.Drop w (codes "out") ∷ deeds.Drop v (codes "out") ∷ deeds.Scrub (10 ∷ []) ∷ []) ≡ ok ∷ ok ∷ ok_count 1 ∷ []
+a_scrub_counts : replies_behind (deeds.Drop w (codes "out") ∷ deeds.Drop v (codes "out") ∷ deeds.Scrub (10 ∷ []) ∷ []) ≡ ok ∷ ok
+    ∷ ok_count 1 ∷ []
 a_scrub_counts = refl
 
 nothing_is_counted : reply_to_answer (Some (commands.Change (changes.Scrub 0))) [] ≡ replies.Count 0
@@ -76,7 +79,8 @@ nothing_is_counted = refl
 checkouts_name_their_versions :
     replies_behind (deeds.Checkout v 6 8 false ∷ deeds.Checkout w 6 8 true ∷ deeds.Save v 6 foo ∷ deeds.Save w 6 bar
     ∷ deeds.Checkin w 6 ∷ deeds.Uncheckout v 6 ∷ deeds.Checkout v 6 17 true ∷ [])
-    ≡ ok_version (codes "/main/1") ∷ ok_version (codes "/main/1") ∷ ok ∷ ok ∷ ok_version (codes "/main/2") ∷ ok ∷ ok_version (codes "/main/2") ∷ []
+    ≡ ok_version (codes "/main/1") ∷ ok_version (codes "/main/1") ∷ ok ∷ ok ∷ ok_version (codes "/main/2") ∷ ok
+    ∷ ok_version (codes "/main/2") ∷ []
 unfolding digits
 checkouts_name_their_versions = refl
 
@@ -87,16 +91,19 @@ a_checkout_names_its_version = refl
 
 -- a second version, and a view that selects by time
 a_second_version_is_named :
-    reverse (newest_first (base_of (deeds.Mkview v ∷ deeds.Checkout v 0 0 true ∷ deeds.Mkelem v 0 a_file File true ∷ deeds.Save v 3 foo ∷ deeds.Checkin v 3
+    reverse (newest_first (base_of (deeds.Mkview v ∷ deeds.Checkout v 0 0 true ∷ deeds.Mkelem v 0 a_file File true
+    ∷ deeds.Save v 3 foo ∷ deeds.Checkin v 3
     ∷ deeds.Checkin v 0 ∷ deeds.Checkout v 3 5 true ∷ deeds.Save v 3 bar ∷ deeds.Checkin v 3 ∷ deeds.Mkview w
     ∷ deeds.Setcs w (line (codes "element in /main/LATEST -time 14-Nov-2023.22:13:21")) ∷ [])))
-    ≡ ok ∷ ok_version (codes "/main/0") ∷ ok ∷ ok ∷ ok_version (codes "/main/1") ∷ ok_version (codes "/main/1") ∷ ok_version (codes "/main/1") ∷ ok
+    ≡ ok ∷ ok_version (codes "/main/0") ∷ ok ∷ ok ∷ ok_version (codes "/main/1") ∷ ok_version (codes "/main/1")
+    ∷ ok_version (codes "/main/1") ∷ ok
     ∷ ok_version (codes "/main/2") ∷ ok ∷ ok ∷ []
 unfolding digits
 a_second_version_is_named = refl
 
 -- a view that selects by a record
-a_spec_is_well : replies_behind (deeds.Mkview (codes "x") ∷ deeds.Setcs (codes "x") (line (codes "element in -config out@@10")) ∷ []) ≡ ok ∷ ok ∷ []
+a_spec_is_well : replies_behind (deeds.Mkview (codes "x") ∷ deeds.Setcs (codes "x") (line (codes "element in -config out@@10"))
+    ∷ []) ≡ ok ∷ ok ∷ []
 a_spec_is_well = refl
 
 -- a config spec whose third rule makes a branch
@@ -106,7 +113,8 @@ branching =
     ++ line (codes "element in /main/LATEST -mkbranch fix") ++ line (codes "element * /main/LATEST -nocheckout")
 
 a_branch_is_named :
-    replies_behind (deeds.Mktype type_kinds.Branch (codes "fix") ∷ deeds.Setcs w branching ∷ deeds.Branch w 6 8 (codes "fix") outs.Reserved
+    replies_behind (deeds.Mktype type_kinds.Branch (codes "fix") ∷ deeds.Setcs w branching
+    ∷ deeds.Branch w 6 8 (codes "fix") outs.Reserved
     ∷ deeds.Save w 6 foo ∷ deeds.Checkin w 6 ∷ deeds.Checkout w 6 17 true ∷ [])
     ≡ ok ∷ ok ∷ ok_version (codes "/main/fix/0") ∷ ok ∷ ok_version (codes "/main/fix/1") ∷ ok_version (codes "/main/fix/1") ∷ []
 unfolding digits
@@ -114,7 +122,8 @@ a_branch_is_named = refl
 
 -- `mkbranch`, and an arrow from what was made there
 an_arrow_is_well :
-    replies_behind (deeds.Mktype type_kinds.Branch (codes "fix") ∷ deeds.Branch v 6 8 (codes "fix") outs.Reserved ∷ deeds.Save v 6 foo
+    replies_behind (deeds.Mktype type_kinds.Branch (codes "fix") ∷ deeds.Branch v 6 8 (codes "fix") outs.Reserved
+    ∷ deeds.Save v 6 foo
     ∷ deeds.Checkin v 6 ∷ deeds.Arrow 6 16 8 ∷ [])
     ≡ ok ∷ ok_version (codes "/main/fix/0") ∷ ok ∷ ok_version (codes "/main/fix/1") ∷ ok ∷ []
 unfolding digits
@@ -125,17 +134,21 @@ a_label_is_well = refl
 
 -- a record is labelled, its source gets a newer version, and a third view takes its object in
 a_record_counts :
-    replies_behind (deeds.Mktype type_kinds.Label (codes "REL") ∷ deeds.Labels (codes "REL") (record { element = 6; version = 8 } ∷ [])
-    ∷ deeds.Checkout v 6 8 true ∷ deeds.Save v 6 foo ∷ deeds.Checkin v 6 ∷ deeds.Mkview (codes "x") ∷ deeds.Wink (codes "x") 10 ∷ [])
+    replies_behind (deeds.Mktype type_kinds.Label (codes "REL") ∷ deeds.Labels (codes "REL")
+    (record { element = 6; version = 8 } ∷ [])
+    ∷ deeds.Checkout v 6 8 true ∷ deeds.Save v 6 foo ∷ deeds.Checkin v 6 ∷ deeds.Mkview (codes "x") ∷ deeds.Wink (codes "x") 10
+    ∷ [])
     ≡ ok ∷ ok_count 1 ∷ ok_version (codes "/main/1") ∷ ok ∷ ok_version (codes "/main/2") ∷ ok ∷ None ∷ []
 unfolding digits
 a_record_counts = refl
 
 -- a record that lists no version is answered
-no_label_is_counted : reply_to_answer (Some (commands.Change (changes.MklabelConfig v false (codes "out") (codes "REL")))) [] ≡ replies.Count 0
+no_label_is_counted : reply_to_answer (Some (commands.Change (changes.MklabelConfig v false (codes "out") (codes "REL")))) []
+    ≡ replies.Count 0
 no_label_is_counted = refl
 
-a_question_is_answered : reply_to_answer (Some (commands.Query (queries.Covers v w (codes "out")))) (line (codes "covered")) ≡ replies.Answer (line (codes "covered"))
+a_question_is_answered : reply_to_answer (Some (commands.Query (queries.Covers v w (codes "out")))) (line (codes "covered"))
+    ≡ replies.Answer (line (codes "covered"))
 a_question_is_answered = refl
 
 -- One lane's story: elements are made, one view builds, and the other takes the object in. As long as builds reuse no object, no
@@ -200,7 +213,9 @@ no_other_lane_is_replied = refl
 
 -- both views drop the object, one scrub finds nothing and one takes it, a view builds again, and a question
 abbrev scrubbing : List Command
-scrubbing = commands.Change (changes.Rmdo w (codes "out")) ∷ commands.Change (changes.Scrub 0) ∷ commands.Change (changes.Rmdo v (codes "out")) ∷ commands.Change (changes.Scrub 0) ∷ clearmake w ∷ commands.Query (queries.Lsdo v) ∷ []
+scrubbing = commands.Change (changes.Rmdo w (codes "out")) ∷ commands.Change (changes.Scrub 0)
+    ∷ commands.Change (changes.Rmdo v (codes "out")) ∷ commands.Change (changes.Scrub 0) ∷ clearmake w
+    ∷ commands.Query (queries.Lsdo v) ∷ []
 
 abbrev scrub_story : List StoryStep
 scrub_story =
@@ -211,7 +226,8 @@ scrub_story =
     ∷ story_steps.Commit (row 16 (deeds.Scrub (10 ∷ []))) 63
     ∷ story_steps.Other (steps.Begin (tag 1 1 17) 16 1)
     ∷ story_steps.Other (steps.Start (tag 1 1 17) 0)
-    ∷ story_steps.Commit (row 17 (deeds.Publish w (codes "out" ∷ []) script (record { path = a_file; row = 8 } ∷ []) (hi ∷ []))) 67
+    ∷ story_steps.Commit (row 17 (deeds.Publish w (codes "out" ∷ []) script (record { path = a_file; row = 8 } ∷ []) (hi ∷ [])))
+    67
     ∷ story_steps.Other (steps.End (tag 1 1 17))
     ∷ story_steps.Other (steps.Answer (tag 1 1 18) [])
     ∷ [])

@@ -26,10 +26,14 @@ use Rattle.base_core.specs.Story.Replying.{replied_count, reply_to_row, reply_to
 -- A step by which a command of this tag is finished, by its kind: the row that was decided, committed at the moment of the
 -- phase; the refusal or the answer that was decided; or the fault of the disk under the row that was decided.
 abbrev pub IsStepOf : State → Tag → Done → StoryStep → Type 0
-IsStepOf s tag Committed (story_steps.Commit row tick) = (row.tag ≡ tag) × (row.moment ≡ s.moment) × (decision_for s tag ≡ Some (Ok (Makes row.deed)))
-IsStepOf s tag Refused (story_steps.Other (steps.Refused finished refusal)) = (finished ≡ tag) × (decision_for s tag ≡ Some (Err refusal))
-IsStepOf s tag Answered (story_steps.Other (steps.Answer finished text)) = (finished ≡ tag) × (decision_for s tag ≡ Some (Ok (Answers text)))
-IsStepOf s tag Faulted (story_steps.Other (steps.Fault finished left before faults tick)) = (finished ≡ tag) × (deed : Deed) × (decision_for s tag ≡ Some (Ok (Makes deed)))
+IsStepOf s tag Committed (story_steps.Commit row tick) = (row.tag ≡ tag) × (row.moment ≡ s.moment)
+    × (decision_for s tag ≡ Some (Ok (Makes row.deed)))
+IsStepOf s tag Refused (story_steps.Other (steps.Refused finished refusal)) = (finished ≡ tag)
+    × (decision_for s tag ≡ Some (Err refusal))
+IsStepOf s tag Answered (story_steps.Other (steps.Answer finished text)) = (finished ≡ tag)
+    × (decision_for s tag ≡ Some (Ok (Answers text)))
+IsStepOf s tag Faulted (story_steps.Other (steps.Fault finished left before faults tick)) = (finished ≡ tag) × (deed : Deed)
+    × (decision_for s tag ≡ Some (Ok (Makes deed)))
 IsStepOf s tag done step = ⊥
 
 -- A lane's next command was carried out: the story has one step more, which finishes the command.

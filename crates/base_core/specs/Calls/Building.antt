@@ -12,12 +12,12 @@ use Rattle.base_model.specs.Fits.{row_limit}
 use Rattle.legal_history.specs.Stories.States.{State, decision_for, next_tag}
 use Rattle.legal_history.specs.Stories.Steps.{build_begun_by}
 use Rattle.base_core.specs.Calls.Acting.{IsNextTag, RefusalWas}
-use Rattle.clearmake.specs.Nexts.{next_of}
+use Rattle.clearmake.specs.Nexts.{next_of_lane}
 
 -- The active build of a lane: it is that of the lane's next command, and the disk has not failed under it.
 pub record BuildInvariant (s : State) (lane : ℕ) (build : Build) : Type 0 where
   pub tag : build.tag ≡ next_tag s lane
-  pub waits : next_of s lane ≡ nexts.Build (next_tag s lane)
+  pub waits : next_of_lane s lane ≡ nexts.Build (next_tag s lane)
   pub from : 1 ≤ build.rows
   pub rows : build.rows ≤ size s.base
   pub formed : IsBuildFormed build

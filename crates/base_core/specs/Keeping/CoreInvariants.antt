@@ -51,7 +51,8 @@ pub record AreReplies (story : List StoryStep) (lanes : List LaneState) : Type 0
   pub replies : (lane : ℕ) → 1 ≤ lane → lane ≤ length lanes → replies_at lanes lane ≡ replies_of story lane
   pub done : (lane : ℕ) → done_of (state_of story).done lane ≡ length (replies_of story lane)
   pub room : (lane : ℕ) (one : Lane) → lane_at (state_of story).phase lane ≡ Some one → length one.commands ≤ room_at lanes lane
-  pub left : (lane : ℕ) (one : Lane) → lane_at (state_of story).phase lane ≡ Some one → commands_at lanes lane ≡ drop (done_of (state_of story).done lane) one.commands
+  pub left : (lane : ℕ) (one : Lane) → lane_at (state_of story).phase lane ≡ Some one
+      → commands_at lanes lane ≡ drop (done_of (state_of story).done lane) one.commands
 
 -- the active builds are those that are kept for the lanes, and there is room for their rows
 pub record AreBuilds (s : State) (builds : List (Option Build)) : Type 0 where

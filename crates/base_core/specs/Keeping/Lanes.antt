@@ -1,5 +1,6 @@
 -- What is kept for the lanes of a phase, which are counted from 1.
-use Rattle.std.specs.Prelude.{ℕ, zero, suc, ◌-◌, Option, None, List, [], ◌∷◌, ◌++◌, drop, length, map, option_and_then, set, slice_get, slice_index_or}
+use Rattle.std.specs.Prelude.{ℕ, zero, suc, ◌-◌, Option, None, List, [], ◌∷◌, ◌++◌, drop, length, map, option_and_then, set}
+use Rattle.std.specs.Prelude.{slice_get, slice_index_or}
 use Rattle.cc_names.specs.declared.commands.Command.{Command}
 use Rattle.cc_names.specs.declared.commands.Lane.{Lane}
 use Rattle.cc_names.specs.declared.replies.Reply.{Reply}
@@ -61,7 +62,11 @@ put_build lanes lane build = set lanes (lane - 1) (record (lane_state lanes lane
 abbrev pub with_closed : List LaneState → ℕ → Reply → List LaneState
 with_closed lanes lane reply =
     set lanes (lane - 1)
-    (record (lane_state lanes lane) { commands = drop 1 (commands_at lanes lane); replies = replies_at lanes lane ++ reply ∷ []; build = None })
+    (record (lane_state lanes lane) {
+      commands = drop 1 (commands_at lanes lane);
+      replies = replies_at lanes lane ++ reply ∷ [];
+      build = None;
+    })
 
 -- a lane as a phase begins, with room for a reply to each command; and all lanes of the phase
 abbrev pub begun_lane : Lane → LaneState

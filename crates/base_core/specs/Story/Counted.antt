@@ -12,9 +12,10 @@ use Rattle.base_core.specs.Story.Shown.{Shown}
 
 -- What a step says of the disk as the call that added it began and ended. A commit's tick is where the disk's ticks stand at
 -- its end; calls were made, and no fault was counted. A fault has the count of faults before and after, which is the next, so
--- that it is the fault of one call alone, and the ticks at its end, which rose. Where the disk tells its device, the calls of
+-- that it is the fault of one call alone, and the ticks at its end, which rose. Where the disk models its device, the calls of
 -- either are added to those that were made before, none of them reads, the file of objects is as it was, and the counts fit the
--- calls; those of a commit are just the ones that commit its row behind a tail. At any other step no call was made, and the disk is as it was.
+-- calls; those of a commit are just the ones that commit its row behind a tail. At any other step no call was made, and the disk
+-- is as it was.
 abbrev pub CountsStep : StoryStep → DiskState → DiskState → Type 0
 CountsStep (story_steps.Commit row tick) old new =
     (tick ≡ new.ticks) × (old.ticks < tick) × (new.faults ≡ old.faults)

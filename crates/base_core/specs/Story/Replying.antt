@@ -65,8 +65,10 @@ in_lane lane tag (Some reply) = elim (tag.lane == lane) [ true ↦ reply ∷ [] 
 abbrev pub replies_by : State → ℕ → StoryStep → List Reply
 replies_by s lane (story_steps.Commit row tick) = in_lane lane row.tag (reply_to_row (row ∷ s.base) row.deed)
 replies_by s lane (story_steps.Other (steps.Refused tag refusal)) = in_lane lane tag (Some (replies.Refused refusal))
-replies_by s lane (story_steps.Other (steps.Answer tag text)) = in_lane lane tag (Some (reply_to_answer (next_command s tag) text))
-replies_by s lane (story_steps.Other (steps.Fault tag left before faults tick)) = in_lane lane tag (reply_to_fault (build_by s tag))
+replies_by s lane (story_steps.Other (steps.Answer tag text)) = in_lane lane tag
+    (Some (reply_to_answer (next_command s tag) text))
+replies_by s lane (story_steps.Other (steps.Fault tag left before faults tick)) =
+    in_lane lane tag (reply_to_fault (build_by s tag))
 replies_by s lane (story_steps.Other (steps.End tag)) = in_lane lane tag (reply_to_end s.base (build_by s tag))
 replies_by s lane step = []
 

@@ -73,7 +73,7 @@ impl<D: Disk> Core<D> {
     ghost use Rattle.cc_names.specs.declared.occasions.Done.TheVariants as dones;
     ghost use Rattle.cc_names.specs.declared.occasions.Next.TheVariants as nexts;
     ghost use Rattle.cc_names.specs.declared.replies.Reply.TheVariants as replies;
-    ghost use Rattle.legal_history.specs.Stories.Commanded.{command_of};
+    ghost use Rattle.legal_history.specs.Stories.Commanded.{next_command_of};
     ghost use Rattle.legal_history.specs.Stories.States.{next_tag};
     ghost use Rattle.legal_history.specs.Stories.Steps.{state_of};
     ghost use Rattle.base_core.specs.Calls.Acting.{
@@ -85,12 +85,12 @@ impl<D: Disk> Core<D> {
       IsRowToCommit,
     };
     ghost use Rattle.base_core.specs.Story.Counted.{KeepsCount};
-    ghost use Rattle.clearmake.specs.Nexts.{next_of};
+    ghost use Rattle.clearmake.specs.Nexts.{next_of_lane};
 
     /// What is decided of a lane's next command, a change: the row, none where there is nothing to change, or its first refusal.
     fn decide(&self, alloc: Global, lane: u32, change: &Change) -> Result<Option<Row>, Or<Refusal>>
-        requires act { next_of (state_of self.now.story) lane ≡ nexts.Act }
-        requires command { command_of (state_of self.now.story) lane
+        requires act { next_of_lane (state_of self.now.story) lane ≡ nexts.Act }
+        requires command { next_command_of (state_of self.now.story) lane
             ≡ Some (commands.Change change.now) }
         requires formed { IsChange command_limit change.now }
         ensures { DecidesNext (state_of self.now.story) (next_tag (state_of self.now.story) lane)
@@ -102,8 +102,8 @@ impl<D: Disk> Core<D> {
 
     /// What is decided of a lane's next command, a query: its text, or its first refusal.
     fn find_answer(&self, alloc: Global, lane: u32, query: &Query) -> Result<Text, Or<Refusal>>
-        requires act { next_of (state_of self.now.story) lane ≡ nexts.Act }
-        requires command { command_of (state_of self.now.story) lane
+        requires act { next_of_lane (state_of self.now.story) lane ≡ nexts.Act }
+        requires command { next_command_of (state_of self.now.story) lane
             ≡ Some (commands.Query query.now) }
         ensures { AnswersNext (state_of self.now.story) (next_tag (state_of self.now.story) lane)
             result }
@@ -173,8 +173,8 @@ impl<D: Disk> Core<D> {
     /// Carries out a lane's next command, a change: its row is committed, there is nothing to change, the command is refused, or
     /// the disk fails under it. An `Err` changes nothing.
     fn make_row(&mut self, alloc: Global, lane: u32, change: &Change) -> Result<Done, NoMemory>
-        requires act { next_of (state_of self.old.story) lane ≡ nexts.Act }
-        requires command { command_of (state_of self.old.story) lane
+        requires act { next_of_lane (state_of self.old.story) lane ≡ nexts.Act }
+        requires command { next_command_of (state_of self.old.story) lane
             ≡ Some (commands.Change change.now) }
         requires formed { IsChange command_limit change.now }
         ensures ok { IfOk result (λ done. Acts self.old.story self.new.story lane done) }
@@ -198,8 +198,8 @@ impl<D: Disk> Core<D> {
 
     /// Carries out a lane's next command, a query: it is answered, or refused. An `Err` changes nothing.
     fn ask(&mut self, alloc: Global, lane: u32, query: &Query) -> Result<Done, NoMemory>
-        requires act { next_of (state_of self.old.story) lane ≡ nexts.Act }
-        requires command { command_of (state_of self.old.story) lane
+        requires act { next_of_lane (state_of self.old.story) lane ≡ nexts.Act }
+        requires command { next_command_of (state_of self.old.story) lane
             ≡ Some (commands.Query query.now) }
         ensures ok { IfOk result (λ done. Acts self.old.story self.new.story lane done) }
         ensures err { OnErr result (self.new ≡ self.old) }
@@ -226,7 +226,7 @@ impl<D: Disk> Core<D> {
     /// steps since the last commit or fault, and what `decide` or `answer` takes of the base.
     #[tactic(auto, using(crate::proofs::Acting::Commanded::acts_on_no_build, crate::proofs::Building::UnitCalls::acts_waits))]
     pub fn act(&mut self, alloc: Global, lane: u32) -> Result<Done, NoMemory>
-        requires { next_of (state_of self.old.story) lane ≡ nexts.Act }
+        requires { next_of_lane (state_of self.old.story) lane ≡ nexts.Act }
         ensures ok { IfOk result (λ done. Acts self.old.story self.new.story lane done) }
         ensures err { OnErr result (self.new ≡ self.old) }
         ensures counted { KeepsCount self.old self.new }

@@ -11,19 +11,19 @@ use std::alloc::Global;
 impl<D: Disk> Core<D> {
     ghost use Rattle.std.specs.Prelude.{◌≡◌, ◌<◌, ◌≤◌, ℕ, Some, IfOk};
     ghost use Rattle.cc_names.specs.declared.occasions.Next.TheVariants as nexts;
-    ghost use Rattle.legal_history.specs.Stories.Commanded.{command_of};
+    ghost use Rattle.legal_history.specs.Stories.Commanded.{next_command_of};
     ghost use Rattle.legal_history.specs.Stories.States.{next_tag};
     ghost use Rattle.legal_history.specs.Stories.Steps.{state_of};
     ghost use Rattle.clearmake.specs.Calls.{IsBuilding, WasStarted, released_units};
-    ghost use Rattle.clearmake.specs.Nexts.{jobs_of, next_of};
+    ghost use Rattle.clearmake.specs.Nexts.{jobs_of, next_of_lane};
     ghost use Rattle.clearmake.specs.FoundTexts.{IsFetched, sees};
 
     /// How many units at once a lane's next command, which builds, asks to have built. Takes what reading the command takes.
     pub fn jobs(&self, alloc: Global, lane: u32) -> Result<u32, NoMemory>
-        requires { next_of (state_of self.now.story) lane
+        requires { next_of_lane (state_of self.now.story) lane
             ≡ nexts.Build (next_tag (state_of self.now.story) lane) }
         ensures asked { IfOk result
-            (λ jobs. jobs_of (command_of (state_of self.now.story) lane) ≡ Some jobs) }
+            (λ jobs. jobs_of (next_command_of (state_of self.now.story) lane) ≡ Some jobs) }
         ensures within { IfOk result (λ jobs. (1 ≤ jobs) × (jobs ≤ 64)) }
     {
         let asked = self.asked_build(alloc, lane)?;

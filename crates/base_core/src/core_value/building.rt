@@ -20,11 +20,11 @@ impl<D: Disk> Core<D> {
     ghost use Rattle.base_core.specs.Calls.Building.{IsNextBuild, PlansNext};
     ghost use Rattle.base_core.specs.Story.Counted.{KeepsCount};
     ghost use Rattle.clearmake.specs.Going.{Finishes};
-    ghost use Rattle.clearmake.specs.Nexts.{next_of};
+    ghost use Rattle.clearmake.specs.Nexts.{next_of_lane};
 
     /// What is decided of a lane's next command, which builds: the build to begin, or the first refusal.
     fn plan(&self, alloc: Global, lane: u32) -> Result<ActiveBuild, Or<Refusal>>
-        requires builds { next_of (state_of self.now.story) lane
+        requires builds { next_of_lane (state_of self.now.story) lane
             ≡ nexts.Build (next_tag (state_of self.now.story) lane) }
         requires free { build_of (state_of self.now.story).active lane ≡ None }
         ensures { PlansNext (state_of self.now.story) (next_tag (state_of self.now.story) lane)
@@ -57,7 +57,7 @@ impl<D: Disk> Core<D> {
     /// Begins the build of a lane's next command and answers how many units it has, or refuses the command. A build that is
     /// active goes on. An `Err` changes nothing. Makes no device call. Takes time linear in the makefile.
     pub fn begin(&mut self, alloc: Global, lane: u32) -> Result<Begun, NoMemory>
-        requires { next_of (state_of self.old.story) lane
+        requires { next_of_lane (state_of self.old.story) lane
             ≡ nexts.Build (next_tag (state_of self.old.story) lane) }
         ensures ok { IfOk result (λ begun. Begins self.old.story self.new.story lane begun) }
         ensures err { OnErr result (self.new ≡ self.old) }

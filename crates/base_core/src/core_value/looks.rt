@@ -18,13 +18,13 @@ impl<D: Disk> Core<D> {
     ghost use Rattle.session_text.specs.Formed.{IsClearmake, IsCommand};
     ghost use Rattle.base_model.specs.Rows.{size};
     ghost use Rattle.legal_history.specs.Builds.Active.{Build, build_of, building, rows_reserved};
-    ghost use Rattle.legal_history.specs.Stories.Commanded.{command_of};
+    ghost use Rattle.legal_history.specs.Stories.Commanded.{next_command_of};
     ghost use Rattle.legal_history.specs.Stories.Lawful.{Legal};
     ghost use Rattle.legal_history.specs.Stories.States.{next_tag};
     ghost use Rattle.legal_history.specs.Stories.Steps.{state_of};
     ghost use Rattle.base_core.specs.Calls.Building.{BuildInvariant};
     ghost use Rattle.base_core.specs.Keeping.CoreInvariants.{command_limit};
-    ghost use Rattle.clearmake.specs.Nexts.{next_of};
+    ghost use Rattle.clearmake.specs.Nexts.{next_of_lane};
 
     /// The story is legal, at every moment.
     pub fn legal(&self)
@@ -42,7 +42,7 @@ impl<D: Disk> Core<D> {
 
     /// The tag of a lane's next command.
     pub(super) fn tag(&self, lane: u32) -> Tag
-        requires { IsSome (command_of (state_of self.now.story) lane) }
+        requires { IsSome (next_command_of (state_of self.now.story) lane) }
         ensures { result ≡ next_tag (state_of self.now.story) lane }
     {
         Tag {
@@ -54,7 +54,7 @@ impl<D: Disk> Core<D> {
 
     /// On what occasion the next command of a lane is decided, which names this view.
     pub(super) fn occasion(&self, lane: u32, view: &[u8]) -> Occasion
-        requires { IsSome (command_of (state_of self.now.story) lane) }
+        requires { IsSome (next_command_of (state_of self.now.story) lane) }
         ensures tag { result.tag ≡ next_tag (state_of self.now.story) lane }
         ensures moment { result.moment ≡ (state_of self.now.story).moment }
         ensures busy { result.busy ≡ building (state_of self.now.story).active view.now }
@@ -73,9 +73,9 @@ impl<D: Disk> Core<D> {
     /// The next command of a lane that has one. Takes time linear in its lines and those before it that are left, and memory
     /// for it.
     pub(super) fn command(&self, alloc: Global, lane: u32) -> Result<Command, NoMemory>
-        requires { IsSome (command_of (state_of self.now.story) lane) }
+        requires { IsSome (next_command_of (state_of self.now.story) lane) }
         ensures next { IfOk result
-            (λ command. command_of (state_of self.now.story) lane ≡ Some command) }
+            (λ command. next_command_of (state_of self.now.story) lane ≡ Some command) }
         ensures formed { IfOk result (λ command. IsCommand command_limit command) }
     {
         let command = self.lanes.next(alloc, lane)?;
@@ -85,10 +85,10 @@ impl<D: Disk> Core<D> {
     /// The build that a lane's next command asks for. Takes what `command` takes.
     #[tactic(auto, using(crate::proofs::Acting::Commanded::builds_no_change, crate::proofs::Acting::Commanded::builds_no_query, crate::proofs::Building::UnitCalls::builds_waits))]
     pub(super) fn asked_build(&self, alloc: Global, lane: u32) -> Result<Clearmake, NoMemory>
-        requires { next_of (state_of self.now.story) lane
+        requires { next_of_lane (state_of self.now.story) lane
             ≡ nexts.Build (next_tag (state_of self.now.story) lane) }
         ensures next { IfOk result
-            (λ asked. command_of (state_of self.now.story) lane ≡ Some (commands.Build asked)) }
+            (λ asked. next_command_of (state_of self.now.story) lane ≡ Some (commands.Build asked)) }
         ensures formed { IfOk result (λ asked. IsClearmake command_limit asked) }
     {
         match self.command(alloc, lane)? {
@@ -99,7 +99,7 @@ impl<D: Disk> Core<D> {
 
     /// What a lane has to do next. Takes constant time.
     pub fn next(&self, lane: u32) -> Next
-        ensures { result ≡ next_of (state_of self.now.story) lane }
+        ensures { result ≡ next_of_lane (state_of self.now.story) lane }
     {
         match self.lanes.ahead(lane) {
             Ahead::Nothing => Next::Done,

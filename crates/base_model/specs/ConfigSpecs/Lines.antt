@@ -1,5 +1,6 @@
 -- What one line of a config spec says.
-use Rattle.std.specs.Prelude.{ℕ, Bool, true, false, ◌==◌, Option, Some, None, is_some, Result, Ok, Err, List, [], ◌∷◌, codes, if◌then◌else◌}
+use Rattle.std.specs.Prelude.{ℕ, Bool, true, false, ◌==◌, Option, Some, None, is_some, Result, Ok, Err, List, [], ◌∷◌, codes}
+use Rattle.std.specs.Prelude.{if◌then◌else◌}
 use Rattle.std.specs.Option.{option_and_then}
 use Rattle.std.specs.Str.{bytes_eq}
 use Rattle.cc_names.specs.Cuts.{words_of}
@@ -65,13 +66,14 @@ next_option Unknown next options behind behind_next = None
 abbrev pub options_from : List (List ℕ) → Options → Option Options
 options_from [] options = Some options
 options_from (word ∷ []) options = last_option (option_named word) options
-options_from (word ∷ next ∷ words) options = next_option (option_named word) next options (options_from (next ∷ words)) (options_from words)
+options_from (word ∷ next ∷ words) options = next_option (option_named word) next options (options_from (next ∷ words))
+    (options_from words)
 
 -- a word read as a date
 abbrev pub moment_of_word : List ℕ → Result ℕ SpecCause
 moment_of_word word = elim (date_of word) [ Ok moment ↦ Ok moment | Err fault ↦ Err BadDate ]
 
--- the moment that bears on a rule: its own, else that of the block around it
+-- the moment that affects a rule: its own, else that of the block around it
 abbrev pub before_of : Option (List ℕ) → Option ℕ → Result (Option ℕ) SpecCause
 before_of None block = Ok block
 before_of (Some word) block = do

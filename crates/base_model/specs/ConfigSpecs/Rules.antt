@@ -40,7 +40,7 @@ branch_of_type sources element name =
 abbrev pub latest_on : Selectables → Option ℕ → Option ℕ → Option ℕ
 latest_on sources before branch = option_and_then (λ b. latest sources.tree b before) branch
 
--- what a selector finds of an element. The time bears on LATEST alone
+-- what a selector finds of an element. The time affects LATEST alone
 abbrev pub finds : Selectables → ℕ → Option ℕ → Selector → Option ℕ
 finds sources element before CheckedOut = sources.out
 finds sources element before (Label name) = holder sources.labels name element

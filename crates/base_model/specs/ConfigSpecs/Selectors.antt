@@ -1,5 +1,6 @@
 -- Which words spell a selector of a config spec.
-use Rattle.std.specs.Prelude.{ℕ, Bool, true, false, ◌&&◌, Option, Some, None, ok_or, Result, Ok, List, [], ◌∷◌, ◌++◌, codes, if◌then◌else◌}
+use Rattle.std.specs.Prelude.{ℕ, Bool, true, false, ◌&&◌, Option, Some, None, ok_or, Result, Ok, List, [], ◌∷◌, ◌++◌, codes}
+use Rattle.std.specs.Prelude.{if◌then◌else◌}
 use Rattle.std.specs.List.{slice_split}
 use Rattle.std.specs.Option.{option_map, option_and_then, option_or}
 use Rattle.std.specs.Result.{result_ok}
@@ -13,12 +14,12 @@ use Rattle.cc_names.specs.declared.selection.Selector.{Selector}
 use Rattle.cc_names.specs.declared.selection.Selector.TheVariants.{CheckedOut, Label, Latest, Wherever, Numbered, Config, Nothing}
 use Rattle.base_model.specs.ConfigSpecs.WildCards.{has_none}
 
--- the selector of the branch behind `main` by these names, by what stands behind them: LATEST or a number
+-- the selector of the branch behind `main` by these names, by what follows them: LATEST or a number
 abbrev pub on_branch : List (List ℕ) → List ℕ → Option Selector
 on_branch names end =
     if bytes_eq end (codes "LATEST") then Some (Latest names) else option_map (Numbered names) (number_of end)
 
--- the selector by what stands behind `/main/`: names of branch types, and then LATEST or a number. `names` are those
+-- the selector by what follows `/main/`: names of branch types, and then LATEST or a number. `names` are those
 -- that stand before
 abbrev pub behind_main : List (List ℕ) → List (List ℕ) → Option Selector
 behind_main [] names = None
@@ -26,7 +27,7 @@ behind_main (end ∷ []) names = on_branch names end
 behind_main (name ∷ next ∷ parts) names =
     option_and_then (λ type. behind_main (next ∷ parts) (names ++ type ∷ [])) (type_name_of name)
 
--- the selector by what stands behind `.../`: the name of a branch type, and LATEST
+-- the selector by what follows `.../`: the name of a branch type, and LATEST
 abbrev pub behind_dots : List (List ℕ) → Option Selector
 behind_dots (name ∷ end ∷ []) = if bytes_eq end (codes "LATEST") then option_map Wherever (type_name_of name) else None
 behind_dots _ = None
@@ -65,7 +66,7 @@ selector_by true word = object_of_parts (slice_split is_at word)
 abbrev pub selector_of : Bool → List ℕ → Result Selector SpecCause
 selector_of of_object word = ok_or (selector_by of_object word) BadSelector
 
--- what stands behind `-mkbranch`, where it is there, read as the name of a branch type
+-- what follows `-mkbranch`, where it is there, read as the name of a branch type
 abbrev pub branch_type_of : Option (List ℕ) → Result (Option (List ℕ)) SpecCause
 branch_type_of None = Ok None
 branch_type_of (Some bytes) = ok_or (option_map Some (type_name_of bytes)) BadType

@@ -2,7 +2,7 @@
 
 ghost use Rattle.std.specs.Prelude.{◌≡◌, ◌||◌, ℕ, List, IfOk, OnOk};
 ghost use Rattle.std.specs.Option.{option_copied};
-ghost use Rattle.base_model.specs.Closures.{is_among};
+ghost use Rattle.base_model.specs.Closures.{is_path_among};
 ghost use Rattle.cleartool.specs.Owned.{is_name, name_at, name_given, was_named};
 
 use cc_names::memory::NoMemory;
@@ -39,8 +39,8 @@ pub(crate) fn add_name(
 ) -> Result<(), NoMemory>
     ensures { OnOk result
         ((other : List ℕ)
-        → is_among other found.new.keys
-        ≡ (is_name other (option_copied name.entry) || is_among other found.old.keys)) }
+        → is_path_among other found.new.keys
+        ≡ (is_name other (option_copied name.entry) || is_path_among other found.old.keys)) }
 {
     match name {
         None => Ok(()),
@@ -60,7 +60,7 @@ pub(crate) fn names_given(
 ) -> Result<BTreeSet<Name>, NoMemory>
     ensures { IfOk result
         (λ found. (name : List ℕ)
-        → is_among name found.keys ≡ was_named directory name rows.now) }
+        → is_path_among name found.keys ≡ was_named directory name rows.now) }
 {
     let numbers = rows_naming(alloc, rows, directory)?;
     let mut found = BTreeSet::new(alloc);

@@ -5,7 +5,7 @@ ghost use Rattle.std.specs.List.{list_any};
 ghost use Rattle.std.specs.Option.{option_copied};
 ghost use Rattle.cc_names.specs.References.{count};
 ghost use Rattle.base_model.specs.Changes.{objects_held};
-ghost use Rattle.base_model.specs.Closures.{is_among};
+ghost use Rattle.base_model.specs.Closures.{is_path_among};
 ghost use Rattle.base_model.specs.Rows.{deed_at};
 ghost use Rattle.cleartool.specs.Owned.{is_name, maker_by, winker, winker_at};
 
@@ -63,9 +63,9 @@ fn add_winkers(
 ) -> Result<(), NoMemory>
     ensures { OnOk result
         ((view : List ℕ)
-        → is_among view views.new.keys
+        → is_path_among view views.new.keys
         ≡ (list_any (λ n. is_name view (winker_at rows.now n)) winks.now
-        || is_among view views.old.keys)) }
+        || is_path_among view views.old.keys)) }
 {
     for wink in winks {
         add_name(alloc, views, winker_at(rows, *wink))?;
@@ -73,7 +73,8 @@ fn add_winkers(
     Ok(())
 }
 
-/// How many views hold the object. Takes for each of its targets the time of `held_object`: once for the view that made it, and once for
+/// How many views hold the object. Takes for each of its targets the time of `held_object`: once for the view that made it, and
+/// once for
 /// each wink of it.
 pub(crate) fn count_holders(
     alloc: Global,

@@ -3,7 +3,7 @@
 ghost use Rattle.std.specs.Prelude.{◌≡◌, ◌||◌, ℕ, true, List, IfOk, OnOk};
 ghost use Rattle.std.specs.List.{AllByRecursion};
 ghost use Rattle.cc_names.specs.Formed.{IsBelowRoot};
-ghost use Rattle.base_model.specs.Closures.{is_among};
+ghost use Rattle.base_model.specs.Closures.{is_path_among};
 ghost use Rattle.base_model.specs.Rows.{deed_at};
 ghost use Rattle.cleartool.specs.Owned.{is_given_by, paths_by, was_given};
 
@@ -36,8 +36,8 @@ fn paths_by<'a>(rows: &FirstRows<'a>, number: u64) -> &'a [Path]
 fn add_all(alloc: Global, found: &mut BTreeSet<Path>, paths: &[Path]) -> Result<(), NoMemory>
     ensures { OnOk result
         ((path : List ℕ)
-        → is_among path found.new.keys
-        ≡ (is_among path paths.now || is_among path found.old.keys)) }
+        → is_path_among path found.new.keys
+        ≡ (is_path_among path paths.now || is_path_among path found.old.keys)) }
 {
     for path in paths {
         found.insert(path.copy(alloc)?)?;
@@ -46,7 +46,7 @@ fn add_all(alloc: Global, found: &mut BTreeSet<Path>, paths: &[Path]) -> Result<
 }
 
 /// Adds the paths at which the row of a number gave something.
-fn add_row(
+fn add_paths_of_row(
     alloc: Global,
     found: &mut BTreeSet<Path>,
     rows: &FirstRows<'_>,
@@ -54,8 +54,8 @@ fn add_row(
 ) -> Result<(), NoMemory>
     ensures found { OnOk result
         ((path : List ℕ)
-        → is_among path found.new.keys
-        ≡ (is_given_by rows.now path number || is_among path found.old.keys)) }
+        → is_path_among path found.new.keys
+        ≡ (is_given_by rows.now path number || is_path_among path found.old.keys)) }
     ensures below { (path : List ℕ)
         → is_given_by rows.now path number ≡ true
         → IsBelowRoot path }
@@ -72,7 +72,7 @@ pub(crate) fn paths_owned(
 ) -> Result<BTreeSet<Path>, NoMemory>
     ensures found { IfOk result
         (λ found. (path : List ℕ)
-        → is_among path found.keys ≡ was_given rows.now view.now path rows.now) }
+        → is_path_among path found.keys ≡ was_given rows.now view.now path rows.now) }
     ensures below { OnOk result
         ((path : List ℕ)
         → was_given rows.now view.now path rows.now ≡ true
@@ -81,7 +81,7 @@ pub(crate) fn paths_owned(
     let numbers = rows_owning(alloc, rows, view)?;
     let mut found = BTreeSet::new(alloc);
     for number in &numbers {
-        add_row(alloc, &mut found, rows, *number)?;
+        add_paths_of_row(alloc, &mut found, rows, *number)?;
     }
     Ok(found)
 }

@@ -3,7 +3,7 @@
 ghost use Rattle.std.specs.Prelude.{◌≡◌, ◌==◌, ℕ, [], IfOk, OnOk, map};
 ghost use Rattle.std.specs.Option.{option_copied};
 ghost use Rattle.legal_history.specs.Queries.ElementTexts.{labels_on};
-ghost use Rattle.cleartool.specs.LabelSets.{label_at, label_put, labels_among, labels_at, with_label, with_name_if};
+ghost use Rattle.cleartool.specs.LabelSets.{label_at, label_put, labels_among, labels_at, with_label, with_label_if};
 
 use cc_names::memory::NoMemory;
 use cc_names::names::Name;
@@ -45,7 +45,7 @@ fn add_to(
     ensures { OnOk result
         ((other : ℕ)
         → labels_at labels.new other
-        ≡ with_name_if (other == version) label.now (labels_at labels.old other)) }
+        ≡ with_label_if (other == version) label.now (labels_at labels.old other)) }
 {
     let mut own = match labels.remove(&version) {
         Some(own) => own,

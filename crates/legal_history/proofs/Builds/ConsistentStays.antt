@@ -58,31 +58,46 @@ pub record KeepsConsistent (b : Base) (build : Build) (n : ℕ) (unit : Unit) (c
   pub object : (id : ℕ) → object_of (Some came) ≡ Some id → IsObjectOf b unit id
 
 -- one that comes to no object
-pub keeps_without : (b : Base) (build : Build) (n : ℕ) (unit : Unit) (came : Came) → unit_at build n ≡ Some unit → is_outcome (came_to build n) ≡ false → IsReady build unit → object_of (Some came) ≡ None → KeepsConsistent b build n unit came
-keeps_without b build n unit came is waits ready none = record { is_unit = is; waits = waits; ready = ready; object = λ id own. absurd (let clash : None ≡ Some id = sym none ∙ own in cc) }
+pub keeps_without : (b : Base) (build : Build) (n : ℕ) (unit : Unit) (came : Came) → unit_at build n ≡ Some unit
+    → is_outcome (came_to build n) ≡ false → IsReady build unit → object_of (Some came) ≡ None
+    → KeepsConsistent b build n unit came
+keeps_without b build n unit came is waits ready none = record {
+  is_unit = is;
+  waits = waits;
+  ready = ready;
+  object = λ id own. absurd (let clash : None ≡ Some id = sym none ∙ own in cc);
+}
 
 -- one that comes to an object
-pub keeps_with : (b : Base) (build : Build) (n id : ℕ) (unit : Unit) (came : Came) → unit_at build n ≡ Some unit → is_outcome (came_to build n) ≡ false → IsReady build unit → object_of (Some came) ≡ Some id → IsObjectOf b unit id →
+pub keeps_with : (b : Base) (build : Build) (n id : ℕ) (unit : Unit) (came : Came) → unit_at build n ≡ Some unit
+    → is_outcome (came_to build n) ≡ false → IsReady build unit → object_of (Some came) ≡ Some id → IsObjectOf b unit id →
     KeepsConsistent b build n unit came
 keeps_with b build n id unit came is waits ready one object = record {
   is_unit = is;
   waits = waits;
   ready = ready;
-  object = λ other own. let same : Some id ≡ Some other = sym one ∙ own in let number : id ≡ other = cc in subst (IsObjectOf b unit) number object;
+  object = λ other own. let same : Some id ≡ Some other = sym one ∙ own in let number : id ≡ other = cc in
+      subst (IsObjectOf b unit) number object;
 }
 
 -- what unit m has come to then
-pub came_now : (build : Build) (n m : ℕ) (came : Came) (t : Bool) → (m == n) ≡ t → came_to (with_came build (Some n) came) m ≡ cond t (Some came) (came_to build m)
+pub came_now : (build : Build) (n m : ℕ) (came : Came) (t : Bool) → (m == n) ≡ t
+    → came_to (with_came build (Some n) came) m ≡ cond t (Some came) (came_to build m)
 came_now build n m came t e = find_after_put m n came build.comes ∙ ap (λ b. cond b (Some came) (came_to build m)) e
 
-pub same_unit : (build : Build) (n m : ℕ) (unit u : Unit) → unit_at build n ≡ Some unit → (m == n) ≡ true → unit_at build m ≡ Some u → unit ≡ u
-same_unit build n m unit u there e is = let number : m ≡ n = same_number m n e in let at_n : unit_at build n ≡ Some u = subst (λ k. unit_at build k ≡ Some u) number is in cc
+pub same_unit : (build : Build) (n m : ℕ) (unit u : Unit) → unit_at build n ≡ Some unit → (m == n) ≡ true
+    → unit_at build m ≡ Some u → unit ≡ u
+same_unit build n m unit u there e is = let number : m ≡ n = same_number m n e in let at_n : unit_at build n ≡ Some u =
+    subst (λ k. unit_at build k ≡ Some u) number is in cc
 
 -- a ready unit stays so
-pub ready_goes : (build : Build) (n : ℕ) (came : Came) (u : Unit) → is_outcome (came_to build n) ≡ false → IsReady build u → IsReady (with_came build (Some n) came) u
-ready_goes build n came u waits ready = λ m path among is. ap is_outcome ((comes_to build n came waits).outcomes m (ready m path among is)) ∙ ready m path among is
+pub ready_goes : (build : Build) (n : ℕ) (came : Came) (u : Unit) → is_outcome (came_to build n) ≡ false → IsReady build u
+    → IsReady (with_came build (Some n) came) u
+ready_goes build n came u waits ready = λ m path among is. ap is_outcome
+    ((comes_to build n came waits).outcomes m (ready m path among is)) ∙ ready m path among is
 
-pub consistent_came : (b : Base) (build : Build) (n : ℕ) (unit : Unit) (came : Came) → IsConsistent b build → KeepsConsistent b build n unit came → IsConsistent b (with_came build (Some n) came)
+pub consistent_came : (b : Base) (build : Build) (n : ℕ) (unit : Unit) (came : Came) → IsConsistent b build
+    → KeepsConsistent b build n unit came → IsConsistent b (with_came build (Some n) came)
 consistent_came b build n unit came h may = record {
   rows = h.rows;
   base = h.base;
@@ -91,14 +106,23 @@ consistent_came b build n unit came h may = record {
   objects = λ m u id is own. object_at m u id is own (m == n) refl;
 }
   where
-    ready_at : (m : ℕ) (u : Unit) → unit_at build m ≡ Some u → is_some (came_to (with_came build (Some n) came) m) ≡ true → (t : Bool) → (m == n) ≡ t → IsReady build u
+    ready_at : (m : ℕ) (u : Unit) → unit_at build m ≡ Some u → is_some (came_to (with_came build (Some n) came) m) ≡ true
+        → (t : Bool) → (m == n) ≡ t → IsReady build u
     ready_at m u is some true e = subst (IsReady build) (same_unit build n m unit u may.is_unit e is) may.ready
     ready_at m u is some false e = h.ready m u is (ap is_some (sym (came_now build n m came false e)) ∙ some)
 
-    object_at : (m : ℕ) (u : Unit) (id : ℕ) → unit_at build m ≡ Some u → object_of (came_to (with_came build (Some n) came) m) ≡ Some id → (t : Bool) → (m == n) ≡ t → IsObjectOf b u id
-    object_at m u id is own true e = subst (λ v. IsObjectOf b v id) (same_unit build n m unit u may.is_unit e is) (may.object id (ap object_of (sym (came_now build n m came true e)) ∙ own))
+    object_at : (m : ℕ) (u : Unit) (id : ℕ) → unit_at build m ≡ Some u
+        → object_of (came_to (with_came build (Some n) came) m) ≡ Some id → (t : Bool) → (m == n) ≡ t → IsObjectOf b u id
+    object_at m u id is own true e = subst (λ v. IsObjectOf b v id) (same_unit build n m unit u may.is_unit e is)
+        (may.object id (ap object_of (sym (came_now build n m came true e)) ∙ own))
     object_at m u id is own false e = h.objects m u id is (ap object_of (sym (came_now build n m came false e)) ∙ own)
 
 -- a build under which the disk failed
 pub consistent_faulted : (b : Base) (build : Build) → IsConsistent b build → IsConsistent b (record build { faulted = true })
-consistent_faulted b build h = record { rows = h.rows; base = h.base; in_order = h.in_order; ready = h.ready; objects = h.objects }
+consistent_faulted b build h = record {
+  rows = h.rows;
+  base = h.base;
+  in_order = h.in_order;
+  ready = h.ready;
+  objects = h.objects;
+}

@@ -28,7 +28,8 @@ pub record IsFine (b : Base) (build : Build) : Type 0 where
   pub there : exists b build.view ≡ true
 
 -- the view of an active build stays when a row is added
-view_stays : (s : State) (tag : Tag) (moment : ℕ) (deed : Deed) (lane : ℕ) (build : Build) → Idle s.active deed → build_of s.active lane ≡ Some build →
+view_stays : (s : State) (tag : Tag) (moment : ℕ) (deed : Deed) (lane : ℕ) (build : Build) → Idle s.active deed
+    → build_of s.active lane ≡ Some build →
     exists s.base build.view ≡ true → exists (record { tag = tag; moment = moment; deed = deed } ∷ s.base) build.view ≡ true
 view_stays s tag moment (deeds.Mkview w) lane build spares is there = by (bytes_eq w build.view)
   where
@@ -44,7 +45,8 @@ view_stays s tag moment (deeds.Rmview w) lane build spares is there = by (bytes_
     by false other = there
 view_stays s tag moment deed lane build spares is there = there
 
-pub fine_stays : (s : State) (row : Plain) → Idle s.active row.deed → Each (λ lane. IsFine s.base) s.active → Each (λ lane. IsFine (row ∷ s.base)) s.active
+pub fine_stays : (s : State) (row : Plain) → Idle s.active row.deed → Each (λ lane. IsFine s.base) s.active
+    → Each (λ lane. IsFine (row ∷ s.base)) s.active
 fine_stays s row spares h = record {
   holds = λ lane build is. record {
     consistent = consistent_row row s.base build (h.holds lane build is).consistent;
@@ -56,7 +58,8 @@ pub some_same : {A : Type 0} {a c : A} → Some a ≡ Some c → a ≡ c
 some_same e = cc
 
 -- a unit of the lane's build comes to something, and what holds of each build holds still where it holds of that one
-pub each_waited : (P : Build → Type 0) (s : State) (tag : Tag) (n : ℕ) (build : Build) (number : Build → Option ℕ) (came : Came) → Each (λ lane. P) s.active → build_of s.active tag.lane ≡ Some build → number build ≡ Some n →
+pub each_waited : (P : Build → Type 0) (s : State) (tag : Tag) (n : ℕ) (build : Build) (number : Build → Option ℕ) (came : Came)
+    → Each (λ lane. P) s.active → build_of s.active tag.lane ≡ Some build → number build ≡ Some n →
     P (with_came build (Some n) came) → Each (λ lane. P) (with_outcome s.active tag.lane number came)
 each_waited P s tag n build number came h there place after = each_noted (λ lane. P) s.active tag.lane number came h own
   where
@@ -66,11 +69,14 @@ each_waited P s tag n build number came h there place after = each_noted (λ lan
         subst (λ x. P (with_came x (number x) came)) same (subst (λ k. P (with_came build k came)) (sym place) after)
 
 -- so where it comes to what may stand
-pub waited_fine : (s : State) (b : Base) (tag : Tag) (n : ℕ) (build : Build) (unit : Unit) (number : Build → Option ℕ) (came : Came) → Each (λ lane. IsFine b) s.active → build_of s.active tag.lane ≡ Some build → number build ≡ Some n →
+pub waited_fine : (s : State) (b : Base) (tag : Tag) (n : ℕ) (build : Build) (unit : Unit) (number : Build
+    → Option ℕ) (came : Came) → Each (λ lane. IsFine b) s.active → build_of s.active tag.lane ≡ Some build → number build ≡ Some n
+    →
     KeepsConsistent b build n unit came → Each (λ lane. IsFine b) (with_outcome s.active tag.lane number came)
 waited_fine s b tag n build unit number came h there place may =
     let fine = h.holds tag.lane build there in
-    each_waited (IsFine b) s tag n build number came h there place (record { consistent = consistent_came b build n unit came fine.consistent may; there = fine.there })
+    each_waited (IsFine b) s tag n build number came h there place (record
+    { consistent = consistent_came b build n unit came fine.consistent may; there = fine.there })
 
 -- a unit that may take an object in place of a run is one of the lane's build and has no outcome yet; what it needs is over
 pub record TakesFor (s : State) (tag : Tag) (n : ℕ) (build : Build) (unit : Unit) : Type 0 where
@@ -79,7 +85,8 @@ pub record TakesFor (s : State) (tag : Tag) (n : ℕ) (build : Build) (unit : Un
   pub waits : is_outcome (came_to build n) ≡ false
   pub ready : IsConsistent s.base build → IsReady build unit
 
-pub takes_for : (s : State) (tag : Tag) (n : ℕ) (build : Build) (unit : Unit) → MayTake s tag n build unit → TakesFor s tag n build unit
+pub takes_for : (s : State) (tag : Tag) (n : ℕ) (build : Build) (unit : Unit) → MayTake s tag n build unit
+    → TakesFor s tag n build unit
 takes_for s tag n build unit (inl o) = record {
   there = of_lane s tag build o.waits.active;
   is_unit = o.waits.is_unit;

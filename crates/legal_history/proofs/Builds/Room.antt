@@ -1,5 +1,6 @@
 -- How many units of the active builds still wait: each may make one more row.
-use Rattle.std.proofs.Common.{◌≡◌, refl, ap, ◌∙◌, ℕ, zero, suc, ◌+◌, ◌≤◌, Bool, true, false, cond, not, ◌&&◌, ◌==◌, T, Some, None, List, [], ◌∷◌, length, arith}
+use Rattle.std.proofs.Common.{◌≡◌, refl, ap, ◌∙◌, ℕ, zero, suc, ◌+◌, ◌≤◌, Bool, true, false, cond, not, ◌&&◌, ◌==◌, T, Some}
+use Rattle.std.proofs.Common.{None, List, [], ◌∷◌, length, arith}
 use Rattle.std.proofs.lemmas.Cmp.{nat_cmp_total}
 use Rattle.std.specs.Prelude.{slice_get}
 use Rattle.std.specs.Ordering.{nat_cmp, is_eq, is_lt}
@@ -31,7 +32,8 @@ one_at_most false = omega arith
 
 pub few_wait : (comes : List (ℕ × Came)) (n : ℕ) (units : List Unit) → waits_from comes n units ≤ length units
 few_wait comes n [] = omega arith
-few_wait comes n (unit ∷ units) = let rest = few_wait comes (n + 1) units in let one = one_at_most (not (is_outcome (find nat_cmp n comes))) in omega arith
+few_wait comes n (unit ∷ units) = let rest = few_wait comes (n + 1) units in let one =
+    one_at_most (not (is_outcome (find nat_cmp n comes))) in omega arith
 
 pub all_reserved : (active : Active) → all_waiting active ≤ rows_reserved active
 all_reserved [] = omega arith
@@ -42,29 +44,38 @@ one_less : (comes : List (ℕ × Came)) (n m : ℕ) (came : Came) → is_outcome
     one_where (not (is_outcome (find nat_cmp m (put nat_cmp n came comes)))) ≤ one_where (not (is_outcome (find nat_cmp m comes)))
 one_less comes n m came waits = by (m == n) refl
   where
-    by : (t : Bool) → (m == n) ≡ t → one_where (not (is_outcome (find nat_cmp m (put nat_cmp n came comes)))) ≤ one_where (not (is_outcome (find nat_cmp m comes)))
+    by : (t : Bool) → (m == n) ≡ t → one_where (not (is_outcome (find nat_cmp m (put nat_cmp n came comes))))
+        ≤ one_where (not (is_outcome (find nat_cmp m comes)))
     by true e =
         let number : m ≡ n = same_number m n e in
-        let old : one_where (not (is_outcome (find nat_cmp m comes))) ≡ 1 = ap (λ k. one_where (not (is_outcome (find nat_cmp k comes)))) number ∙ ap (λ t. one_where (not t)) waits in
+        let old : one_where (not (is_outcome (find nat_cmp m comes))) ≡ 1 =
+        ap (λ k. one_where (not (is_outcome (find nat_cmp k comes)))) number ∙ ap (λ t. one_where (not t)) waits in
         let new = one_at_most (not (is_outcome (find nat_cmp m (put nat_cmp n came comes)))) in omega arith
     by false e =
-        let same : one_where (not (is_outcome (find nat_cmp m (put nat_cmp n came comes)))) ≡ one_where (not (is_outcome (find nat_cmp m comes))) =
-        ap (λ o. one_where (not (is_outcome o))) (find_after_put m n came comes ∙ ap (λ b. cond b (Some came) (find nat_cmp m comes)) e) in
+        let same : one_where (not (is_outcome (find nat_cmp m (put nat_cmp n came comes))))
+        ≡ one_where (not (is_outcome (find nat_cmp m comes))) =
+        ap (λ o. one_where (not (is_outcome o))) (find_after_put m n came comes
+        ∙ ap (λ b. cond b (Some came) (find nat_cmp m comes)) e) in
         omega arith
 
-pub no_more_wait : (comes : List (ℕ × Came)) (n k : ℕ) (came : Came) (units : List Unit) → is_outcome (find nat_cmp n comes) ≡ false → waits_from (put nat_cmp n came comes) k units ≤ waits_from comes k units
+pub no_more_wait : (comes : List (ℕ × Came)) (n k : ℕ) (came : Came) (units : List Unit)
+    → is_outcome (find nat_cmp n comes) ≡ false → waits_from (put nat_cmp n came comes) k units ≤ waits_from comes k units
 no_more_wait comes n k came [] waits = omega arith
-no_more_wait comes n k came (unit ∷ units) waits = let one = one_less comes n k came waits in let rest = no_more_wait comes n (k + 1) came units waits in omega arith
+no_more_wait comes n k came (unit ∷ units) waits = let one = one_less comes n k came waits in let rest =
+    no_more_wait comes n (k + 1) came units waits in omega arith
 
 -- where it is an outcome, one less waits
-pub fewer_wait : (comes : List (ℕ × Came)) (n k j : ℕ) (came : Came) (unit : Unit) (units : List Unit) → n ≡ k + j → slice_get units j ≡ Some unit → is_outcome (find nat_cmp n comes) ≡ false → is_outcome (Some came) ≡ true →
+pub fewer_wait : (comes : List (ℕ × Came)) (n k j : ℕ) (came : Came) (unit : Unit) (units : List Unit) → n ≡ k + j
+    → slice_get units j ≡ Some unit → is_outcome (find nat_cmp n comes) ≡ false → is_outcome (Some came) ≡ true →
     waits_from (put nat_cmp n came comes) k units + 1 ≤ waits_from comes k units
 fewer_wait comes n k j came unit [] place is waits over = absurd (cc)
 fewer_wait comes n k zero came unit (u ∷ units) place is waits over =
     let number : k ≡ n = omega arith in
-    let old : one_where (not (is_outcome (find nat_cmp k comes))) ≡ 1 = ap (λ m. one_where (not (is_outcome (find nat_cmp m comes)))) number ∙ ap (λ t. one_where (not t)) waits in
+    let old : one_where (not (is_outcome (find nat_cmp k comes))) ≡ 1 =
+    ap (λ m. one_where (not (is_outcome (find nat_cmp m comes)))) number ∙ ap (λ t. one_where (not t)) waits in
     let new : one_where (not (is_outcome (find nat_cmp k (put nat_cmp n came comes)))) ≡ 0 =
-    ap (λ m. one_where (not (is_outcome (find nat_cmp m (put nat_cmp n came comes))))) number ∙ ap (λ o. one_where (not (is_outcome o))) (find_put_same n came comes) ∙ ap (λ t. one_where (not t)) over in
+    ap (λ m. one_where (not (is_outcome (find nat_cmp m (put nat_cmp n came comes))))) number
+    ∙ ap (λ o. one_where (not (is_outcome o))) (find_put_same n came comes) ∙ ap (λ t. one_where (not t)) over in
     let rest = no_more_wait comes n (k + 1) came units waits in
     omega arith
 fewer_wait comes n k (suc j) came unit (u ∷ units) place is waits over =
@@ -89,30 +100,41 @@ is_less Greater h = absurd h
 none_below : (k x : ℕ) (active : Active) → nat_cmp k x ≡ Less → T (below_all nat_cmp x active) → build_of active k ≡ None
 none_below k x [] low below = refl
 none_below k x (entry ∷ active) low below =
-    let after : nat_cmp x entry.0 ≡ Less = is_less (nat_cmp x entry.0) (both_first (is_lt (nat_cmp x entry.0)) (below_all nat_cmp x active) below) in
+    let after : nat_cmp x entry.0 ≡ Less = is_less (nat_cmp x entry.0)
+    (both_first (is_lt (nat_cmp x entry.0)) (below_all nat_cmp x active) below) in
     let apart : nat_cmp k entry.0 ≡ Less = nat_cmp_total.trans k x entry.0 low after in
-    ap (λ o. cond (is_eq o) (Some entry.1) (build_of active k)) apart ∙ none_below k x active low (both_second (is_lt (nat_cmp x entry.0)) (below_all nat_cmp x active) below)
+    ap (λ o. cond (is_eq o) (Some entry.1) (build_of active k)) apart ∙ none_below k x active low
+    (both_second (is_lt (nat_cmp x entry.0)) (below_all nat_cmp x active) below)
 
 -- the units that wait after one lane's build was put in the place of another
-pub put_waiting : (active : Active) (lane : ℕ) (old new : Build) → T (is_sorted nat_cmp active) → build_of active lane ≡ Some old →
+pub put_waiting : (active : Active) (lane : ℕ) (old new : Build) → T (is_sorted nat_cmp active) → build_of active lane ≡ Some old
+    →
     all_waiting (put nat_cmp lane new active) + waiting old ≡ all_waiting active + waiting new
 put_waiting [] lane old new sorted is = absurd (cc)
-put_waiting (entry ∷ active) lane old new sorted is = by (nat_cmp lane entry.0) refl is (put_waiting active lane old new (both_second (below_all nat_cmp entry.0 active) (is_sorted nat_cmp active) sorted))
+put_waiting (entry ∷ active) lane old new sorted is = by (nat_cmp lane entry.0) refl is
+    (put_waiting active lane old new (both_second (below_all nat_cmp entry.0 active) (is_sorted nat_cmp active) sorted))
   where
     by : (o : Ordering) → nat_cmp lane entry.0 ≡ o → cond (is_eq o) (Some entry.1) (build_of active lane) ≡ Some old →
-        (build_of active lane ≡ Some old → all_waiting (put nat_cmp lane new active) + waiting old ≡ all_waiting active + waiting new) →
-        all_waiting (by_order o ((lane, new) ∷ entry ∷ active) ((entry.0, new) ∷ active) (entry ∷ put nat_cmp lane new active)) + waiting old ≡ (waiting entry.1 + all_waiting active) + waiting new
-    by Less place is rest = absurd (let none = none_below lane entry.0 active place (both_first (below_all nat_cmp entry.0 active) (is_sorted nat_cmp active) sorted) in cc)
-    by Equal place is rest = let build : entry.1 ≡ old = cc in let same : waiting entry.1 ≡ waiting old = ap waiting build in omega arith
+        (build_of active lane ≡ Some old → all_waiting (put nat_cmp lane new active) + waiting old
+        ≡ all_waiting active + waiting new) →
+        all_waiting (by_order o ((lane, new) ∷ entry ∷ active) ((entry.0, new) ∷ active) (entry ∷ put nat_cmp lane new active)) +
+        waiting old ≡ (waiting entry.1 + all_waiting active) + waiting new
+    by Less place is rest = absurd (let none = none_below lane entry.0 active place
+        (both_first (below_all nat_cmp entry.0 active) (is_sorted nat_cmp active) sorted) in cc)
+    by Equal place is rest = let build : entry.1 ≡ old = cc in let same : waiting entry.1 ≡ waiting old = ap waiting build in
+        omega arith
     by Greater place is rest = let more = rest is in omega arith
 
 -- or put in where there was none
-pub put_new_waiting : (active : Active) (lane : ℕ) (new : Build) → build_of active lane ≡ None → all_waiting (put nat_cmp lane new active) ≡ all_waiting active + waiting new
+pub put_new_waiting : (active : Active) (lane : ℕ) (new : Build) → build_of active lane ≡ None
+    → all_waiting (put nat_cmp lane new active) ≡ all_waiting active + waiting new
 put_new_waiting [] lane new is = omega arith
 put_new_waiting (entry ∷ active) lane new is = by (nat_cmp lane entry.0) is (put_new_waiting active lane new)
   where
-    by : (o : Ordering) → cond (is_eq o) (Some entry.1) (build_of active lane) ≡ None → (build_of active lane ≡ None → all_waiting (put nat_cmp lane new active) ≡ all_waiting active + waiting new) →
-        all_waiting (by_order o ((lane, new) ∷ entry ∷ active) ((entry.0, new) ∷ active) (entry ∷ put nat_cmp lane new active)) ≡ (waiting entry.1 + all_waiting active) + waiting new
+    by : (o : Ordering) → cond (is_eq o) (Some entry.1) (build_of active lane) ≡ None
+        → (build_of active lane ≡ None → all_waiting (put nat_cmp lane new active) ≡ all_waiting active + waiting new) →
+        all_waiting (by_order o ((lane, new) ∷ entry ∷ active) ((entry.0, new) ∷ active) (entry ∷ put nat_cmp lane new active))
+        ≡ (waiting entry.1 + all_waiting active) + waiting new
     by Less is rest = omega arith
     by Equal is rest = absurd (cc)
     by Greater is rest = let more = rest is in omega arith
@@ -121,6 +143,8 @@ pub without_waiting : (active : Active) (p : ℕ → Bool) → all_waiting (wher
 without_waiting [] p = omega arith
 without_waiting (entry ∷ active) p = by (p entry.0) (without_waiting active p)
   where
-    by : (t : Bool) → all_waiting (where_key nat_cmp p active) ≤ all_waiting active → all_waiting (cond t (entry ∷ where_key nat_cmp p active) (where_key nat_cmp p active)) ≤ waiting entry.1 + all_waiting active
+    by : (t : Bool) → all_waiting (where_key nat_cmp p active) ≤ all_waiting active
+        → all_waiting (cond t (entry ∷ where_key nat_cmp p active) (where_key nat_cmp p active))
+        ≤ waiting entry.1 + all_waiting active
     by true rest = omega arith
     by false rest = omega arith

@@ -1,5 +1,6 @@
 -- Whatever row is decided fits.
-use Rattle.std.proofs.Common.{◌≡◌, refl, sym, subst, ℕ, Bool, true, false, not, ◌&&◌, nat_le, ◌+◌, Option, Some, None, Result, Ok, Err, List, [], ◌∷◌, ◌++◌, map, length}
+use Rattle.std.proofs.Common.{◌≡◌, refl, sym, subst, ℕ, Bool, true, false, not, ◌&&◌, nat_le, ◌+◌, Option, Some, None, Result}
+use Rattle.std.proofs.Common.{Ok, Err, List, [], ◌∷◌, ◌++◌, map, length}
 use Rattle.std.proofs.lemmas.List.{reverse-append}
 use Rattle.std.specs.Prelude.{is_some, reverse}
 use Rattle.std.specs.Bool.{⊤}
@@ -26,7 +27,8 @@ use Rattle.base_model.specs.Rows.{Base, size}
 use Rattle.legal_history.specs.Commands.Found.{for_object}
 use Rattle.legal_history.specs.Commands.Tests.{needs_view}
 use Rattle.base_model.specs.Changes.{tree, objects_held, live_row}
-use Rattle.base_model.specs.Closures.{Inputs, Listing, closure, listing, listing_of, version_listed, with_version_at, greater_of, is_version_of, as_placed, placed_by}
+use Rattle.base_model.specs.Closures.{Inputs, Listing, closure, listing, listing_of, version_listed, with_version_at, greater_of}
+use Rattle.base_model.specs.Closures.{is_version_of, as_placed, placed_by}
 use Rattle.base_model.specs.Conditions.{is_label_type, is_placed, may_be_scrubbed}
 use Rattle.legal_history.specs.Commands.Decisions.{Makes, Begins, Scene, first_refusal, unless_refused, needs_room}
 use Rattle.base_model.specs.Fits.{fits, is_base}
@@ -38,7 +40,8 @@ use Rattle.legal_history.proofs.Decisions.CheckoutFits.{checkout_fits, mkbranch_
 use Rattle.legal_history.proofs.Decisions.DirectoryFits.{mkelem_fits, rmname_fits, mv_fits}
 use Rattle.legal_history.proofs.Decisions.LabelFits.{mklabel_fits, rmlabel_fits, mkarrow_fits}
 use Rattle.legal_history.proofs.Decisions.SaveFits.{save_fits}
-use Rattle.legal_history.proofs.Decisions.FileFits.{Fits, RowFits, mkview_fits, rmview_fits, setcs_fits, rm_fits, mktype_fits, rmdo_fits}
+use Rattle.legal_history.proofs.Decisions.FileFits.{Fits, RowFits, mkview_fits, rmview_fits, setcs_fits, rm_fits, mktype_fits}
+use Rattle.legal_history.proofs.Decisions.FileFits.{rmdo_fits}
 use Rattle.legal_history.proofs.Decisions.Handed.{past_is, object_is, row_is, answer_is}
 use Rattle.legal_history.proofs.Decisions.Queried.{query_is}
 use Rattle.base_model.proofs.LabelsHold.{greater, all_listed, version_id_listed}
@@ -52,41 +55,52 @@ abbrev AllVersions : Base → Listing → Type 0
 AllVersions b [] = ⊤
 AllVersions b (entry ∷ listing) = (is_version_of b entry.0 entry.1 ≡ true) × AllVersions b listing
 
-by_place : (b : Base) (o : Ordering) (one two three : Listing) → AllVersions b one → AllVersions b two → AllVersions b three → AllVersions b (by_order o one two three)
+by_place : (b : Base) (o : Ordering) (one two three : Listing) → AllVersions b one → AllVersions b two → AllVersions b three
+    → AllVersions b (by_order o one two three)
 by_place b Less one two three f g h = f
 by_place b Equal one two three f g h = g
 by_place b Greater one two three f g h = h
 
-put_version : (b : Base) (e r : ℕ) (listing : Listing) → ((f : ℕ) → nat_cmp e f ≡ Equal → is_version_of b f r ≡ true) → is_version_of b e r ≡ true → AllVersions b listing → AllVersions b (put nat_cmp e r listing)
+put_version : (b : Base) (e r : ℕ) (listing : Listing) → ((f : ℕ) → nat_cmp e f ≡ Equal → is_version_of b f r ≡ true)
+    → is_version_of b e r ≡ true → AllVersions b listing → AllVersions b (put nat_cmp e r listing)
 put_version b e r [] tied is h = (is, tt)
 put_version b e r (entry ∷ listing) tied is h = by (nat_cmp e entry.0) refl (put_version b e r listing tied is h.1)
   where
-    by : (o : Ordering) → nat_cmp e entry.0 ≡ o → AllVersions b (put nat_cmp e r listing) → AllVersions b (by_order o ((e, r) ∷ entry ∷ listing) ((entry.0, r) ∷ listing) (entry ∷ put nat_cmp e r listing))
+    by : (o : Ordering) → nat_cmp e entry.0 ≡ o → AllVersions b (put nat_cmp e r listing)
+        → AllVersions b (by_order o ((e, r) ∷ entry ∷ listing) ((entry.0, r) ∷ listing) (entry ∷ put nat_cmp e r listing))
     by Less place rest = (is, h)
     by Equal place rest = (tied entry.0 place, h.1)
     by Greater place rest = (h.0, rest)
 
-greatest_version : (b : Base) (e r : ℕ) (o : Option ℕ) → is_version_of b e r ≡ true → ((m : ℕ) → o ≡ Some m → is_version_of b e m ≡ true) → is_version_of b e (greater_of r o) ≡ true
+greatest_version : (b : Base) (e r : ℕ) (o : Option ℕ) → is_version_of b e r ≡ true
+    → ((m : ℕ) → o ≡ Some m → is_version_of b e m ≡ true) → is_version_of b e (greater_of r o) ≡ true
 greatest_version b e r None own others = own
 greatest_version b e r (Some m) own others = greater (λ r. is_version_of b e r ≡ true) r m own (others m refl)
 
-one_version : (b : Base) (row : ℕ) (p : Option VersionId) (inputs : Inputs) → ((q : VersionId) → p ≡ Some q → version_id (tree b) row ≡ Some q) → AllVersions b (listing_of b inputs) → AllVersions b (with_version_at row p (listing_of b inputs))
+one_version : (b : Base) (row : ℕ) (p : Option VersionId) (inputs : Inputs)
+    → ((q : VersionId) → p ≡ Some q → version_id (tree b) row ≡ Some q) → AllVersions b (listing_of b inputs)
+    → AllVersions b (with_version_at row p (listing_of b inputs))
 one_version b row None inputs is h = h
 one_version b row (Some p) inputs is h =
     let r = greater_of row (find nat_cmp p.element (listing_of b inputs)) in
     let version : is_version_of b p.element r ≡ true =
-    greatest_version b p.element row (find nat_cmp p.element (listing_of b inputs)) (is_version b p.element row p (is p refl) refl) (λ m found. (all_listed b inputs).lists p.element m found) in
-    put_version b p.element r (listing_of b inputs) (λ f same. subst (λ f. is_version_of b f r ≡ true) (tied p.element f same) version) version h
+    greatest_version b p.element row (find nat_cmp p.element (listing_of b inputs))
+    (is_version b p.element row p (is p refl) refl) (λ m found. (all_listed b inputs).lists p.element m found) in
+    put_version b p.element r (listing_of b inputs) (λ f same. subst (λ f. is_version_of b f r ≡ true) (tied p.element f same)
+    version) version h
 
 all_versions : (b : Base) (inputs : Inputs) → AllVersions b (listing_of b inputs)
 all_versions b [] = tt
-all_versions b (input ∷ inputs) = one_version b input.1 (version_listed b input.1) inputs (version_id_listed b input.1) (all_versions b inputs)
+all_versions b (input ∷ inputs) = one_version b input.1 (version_listed b input.1) inputs (version_id_listed b input.1)
+    (all_versions b inputs)
 
 all_placed : (b : Base) (listing : Listing) → AllVersions b listing → list_all (is_placed b) (map as_placed listing) ≡ true
 all_placed b [] h = refl
-all_placed b (entry ∷ listing) h = let first : is_version_of b entry.0 entry.1 ≡ true = h.0 in let rest = all_placed b listing h.1 in rw (first, rest) refl
+all_placed b (entry ∷ listing) h = let first : is_version_of b entry.0 entry.1 ≡ true = h.0 in let rest =
+    all_placed b listing h.1 in rw (first, rest) refl
 
-labels_made : (s : Scene) (tests : List (Option Refusal)) (label : List ℕ) (placed : List Placed) → list_all (is_placed s.base) placed ≡ true →
+labels_made : (s : Scene) (tests : List (Option Refusal)) (label : List ℕ) (placed : List Placed)
+    → list_all (is_placed s.base) placed ≡ true →
     (AllPass tests → is_label_type s.base label ≡ true) → RowFits s (labels_or_nothing s tests label placed)
 labels_made s tests label [] all type = answer_is (Fits s) tests [] tt
 labels_made s tests label (one ∷ more) all type =
@@ -94,29 +108,35 @@ labels_made s tests label (one ∷ more) all type =
     let typed : is_label_type s.base label ≡ true = type m.pass in
     fits_by s.base (deeds.Labels label (one ∷ more)) m.room (rw (typed, all) refl))
 
-mklabel_config_fits : (s : Scene) (v : List ℕ) (replace : Bool) (path label : List ℕ) → RowFits s (mklabel_config s v replace path label)
+mklabel_config_fits : (s : Scene) (v : List ℕ) (replace : Bool) (path label : List ℕ)
+    → RowFits s (mklabel_config s v replace path label)
 mklabel_config_fits s v replace path label =
-    past_is (Fits s) (needs_view s.base v ∷ []) (for_object path (held_at (objects_held s.base) v path) (mklabel_config_of s replace label))
+    past_is (Fits s) (needs_view s.base v ∷ []) (for_object path (held_at (objects_held s.base) v path)
+    (mklabel_config_of s replace label))
     (λ before. object_is (Fits s) path (held_at (objects_held s.base) v path) (mklabel_config_of s replace label) (λ id is.
     labels_made s (mklabel_config_tests s replace label id) label (placed_by s.base id)
     (all_placed s.base (listing s.base id) (all_versions s.base (closure s.base id))) (λ pass. unless_passes _ _ pass.0)))
 
 -- each object that is due may be scrubbed
-list_all_behind : {A : Type 0} (test : A → Bool) (xs ys : List A) → list_all test xs ≡ true → list_all test ys ≡ true → list_all test (xs ++ ys) ≡ true
+list_all_behind : {A : Type 0} (test : A → Bool) (xs ys : List A) → list_all test xs ≡ true → list_all test ys ≡ true
+    → list_all test (xs ++ ys) ≡ true
 list_all_behind test [] ys h g = g
 list_all_behind test (x ∷ xs) ys h g =
-    let first : test x ≡ true = and_first _ _ h in let rest = list_all_behind test xs ys (and_second _ _ h) g in rw (first, rest) refl
+    let first : test x ≡ true = and_first _ _ h in let rest = list_all_behind test xs ys (and_second _ _ h) g in
+    rw (first, rest) refl
 
 list_all_reversed : {A : Type 0} (test : A → Bool) (xs : List A) → list_all test xs ≡ true → list_all test (reverse xs) ≡ true
 list_all_reversed test [] h = refl
 list_all_reversed test (x ∷ xs) h =
     let first : test x ≡ true = and_first _ _ h in
     let own : list_all test (x ∷ []) ≡ true = rw first refl in
-    subst (λ l. list_all test l ≡ true) (sym (reverse-append (x ∷ []) xs)) (list_all_behind test (reverse xs) (x ∷ []) (list_all_reversed test xs (and_second _ _ h)) own)
+    subst (λ l. list_all test l ≡ true) (sym (reverse-append (x ∷ []) xs))
+    (list_all_behind test (reverse xs) (x ∷ []) (list_all_reversed test xs (and_second _ _ h)) own)
 
 due_fit : (b : Base) (moment age : ℕ) (rows : Base) → list_all (may_be_scrubbed b) (due_among b moment age rows) ≡ true
 due_fit b moment age [] = refl
-due_fit b moment age (row ∷ older) = by (is_some (live_row b (size older)) && not (is_held (objects_held b) (size older))) (nat_le (row.moment + age) moment) refl (due_fit b moment age older)
+due_fit b moment age (row ∷ older) = by (is_some (live_row b (size older)) && not (is_held (objects_held b) (size older)))
+    (nat_le (row.moment + age) moment) refl (due_fit b moment age older)
   where
     by : (x y : Bool) → may_be_scrubbed b (size older) ≡ x → list_all (may_be_scrubbed b) (due_among b moment age older) ≡ true →
         list_all (may_be_scrubbed b) (put_if (x && y) (size older) (due_among b moment age older)) ≡ true
@@ -127,10 +147,12 @@ due_fit b moment age (row ∷ older) = by (is_some (live_row b (size older)) && 
 
 scrub_made : (s : Scene) (objects : List ℕ) → list_all (may_be_scrubbed s.base) objects ≡ true → RowFits s (scrub_of s objects)
 scrub_made s [] all = answer_is (Fits s) [] [] tt
-scrub_made s (id ∷ ids) all = row_is (Fits s) s [] (deeds.Scrub (id ∷ ids)) (λ m. fits_by s.base (deeds.Scrub (id ∷ ids)) m.room all)
+scrub_made s (id ∷ ids) all = row_is (Fits s) s [] (deeds.Scrub (id ∷ ids))
+    (λ m. fits_by s.base (deeds.Scrub (id ∷ ids)) m.room all)
 
 scrub_fits : (s : Scene) (age : ℕ) → RowFits s (scrub s age)
-scrub_fits s age = scrub_made s (due_objects s.base s.moment age) (list_all_reversed (may_be_scrubbed s.base) (due_among s.base s.moment age s.base) (due_fit s.base s.moment age s.base))
+scrub_fits s age = scrub_made s (due_objects s.base s.moment age) (list_all_reversed (may_be_scrubbed s.base)
+    (due_among s.base s.moment age s.base) (due_fit s.base s.moment age s.base))
 
 -- a build makes no row at its begin
 begin_fits : (s : Scene) (refusal : Option Refusal) (us : List Unit) → RowFits s (unless_refused refusal (Begins us))
@@ -167,8 +189,10 @@ command_fits s (commands.Change (changes.MklabelConfig v replace path label)) ba
 command_fits s (commands.Change (changes.Mkarrow v path version)) base = mkarrow_fits s v path version base
 command_fits s (commands.Query query) base = query_is (Fits s) s.base query (λ text. tt)
 command_fits s (commands.Build asked) base =
-    build_fits s (first_refusal (clearmake_tests s asked.view)) (units (texts s.base asked.view) asked.file asked.macros asked.goals)
+    build_fits s (first_refusal (clearmake_tests s asked.view)) (units (texts s.base asked.view) asked.file asked.macros
+    asked.goals)
 
 -- A row that is decided fits, for every command that makes one.
-pub decided_fits : (s : Scene) (command : Command) → is_base s.base ≡ true → (made : Deed) → decision s command ≡ Ok (Makes made) → fits s.base made ≡ true
+pub decided_fits : (s : Scene) (command : Command) → is_base s.base ≡ true → (made : Deed) → decision s command ≡ Ok (Makes made)
+    → fits s.base made ≡ true
 decided_fits s command base made h = command_fits s command base (Makes made) h

@@ -15,7 +15,8 @@ builds_no_row : (o : Option Refusal) (us : List Unit) (made : Deed) → unless_r
 builds_no_row (Some refusal) us made h = cc
 builds_no_row None us made h = cc
 
-pub builds_nothing : (s : Scene) (o : Option Refusal) (us : Result (List Unit) Refusal) (made : Deed) → build_unless s o us ≡ Ok (Makes made) → ⊥
+pub builds_nothing : (s : Scene) (o : Option Refusal) (us : Result (List Unit) Refusal) (made : Deed)
+    → build_unless s o us ≡ Ok (Makes made) → ⊥
 builds_nothing s (Some refusal) us made h = cc
 builds_nothing s None (Err refusal) made h = cc
 builds_nothing s None (Ok us) made h = builds_no_row (needs_room s (length us)) us made h

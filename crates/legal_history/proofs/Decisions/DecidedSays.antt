@@ -1,6 +1,7 @@
 -- What it says of a command that something was decided on it: of a row that there is room for one more, that it takes nothing
 -- from a view in which a build is active, and that it scrubs only where the command does; of a build what its units are.
-use Rattle.std.proofs.Common.{◌≡◌, refl, subst, ℕ, ◌+◌, ◌≤◌, Bool, true, false, Option, Some, None, Result, Ok, Err, List, [], ◌∷◌, ◌++◌, length}
+use Rattle.std.proofs.Common.{◌≡◌, refl, subst, ℕ, ◌+◌, ◌≤◌, Bool, true, false, Option, Some, None, Result, Ok, Err, List, []}
+use Rattle.std.proofs.Common.{◌∷◌, ◌++◌, length}
 use Rattle.std.proofs.lemmas.Bool.{ltb-false}
 use Rattle.std.specs.Bool.{⊤}
 use Rattle.std.specs.Prelude.{if◌then◌else◌, option_map}
@@ -22,9 +23,11 @@ use Rattle.cc_names.specs.declared.units.Unit.{Unit}
 use Rattle.make_grammar.specs.Graphs.{units}
 use Rattle.base_model.specs.Rows.{size}
 use Rattle.legal_history.specs.Builds.Active.{Active, building, rows_reserved}
-use Rattle.legal_history.specs.Commands.CheckoutLines.{checkout_of, checkout_by_rule, checkout_tests, checkout_deed, branch_by, deciding_rule}
+use Rattle.legal_history.specs.Commands.CheckoutLines.{checkout_of, checkout_by_rule, checkout_tests, checkout_deed, branch_by}
+use Rattle.legal_history.specs.Commands.CheckoutLines.{deciding_rule}
 use Rattle.base_model.specs.Conditions.{exists}
-use Rattle.legal_history.specs.Commands.Decisions.{Decision, Makes, Answers, Begins, Scene, first_refusal, unless_refused, needs_room, makes, answers}
+use Rattle.legal_history.specs.Commands.Decisions.{Decision, Makes, Answers, Begins, Scene, first_refusal, unless_refused}
+use Rattle.legal_history.specs.Commands.Decisions.{needs_room, makes, answers}
 use Rattle.legal_history.specs.Commands.FileLines.{save_deed}
 use Rattle.base_model.specs.Fits.{row_limit}
 use Rattle.base_model.specs.Texts.{texts}
@@ -88,7 +91,8 @@ Says s command (Answers text) = ⊤
 Says s command (Begins us) = BeginsBy s command us
 
 -- a decision that no test refused
-passed : (refusal : Option Refusal) (decided d : Decision) → unless_refused refusal decided ≡ Ok d → (refusal ≡ None) × (decided ≡ d)
+passed : (refusal : Option Refusal) (decided d : Decision) → unless_refused refusal decided ≡ Ok d → (refusal ≡ None)
+    × (decided ≡ d)
 passed (Some refusal) decided d h = absurd (cc)
 passed None decided d h = (refl, cc)
 
@@ -99,7 +103,8 @@ not_refused false refusal h = refl
 has_room : (s : Scene) (rows : ℕ) → needs_room s rows ≡ None → size s.base + rows_reserved s.active + rows ≤ row_limit
 has_room s rows h = ltb-false _ _ (not_refused _ _ h)
 
-pub by_row : (s : Scene) (command : Command) (tests : List (Option Refusal)) (deed : Deed) → (AllPass tests → Suits s.active command deed) → IfDecided (Says s command) (makes s tests deed)
+pub by_row : (s : Scene) (command : Command) (tests : List (Option Refusal)) (deed : Deed)
+    → (AllPass tests → Suits s.active command deed) → IfDecided (Says s command) (makes s tests deed)
 by_row s command tests deed suits d h =
     let p = passed (first_refusal (tests ++ needs_room s 1 ∷ [])) (Makes deed) d h in
     let all = all_pass (tests ++ needs_room s 1 ∷ []) p.0 in
@@ -110,20 +115,23 @@ by_row s command tests deed suits d h =
       scrubs = scrubs_of s.active command deed suit;
     })
 
-by_answer : (s : Scene) (command : Command) (tests : List (Option Refusal)) (text : List ℕ) → IfDecided (Says s command) (answers tests text)
+by_answer : (s : Scene) (command : Command) (tests : List (Option Refusal)) (text : List ℕ)
+    → IfDecided (Says s command) (answers tests text)
 by_answer s command tests text = answer_is (Says s command) tests text tt
 
 pub was_idle : (o : Option Tag) → option_map Building o ≡ None → o ≡ None
 was_idle None h = refl
 was_idle (Some tag) h = absurd (cc)
 
-pub saved_suits : (active : Active) (command : Command) (v path text : List ℕ) (seen : Seen) → Suits active command (save_deed v path text seen)
+pub saved_suits : (active : Active) (command : Command) (v path text : List ℕ) (seen : Seen)
+    → Suits active command (save_deed v path text seen)
 saved_suits active command v path text (Element e picked) = tt
 saved_suits active command v path text (Unselected e) = tt
 saved_suits active command v path text (Private row) = tt
 saved_suits active command v path text Nothing = tt
 
-pub by_checkout : (s : Scene) (command : Command) (v : List ℕ) (unreserved : Bool) (e : ℕ) (picked : Picked) → IfDecided (Says s command) (checkout_of s v unreserved e picked)
+pub by_checkout : (s : Scene) (command : Command) (v : List ℕ) (unreserved : Bool) (e : ℕ) (picked : Picked)
+    → IfDecided (Says s command) (checkout_of s v unreserved e picked)
 by_checkout s command v unreserved e picked = by (deciding_rule s.base v picked)
   where
     suits : (o : Option (List ℕ)) → Suits s.active command (checkout_deed v unreserved e picked o)
@@ -131,21 +139,27 @@ by_checkout s command v unreserved e picked = by (deciding_rule s.base v picked)
     suits (Some name) = tt
 
     by : (rule : Option Rule) → IfDecided (Says s command) (checkout_by_rule s v unreserved e picked rule)
-    by rule = by_row s command (checkout_tests s v unreserved e picked rule) (checkout_deed v unreserved e picked (branch_by rule)) (λ p. suits (branch_by rule))
+    by rule = by_row s command (checkout_tests s v unreserved e picked rule)
+        (checkout_deed v unreserved e picked (branch_by rule)) (λ p. suits (branch_by rule))
 
-pub by_labels : (s : Scene) (command : Command) (tests : List (Option Refusal)) (label : List ℕ) (placed : List Placed) → IfDecided (Says s command) (labels_or_nothing s tests label placed)
+pub by_labels : (s : Scene) (command : Command) (tests : List (Option Refusal)) (label : List ℕ) (placed : List Placed)
+    → IfDecided (Says s command) (labels_or_nothing s tests label placed)
 by_labels s command tests label [] = by_answer s command tests []
 by_labels s command tests label (one ∷ more) = by_row s command tests (deeds.Labels label (one ∷ more)) (λ p. tt)
 
-pub by_scrub : (s : Scene) (age : ℕ) (objects : List ℕ) → IfDecided (Says s (commands.Change (changes.Scrub age))) (scrub_of s objects)
+pub by_scrub : (s : Scene) (age : ℕ) (objects : List ℕ) → IfDecided (Says s (commands.Change (changes.Scrub age)))
+    (scrub_of s objects)
 by_scrub s age [] = by_answer s (commands.Change (changes.Scrub age)) [] []
 by_scrub s age (id ∷ ids) =
     by_row s (commands.Change (changes.Scrub age)) [] (deeds.Scrub (id ∷ ids)) (λ p. record { age = age; is = refl })
 
-pub by_build : (s : Scene) (asked : Clearmake) → IfDecided (Says s (commands.Build asked)) (clearmake s asked.view asked.file asked.macros asked.goals)
-by_build s asked d h = by (first_refusal (clearmake_tests s asked.view)) (units (texts s.base asked.view) asked.file asked.macros asked.goals) refl refl h
+pub by_build : (s : Scene) (asked : Clearmake) → IfDecided (Says s (commands.Build asked))
+    (clearmake s asked.view asked.file asked.macros asked.goals)
+by_build s asked d h = by (first_refusal (clearmake_tests s asked.view))
+    (units (texts s.base asked.view) asked.file asked.macros asked.goals) refl refl h
   where
-    by : (o : Option Refusal) (r : Result (List Unit) Refusal) → first_refusal (clearmake_tests s asked.view) ≡ o → units (texts s.base asked.view) asked.file asked.macros asked.goals ≡ r → build_unless s o r ≡ Ok d →
+    by : (o : Option Refusal) (r : Result (List Unit) Refusal) → first_refusal (clearmake_tests s asked.view) ≡ o
+        → units (texts s.base asked.view) asked.file asked.macros asked.goals ≡ r → build_unless s o r ≡ Ok d →
         Says s (commands.Build asked) d
     by (Some refusal) r passes is h = absurd (cc)
     by None (Err refusal) passes is h = absurd (cc)

@@ -1,5 +1,6 @@
 -- A scrub lists exactly the objects that are due, in ascending order.
-use Rattle.std.proofs.Common.{◌≡◌, refl, ap, sym, subst, ◌∙◌, ℕ, zero, suc, ◌+◌, ◌-◌, ◌<◌, Bool, true, false, ◌||◌, ◌==◌, Option, Some, None, Ok, List, [], ◌∷◌, length, get_or, arith}
+use Rattle.std.proofs.Common.{◌≡◌, refl, ap, sym, subst, ◌∙◌, ℕ, zero, suc, ◌+◌, ◌-◌, ◌<◌, Bool, true, false, ◌||◌, ◌==◌, Option}
+use Rattle.std.proofs.Common.{Some, None, Ok, List, [], ◌∷◌, length, get_or, arith}
 use Rattle.std.proofs.lemmas.Bool.Decides.{nat_tests}
 use Rattle.std.proofs.lemmas.List.{get_or-reverse, length-reverse}
 use Rattle.std.proofs.lemmas.List.Sorted.{IsPermutation-reverse, list_any-IsPermutation}
@@ -24,19 +25,25 @@ higher_row [] n low = refl
 higher_row (row ∷ older) n low = let rest = higher_row older n (omega arith) in grind (arith, nat_tests)
 
 -- whether an object is listed among those of some rows
-listed_among : (b : Base) (moment age id : ℕ) (rows : Base) → list_any (λ object. object == id) (due_among b moment age rows) ≡ due_by b moment age id (row_at rows id)
+listed_among : (b : Base) (moment age id : ℕ) (rows : Base) → list_any (λ object. object == id) (due_among b moment age rows)
+    ≡ due_by b moment age id (row_at rows id)
 listed_among b moment age id [] = refl
-listed_among b moment age id (row ∷ older) = by (is_due b moment age (size older) row.moment) (size older == id) refl refl (listed_among b moment age id older)
+listed_among b moment age id (row ∷ older) = by (is_due b moment age (size older) row.moment) (size older == id) refl refl
+    (listed_among b moment age id older)
   where
-    by : (s t : Bool) → is_due b moment age (size older) row.moment ≡ s → (size older == id) ≡ t → list_any (λ object. object == id) (due_among b moment age older) ≡ due_by b moment age id (row_at older id) →
-        list_any (λ object. object == id) (put_if s (size older) (due_among b moment age older)) ≡ due_by b moment age id (elim t as (λ x. Option Plain) [ true ↦ Some row | false ↦ row_at older id ])
+    by : (s t : Bool) → is_due b moment age (size older) row.moment ≡ s → (size older == id) ≡ t
+        → list_any (λ object. object == id) (due_among b moment age older) ≡ due_by b moment age id (row_at older id) →
+        list_any (λ object. object == id) (put_if s (size older) (due_among b moment age older))
+        ≡ due_by b moment age id (elim t as (λ x. Option Plain) [ true ↦ Some row | false ↦ row_at older id ])
     by true true is here rest =
         let number = same_number (size older) id here in
-        ap (λ t. t || list_any (λ object. object == id) (due_among b moment age older)) here ∙ sym (ap (λ n. is_due b moment age n row.moment) (sym number) ∙ is)
+        ap (λ t. t || list_any (λ object. object == id) (due_among b moment age older)) here
+        ∙ sym (ap (λ n. is_due b moment age n row.moment) (sym number) ∙ is)
     by true false is here rest = ap (λ t. t || list_any (λ object. object == id) (due_among b moment age older)) here ∙ rest
     by false true is here rest =
         let number = same_number (size older) id here in
-        rest ∙ ap (due_by b moment age id) (higher_row older id (omega arith)) ∙ sym (ap (λ n. is_due b moment age n row.moment) (sym number) ∙ is)
+        rest ∙ ap (due_by b moment age id) (higher_row older id (omega arith))
+        ∙ sym (ap (λ n. is_due b moment age n row.moment) (sym number) ∙ is)
     by false false is here rest = rest
 
 some_objects : List ℕ → Deed → List ℕ
@@ -49,10 +56,12 @@ unfolding some_objects
 scrubbed_of s [] objects h = absurd (answers_nothing [] [] (deeds.Scrub objects) h)
 scrubbed_of s (id ∷ ids) objects h = ap (some_objects []) (made_by s [] (deeds.Scrub (id ∷ ids)) (deeds.Scrub objects) h).is
 
-pub scrub_lists : (s : Scene) (age : ℕ) (objects : List ℕ) (id : ℕ) → scrub_of s (due_objects s.base s.moment age) ≡ Ok (Makes (deeds.Scrub objects)) → list_any (λ object. object == id) objects ≡ is_due_object s.base s.moment age id
+pub scrub_lists : (s : Scene) (age : ℕ) (objects : List ℕ) (id : ℕ) → scrub_of s (due_objects s.base s.moment age)
+    ≡ Ok (Makes (deeds.Scrub objects)) → list_any (λ object. object == id) objects ≡ is_due_object s.base s.moment age id
 scrub_lists s age objects id h =
     ap (list_any (λ object. object == id)) (scrubbed_of s (due_objects s.base s.moment age) objects h)
-    ∙ sym (list_any-IsPermutation (λ object. object == id) (due_among s.base s.moment age s.base) (reverse (due_among s.base s.moment age s.base)) (IsPermutation-reverse (due_among s.base s.moment age s.base)))
+    ∙ sym (list_any-IsPermutation (λ object. object == id) (due_among s.base s.moment age s.base)
+    (reverse (due_among s.base s.moment age s.base)) (IsPermutation-reverse (due_among s.base s.moment age s.base)))
     ∙ listed_among s.base s.moment age id s.base
 
 -- numbers that fall, each below the one before it and the first below this one
@@ -70,7 +79,8 @@ falls_with false n xs h = falls_wider n xs h
 
 due_falls : (b : Base) (moment age : ℕ) (rows : Base) → FallsBelow (size rows) (due_among b moment age rows)
 due_falls b moment age [] = tt
-due_falls b moment age (row ∷ older) = falls_with (is_due b moment age (size older) row.moment) (size older) (due_among b moment age older) (due_falls b moment age older)
+due_falls b moment age (row ∷ older) = falls_with (is_due b moment age (size older) row.moment) (size older)
+    (due_among b moment age older) (due_falls b moment age older)
 
 falls_at : (n : ℕ) (xs : List ℕ) (k : ℕ) → FallsBelow n xs → suc k < length xs → get_or xs (suc k) 0 < get_or xs k 0
 falls_at n [] k h low = absurd (omega arith)
@@ -83,11 +93,13 @@ rises_back : (n : ℕ) (xs : List ℕ) → FallsBelow n xs → IsStrictlyIncreas
 rises_back n xs h k low =
     let within : k + 1 < length xs = subst (λ m. k + 1 < m) (length-reverse xs) low in
     let later : length xs - 1 - k ≡ suc (length xs - 1 - (k + 1)) = omega (arith, within) in
-    subst (λ m. m < get_or (reverse xs) (k + 1) 0) (sym (get_or-reverse xs k 0 (omega (arith, within)) ∙ ap (λ m. get_or xs m 0) later))
+    subst (λ m. m < get_or (reverse xs) (k + 1) 0) (sym (get_or-reverse xs k 0 (omega (arith, within))
+    ∙ ap (λ m. get_or xs m 0) later))
     (subst (λ m. get_or xs (suc (length xs - 1 - (k + 1))) 0 < m) (sym (get_or-reverse xs (k + 1) 0 within))
     (falls_at n xs (length xs - 1 - (k + 1)) h (omega (arith, within))))
 
-pub scrub_ascends : (s : Scene) (age : ℕ) (objects : List ℕ) → scrub_of s (due_objects s.base s.moment age) ≡ Ok (Makes (deeds.Scrub objects)) → IsStrictlyIncreasing objects
+pub scrub_ascends : (s : Scene) (age : ℕ) (objects : List ℕ) → scrub_of s (due_objects s.base s.moment age)
+    ≡ Ok (Makes (deeds.Scrub objects)) → IsStrictlyIncreasing objects
 scrub_ascends s age objects h =
     subst IsStrictlyIncreasing (sym (scrubbed_of s (due_objects s.base s.moment age) objects h))
     (rises_back (size s.base) (due_among s.base s.moment age s.base) (due_falls s.base s.moment age s.base))

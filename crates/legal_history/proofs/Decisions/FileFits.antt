@@ -43,7 +43,8 @@ mkview_fits s v = row_is (Fits s) s (mkview_tests s v) (deeds.Mkview v) by
     by m = let new : exists s.base v ≡ false = where_passes _ _ m.pass.0 in fits_by s.base (deeds.Mkview v) m.room (ap not new)
 
 pub rmview_fits : (s : Scene) (v : List ℕ) (force : Bool) → RowFits s (rmview s v force)
-rmview_fits s v force = row_is (Fits s) s (rmview_tests s v force) (deeds.Rmview v) (λ m. fits_by s.base (deeds.Rmview v) m.room (unless_passes _ _ m.pass.0))
+rmview_fits s v force = row_is (Fits s) s (rmview_tests s v force) (deeds.Rmview v)
+    (λ m. fits_by s.base (deeds.Rmview v) m.room (unless_passes _ _ m.pass.0))
 
 were_read : (rules : Result (List Rule) SpecError) → needs_rules rules ≡ None → is_ok rules ≡ true
 were_read (Ok rules) e = refl
@@ -73,11 +74,14 @@ rm_fits s v path = row_is (Fits s) s (rm_tests s v path) (deeds.Rm v path) by
     by : Made s (rm_tests s v path) (deeds.Rm v path) (deeds.Rm v path) → fits s.base (deeds.Rm v path) ≡ true
     by m =
         let seen = was_private path (at s.base v path) m.pass.1.1.0 in
-        let there : private s.base v path ≡ Some seen.0 = subst (λ p. private s.base v p ≡ Some seen.0) back (private_at s.base v (reverse (names_of path)) seen.0 seen.1) in
+        let there : private s.base v path ≡ Some seen.0 = subst (λ p. private s.base v p ≡ Some seen.0) back
+        (private_at s.base v (reverse (names_of path)) seen.0 seen.1) in
         fits_by s.base (deeds.Rm v path) m.room (rw there refl)
 
 pub mktype_fits : (s : Scene) (kind : TypeKind) (name : List ℕ) → RowFits s (mktype s kind name)
-mktype_fits s kind name = row_is (Fits s) s (needs_free_type s.base name ∷ []) (deeds.Mktype kind name) (λ m. fits_by s.base (deeds.Mktype kind name) m.room (ap not (where_passes _ _ m.pass.0)))
+mktype_fits s kind name = row_is (Fits s) s (needs_free_type s.base name ∷ []) (deeds.Mktype kind name)
+    (λ m. fits_by s.base (deeds.Mktype kind name) m.room (ap not (where_passes _ _ m.pass.0)))
 
 pub rmdo_fits : (s : Scene) (v path : List ℕ) → RowFits s (rmdo s v path)
-rmdo_fits s v path = row_is (Fits s) s (rmdo_tests s v path) (deeds.Drop v path) (λ m. fits_by s.base (deeds.Drop v path) m.room (unless_passes _ _ m.pass.1.1.0))
+rmdo_fits s v path = row_is (Fits s) s (rmdo_tests s v path) (deeds.Drop v path)
+    (λ m. fits_by s.base (deeds.Drop v path) m.room (unless_passes _ _ m.pass.1.1.0))

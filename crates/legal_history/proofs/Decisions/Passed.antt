@@ -1,12 +1,14 @@
 -- What it means that a command was decided to make a row: each of its tests passed.
-use Rattle.std.proofs.Common.{◌≡◌, refl, ℕ, ◌+◌, ◌≤◌, Bool, true, false, Option, Some, None, Ok, List, [], ◌∷◌, ◌++◌, arith, if◌then◌else◌, nat_lt}
+use Rattle.std.proofs.Common.{◌≡◌, refl, ℕ, ◌+◌, ◌≤◌, Bool, true, false, Option, Some, None, Ok, List, [], ◌∷◌, ◌++◌, arith}
+use Rattle.std.proofs.Common.{if◌then◌else◌, nat_lt}
 use Rattle.std.proofs.lemmas.Bool.{lt-ltb, ltb-false}
 use Rattle.std.specs.Bool.{⊤}
 use Rattle.cc_names.specs.declared.refusals.Refusal.{Refusal}
 use Rattle.cc_names.specs.declared.rows.Deed.{Deed}
 use Rattle.base_model.specs.Rows.{Base, size}
 use Rattle.legal_history.specs.Builds.Active.{rows_reserved}
-use Rattle.legal_history.specs.Commands.Decisions.{Decision, Makes, Scene, first_refusal, unless_refused, needs_room, makes, answers}
+use Rattle.legal_history.specs.Commands.Decisions.{Decision, Makes, Scene, first_refusal, unless_refused, needs_room, makes}
+use Rattle.legal_history.specs.Commands.Decisions.{answers}
 use Rattle.base_model.specs.Fits.{deed_fits, fits, row_limit}
 use Rattle.legal_history.specs.Commands.Tests.{refused_where, refused_unless}
 
@@ -29,11 +31,13 @@ rest_passes [] more h = h
 rest_passes (test ∷ tests) more h = rest_passes tests more h.1
 
 -- what was decided, and that no test refused
-decided_of : (refusal : Option Refusal) (decision other : Decision) → unless_refused refusal decision ≡ Ok other → other ≡ decision
+decided_of : (refusal : Option Refusal) (decision other : Decision) → unless_refused refusal decision ≡ Ok other
+    → other ≡ decision
 decided_of (Some refusal) decision other e = absurd (cc)
 decided_of None decision other e = cc
 
-none_refused : (refusal : Option Refusal) (decision other : Decision) → unless_refused refusal decision ≡ Ok other → refusal ≡ None
+none_refused : (refusal : Option Refusal) (decision other : Decision) → unless_refused refusal decision ≡ Ok other
+    → refusal ≡ None
 none_refused (Some refusal) decision other e = absurd (cc)
 none_refused None decision other e = refl
 
@@ -52,7 +56,8 @@ pub record Made (s : Scene) (tests : List (Option Refusal)) (deed made : Deed) :
   pub room : nat_lt (size s.base) row_limit ≡ true
   pub is : made ≡ deed
 
-pub made_by : (s : Scene) (tests : List (Option Refusal)) (deed made : Deed) → makes s tests deed ≡ Ok (Makes made) → Made s tests deed made
+pub made_by : (s : Scene) (tests : List (Option Refusal)) (deed made : Deed) → makes s tests deed ≡ Ok (Makes made)
+    → Made s tests deed made
 made_by s tests deed made h =
     let passed = all_pass (tests ++ needs_room s 1 ∷ []) (none_refused _ _ _ h) in
     let same = decided_of _ _ _ h in

@@ -33,7 +33,8 @@ file_or_directory None h d = absurd (cc)
 file_or_directory (Some File) h d = refl
 file_or_directory (Some Directory) h d = absurd (cc)
 
-saves_by : (b : Base) (v path : List ℕ) (e : ℕ) (d : Bool) → saves_element d path (out b v e) ≡ None → (d ≡ false) × (has_out b v e ≡ true)
+saves_by : (b : Base) (v path : List ℕ) (e : ℕ) (d : Bool) → saves_element d path (out b v e) ≡ None → (d ≡ false)
+    × (has_out b v e ≡ true)
 saves_by b v path e true h = absurd (cc)
 saves_by b v path e false h = (refl, was_out path (out b v e) h)
 
@@ -55,9 +56,10 @@ save_made s v path text Nothing there room known h = fits_by s.base (deeds.Put v
 save_made s v path text (Element e picked) there room known h = saved_element s v path text e room known h
 save_made s v path text (Unselected e) there room known h = saved_element s v path text e room known h
 
--- the row of a save fits, where an element that the view has out and that is no directory is a file
+-- the row of a save fits, where an element that the view has checked out and that is no directory is a file
 save_fits_by : (s : Scene) (v path text : List ℕ) →
-    ((e : ℕ) → has_out s.base v e ≡ true → is_directory s.base e ≡ false → is_file s.base e ≡ true) → RowFits s (save s v path text)
+    ((e : ℕ) → has_out s.base v e ≡ true → is_directory s.base e ≡ false → is_file s.base e ≡ true)
+    → RowFits s (save s v path text)
 save_fits_by s v path text known =
     row_is (Fits s) s (save_tests s v path) (save_deed v path text (at s.base v path))
     (λ m. save_made s v path text (at s.base v path) (unless_passes _ _ m.pass.0) m.room known m.pass.1.1.1.1.0)

@@ -1,9 +1,10 @@
 -- Two bases that differ in outputs alone say the same, and one is sound where the other is and live objects are the same.
-use Rattle.std.proofs.Common.{◌≡◌, refl, ap, sym, ◌∙◌, ℕ, Bool, true, false, not, ◌||◌, ◌==◌, Option, Some, None, List, [], ◌∷◌, arith}
+use Rattle.std.proofs.Common.{◌≡◌, refl, ap, sym, ◌∙◌, ℕ, Bool, true, false, not, ◌||◌, ◌==◌, Option, Some, None, List, [], ◌∷◌}
+use Rattle.std.proofs.Common.{arith}
 use Rattle.std.specs.Prelude.{is_some}
 use Rattle.cc_names.specs.declared.rows.Deed.{Deed}
 use Rattle.cc_names.specs.declared.rows.Deed.TheVariants as deeds
-use Rattle.base_model.specs.Blanked.{blank_deed, blanked, AreSameButForOutputs, AreSameButForScrubbedOutputs}
+use Rattle.base_model.specs.Blanked.{blank_deed, with_blanks, AreSameButForOutputs, AreSameButForScrubbedOutputs}
 use Rattle.base_model.specs.Changes.{live_row, targets_of}
 use Rattle.base_model.specs.Closures.{is_publish, is_publish_deed}
 use Rattle.base_model.specs.Fits.{fits, is_base}
@@ -19,7 +20,7 @@ use Rattle.legal_history.proofs.Reuse.TrueObjects.{live_is_true, object_text}
 use Rattle.base_model.proofs.Tables.{same_number}
 
 -- what is the same of a blanked base is the same of two bases
-by_blanked : {A : Type 0} (f : Base → A) → ((b : Base) → f (blanked b) ≡ f b) → (one two : Base) →
+by_blanked : {A : Type 0} (f : Base → A) → ((b : Base) → f (with_blanks b) ≡ f b) → (one two : Base) →
     AreSameButForOutputs one two → f two ≡ f one
 by_blanked f h one two same = sym (h two) ∙ ap f (sym same) ∙ h one
 

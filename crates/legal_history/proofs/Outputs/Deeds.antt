@@ -5,7 +5,7 @@ use Rattle.cc_names.specs.Last.{Effect, value_after, last}
 use Rattle.cc_names.specs.declared.rows.Deed.{Deed}
 use Rattle.cc_names.specs.declared.rows.Deed.TheVariants as deeds
 use Rattle.cc_names.specs.declared.rows.ReadOf.{ReadOf}
-use Rattle.base_model.specs.Blanked.{blank_outputs, blank_deed, blank_row, blanked}
+use Rattle.base_model.specs.Blanked.{blank_outputs, blank_deed, blank_row, with_blanks}
 use Rattle.base_model.specs.Rows.{Base, size, row_at, deed_of, deed_at}
 
 -- what a function says of publishes
@@ -26,13 +26,13 @@ pub deed_same : {A : Type 0} (f : Deed → A) → AsksNoOutput f → (deed : Dee
 deed_same f h (deeds.Publish v targets script entries outputs) = λ i. h i v targets script entries outputs
 deed_same f h deed = refl
 
-pub size_same : (b : Base) → size (blanked b) ≡ size b
+pub size_same : (b : Base) → size (with_blanks b) ≡ size b
 size_same [] = refl
 size_same (row ∷ older) = ap suc (size_same older)
 
--- what the last row set that bears on a thing
+-- what the last row set that affects a thing
 pub last_same : {A : Type 0} (effect : ℕ → Deed → Effect A) → ((n : ℕ) → AsksNoOutput (effect n)) → (b : Base) →
-    last (λ older (row : Plain). effect (size older) row.deed) (blanked b)
+    last (λ older (row : Plain). effect (size older) row.deed) (with_blanks b)
     ≡ last (λ older (row : Plain). effect (size older) row.deed) b
 last_same effect h [] = refl
 last_same effect h (row ∷ older) =
@@ -43,12 +43,13 @@ abbrev pub deed_among : Bool → Plain → Base → ℕ → Option Deed
 deed_among t row older n = deed_of (elim t as (λ x. Option Plain) [ true ↦ Some row | false ↦ row_at older n ])
 
 pub at_same : {A : Type 0} (f : Option Deed → A) → AsksNoOutput (λ deed. f (Some deed)) → (b : Base) (n : ℕ) →
-    f (deed_at (blanked b) n) ≡ f (deed_at b n)
+    f (deed_at (with_blanks b) n) ≡ f (deed_at b n)
 at_same f h [] n = refl
 at_same f h (row ∷ older) n =
-    (λ i. f (deed_among (size_same older i == n) (blank_row row) (blanked older) n)) ∙ by (size older == n) (at_same f h older n)
+    (λ i. f (deed_among (size_same older i == n) (blank_row row) (with_blanks older) n))
+    ∙ by (size older == n) (at_same f h older n)
   where
-    by : (t : Bool) → f (deed_at (blanked older) n) ≡ f (deed_at older n) →
-        f (deed_among t (blank_row row) (blanked older) n) ≡ f (deed_among t row older n)
+    by : (t : Bool) → f (deed_at (with_blanks older) n) ≡ f (deed_at older n) →
+        f (deed_among t (blank_row row) (with_blanks older) n) ≡ f (deed_among t row older n)
     by true rest = deed_same (λ deed. f (Some deed)) h row.deed
     by false rest = rest

@@ -4,7 +4,8 @@ use Rattle.std.specs.Prelude.{is_some}
 use Rattle.cc_names.specs.Formed.{Plain}
 use Rattle.cc_names.specs.declared.rows.Deed.{Deed}
 use Rattle.cc_names.specs.declared.rows.Deed.TheVariants as deeds
-use Rattle.base_model.specs.Blanked.{blank_outputs, blank_deed, blank_row, blank_unless, blanked_but, blanked, emptied, AreSameButForScrubbedOutputs}
+use Rattle.base_model.specs.Blanked.{blank_outputs, blank_deed, blank_row, blank_unless, blanked_but, with_blanks, without_bytes}
+use Rattle.base_model.specs.Blanked.{AreSameButForScrubbedOutputs}
 use Rattle.base_model.specs.Changes.{live_row}
 use Rattle.base_model.specs.Fits.{is_base}
 use Rattle.base_model.specs.Rows.{Base, size, deed_at}
@@ -26,7 +27,7 @@ row_twice : (t : Bool) (row : Plain) → blank_row (blank_unless t row) ≡ blan
 row_twice true row = refl
 row_twice false row = λ i. record row { deed = deed_twice row.deed i }
 
-pub but_same : (keeps : ℕ → Bool) (b : Base) → blanked (blanked_but keeps b) ≡ blanked b
+pub but_same : (keeps : ℕ → Bool) (b : Base) → with_blanks (blanked_but keeps b) ≡ with_blanks b
 but_same keeps [] = refl
 but_same keeps (row ∷ older) = λ i. row_twice (keeps (size older)) row i ∷ but_same keeps older i
 
@@ -45,13 +46,13 @@ but_kept keeps (row ∷ older) id keep =
     by true is rest = λ i. Some ((blank_unless ((ap keeps (same_number (size older) id is) ∙ keep) i) row).deed)
     by false is rest = rest
 
-pub emptied_alike : (b : Base) → AreSameButForScrubbedOutputs b (emptied b)
+pub emptied_alike : (b : Base) → AreSameButForScrubbedOutputs b (without_bytes b)
 emptied_alike b =
     let lives : ℕ → Bool = λ id. is_some (live_row b id) in
     record { rows = sym (but_same lives b); kept = λ id is. but_kept lives b id is }
 
-pub emptied_is_base : (b : Base) → is_base (emptied b) ≡ is_base b
-emptied_is_base b = base_alike b (emptied b) (emptied_alike b).rows
+pub emptied_is_base : (b : Base) → is_base (without_bytes b) ≡ is_base b
+emptied_is_base b = base_alike b (without_bytes b) (emptied_alike b).rows
 
-pub emptied_is_sound : (b : Base) → is_base b ≡ true → IsSound b → IsSound (emptied b)
-emptied_is_sound b = sound_alike b (emptied b) (emptied_alike b)
+pub emptied_is_sound : (b : Base) → is_base b ≡ true → IsSound b → IsSound (without_bytes b)
+emptied_is_sound b = sound_alike b (without_bytes b) (emptied_alike b)

@@ -1,10 +1,11 @@
 -- The text of a row that published nothing, and the run of a record, are those of a blanked base.
-use Rattle.std.proofs.Common.{◌≡◌, refl, ap, ◌∙◌, ℕ, zero, suc, Bool, true, false, not, ◌==◌, Option, Some, None, List, [], ◌∷◌, arith}
+use Rattle.std.proofs.Common.{◌≡◌, refl, ap, ◌∙◌, ℕ, zero, suc, Bool, true, false, not, ◌==◌, Option, Some, None, List, [], ◌∷◌}
+use Rattle.std.proofs.Common.{arith}
 use Rattle.std.specs.Prelude.{option_and_then}
 use Rattle.cc_names.specs.declared.rows.Deed.{Deed}
 use Rattle.cc_names.specs.declared.rows.Deed.TheVariants as deeds
 use Rattle.script_grammar.specs.Run.{Ran}
-use Rattle.base_model.specs.Blanked.{blank_deed, blanked}
+use Rattle.base_model.specs.Blanked.{blank_deed, with_blanks}
 use Rattle.base_model.specs.Changes.{targets_of}
 use Rattle.base_model.specs.Checkouts.{is_latest}
 use Rattle.base_model.specs.Closures.{is_publish, is_publish_deed, is_version_of}
@@ -45,8 +46,8 @@ text_from b path source =
 
 source_same : (older : Base) (path : List ℕ) (deed : Deed) → is_base older ≡ true →
     deed_fits older deed ≡ true → is_publish_deed (Some deed) ≡ false →
-    ((r : ℕ) → is_publish older r ≡ false → text (blanked older) r path ≡ text older r path) →
-    text_from (blanked older) path (source_of (blanked older) path (blank_deed deed))
+    ((r : ℕ) → is_publish older r ≡ false → text (with_blanks older) r path ≡ text older r path) →
+    text_from (with_blanks older) path (source_of (with_blanks older) path (blank_deed deed))
     ≡ text_from older path (source_of older path deed)
 source_same older path (deeds.Checkout v e origin reserved) base fit none rest =
     let origin_fits = third_of (exists older v) (not (has_out older v e)) (is_version_of older e origin) in
@@ -57,9 +58,10 @@ source_same older path (deeds.Branch v e origin name taken) base fit none rest =
     rest origin (version_is_no_publish older e origin base
     (origin_fits (is_branch_type older name) (not (has_branch older e name)) fit))
 source_same older path (deeds.Checkin v e) base fit none rest =
-    (λ i. text_from (blanked older) path (of_making (making_same older v e i))) ∙ by (making older v e) refl
+    (λ i. text_from (with_blanks older) path (of_making (making_same older v e i))) ∙ by (making older v e) refl
   where
-    by : (o : Option ℕ) → making older v e ≡ o → text_from (blanked older) path (of_making o) ≡ text_from older path (of_making o)
+    by : (o : Option ℕ) → making older v e ≡ o → text_from (with_blanks older) path (of_making o)
+        ≡ text_from older path (of_making o)
     by None is = refl
     by (Some r) is = rest r (text_is_no_publish older r e (making_text older v e r is))
 source_same older path (deeds.Publish v targets script entries outputs) base fit none rest = absurd (cc)
@@ -71,15 +73,15 @@ text_among t older deed r path =
     elim t as (λ x. Option (List ℕ)) [ false ↦ text older r path | true ↦ text_from older path (source_of older path deed) ]
 
 pub text_same : (b : Base) (r : ℕ) (path : List ℕ) → is_base b ≡ true → is_publish b r ≡ false →
-    text (blanked b) r path ≡ text b r path
+    text (with_blanks b) r path ≡ text b r path
 text_same [] r path base none = refl
 text_same (row ∷ older) r path base none =
-    (λ i. text_among (size_same older i == r) (blanked older) (blank_deed row.deed) r path)
+    (λ i. text_among (size_same older i == r) (with_blanks older) (blank_deed row.deed) r path)
     ∙ by (size older == r) none (λ r none. text_same older r path (rows_below row older base) none)
   where
     by : (t : Bool) → is_publish_deed (deed_among t row older r) ≡ false →
-        ((r : ℕ) → is_publish older r ≡ false → text (blanked older) r path ≡ text older r path) →
-        text_among t (blanked older) (blank_deed row.deed) r path ≡ text_among t older row.deed r path
+        ((r : ℕ) → is_publish older r ≡ false → text (with_blanks older) r path ≡ text older r path) →
+        text_among t (with_blanks older) (blank_deed row.deed) r path ≡ text_among t older row.deed r path
     by true none rest = source_same older path row.deed (rows_below row older base) (row_fits row older base) none rest
     by false none rest = rest r none
 
@@ -87,24 +89,24 @@ text_same (row ∷ older) r path base none =
 abbrev text_by : Bool → Option (List ℕ) → Option (List ℕ) → Option (List ℕ)
 text_by t output file = elim t as (λ x. Option (List ℕ)) [ true ↦ output | false ↦ file ]
 
-entry_same : (b : Base) → is_base b ≡ true → ((id : ℕ) → rerun (blanked b) id ≡ rerun b id) → (path : List ℕ) (r : ℕ) →
-    text_of_entry (blanked b) (rerun (blanked b)) path r ≡ text_of_entry b (rerun b) path r
+entry_same : (b : Base) → is_base b ≡ true → ((id : ℕ) → rerun (with_blanks b) id ≡ rerun b id) → (path : List ℕ) (r : ℕ) →
+    text_of_entry (with_blanks b) (rerun (with_blanks b)) path r ≡ text_of_entry b (rerun b) path r
 entry_same b base again path zero = refl
 entry_same b base again path (suc r) =
     (λ i. text_by (publish_same b (suc r) i) (output_of_run path (targets_same b (suc r) i) (outputs_of_run (again (suc r) i)))
-    (text (blanked b) (suc r) path))
+    (text (with_blanks b) (suc r) path))
     ∙ by (output_of_run path (targets_of b (suc r)) (outputs_of_run (rerun b (suc r)))) (is_publish b (suc r)) refl
   where
     by : (output : Option (List ℕ)) (t : Bool) → is_publish b (suc r) ≡ t →
-        text_by t output (text (blanked b) (suc r) path) ≡ text_by t output (text b (suc r) path)
+        text_by t output (text (with_blanks b) (suc r) path) ≡ text_by t output (text b (suc r) path)
     by output true is = refl
     by output false is = text_same b (suc r) path base is
 
-pub rerun_same : (b : Base) (id : ℕ) → is_base b ≡ true → rerun (blanked b) id ≡ rerun b id
+pub rerun_same : (b : Base) (id : ℕ) → is_base b ≡ true → rerun (with_blanks b) id ≡ rerun b id
 rerun_same [] id base = refl
 rerun_same (row ∷ older) id base =
     let below = rows_below row older base in
-    let before : (id : ℕ) → rerun (blanked older) id ≡ rerun older id = λ id. rerun_same older id below in
+    let before : (id : ℕ) → rerun (with_blanks older) id ≡ rerun older id = λ id. rerun_same older id below in
     λ i. elim (size_same older i == id) as (λ x. Option Ran) [
       | true ↦ deed_same (run_of_deed (λ entries path.
           option_and_then (λ r. entry_same older below before path r i) (row_in entries path)))

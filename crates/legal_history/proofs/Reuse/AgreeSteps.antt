@@ -21,7 +21,8 @@ use Rattle.base_model.specs.Fits.{is_base}
 use Rattle.legal_history.specs.Builds.Freshness.{AgreesSoFar}
 use Rattle.legal_history.specs.Builds.Values as values
 use Rattle.legal_history.specs.Stories.States.{State, decision_for, build_by}
-use Rattle.legal_history.specs.Stories.Steps.{after, after_step, active_after, build_begun_by, build_asked, came_by_starting, with_outcome}
+use Rattle.legal_history.specs.Stories.Steps.{after, after_step, active_after, build_begun_by, build_asked, came_by_starting}
+use Rattle.legal_history.specs.Stories.Steps.{with_outcome}
 use Rattle.legal_history.specs.Stories.Lawful.{Lawful, LawfulStep}
 use Rattle.legal_history.specs.Builds.Turns.{came_by_start, unreadable}
 use Rattle.legal_history.specs.Builds.UnitTurns.{EndsEarly, ComesTo, Starts}
@@ -44,80 +45,106 @@ use Rattle.legal_history.proofs.Reuse.TakenObjects.{kept_agrees, may_take_may_ru
 abbrev pub BuildsAgree : State → Type 0
 BuildsAgree s = Each (λ lane. AgreesSoFar s.base) s.active
 
-early_agrees : (s : State) (tag : Tag) (n : ℕ) (end : UnitEnd) → BuildsAgree s → EndsEarly s tag n end → object_of (Some (Concluded end)) ≡ None → Each (λ lane. AgreesSoFar s.base) (with_outcome s.active tag.lane (λ b. Some n) (Concluded end))
+early_agrees : (s : State) (tag : Tag) (n : ℕ) (end : UnitEnd) → BuildsAgree s → EndsEarly s tag n end
+    → object_of (Some (Concluded end)) ≡ None → Each (λ lane. AgreesSoFar s.base)
+    (with_outcome s.active tag.lane (λ b. Some n) (Concluded end))
 early_agrees s tag n end h e plain =
     let there = of_lane s tag e.build e.waits.active in
     let agrees = h.holds tag.lane e.build there in
     each_waited (AgreesSoFar s.base) s tag n e.build (λ b. Some n) (Concluded end) h there refl
-    (came_so s.base e.build n e.unit (Concluded end) agrees (early_may s.base e.build n e.unit end agrees e.waits.is_unit e.waits.waits (ready_by e.build e.unit e.ready) e.ends plain))
+    (came_so s.base e.build n e.unit (Concluded end) agrees (early_may s.base e.build n e.unit end agrees e.waits.is_unit
+    e.waits.waits (ready_by e.build e.unit e.ready) e.ends plain))
 
-settled_agrees : (s : State) (tag : Tag) (n : ℕ) (end : UnitEnd) → values.IsSound s.base → is_base s.base ≡ true → AllHeld s → BuildsAgree s → ComesTo s tag n end → Each (λ lane. AgreesSoFar s.base) (with_outcome s.active tag.lane (λ b. Some n) (Concluded end))
+settled_agrees : (s : State) (tag : Tag) (n : ℕ) (end : UnitEnd) → values.IsSound s.base → is_base s.base ≡ true → AllHeld s
+    → BuildsAgree s → ComesTo s tag n end → Each (λ lane. AgreesSoFar s.base)
+    (with_outcome s.active tag.lane (λ b. Some n) (Concluded end))
 settled_agrees s tag n (ends.Kept id) whole base held h e =
     let there = of_lane s tag e.build e.open_unit.waits.active in
     each_waited (AgreesSoFar s.base) s tag n e.build (λ b. Some n) (Concluded (ends.Kept id)) h there refl
-    (kept_agrees s.base e.build n e.unit id base whole (gives_live s.base e.build (held.given.holds tag.lane e.build there)) (h.holds tag.lane e.build there) e.open_unit.waits.is_unit
+    (kept_agrees s.base e.build n e.unit id base whole (gives_live s.base e.build (held.given.holds tag.lane e.build there))
+    (h.holds tag.lane e.build there) e.open_unit.waits.is_unit
     (may_take_may_run s tag n e.build e.unit (inl e.open_unit)) e.chosen)
 settled_agrees s tag n (ends.Failed (unit_faults.Script fault)) whole base held h e =
     let there = of_lane s tag e.build e.running.waits.active in
     let agrees = h.holds tag.lane e.build there in
-    each_waited (AgreesSoFar s.base) s tag n e.build (λ b. Some n) (Concluded (ends.Failed (unit_faults.Script fault))) h there refl
+    each_waited (AgreesSoFar s.base) s tag n e.build (λ b. Some n) (Concluded (ends.Failed (unit_faults.Script fault))) h there
+    refl
     (came_so s.base e.build n e.unit (Concluded (ends.Failed (unit_faults.Script fault))) agrees
     (fails_may s.base e.build n e.unit fault agrees e.running.waits.is_unit e.running.waits.waits e.running.started e.fails))
 settled_agrees s tag n (ends.Failed fault) whole base held h e = early_agrees s tag n (ends.Failed fault) h e refl
 settled_agrees s tag n (ends.Blocked path) whole base held h e = early_agrees s tag n (ends.Blocked path) h e refl
 settled_agrees s tag n ends.Bare whole base held h e = early_agrees s tag n ends.Bare h e refl
 
-started_agrees : (s : State) (tag : Tag) (n : ℕ) → BuildsAgree s → Starts s tag n → Each (λ lane. AgreesSoFar s.base) (with_outcome s.active tag.lane (λ b. Some n) (came_by_starting (build_of s.active tag.lane) n))
+started_agrees : (s : State) (tag : Tag) (n : ℕ) → BuildsAgree s → Starts s tag n
+    → Each (λ lane. AgreesSoFar s.base) (with_outcome s.active tag.lane (λ b. Some n)
+    (came_by_starting (build_of s.active tag.lane) n))
 started_agrees s tag n h e =
     let waits = e.open_unit.waits in
     let there = of_lane s tag e.build waits.active in
     let agrees = h.holds tag.lane e.build there in
     let ready = ready_by e.build e.unit e.open_unit.ready in
-    subst (λ came. Each (λ lane. AgreesSoFar s.base) (with_outcome s.active tag.lane (λ b. Some n) came)) (sym (start_came s tag n e.build e.unit there waits.is_unit))
+    subst (λ came. Each (λ lane. AgreesSoFar s.base) (with_outcome s.active tag.lane (λ b. Some n) came))
+    (sym (start_came s tag n e.build e.unit there waits.is_unit))
     (each_waited (AgreesSoFar s.base) s tag n e.build (λ b. Some n) (came_by_start (unreadable e.unit)) h there refl
     (came_so s.base e.build n e.unit (came_by_start (unreadable e.unit)) agrees
-    (start_may s.base e.build n e.unit agrees waits.is_unit waits.waits ready (sym (early_same s.base e.build n e.unit agrees waits.is_unit ready) ∙ e.open_unit.runs))))
+    (start_may s.base e.build n e.unit agrees waits.is_unit waits.waits ready
+    (sym (early_same s.base e.build n e.unit agrees waits.is_unit ready) ∙ e.open_unit.runs))))
 
-begun_agrees : (s : State) (tag : Tag) (us : List Unit) → is_base s.base ≡ true → decision_for s tag ≡ Some (Ok (Begins us)) → (build : Build) → build_begun_by s tag ≡ Some build → AgreesSoFar s.base build
+begun_agrees : (s : State) (tag : Tag) (us : List Unit) → is_base s.base ≡ true → decision_for s tag ≡ Some (Ok (Begins us))
+    → (build : Build) → build_begun_by s tag ≡ Some build → AgreesSoFar s.base build
 begun_agrees s tag us base h build is =
     let says = says_of s tag (Begins us) (decided_of s tag (Begins us) h) in
     let made : Some (build_asked tag (size s.base) us says.asked) ≡ Some build = sym (begun_is s tag us h) ∙ is in
-    subst (AgreesSoFar s.base) (some_same made) (begins_so s.base (build_asked tag (size s.base) us says.asked) (begun_begins s tag us base h))
+    subst (AgreesSoFar s.base) (some_same made) (begins_so s.base (build_asked tag (size s.base) us says.asked)
+    (begun_begins s tag us base h))
 
-any_step_agrees : (s : State) (step : Step) → values.IsSound s.base → is_base s.base ≡ true → AllHeld s → BuildsAgree s → LawfulStep s step → Each (λ lane. AgreesSoFar (after_step s step).base) (after_step s step).active
-any_step_agrees s (steps.Begin tag rows count) whole base held h e = each_begun (λ lane. AgreesSoFar s.base) s.active tag.lane (build_begun_by s tag) h (begun_agrees s tag e.units base e.chosen)
+any_step_agrees : (s : State) (step : Step) → values.IsSound s.base → is_base s.base ≡ true → AllHeld s → BuildsAgree s
+    → LawfulStep s step → Each (λ lane. AgreesSoFar (after_step s step).base) (after_step s step).active
+any_step_agrees s (steps.Begin tag rows count) whole base held h e = each_begun (λ lane. AgreesSoFar s.base) s.active tag.lane
+    (build_begun_by s tag) h (begun_agrees s tag e.units base e.chosen)
 any_step_agrees s (steps.Start tag n) whole base held h e = started_agrees s tag n h e
 any_step_agrees s (steps.Concluded tag n end) whole base held h e = settled_agrees s tag n end whole base held h e
-any_step_agrees s (steps.End tag) whole base held h e = each_without (λ lane. AgreesSoFar s.base) (λ lane. AgreesSoFar s.base) s.active tag.lane h (λ lane build apart agrees. agrees)
+any_step_agrees s (steps.End tag) whole base held h e = each_without (λ lane. AgreesSoFar s.base) (λ lane. AgreesSoFar s.base)
+    s.active tag.lane h (λ lane build apart agrees. agrees)
 any_step_agrees s (steps.Fault tag left before faults tick) whole base held h e =
-    each_faulted (λ lane. AgreesSoFar s.base) s.active tag.lane (build_by s tag) h (λ build is. faulted_agrees s.base build (h.holds tag.lane build (of_lane s tag build is)))
+    each_faulted (λ lane. AgreesSoFar s.base) s.active tag.lane (build_by s tag) h
+    (λ build is. faulted_agrees s.base build (h.holds tag.lane build (of_lane s tag build is)))
 any_step_agrees s step whole base held h e = h
 
 -- a row of whatever deed
 agrees_on : (s : State) (row : Plain) → BuildsAgree s → Each (λ lane. AgreesSoFar (row ∷ s.base)) s.active
-agrees_on s row h = each_as (λ lane. AgreesSoFar s.base) (λ lane. AgreesSoFar (row ∷ s.base)) s.active h (λ lane build is agrees. row_added row s.base build agrees)
+agrees_on s row h = each_as (λ lane. AgreesSoFar s.base) (λ lane. AgreesSoFar (row ∷ s.base)) s.active h
+    (λ lane build is agrees. row_added row s.base build agrees)
 
-committed_agrees : (s : State) (tag : Tag) (moment : ℕ) (deed : Deed) → values.IsSound s.base → is_base s.base ≡ true → AllHeld s → BuildsAgree s → MakesRow s (record { tag = tag; moment = moment; deed = deed }) deed →
-    Each (λ lane. AgreesSoFar (record { tag = tag; moment = moment; deed = deed } ∷ s.base)) (active_after s.base s.active tag.lane deed)
+committed_agrees : (s : State) (tag : Tag) (moment : ℕ) (deed : Deed) → values.IsSound s.base → is_base s.base ≡ true → AllHeld s
+    → BuildsAgree s → MakesRow s (record { tag = tag; moment = moment; deed = deed }) deed →
+    Each (λ lane. AgreesSoFar (record { tag = tag; moment = moment; deed = deed } ∷ s.base))
+    (active_after s.base s.active tag.lane deed)
 committed_agrees s tag moment (deeds.Publish view targets script entries outputs) whole base held h e =
     let row : Plain = record { tag = tag; moment = moment; deed = deeds.Publish view targets script entries outputs } in
     let there = of_lane s tag e.build e.running.waits.active in
     let agrees = h.holds tag.lane e.build there in
-    each_waited (AgreesSoFar (row ∷ s.base)) s tag e.n e.build (λ build. unit_with_first build targets) (Given (size s.base)) (agrees_on s row h) there e.place
+    each_waited (AgreesSoFar (row ∷ s.base)) s tag e.n e.build (λ build. unit_with_first build targets) (Given (size s.base))
+    (agrees_on s row h) there e.place
     (came_so (row ∷ s.base) e.build e.n e.unit (Given (size s.base)) (row_added row s.base e.build agrees)
     (given_may row s.base e.build e.n e.unit agrees e.running.waits.is_unit e.running.waits.waits e.running.started
     (is_publish s.base e.build e.n e.unit (deeds.Publish view targets script entries outputs) e.made)))
 committed_agrees s tag moment (deeds.Wink view id) whole base held h e =
     let row : Plain = record { tag = tag; moment = moment; deed = deeds.Wink view id } in
     let w = takes_for s tag e.n e.build e.unit e.may in
-    each_waited (AgreesSoFar (row ∷ s.base)) s tag e.n e.build (λ build. unit_with_first build (targets_of s.base id)) (Given id) (agrees_on s row h) w.there e.place
-    (winked_agrees row s.base e.build e.n e.unit id base whole (gives_live s.base e.build (held.given.holds tag.lane e.build w.there)) (h.holds tag.lane e.build w.there) w.is_unit
+    each_waited (AgreesSoFar (row ∷ s.base)) s tag e.n e.build (λ build. unit_with_first build (targets_of s.base id)) (Given id)
+    (agrees_on s row h) w.there e.place
+    (winked_agrees row s.base e.build e.n e.unit id base whole (gives_live s.base e.build
+    (held.given.holds tag.lane e.build w.there)) (h.holds tag.lane e.build w.there) w.is_unit
     (may_take_may_run s tag e.n e.build e.unit e.may) e.chosen (ap (λ v. deeds.Wink v id) (sym e.of_view)))
 committed_agrees s tag moment deed whole base held h e = agrees_on s (record { tag = tag; moment = moment; deed = deed }) h
 
 -- Each lawful step leaves each active build agreeing.
-pub agree_step : (s : State) (x : StoryStep) → IsConsistentState s → values.IsSound s.base → AllHeld s → BuildsAgree s → Lawful s x → BuildsAgree (after s x)
-agree_step s (story_steps.Opened rows counts tells) sound whole held h e = absurd (let first = e.first in let opened = sound.opened in cc)
+pub agree_step : (s : State) (x : StoryStep) → IsConsistentState s → values.IsSound s.base → AllHeld s → BuildsAgree s
+    → Lawful s x → BuildsAgree (after s x)
+agree_step s (story_steps.Opened rows counts tells) sound whole held h e =
+    absurd (let first = e.first in let opened = sound.opened in cc)
 agree_step s (story_steps.PhaseBegun phase moment) sound whole held h e = h
-agree_step s (story_steps.Commit row tick) sound whole held h e = committed_agrees s row.tag row.moment row.deed whole sound.base held h e.may.made
+agree_step s (story_steps.Commit row tick) sound whole held h e = committed_agrees s row.tag row.moment row.deed whole sound.base
+    held h e.may.made
 agree_step s (story_steps.Other step) sound whole held h e = any_step_agrees s step whole sound.base held h e

@@ -13,22 +13,31 @@ use Rattle.legal_history.proofs.Reuse.GivenCommits.{AllHeld}
 use Rattle.legal_history.proofs.Reuse.GivenSteps.{held_step}
 use Rattle.legal_history.proofs.Reuse.SoundBases.{base_step, held_first, opened_from, opened_is_base}
 
-agree_from : (s : State) (story : List StoryStep) → IsConsistentState s → values.IsSound s.base → AllHeld s → BuildsAgree s → LegalFrom s story → BuildsAgree (state_from s story)
+agree_from : (s : State) (story : List StoryStep) → IsConsistentState s → values.IsSound s.base → AllHeld s → BuildsAgree s
+    → LegalFrom s story → BuildsAgree (state_from s story)
 agree_from s [] sound whole held h e = h
 agree_from s (x ∷ story) sound whole held h e =
-    agree_from (after s x) story (consistent_step s x sound e.0) (base_step s x sound held whole e.0) (held_step s x sound held e.0) (agree_step s x sound whole held h e.0) e.1
+    agree_from (after s x) story (consistent_step s x sound e.0) (base_step s x sound held whole e.0)
+    (held_step s x sound held e.0) (agree_step s x sound whole held h e.0) e.1
 
 -- before a base is opened nothing builds
 none_agree : (x : StoryStep) → Lawful start x → BuildsAgree (after start x)
-none_agree x e = record { holds = λ lane build is. absurd (let none : build_of (after start x).active lane ≡ None = ap (λ active. build_of active lane) (none_active x e) in cc) }
+none_agree x e = record {
+  holds = λ lane build is. absurd (let none : build_of (after start x).active lane
+      ≡ None = ap (λ active. build_of active lane) (none_active x e) in cc);
+}
 
-story_agrees : (x : StoryStep) (story : List StoryStep) → Legal (x ∷ story) → values.IsSound (after start x).base → BuildsAgree (state_of (x ∷ story))
-story_agrees x story legal whole = agree_from (after start x) story (consistent_first x legal.0) whole (held_first x legal.0) (none_agree x legal.0) legal.1
+story_agrees : (x : StoryStep) (story : List StoryStep) → Legal (x ∷ story) → values.IsSound (after start x).base
+    → BuildsAgree (state_of (x ∷ story))
+story_agrees x story legal whole = agree_from (after start x) story (consistent_first x legal.0) whole (held_first x legal.0)
+    (none_agree x legal.0) legal.1
 
 -- The law.
-pub story_agrees_so_far : (story : List StoryStep) (opening : Opening) (lane : ℕ) (build : Build) → Legal story → (state_of story).opened ≡ Some opening → values.IsSound opening.base → build_of (state_of story).active lane ≡ Some build →
+pub story_agrees_so_far : (story : List StoryStep) (opening : Opening) (lane : ℕ) (build : Build) → Legal story
+    → (state_of story).opened ≡ Some opening → values.IsSound opening.base → build_of (state_of story).active lane ≡ Some build →
     AgreesSoFar (state_of story).base build
 story_agrees_so_far [] opening lane build legal opened whole is = absurd (cc)
 story_agrees_so_far (x ∷ story) opening lane build legal opened whole is =
-    let first : (after start x).opened ≡ Some opening = sym (opened_from (after start x) story (consistent_first x legal.0) legal.1) ∙ opened in
+    let first : (after start x).opened ≡ Some opening = sym (opened_from (after start x) story (consistent_first x legal.0)
+    legal.1) ∙ opened in
     (story_agrees x story legal (subst values.IsSound (opened_is_base x opening legal.0 first) whole)).holds lane build is

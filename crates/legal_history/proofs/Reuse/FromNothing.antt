@@ -39,7 +39,9 @@ has_stored b id outputs h = by (deed_at b id) refl h
     by None is h = absurd (cc)
     by (Some deed) is h = by_deed deed is h
 
-pub run_is_from_nothing : (b : Base) (build : Build) (n : ℕ) (unit : Unit) (id : ℕ) → AgreesSoFar b build → IsReady build unit → early_from_nothing (first_rows build.rows b) build n unit ≡ None → IsTheRun b build n unit id → IsAsFromNothing b build n unit id
+pub run_is_from_nothing : (b : Base) (build : Build) (n : ℕ) (unit : Unit) (id : ℕ) → AgreesSoFar b build → IsReady build unit
+    → early_from_nothing (first_rows build.rows b) build n unit ≡ None → IsTheRun b build n unit id
+    → IsAsFromNothing b build n unit id
 run_is_from_nothing b build n unit id agrees ready early r =
     let stored = has_stored b id r.outputs r.stored in
     record {
@@ -48,6 +50,7 @@ run_is_from_nothing b build n unit id agrees ready early r =
       has = record {
         is_object = record { below = stored.below; targets = r.targets };
         texts = λ path. stored.texts path ∙ ap (λ targets. output_at path targets r.outputs) r.targets;
-        whole = outputs_whole (script_text unit.script) unit.targets r.outputs (λ path. text_of_row b path (visible b build n unit path)) r.runs;
+        whole = outputs_whole (script_text unit.script) unit.targets r.outputs
+            (λ path. text_of_row b path (visible b build n unit path)) r.runs;
       };
     }

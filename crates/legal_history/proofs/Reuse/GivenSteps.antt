@@ -13,7 +13,8 @@ use Rattle.legal_history.specs.Builds.Active.{Build, Came, Concluded, build_of, 
 use Rattle.legal_history.specs.Commands.Decisions.{Begins}
 use Rattle.base_model.specs.Fits.{is_base}
 use Rattle.legal_history.specs.Stories.States.{State, decision_for, build_by}
-use Rattle.legal_history.specs.Stories.Steps.{after, after_step, with_outcome, came_by_starting, came_of_unit, build_begun_by, build_asked, with_came}
+use Rattle.legal_history.specs.Stories.Steps.{after, after_step, with_outcome, came_by_starting, came_of_unit, build_begun_by}
+use Rattle.legal_history.specs.Stories.Steps.{build_asked, with_came}
 use Rattle.legal_history.specs.Stories.Lawful.{Lawful, LawfulStep}
 use Rattle.legal_history.specs.Builds.UnitTurns.{ComesTo, Keeps}
 use Rattle.legal_history.specs.Builds.Turns.{unreadable}
@@ -39,19 +40,23 @@ starting_without : (o : Option Build) (n : ℕ) → object_of (Some (came_by_sta
 starting_without None n = start_without None
 starting_without (Some build) n = unit_without (unit_at build n)
 
-without_object : (s : State) (lane : ℕ) (number : Build → Option ℕ) (came : Came) → object_of (Some came) ≡ None → AllHeld s → Each (λ lane. HoldsGiven s.base) (with_outcome s.active lane number came)
+without_object : (s : State) (lane : ℕ) (number : Build → Option ℕ) (came : Came) → object_of (Some came) ≡ None → AllHeld s
+    → Each (λ lane. HoldsGiven s.base) (with_outcome s.active lane number came)
 without_object s lane number came none h =
-    each_noted (λ lane. HoldsGiven s.base) s.active lane number came h.given (λ build is. came_without s.base build (number build) came none (h.given.holds lane build is))
+    each_noted (λ lane. HoldsGiven s.base) s.active lane number came h.given
+    (λ build is. came_without s.base build (number build) came none (h.given.holds lane build is))
 
 -- a unit keeps what the view holds at every target
-kept_given : (s : State) (tag : Tag) (n id : ℕ) → is_base s.base ≡ true → AllHeld s → Keeps s tag n id → Each (λ lane. HoldsGiven s.base) (with_outcome s.active tag.lane (λ b. Some n) (Concluded (ends.Kept id)))
+kept_given : (s : State) (tag : Tag) (n id : ℕ) → is_base s.base ≡ true → AllHeld s → Keeps s tag n id
+    → Each (λ lane. HoldsGiven s.base) (with_outcome s.active tag.lane (λ b. Some n) (Concluded (ends.Kept id)))
 kept_given s tag n id base h e =
     each_noted (λ lane. HoldsGiven s.base) s.active tag.lane (λ b. Some n) (Concluded (ends.Kept id)) h.given own
   where
     there : build_of s.active tag.lane ≡ Some e.build
     there = of_lane s tag e.build e.open_unit.waits.active
 
-    own : (build : Build) → build_of s.active tag.lane ≡ Some build → HoldsGiven s.base (with_came build (Some n) (Concluded (ends.Kept id)))
+    own : (build : Build) → build_of s.active tag.lane ≡ Some build → HoldsGiven s.base
+        (with_came build (Some n) (Concluded (ends.Kept id)))
     own build is =
         let same : e.build ≡ build = some_same (sym there ∙ is) in
         subst (λ x. HoldsGiven s.base (with_came x (Some n) (Concluded (ends.Kept id)))) same
@@ -60,37 +65,56 @@ kept_given s tag n id base h e =
         subst (IsHeld s.base e.build n) number (kept_held s.base e.build n e.unit id base e.open_unit.waits.is_unit e.holds))
         (h.given.holds tag.lane e.build there))
 
-settled_given : (s : State) (tag : Tag) (n : ℕ) (end : UnitEnd) → is_base s.base ≡ true → AllHeld s → ComesTo s tag n end → Each (λ lane. HoldsGiven s.base) (with_outcome s.active tag.lane (λ b. Some n) (Concluded end))
+settled_given : (s : State) (tag : Tag) (n : ℕ) (end : UnitEnd) → is_base s.base ≡ true → AllHeld s → ComesTo s tag n end
+    → Each (λ lane. HoldsGiven s.base) (with_outcome s.active tag.lane (λ b. Some n) (Concluded end))
 settled_given s tag n (ends.Kept id) base h e = kept_given s tag n id base h e
-settled_given s tag n (ends.Failed fault) base h e = without_object s tag.lane (λ b. Some n) (Concluded (ends.Failed fault)) refl h
-settled_given s tag n (ends.Blocked path) base h e = without_object s tag.lane (λ b. Some n) (Concluded (ends.Blocked path)) refl h
+settled_given s tag n (ends.Failed fault) base h e = without_object s tag.lane (λ b. Some n) (Concluded (ends.Failed fault)) refl
+    h
+settled_given s tag n (ends.Blocked path) base h e = without_object s tag.lane (λ b. Some n) (Concluded (ends.Blocked path)) refl
+    h
 settled_given s tag n ends.Bare base h e = without_object s tag.lane (λ b. Some n) (Concluded ends.Bare) refl h
 
-begun_given : (s : State) (tag : Tag) (us : List Unit) → decision_for s tag ≡ Some (Ok (Begins us)) → (build : Build) → build_begun_by s tag ≡ Some build → HoldsGiven s.base build
+begun_given : (s : State) (tag : Tag) (us : List Unit) → decision_for s tag ≡ Some (Ok (Begins us)) → (build : Build)
+    → build_begun_by s tag ≡ Some build → HoldsGiven s.base build
 begun_given s tag us h build is =
     let says = says_of s tag (Begins us) (decided_of s tag (Begins us) h) in
     let made : build_asked tag (size s.base) us says.asked ≡ build = some_same (sym (begun_is s tag us h) ∙ is) in
     subst (HoldsGiven s.base) made (record { given = λ n id own. absurd (cc) })
 
-any_step_given : (s : State) (step : Step) → is_base s.base ≡ true → AllHeld s → LawfulStep s step → Each (λ lane. HoldsGiven (after_step s step).base) (after_step s step).active
-any_step_given s (steps.Begin tag rows count) base h e = each_begun (λ lane. HoldsGiven s.base) s.active tag.lane (build_begun_by s tag) h.given (begun_given s tag e.units e.chosen)
-any_step_given s (steps.Start tag n) base h e = without_object s tag.lane (λ b. Some n) (came_by_starting (build_of s.active tag.lane) n) (starting_without (build_of s.active tag.lane) n) h
+any_step_given : (s : State) (step : Step) → is_base s.base ≡ true → AllHeld s → LawfulStep s step
+    → Each (λ lane. HoldsGiven (after_step s step).base) (after_step s step).active
+any_step_given s (steps.Begin tag rows count) base h e = each_begun (λ lane. HoldsGiven s.base) s.active tag.lane
+    (build_begun_by s tag) h.given (begun_given s tag e.units e.chosen)
+any_step_given s (steps.Start tag n) base h e = without_object s tag.lane (λ b. Some n)
+    (came_by_starting (build_of s.active tag.lane) n) (starting_without (build_of s.active tag.lane) n) h
 any_step_given s (steps.Concluded tag n end) base h e = settled_given s tag n end base h e
-any_step_given s (steps.End tag) base h e = each_without (λ lane. HoldsGiven s.base) (λ lane. HoldsGiven s.base) s.active tag.lane h.given (λ lane build apart given. given)
-any_step_given s (steps.Fault tag left before faults tick) base h e = each_faulted (λ lane. HoldsGiven s.base) s.active tag.lane (build_by s tag) h.given (λ build is.
+any_step_given s (steps.End tag) base h e = each_without (λ lane. HoldsGiven s.base) (λ lane. HoldsGiven s.base) s.active tag.lane
+    h.given (λ lane build apart given. given)
+any_step_given s (steps.Fault tag left before faults tick) base h e = each_faulted (λ lane. HoldsGiven s.base) s.active tag.lane
+    (build_by s tag) h.given (λ build is.
     record {
       given = λ n id own.
           let held = (h.given.holds tag.lane build (of_lane s tag build is)).given n id own in
-          record { unit = held.unit; is_unit = held.is_unit; lives = held.lives; target = held.target; is_target = held.is_target; holds = held.holds };
+          record {
+            unit = held.unit;
+            is_unit = held.is_unit;
+            lives = held.lives;
+            target = held.target;
+            is_target = held.is_target;
+            holds = held.holds;
+          };
     })
 any_step_given s step base h e = h.given
 
 any_step_apart : (s : State) (step : Step) → AllHeld s → LawfulStep s step → ViewsApart (after_step s step).active
-any_step_apart s (steps.Begin tag rows count) h e = apart_begun s.active tag.lane (build_begun_by s tag) (begun_idle s tag e.units e.chosen) h.apart
-any_step_apart s (steps.Start tag n) h e = apart_noted s.active tag.lane (λ b. Some n) (came_by_starting (build_of s.active tag.lane) n) h.apart
+any_step_apart s (steps.Begin tag rows count) h e = apart_begun s.active tag.lane (build_begun_by s tag)
+    (begun_idle s tag e.units e.chosen) h.apart
+any_step_apart s (steps.Start tag n) h e = apart_noted s.active tag.lane (λ b. Some n)
+    (came_by_starting (build_of s.active tag.lane) n) h.apart
 any_step_apart s (steps.Concluded tag n end) h e = apart_noted s.active tag.lane (λ b. Some n) (Concluded end) h.apart
 any_step_apart s (steps.End tag) h e = apart_without s.active tag.lane h.apart
-any_step_apart s (steps.Fault tag left before faults tick) h e = apart_faulted s.active tag.lane (build_by s tag) (λ build is. of_lane s tag build is) h.apart
+any_step_apart s (steps.Fault tag left before faults tick) h e = apart_faulted s.active tag.lane (build_by s tag)
+    (λ build is. of_lane s tag build is) h.apart
 any_step_apart s step h e = h.apart
 
 pub held_step : (s : State) (x : StoryStep) → IsConsistentState s → AllHeld s → Lawful s x → AllHeld (after s x)
@@ -98,5 +122,11 @@ held_step s (story_steps.Opened rows counts tells) sound h e = absurd (let first
 held_step s (story_steps.PhaseBegun phase moment) sound h e = record { given = h.given; apart = h.apart }
 held_step s (story_steps.Commit row tick) sound h e =
     let fit = row_fits row s.base (consistent_step s (story_steps.Commit row tick) sound e).base in
-    record { given = committed_given s row.tag row.moment row.deed sound h fit e.may.made; apart = committed_apart s row.tag.lane row.deed h }
-held_step s (story_steps.Other step) sound h e = record { given = any_step_given s step sound.base h e; apart = any_step_apart s step h e }
+    record {
+      given = committed_given s row.tag row.moment row.deed sound h fit e.may.made;
+      apart = committed_apart s row.tag.lane row.deed h;
+    }
+held_step s (story_steps.Other step) sound h e = record {
+  given = any_step_given s step sound.base h e;
+  apart = any_step_apart s step h e;
+}

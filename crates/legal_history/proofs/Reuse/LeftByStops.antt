@@ -1,5 +1,6 @@
 -- Whatever a stop leaves of a legal story is a base, sound where the base was sound as it was opened.
-use Rattle.std.proofs.Common.{◌≡◌, ap, sym, subst, ◌∙◌, ℕ, ◌+◌, ◌^◌, ◌-◌, ◌==◌, ◌&&◌, ◌||◌, nat_lt, true, inl, inr, Option, Some, None, List, [], ◌∷◌, ◌++◌, refl, arith}
+use Rattle.std.proofs.Common.{◌≡◌, ap, sym, subst, ◌∙◌, ℕ, ◌+◌, ◌^◌, ◌-◌, ◌==◌, ◌&&◌, ◌||◌, nat_lt, true, inl, inr, Option, Some}
+use Rattle.std.proofs.Common.{None, List, [], ◌∷◌, ◌++◌, refl, arith}
 use Rattle.std.proofs.lemmas.Bool.Decides.{nat_tests}
 use Rattle.cc_names.specs.Counts.{rises}
 use Rattle.cc_names.specs.Formed.{Plain}
@@ -46,18 +47,26 @@ commits s row may = record { may = may; ticked = next_rises (ticks_of s.opened s
 in_flight : (given : Type 0) (s : State) (row : Plain) → IsKnown given s → MayCommit s row → IsGood given (row ∷ s.base)
 in_flight given s row h may =
     let x = story_steps.Commit row (ticks_of s.opened s.ends + 1) in
-    record { fits = (consistent_step s x h.sound (commits s row may)).base; sound = λ given. base_step s x h.sound h.held (h.base given) (commits s row may) }
+    record {
+      fits = (consistent_step s x h.sound (commits s row may)).base;
+      sound = λ given. base_step s x h.sound h.held (h.base given) (commits s row may);
+    }
 
 -- what a fault leaves is such a row, or was left before
-fault_leaves : (given : Type 0) (s : State) (tag : Tag) (left : Option Plain) (row : Plain) → IsKnown given s → LeavesRow s tag left → left ≡ Some row → IsGood given (row ∷ s.base)
+fault_leaves : (given : Type 0) (s : State) (tag : Tag) (left : Option Plain) (row : Plain) → IsKnown given s
+    → LeavesRow s tag left → left ≡ Some row → IsGood given (row ∷ s.base)
 fault_leaves given s tag None row h leaves is = absurd (cc)
-fault_leaves given s tag (Some own) row h (inl made) is = subst (λ r. IsGood given (r ∷ s.base)) (some_same is) (in_flight given s own h made.1)
+fault_leaves given s tag (Some own) row h (inl made) is = subst (λ r. IsGood given (r ∷ s.base)) (some_same is)
+    (in_flight given s own h made.1)
 fault_leaves given s tag (Some own) row h (inr earlier) is = h.left row (earlier ∙ is)
 
-left_step : (given : Type 0) (s : State) (x : StoryStep) (row : Plain) → IsKnown given s → Lawful s x → hanging (after s x).ends ≡ Some row → IsGood given (row ∷ (after s x).base)
-left_step given s (story_steps.Opened rows counts tells) row h e is = absurd (let first = e.first in let opened = h.sound.opened in cc)
+left_step : (given : Type 0) (s : State) (x : StoryStep) (row : Plain) → IsKnown given s → Lawful s x
+    → hanging (after s x).ends ≡ Some row → IsGood given (row ∷ (after s x).base)
+left_step given s (story_steps.Opened rows counts tells) row h e is = absurd (let first = e.first in
+    let opened = h.sound.opened in cc)
 left_step given s (story_steps.Commit made tick) row h e is = absurd (cc)
-left_step given s (story_steps.Other (steps.Fault tag left before faults tick)) row h e is = fault_leaves given s tag left row h e.leaves is
+left_step given s (story_steps.Other (steps.Fault tag left before faults tick)) row h e is =
+    fault_leaves given s tag left row h e.leaves is
 left_step given s x row h e is = h.left row is
 
 kept_step : (given : Type 0) (s : State) (x : StoryStep) → IsKnown given s → Lawful s x → IsKnown given (after s x)
@@ -68,7 +77,8 @@ kept_step given s x h e = record {
   left = λ row is. left_step given s x row h e is;
 }
 
-kept_from : (given : Type 0) (s : State) (story : List StoryStep) → IsKnown given s → LegalFrom s story → IsKnown given (state_from s story)
+kept_from : (given : Type 0) (s : State) (story : List StoryStep) → IsKnown given s → LegalFrom s story
+    → IsKnown given (state_from s story)
 kept_from given s [] h e = h
 kept_from given s (x ∷ story) h e = kept_from given (after s x) story (kept_step given s x h e.0) e.1
 
@@ -85,7 +95,8 @@ kept_first x e = record {
   left = λ row is. absurd (none_left x row e is);
 }
 
-story_kept : (x : StoryStep) (story : List StoryStep) → Legal (x ∷ story) → IsKnown (values.IsSound (after start x).base) (state_of (x ∷ story))
+story_kept : (x : StoryStep) (story : List StoryStep) → Legal (x ∷ story)
+    → IsKnown (values.IsSound (after start x).base) (state_of (x ∷ story))
 story_kept x story legal = kept_from (values.IsSound (after start x).base) (after start x) story (kept_first x legal.0) legal.1
 
 -- whatever a stop leaves of such a state
@@ -100,13 +111,18 @@ stop_leaves_base [] b legal (WithRowLeft row left is) = absurd (cc)
 stop_leaves_base [] b legal (WithRowInFlight row may is) = absurd (nothing_is_committed row row.deed may.made)
 stop_leaves_base (x ∷ story) b legal left = (left_is_good _ (state_of (x ∷ story)) b (story_kept x story legal) left).fits
 
-pub stop_leaves_sound : (story : List StoryStep) (o : Opening) (b : Base) → Legal story → (state_of story).opened ≡ Some o → values.IsSound o.base → IsLeftByStop (state_of story) b → values.IsSound b
+pub stop_leaves_sound : (story : List StoryStep) (o : Opening) (b : Base) → Legal story → (state_of story).opened ≡ Some o
+    → values.IsSound o.base → IsLeftByStop (state_of story) b → values.IsSound b
 stop_leaves_sound [] o b legal is sound left = absurd (cc)
 stop_leaves_sound (x ∷ story) o b legal is sound left =
-    let opened : (after start x).opened ≡ Some o = sym (opened_from (after start x) story (consistent_first x legal.0) legal.1) ∙ is in
-    (left_is_good _ (state_of (x ∷ story)) b (story_kept x story legal) left).sound (subst values.IsSound (opened_is_base x o legal.0 opened) sound)
+    let opened : (after start x).opened ≡ Some o = sym (opened_from (after start x) story (consistent_first x legal.0) legal.1)
+    ∙ is in
+    (left_is_good _ (state_of (x ∷ story)) b (story_kept x story legal) left).sound
+    (subst values.IsSound (opened_is_base x o legal.0 opened) sound)
 
-pub fault_leaves_sound : (prefix rest : List StoryStep) (tag : Tag) (row : Plain) (before faults tick : ℕ) (o : Opening) → Legal (prefix ++ story_steps.Other (steps.Fault tag (Some row) before faults tick) ∷ rest) → (state_of prefix).opened ≡ Some o → values.IsSound o.base →
+pub fault_leaves_sound : (prefix rest : List StoryStep) (tag : Tag) (row : Plain) (before faults tick : ℕ) (o : Opening)
+    → Legal (prefix ++ story_steps.Other (steps.Fault tag (Some row) before faults tick) ∷ rest)
+    → (state_of prefix).opened ≡ Some o → values.IsSound o.base →
     values.IsSound (row ∷ (state_of prefix).base)
 fault_leaves_sound prefix rest tag row before faults tick o legal is sound =
     let x = story_steps.Other (steps.Fault tag (Some row) before faults tick) in

@@ -1,5 +1,6 @@
 -- Where a unit may reuse nothing, no live object has the record that the unit would publish.
-use Rattle.std.proofs.Common.{◌≡◌, refl, ap, sym, subst, ◌∙◌, ℕ, zero, suc, Bool, true, false, ◌&&◌, Option, Some, None, List, [], ◌∷◌, map, arith}
+use Rattle.std.proofs.Common.{◌≡◌, refl, ap, sym, subst, ◌∙◌, ℕ, zero, suc, Bool, true, false, ◌&&◌, Option, Some, None, List}
+use Rattle.std.proofs.Common.{[], ◌∷◌, map, arith}
 use Rattle.std.proofs.lemmas.Map.Text.{is_eq-slice_cmp}
 use Rattle.std.proofs.lemmas.Slice.Eq.{bytes_eq-Decides}
 use Rattle.std.specs.Bool.{⊤}
@@ -49,15 +50,18 @@ use Rattle.legal_history.proofs.Reuse.TrueObjects.{texts_alike}
 no_root_file : (b : Base) (v path : List ℕ) → is_base b ≡ true → file_at b v path ≡ Some 0 → ⊥
 no_root_file b v path base h = by (at b v path) refl h
   where
-    of_pick : (e : ℕ) (picked : Picked) (own : Bool) → picked.out ≡ own → IsPick b v e picked → picked.row ≡ 0 → kind_of (tree b) e ≡ Some File → ⊥
-    of_pick e picked true is pick zero_row kind = let text = making_text b v e 0 (pick.own is ∙ ap Some zero_row) in no_row b text.deed text.made
+    of_pick : (e : ℕ) (picked : Picked) (own : Bool) → picked.out ≡ own → IsPick b v e picked → picked.row ≡ 0
+        → kind_of (tree b) e ≡ Some File → ⊥
+    of_pick e picked true is pick zero_row kind = let text = making_text b v e 0 (pick.own is ∙ ap Some zero_row) in
+        no_row b text.deed text.made
     of_pick e picked false is pick zero_row kind =
         let version : is_version_of b e 0 ≡ true = subst (λ r. is_version_of b e r ≡ true) zero_row (pick.version is) in
         let root : e ≡ 0 = one_element b e 0 0 version (root_version b) in
         let clash : Some File ≡ Some Directory = sym kind ∙ ap (kind_of (tree b)) root ∙ root_is_directory b in
         cc
 
-    of_kind : (e : ℕ) (picked : Picked) (k : Option Kind) → kind_of (tree b) e ≡ k → IsPick b v e picked → row_of_file picked k ≡ Some 0 → ⊥
+    of_kind : (e : ℕ) (picked : Picked) (k : Option Kind) → kind_of (tree b) e ≡ k → IsPick b v e picked
+        → row_of_file picked k ≡ Some 0 → ⊥
     of_kind e picked None is pick h = cc
     of_kind e picked (Some Directory) is pick h = cc
     of_kind e picked (Some File) is pick h = of_pick e picked picked.out refl pick (cc) is
@@ -65,16 +69,19 @@ no_root_file b v path base h = by (at b v path) refl h
     by : (seen : Seen) → at b v path ≡ seen → file_seen b seen ≡ Some 0 → ⊥
     by (Private row) is h =
         let same : row ≡ 0 = cc in
-        let put_it = private_put b v (path_of_names (reverse (reverse (names_of path)))) row (private_at b v (reverse (names_of path)) row is) in
+        let put_it = private_put b v (path_of_names (reverse (reverse (names_of path)))) row
+        (private_at b v (reverse (names_of path)) row is) in
         no_row b put_it.deed (ap (deed_at b) (sym same) ∙ put_it.made)
     by (Element e picked) is h =
         let seen = seen_element b v (reverse (names_of path)) e picked is in
-        of_kind e picked (kind_of (tree b) e) refl (picked_is b v e (reverse (reverse (names_of path))) picked base seen.element seen.picks) h
+        of_kind e picked (kind_of (tree b) e) refl (picked_is b v e (reverse (reverse (names_of path))) picked base seen.element
+        seen.picks) h
     by (Unselected e) is h = cc
     by Nothing is h = cc
 
 -- the entry that is made of what a unit sees agrees with it
-own_agrees : (b : Base) (build : Build) (n : ℕ) (unit : Unit) (path : List ℕ) → is_base (first_rows build.rows b) ≡ true → GivesLive b build → agrees (entry_row (visible b build n unit path)) (visible b build n unit path) ≡ true
+own_agrees : (b : Base) (build : Build) (n : ℕ) (unit : Unit) (path : List ℕ) → is_base (first_rows build.rows b) ≡ true
+    → GivesLive b build → agrees (entry_row (visible b build n unit path)) (visible b build n unit path) ≡ true
 own_agrees b build n unit path base gives = by (visible b build n unit path) refl
   where
     no_root : SeenBy b build n unit path 0 → ⊥
@@ -91,27 +98,40 @@ abbrev AllAgree : (List ℕ → Option ℕ) → List (List ℕ × ℕ) → Type 
 AllAgree rows [] = ⊤
 AllAgree rows (pair ∷ pairs) = (entry_agrees rows (as_entry pair) ≡ true) × AllAgree rows pairs
 
-put_agrees : (rows : List ℕ → Option ℕ) (path : List ℕ) (row : ℕ) (pairs : List (List ℕ × ℕ)) → agrees row (rows path) ≡ true → AllAgree rows pairs → AllAgree rows (put (slice_cmp nat_cmp) path row pairs)
+put_agrees : (rows : List ℕ → Option ℕ) (path : List ℕ) (row : ℕ) (pairs : List (List ℕ × ℕ)) → agrees row (rows path) ≡ true
+    → AllAgree rows pairs → AllAgree rows (put (slice_cmp nat_cmp) path row pairs)
 put_agrees rows path row [] agree h = (agree, tt)
-put_agrees rows path row (pair ∷ pairs) agree h = by (slice_cmp nat_cmp path pair.0) refl (put_agrees rows path row pairs agree h.1)
+put_agrees rows path row (pair ∷ pairs) agree h = by (slice_cmp nat_cmp path pair.0) refl
+    (put_agrees rows path row pairs agree h.1)
   where
     by : (o : Ordering) → slice_cmp nat_cmp path pair.0 ≡ o → AllAgree rows (put (slice_cmp nat_cmp) path row pairs) →
-        AllAgree rows (by_order o ((path, row) ∷ pair ∷ pairs) ((pair.0, row) ∷ pairs) (pair ∷ put (slice_cmp nat_cmp) path row pairs))
+        AllAgree rows (by_order o ((path, row) ∷ pair ∷ pairs) ((pair.0, row) ∷ pairs)
+        (pair ∷ put (slice_cmp nat_cmp) path row pairs))
     by Less place rest = (agree, h)
-    by Equal place rest = (subst (λ p. agrees row (rows p) ≡ true) ((bytes_eq-Decides path pair.0).0 (sym (is_eq-slice_cmp path pair.0) ∙ ap is_eq place)) agree, h.1)
+    by Equal place rest = (
+      subst (λ p. agrees row (rows p) ≡ true) ((bytes_eq-Decides path pair.0).0
+          (sym (is_eq-slice_cmp path pair.0) ∙ ap is_eq place)) agree,
+      h.1,
+    )
     by Greater place rest = (h.0, rest)
 
-in_order_agrees : (rows : List ℕ → Option ℕ) (paths : List (List ℕ)) → ((path : List ℕ) → agrees (entry_row (rows path)) (rows path) ≡ true) → AllAgree rows (in_order rows paths)
+in_order_agrees : (rows : List ℕ → Option ℕ) (paths : List (List ℕ)) → ((path : List ℕ)
+    → agrees (entry_row (rows path)) (rows path) ≡ true) → AllAgree rows (in_order rows paths)
 in_order_agrees rows [] each = tt
-in_order_agrees rows (path ∷ paths) each = put_agrees rows path (entry_row (rows path)) (in_order rows paths) (each path) (in_order_agrees rows paths each)
+in_order_agrees rows (path ∷ paths) each = put_agrees rows path (entry_row (rows path)) (in_order rows paths) (each path)
+    (in_order_agrees rows paths each)
 
-all_entries : (rows : List ℕ → Option ℕ) (pairs : List (List ℕ × ℕ)) → AllAgree rows pairs → list_all (entry_agrees rows) (map as_entry pairs) ≡ true
+all_entries : (rows : List ℕ → Option ℕ) (pairs : List (List ℕ × ℕ)) → AllAgree rows pairs
+    → list_all (entry_agrees rows) (map as_entry pairs) ≡ true
 all_entries rows [] h = refl
-all_entries rows (pair ∷ pairs) h = ap (λ t. t && list_all (entry_agrees rows) (map as_entry pairs)) h.0 ∙ all_entries rows pairs h.1
+all_entries rows (pair ∷ pairs) h = ap (λ t. t && list_all (entry_agrees rows) (map as_entry pairs)) h.0
+    ∙ all_entries rows pairs h.1
 
 -- an object with the record that the unit would publish matches the unit
-same_matches : (b : Base) (build : Build) (n : ℕ) (unit : Unit) (id : ℕ) (v : List ℕ) (outputs : List (List ℕ)) → is_base (first_rows build.rows b) ≡ true → GivesLive b build →
-    deed_at b id ≡ Some (deeds.Publish v unit.targets (script_text unit.script) (entries (visible b build n unit) (here b build n unit).reads) outputs) → matches b build n unit id ≡ true
+same_matches : (b : Base) (build : Build) (n : ℕ) (unit : Unit) (id : ℕ) (v : List ℕ) (outputs : List (List ℕ))
+    → is_base (first_rows build.rows b) ≡ true → GivesLive b build →
+    deed_at b id ≡ Some (deeds.Publish v unit.targets (script_text unit.script)
+    (entries (visible b build n unit) (here b build n unit).reads) outputs) → matches b build n unit id ≡ true
 same_matches b build n unit id v outputs base gives is =
     ap (record_matches unit.targets script rows) is
     ∙ ap (λ t. (t && bytes_eq script script) && list_all (entry_agrees rows) (entries rows reads)) (texts_alike unit.targets)
@@ -127,8 +147,10 @@ same_matches b build n unit id v outputs base gives is =
     reads : List (List ℕ)
     reads = (here b build n unit).reads
 
-pub no_second_record : (b : Base) (build : Build) (n : ℕ) (unit : Unit) (id : ℕ) (v : List ℕ) (outputs : List (List ℕ)) → is_base b ≡ true → GivesLive b build → build.own_only ≡ false → build.rebuild ≡ false → reusable b build n unit ≡ None →
-    deed_at b id ≡ Some (deeds.Publish v unit.targets (script_text unit.script) (entries (visible b build n unit) (here b build n unit).reads) outputs) → is_some (live_row b id) ≡ false
+pub no_second_record : (b : Base) (build : Build) (n : ℕ) (unit : Unit) (id : ℕ) (v : List ℕ) (outputs : List (List ℕ))
+    → is_base b ≡ true → GivesLive b build → build.own_only ≡ false → build.rebuild ≡ false → reusable b build n unit ≡ None →
+    deed_at b id ≡ Some (deeds.Publish v unit.targets (script_text unit.script)
+    (entries (visible b build n unit) (here b build n unit).reads) outputs) → is_some (live_row b id) ≡ false
 no_second_record b build n unit id v outputs base gives own_only rebuild none is = by (is_some (live_row b id)) refl
   where
     by : (t : Bool) → is_some (live_row b id) ≡ t → t ≡ false

@@ -23,23 +23,31 @@ use Rattle.legal_history.proofs.Reuse.TakenObjects.{as_from_nothing, may_run, ma
 use Rattle.legal_history.proofs.Reuse.TrueObjects.{live_is_true}
 
 -- in a legal story over a sound base a live object whose record matches is the run
-pub story_match : (story : List StoryStep) (opening : Opening) (lane : ℕ) (build : Build) (n : ℕ) (unit : Unit) (id : ℕ) → Legal story → (state_of story).opened ≡ Some opening → IsSound opening.base → build_of (state_of story).active lane ≡ Some build →
-    is_some (live_row (state_of story).base id) ≡ true → matches (state_of story).base build n unit id ≡ true → IsTheRun (state_of story).base build n unit id
+pub story_match : (story : List StoryStep) (opening : Opening) (lane : ℕ) (build : Build) (n : ℕ) (unit : Unit) (id : ℕ)
+    → Legal story → (state_of story).opened ≡ Some opening → IsSound opening.base
+    → build_of (state_of story).active lane ≡ Some build →
+    is_some (live_row (state_of story).base id) ≡ true → matches (state_of story).base build n unit id ≡ true
+    → IsTheRun (state_of story).base build n unit id
 story_match story opening lane build n unit id legal opened sound is lives match =
     let b = (state_of story).base in
     let base = base_fits story legal in
     let whole = story_stays_sound story opening legal opened sound in
-    match_is_run b build n unit id base (first_are_base b build.rows base) whole (gives_live b build (story_holds story lane build legal is)) (live_is_true b id whole lives) match
+    match_is_run b build n unit id base (first_are_base b build.rows base) whole
+    (gives_live b build (story_holds story lane build legal is)) (live_is_true b id whole lives) match
 
 -- so is one that may be reused
-pub story_reuse : (story : List StoryStep) (opening : Opening) (lane : ℕ) (build : Build) (n : ℕ) (unit : Unit) (id : ℕ) → Legal story → (state_of story).opened ≡ Some opening → IsSound opening.base → build_of (state_of story).active lane ≡ Some build →
+pub story_reuse : (story : List StoryStep) (opening : Opening) (lane : ℕ) (build : Build) (n : ℕ) (unit : Unit) (id : ℕ)
+    → Legal story → (state_of story).opened ≡ Some opening → IsSound opening.base
+    → build_of (state_of story).active lane ≡ Some build →
     reusable (state_of story).base build n unit ≡ Some id → IsTheRun (state_of story).base build n unit id
 story_reuse story opening lane build n unit id legal opened sound is chosen =
     let m = reusable_matches (state_of story).base build n unit id (base_fits story legal) chosen in
     story_match story opening lane build n unit id legal opened sound is m.lives m.matches_unit
 
-pub story_reuse_from_nothing : (story : List StoryStep) (opening : Opening) (tag : Tag) (n : ℕ) (build : Build) (unit : Unit) (id : ℕ) → Legal story → (state_of story).opened ≡ Some opening → IsSound opening.base →
-    MayTake (state_of story) tag n build unit → reusable (state_of story).base build n unit ≡ Some id → IsAsFromNothing (state_of story).base build n unit id
+pub story_reuse_from_nothing : (story : List StoryStep) (opening : Opening) (tag : Tag) (n : ℕ) (build : Build) (unit : Unit)
+    (id : ℕ) → Legal story → (state_of story).opened ≡ Some opening → IsSound opening.base →
+    MayTake (state_of story) tag n build unit → reusable (state_of story).base build n unit ≡ Some id
+    → IsAsFromNothing (state_of story).base build n unit id
 story_reuse_from_nothing story opening tag n build unit id legal opened sound may chosen =
     let b = (state_of story).base in
     let takes = takes_for (state_of story) tag n build unit may in

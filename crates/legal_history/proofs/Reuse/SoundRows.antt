@@ -1,5 +1,6 @@
 -- A base stays sound when a row is added, where an object that the row publishes is true.
-use Rattle.std.proofs.Common.{◌≡◌, refl, subst, ◌∙◌, ℕ, suc, ◌<◌, Bool, true, false, not, ◌||◌, ◌==◌, Option, Some, [], ◌∷◌, arith}
+use Rattle.std.proofs.Common.{◌≡◌, refl, subst, ◌∙◌, ℕ, suc, ◌<◌, Bool, true, false, not, ◌||◌, ◌==◌, Option, Some, [], ◌∷◌}
+use Rattle.std.proofs.Common.{arith}
 use Rattle.std.specs.List.{list_any}
 use Rattle.std.specs.Prelude.{is_some}
 use Rattle.cc_names.specs.Formed.{Plain}
@@ -19,16 +20,19 @@ ended_by : (t : Bool) (before : Option ℕ) → is_some (value_after (only_if t 
 ended_by true before h = absurd (cc)
 ended_by false before h = h
 
-set_or_lived : (t : Bool) (n : ℕ) (before : Option ℕ) → is_some (value_after (only_if t (Sets n)) before) ≡ true → t ≡ false → is_some before ≡ true
+set_or_lived : (t : Bool) (n : ℕ) (before : Option ℕ) → is_some (value_after (only_if t (Sets n)) before) ≡ true → t ≡ false
+    → is_some before ≡ true
 set_or_lived true n before h e = absurd (cc)
 set_or_lived false n before h e = h
 
-pub lived_before : (n id : ℕ) (deed : Deed) (before : Option ℕ) → (n == id) ≡ false → is_some (value_after (live_effect id n deed) before) ≡ true → is_some before ≡ true
+pub lived_before : (n id : ℕ) (deed : Deed) (before : Option ℕ) → (n == id) ≡ false
+    → is_some (value_after (live_effect id n deed) before) ≡ true → is_some before ≡ true
 lived_before n id (deeds.Publish v targets script entries outputs) before apart h = set_or_lived (n == id) n before h apart
 lived_before n id (deeds.Scrub objects) before apart h = ended_by (list_any (λ object. object == id) objects) before h
 lived_before n id deed before apart h = h
 
-pub is_new : (n id : ℕ) (deed : Deed) (before : Option ℕ) → (is_some before ≡ true → ⊥) → is_some (value_after (live_effect id n deed) before) ≡ true → is_publish_deed (Some deed) ≡ true
+pub is_new : (n id : ℕ) (deed : Deed) (before : Option ℕ) → (is_some before ≡ true → ⊥)
+    → is_some (value_after (live_effect id n deed) before) ≡ true → is_publish_deed (Some deed) ≡ true
 is_new n id (deeds.Publish v targets script entries outputs) before none h = refl
 is_new n id (deeds.Scrub objects) before none h = absurd (none (ended_by (list_any (λ object. object == id) objects) before h))
 is_new n id deed before none h = absurd (none h)
@@ -44,7 +48,8 @@ live_below (row ∷ older) id h = by (size older == id) refl (live_below older i
 true_stays : (row : Plain) (b : Base) (id : ℕ) → id < size b → is_true (row ∷ b) id ≡ is_true b id
 true_stays row b id low = λ i. is_true_deed (rerun_stays row b id low i) (deed_stays row b id low i)
 
-pub sound_row : (row : Plain) (b : Base) → IsSound b → (is_publish_deed (Some row.deed) ≡ true → is_true (row ∷ b) (size b) ≡ true) → IsSound (row ∷ b)
+pub sound_row : (row : Plain) (b : Base) → IsSound b → (is_publish_deed (Some row.deed) ≡ true
+    → is_true (row ∷ b) (size b) ≡ true) → IsSound (row ∷ b)
 sound_row row b sound new id = by (is_some (live_row (row ∷ b) id)) refl
   where
     by_number : (t : Bool) → (size b == id) ≡ t → is_some (live_row (row ∷ b) id) ≡ true → is_true (row ∷ b) id ≡ true

@@ -1,5 +1,6 @@
 -- What a true object has stored: the outputs of its record's run, which asks for nothing but its entries.
-use Rattle.std.proofs.Common.{◌≡◌, refl, ap, sym, ◌∙◌, ℕ, Bool, true, false, not, ◌&&◌, ◌||◌, ◌==◌, Option, Some, None, List, [], ◌∷◌}
+use Rattle.std.proofs.Common.{◌≡◌, refl, ap, sym, ◌∙◌, ℕ, Bool, true, false, not, ◌&&◌, ◌||◌, ◌==◌, Option, Some, None, List, []}
+use Rattle.std.proofs.Common.{◌∷◌}
 use Rattle.std.proofs.lemmas.Slice.Eq.{bytes_eq-Decides}
 use Rattle.std.specs.Prelude.{is_some, bytes_eq}
 use Rattle.cc_names.specs.Formed.{Plain}
@@ -10,7 +11,8 @@ use Rattle.base_model.specs.Rows.{Base, size, row_at, deed_of, deed_at}
 use Rattle.base_model.specs.Changes.{live_row}
 use Rattle.base_model.specs.Objects.{are_same_paths}
 use Rattle.base_model.specs.Texts.{Bytes, OfRow, NoText, of_output, output_at, source_of, text}
-use Rattle.legal_history.specs.Builds.Values.{outputs_of_run, reads_of_run, has_entries, are_stored, is_true, is_true_deed, rerun, IsSound}
+use Rattle.legal_history.specs.Builds.Values.{outputs_of_run, reads_of_run, has_entries, are_stored, is_true, is_true_deed}
+use Rattle.legal_history.specs.Builds.Values.{rerun, IsSound}
 use Rattle.base_model.proofs.Owned.{and_first, and_second}
 
 -- lists of the same texts are one list
@@ -53,7 +55,8 @@ true_object b id h = by (deed_at b id) refl h
       entries = entries;
       outputs = outputs;
       is = is;
-      ran = stored_is outputs (outputs_of_run (rerun b id)) (and_first (are_stored outputs (outputs_of_run (rerun b id))) (has_entries entries (reads_of_run (rerun b id))) h);
+      ran = stored_is outputs (outputs_of_run (rerun b id)) (and_first (are_stored outputs (outputs_of_run (rerun b id)))
+          (has_entries entries (reads_of_run (rerun b id))) h);
       asked = and_second (are_stored outputs (outputs_of_run (rerun b id))) (has_entries entries (reads_of_run (rerun b id))) h;
     }
     by_deed deed is h = absurd (cc)
@@ -68,23 +71,42 @@ live_is_true b id sound lives = ap (λ t. not t || is_true b id) (sym lives) ∙
 
 -- the text of an object at a path is its output there
 output_text : (older : Base) (path : List ℕ) (o : Option (List ℕ)) →
-    elim (of_output o) as (λ x. Option (List ℕ)) [ Bytes bytes ↦ Some bytes | OfRow origin ↦ text older origin path | NoText ↦ None ] ≡ o
+    elim (of_output o) as (λ x. Option (List ℕ)) [
+      | Bytes bytes ↦ Some bytes
+      | OfRow origin ↦ text older origin path
+      | NoText ↦
+          None
+    ] ≡ o
 output_text older path None = refl
 output_text older path (Some output) = refl
 
-pub object_text : (b : Base) (id : ℕ) (v : List ℕ) (targets : List (List ℕ)) (script : List ℕ) (entries : List ReadOf) (outputs : List (List ℕ)) (path : List ℕ) →
+pub object_text : (b : Base) (id : ℕ) (v : List ℕ) (targets : List (List ℕ)) (script : List ℕ) (entries : List ReadOf)
+    (outputs : List (List ℕ)) (path : List ℕ) →
     deed_at b id ≡ Some (deeds.Publish v targets script entries outputs) → text b id path ≡ output_at path targets outputs
 object_text [] id v targets script entries outputs path h = absurd (cc)
-object_text (row ∷ older) id v targets script entries outputs path h = by (size older == id) h (object_text older id v targets script entries outputs path)
+object_text (row ∷ older) id v targets script entries outputs path h =
+    by (size older == id) h (object_text older id v targets script entries outputs path)
   where
-    by : (t : Bool) → deed_of (elim t as (λ x. Option Plain) [ true ↦ Some row | false ↦ row_at older id ]) ≡ Some (deeds.Publish v targets script entries outputs) →
-        (deed_at older id ≡ Some (deeds.Publish v targets script entries outputs) → text older id path ≡ output_at path targets outputs) →
+    by : (t : Bool) → deed_of (elim t as (λ x. Option Plain) [ true ↦ Some row | false ↦ row_at older id ])
+        ≡ Some (deeds.Publish v targets script entries outputs) →
+        (deed_at older id ≡ Some (deeds.Publish v targets script entries outputs)
+        → text older id path ≡ output_at path targets outputs) →
         elim t as (λ x. Option (List ℕ)) [
           | false ↦ text older id path
-          | true ↦ elim (source_of older path row.deed) as (λ x. Option (List ℕ)) [ Bytes bytes ↦ Some bytes | OfRow origin ↦ text older origin path | NoText ↦ None ]
+          | true ↦ elim (source_of older path row.deed) as (λ x. Option (List ℕ)) [
+            | Bytes bytes ↦ Some bytes
+            | OfRow origin ↦
+                text older origin path
+            | NoText ↦ None
+          ]
         ] ≡ output_at path targets outputs
     by true h rest =
         let same : row.deed ≡ deeds.Publish v targets script entries outputs = cc in
-        ap (λ (deed : Deed). elim (source_of older path deed) as (λ x. Option (List ℕ)) [ Bytes bytes ↦ Some bytes | OfRow origin ↦ text older origin path | NoText ↦ None ]) same
+        ap (λ (deed : Deed). elim (source_of older path deed) as (λ x. Option (List ℕ)) [
+          | Bytes bytes ↦
+              Some bytes
+          | OfRow origin ↦ text older origin path
+          | NoText ↦ None
+        ]) same
         ∙ output_text older path (output_at path targets outputs)
     by false h rest = rest h

@@ -14,9 +14,11 @@ use Rattle.legal_history.proofs.Reuse.GivenRows.{wink_held}
 use Rattle.legal_history.proofs.Reuse.Matched.{match_targets}
 use Rattle.legal_history.proofs.Reuse.Reusables.{reusable_matches}
 
-pub winked_held : (row : Plain) (b : Base) (build : Build) (n : ℕ) (unit : Unit) (id : ℕ) → is_base b ≡ true → unit_at build n ≡ Some unit → unit_with_first build (targets_of b id) ≡ Some n → reusable b build n unit ≡ Some id →
+pub winked_held : (row : Plain) (b : Base) (build : Build) (n : ℕ) (unit : Unit) (id : ℕ) → is_base b ≡ true
+    → unit_at build n ≡ Some unit → unit_with_first build (targets_of b id) ≡ Some n → reusable b build n unit ≡ Some id →
     row.deed ≡ deeds.Wink build.view id → IsHeld (row ∷ b) build n id
 winked_held row b build n unit id base is place chosen wink =
     let m = reusable_matches b build n unit id base chosen in
     subst (λ (deed : Deed). IsHeld (record { tag = row.tag; moment = row.moment; deed = deed } ∷ b) build n id) (sym wink)
-    (wink_held row.tag row.moment build.view id b build n unit refl (sym (match_targets b build n unit id m.matches_unit)) m.lives is place)
+    (wink_held row.tag row.moment build.view id b build n unit refl (sym (match_targets b build n unit id m.matches_unit)) m.lives
+    is place)

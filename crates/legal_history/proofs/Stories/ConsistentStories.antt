@@ -45,40 +45,56 @@ pub record IsConsistentState (s : State) : Type 0 where
   pub fine : Each (λ lane. IsFine s.base) s.active
   pub room : HasRoom s.base s.active
 
-publish_fits : (b : Base) (build : Build) (n : ℕ) (unit : Unit) (deed : Deed) → IsFine b build → IsReady build unit → nat_lt (size b) row_limit ≡ true → IsPublish b build n unit deed → fits b deed ≡ true
+publish_fits : (b : Base) (build : Build) (n : ℕ) (unit : Unit) (deed : Deed) → IsFine b build → IsReady build unit
+    → nat_lt (size b) row_limit ≡ true → IsPublish b build n unit deed → fits b deed ≡ true
 publish_fits b build n unit deed h ready room p =
     subst (λ d. fits b d ≡ true) (sym p.is)
-    (ap (λ t. t && (exists b build.view && list_all (is_entry b) (entries (visible b build n unit) (here b build n unit).reads))) room
+    (ap (λ t. t && (exists b build.view && list_all (is_entry b) (entries (visible b build n unit) (here b build n unit).reads)))
+    room
     ∙ ap (λ t. t && list_all (is_entry b) (entries (visible b build n unit) (here b build n unit).reads)) h.there
     ∙ entries_fit b build n unit (here b build n unit).reads h.consistent ready)
 
-committed_fits : (s : State) (tag : Tag) (moment : ℕ) (deed : Deed) → IsConsistentState s → MakesRow s (record { tag = tag; moment = moment; deed = deed }) deed →
-    HasRoom (record { tag = tag; moment = moment; deed = deed } ∷ s.base) (active_after s.base s.active tag.lane deed) → fits s.base deed ≡ true
+committed_fits : (s : State) (tag : Tag) (moment : ℕ) (deed : Deed) → IsConsistentState s
+    → MakesRow s (record { tag = tag; moment = moment; deed = deed }) deed →
+    HasRoom (record { tag = tag; moment = moment; deed = deed } ∷ s.base) (active_after s.base s.active tag.lane deed)
+    → fits s.base deed ≡ true
 committed_fits s tag moment (deeds.Publish view targets script entries outputs) h e room =
     let fine = h.fine.holds tag.lane e.build (of_lane s tag e.build e.running.waits.active) in
-    publish_fits s.base e.build e.n e.unit (deeds.Publish view targets script entries outputs) fine (fine.consistent.ready e.n e.unit e.running.waits.is_unit (ap is_some e.running.started))
+    publish_fits s.base e.build e.n e.unit (deeds.Publish view targets script entries outputs) fine
+    (fine.consistent.ready e.n e.unit e.running.waits.is_unit (ap is_some e.running.started))
     (room_for s.base (record { tag = tag; moment = moment; deed = deeds.Publish view targets script entries outputs }) _ room)
     (is_publish s.base e.build e.n e.unit (deeds.Publish view targets script entries outputs) e.made)
 committed_fits s tag moment (deeds.Wink view id) h e room =
     let w = takes_for s tag e.n e.build e.unit e.may in
-    let there : exists s.base view ≡ true = subst (λ v. exists s.base v ≡ true) e.of_view (h.fine.holds tag.lane e.build w.there).there in
-    ap (λ t. t && (exists s.base view && is_some (live_row s.base id))) (room_for s.base (record { tag = tag; moment = moment; deed = deeds.Wink view id }) _ room)
+    let there : exists s.base view ≡ true = subst (λ v. exists s.base v ≡ true) e.of_view
+    (h.fine.holds tag.lane e.build w.there).there in
+    ap (λ t. t && (exists s.base view && is_some (live_row s.base id)))
+    (room_for s.base (record { tag = tag; moment = moment; deed = deeds.Wink view id }) _ room)
     ∙ ap (λ t. t && is_some (live_row s.base id)) there
     ∙ (reusable_matches s.base e.build e.n e.unit id h.base e.chosen).lives
-committed_fits s tag moment deed h e room = let d = decided_of s tag (Makes deed) e in decided_fits (scene s) d.command h.base deed d.is
+committed_fits s tag moment deed h e room = let d = decided_of s tag (Makes deed) e in
+    decided_fits (scene s) d.command h.base deed d.is
 
-step_base : (s : State) (x : StoryStep) → IsConsistentState s → Lawful s x → HasRoom (after s x).base (after s x).active → is_base (after s x).base ≡ true
+step_base : (s : State) (x : StoryStep) → IsConsistentState s → Lawful s x → HasRoom (after s x).base (after s x).active
+    → is_base (after s x).base ≡ true
 step_base s (story_steps.Opened rows counts tells) h e room = e.fits
-step_base s (story_steps.Commit row tick) h e room = ap (λ t. t && is_base s.base) (committed_fits s row.tag row.moment row.deed h e.may.made room) ∙ h.base
+step_base s (story_steps.Commit row tick) h e room = ap (λ t. t && is_base s.base)
+    (committed_fits s row.tag row.moment row.deed h e.may.made room) ∙ h.base
 step_base s (story_steps.Other (steps.Refused tag refusal)) h e room = h.base
 step_base s x h e room = h.base
 
 pub consistent_step : (s : State) (x : StoryStep) → IsConsistentState s → Lawful s x → IsConsistentState (after s x)
 consistent_step s x h e =
     let room = step_room s x h.opened h.room e in
-    record { opened = stays_opened s x h.opened; base = step_base s x h e room; fine = step_fine s x h.base h.opened h.fine e; room = room }
+    record {
+      opened = stays_opened s x h.opened;
+      base = step_base s x h e room;
+      fine = step_fine s x h.base h.opened h.fine e;
+      room = room;
+    }
 
-consistent_from : (s : State) (story : List StoryStep) → IsConsistentState s → LegalFrom s story → IsConsistentState (state_from s story)
+consistent_from : (s : State) (story : List StoryStep) → IsConsistentState s → LegalFrom s story
+    → IsConsistentState (state_from s story)
 consistent_from s [] h e = h
 consistent_from s (x ∷ story) h e = consistent_from (after s x) story (consistent_step s x h e.0) e.1
 
@@ -94,7 +110,8 @@ IsOpening x = ⊥
 
 pub opens_first : (x : StoryStep) → Lawful start x → IsOpening x
 opens_first (story_steps.Opened rows counts tells) e = tt
-opens_first (story_steps.Other (steps.Refused tag refusal)) e = let opened = first_opens (story_steps.Other (steps.Refused tag refusal)) e in cc
+opens_first (story_steps.Other (steps.Refused tag refusal)) e = let opened =
+    first_opens (story_steps.Other (steps.Refused tag refusal)) e in cc
 opens_first x e = let opened = first_opens x e in cc
 
 -- after it nothing builds
@@ -119,6 +136,7 @@ pub base_fits : (story : List StoryStep) → Legal story → is_base (state_of s
 base_fits [] h = refl
 base_fits (x ∷ story) h = (story_is_consistent x story h).base
 
-pub build_is_consistent : (story : List StoryStep) (lane : ℕ) (build : Build) → Legal story → build_of (state_of story).active lane ≡ Some build → IsConsistent (state_of story).base build
+pub build_is_consistent : (story : List StoryStep) (lane : ℕ) (build : Build) → Legal story
+    → build_of (state_of story).active lane ≡ Some build → IsConsistent (state_of story).base build
 build_is_consistent [] lane build h is = absurd (cc)
 build_is_consistent (x ∷ story) lane build h is = ((story_is_consistent x story h).fine.holds lane build is).consistent

@@ -30,7 +30,8 @@ pub says_of : (s : State) (tag : Tag) (d : Decision) (h : DecidedOf s tag d) →
 says_of s tag d h = decided_says (scene s) h.command d h.is
 
 -- the build that a command begins is the one that it asks for
-pub begun_is : (s : State) (tag : Tag) (us : List Unit) (h : decision_for s tag ≡ Some (Ok (Begins us))) → let says = says_of s tag (Begins us) (decided_of s tag (Begins us) h) in
+pub begun_is : (s : State) (tag : Tag) (us : List Unit) (h : decision_for s tag ≡ Some (Ok (Begins us))) → let says =
+    says_of s tag (Begins us) (decided_of s tag (Begins us) h) in
     build_begun_by s tag ≡ Some (build_asked tag (size s.base) us says.asked)
 begun_is s tag us h =
     let d = decided_of s tag (Begins us) h in

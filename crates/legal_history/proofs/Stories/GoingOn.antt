@@ -24,15 +24,19 @@ pub record GoesOnSo (b later : Base) (old new : Build) (unit : Unit) : Type 0 wh
   pub ready : IsReady old unit
 
 -- the reference rows stay
-pub rows_stay : (b later : Base) (old new : Build) (unit : Unit) → GoesOnSo b later old new unit → first_rows new.rows later ≡ first_rows old.rows b
-rows_stay b later old new unit h = ap (λ t. first_rows t later) h.on.rows ∙ ap (first_rows old.rows) h.grown.is ∙ first_rows_stay_all h.grown.more b old.rows h.consistent.rows
+pub rows_stay : (b later : Base) (old new : Build) (unit : Unit) → GoesOnSo b later old new unit
+    → first_rows new.rows later ≡ first_rows old.rows b
+rows_stay b later old new unit h = ap (λ t. first_rows t later) h.on.rows ∙ ap (first_rows old.rows) h.grown.is
+    ∙ first_rows_stay_all h.grown.more b old.rows h.consistent.rows
 
 some_same : {a b : Build} → Some a ≡ Some b → a ≡ b
 some_same h = cc
 
 -- it does where one of its units was started
-pub goes_on_so : (story : List StoryStep) (x : StoryStep) (lane : ℕ) (old new : Build) (n : ℕ) (unit : Unit) → Legal story → Lawful (state_of story) x → build_of (state_of story).active lane ≡ Some old →
-    build_of (after (state_of story) x).active lane ≡ Some new → unit_at old n ≡ Some unit → is_some (came_to old n) ≡ true → GoesOnSo (state_of story).base (after (state_of story) x).base old new unit
+pub goes_on_so : (story : List StoryStep) (x : StoryStep) (lane : ℕ) (old new : Build) (n : ℕ) (unit : Unit) → Legal story
+    → Lawful (state_of story) x → build_of (state_of story).active lane ≡ Some old →
+    build_of (after (state_of story) x).active lane ≡ Some new → unit_at old n ≡ Some unit → is_some (came_to old n) ≡ true
+    → GoesOnSo (state_of story).base (after (state_of story) x).base old new unit
 goes_on_so [] x lane old new n unit legal e is later of_n came = absurd (cc)
 goes_on_so (first ∷ story) x lane old new n unit legal e is later of_n came = by (step_goes s x lane old is e)
   where

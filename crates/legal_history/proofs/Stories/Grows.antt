@@ -38,7 +38,8 @@ stays_opened s (story_steps.Opened rows counts tells) o = refl
 stays_opened s (story_steps.Other step) o = rw (opened_stays_by_step s step) o
 stays_opened s x o = o
 
-pub story_extends : (s : State) (story : List StoryStep) → is_some s.opened ≡ true → LegalFrom s story → Extends s.base (state_from s story).base
+pub story_extends : (s : State) (story : List StoryStep) → is_some s.opened ≡ true → LegalFrom s story
+    → Extends s.base (state_from s story).base
 story_extends s [] o h = extends_itself s.base
 story_extends s (x ∷ story) o h = extends_on (step_extends s x o h.0) (story_extends (after s x) story (stays_opened s x o) h.1)
 
@@ -47,8 +48,10 @@ pub is_opened : (s : State) (story : List StoryStep) → is_some s.opened ≡ tr
 is_opened s [] o = o
 is_opened s (x ∷ story) o = is_opened (after s x) story (stays_opened s x o)
 
-pub base_grows : (prefix rest : List StoryStep) → Legal (prefix ++ rest) → Extends (state_of prefix).base (state_of (prefix ++ rest)).base
+pub base_grows : (prefix rest : List StoryStep) → Legal (prefix ++ rest)
+    → Extends (state_of prefix).base (state_of (prefix ++ rest)).base
 base_grows [] rest h = record { more = (state_of rest).base; is = sym (append-nil _) }
 base_grows (x ∷ prefix) rest h =
     subst (λ s. Extends (state_of (x ∷ prefix)).base s.base) (sym (state_goes_on (after start x) prefix rest))
-    (story_extends (state_of (x ∷ prefix)) rest (is_opened (after start x) prefix (first_opens x h.0)) (rest_is_legal (after start x) prefix rest h.1))
+    (story_extends (state_of (x ∷ prefix)) rest (is_opened (after start x) prefix (first_opens x h.0))
+    (rest_is_legal (after start x) prefix rest h.1))

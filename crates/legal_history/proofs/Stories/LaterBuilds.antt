@@ -22,7 +22,8 @@ no_more : (m n : ℕ) → m + 1 ≡ n + 1 → m ≡ n
 no_more m n h = omega (arith, h)
 
 -- builds of one command are one build
-pub same_build : (prefix rest : List StoryStep) (lane : ℕ) (old new : Build) → IsStillActive prefix rest lane old new → Continues old new
+pub same_build : (prefix rest : List StoryStep) (lane : ℕ) (old new : Build) → IsStillActive prefix rest lane old new
+    → Continues old new
 same_build prefix rest lane old new h =
     let s : State = state_of prefix in
     let t : State = state_of (prefix ++ rest) in
@@ -35,8 +36,15 @@ same_build prefix rest lane old new h =
     subst (Continues old) (some_same (sym still.is ∙ h.now)) still.on
 
 -- a build that goes on while its base grows, where one of its units was started
-pub goes_on_later : (prefix rest : List StoryStep) (lane : ℕ) (old new : Build) (n : ℕ) (unit : Unit) → IsStillActive prefix rest lane old new → unit_at old n ≡ Some unit → is_some (came_to old n) ≡ true →
+pub goes_on_later : (prefix rest : List StoryStep) (lane : ℕ) (old new : Build) (n : ℕ) (unit : Unit)
+    → IsStillActive prefix rest lane old new → unit_at old n ≡ Some unit → is_some (came_to old n) ≡ true →
     GoesOnSo (state_of prefix).base (state_of (prefix ++ rest)).base old new unit
 goes_on_later prefix rest lane old new n unit h of_n came =
-    let consistent : IsConsistent (state_of prefix).base old = build_is_consistent prefix lane old (prefix_is_legal start prefix rest h.legal) h.before in
-    record { grown = base_grows prefix rest h.legal; on = same_build prefix rest lane old new h; consistent = consistent; ready = consistent.ready n unit of_n came }
+    let consistent : IsConsistent (state_of prefix).base old = build_is_consistent prefix lane old
+    (prefix_is_legal start prefix rest h.legal) h.before in
+    record {
+      grown = base_grows prefix rest h.legal;
+      on = same_build prefix rest lane old new h;
+      consistent = consistent;
+      ready = consistent.ready n unit of_n came;
+    }

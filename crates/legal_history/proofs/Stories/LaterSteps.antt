@@ -29,20 +29,24 @@ no_fewer done other lane = by (lane == other) refl
     by false e = let same = other_done done lane other e in omega arith
     by true e =
         let number : lane ≡ other = same_number lane other e in
-        subst (λ n. done_of done n ≤ done_of (with_done done other) n) (sym number) (let more = own_done done other in omega arith)
+        subst (λ n. done_of done n ≤ done_of (with_done done other) n) (sym number) (let more = own_done done other in
+        omega arith)
 
 -- no lane has finished fewer commands
-committed_no_fewer : (done : List (ℕ × ℕ)) (other : ℕ) (deed : Deed) (lane : ℕ) → done_of done lane ≤ done_of (done_after done other deed) lane
+committed_no_fewer : (done : List (ℕ × ℕ)) (other : ℕ) (deed : Deed) (lane : ℕ)
+    → done_of done lane ≤ done_of (done_after done other deed) lane
 committed_no_fewer done other (deeds.Publish view targets script entries outputs) lane = omega arith
 committed_no_fewer done other (deeds.Wink view id) lane = omega arith
 committed_no_fewer done other deed lane = no_fewer done other lane
 
-faulted_no_fewer : (done : List (ℕ × ℕ)) (other : ℕ) (o : Option Build) (lane : ℕ) → done_of done lane ≤ done_of (done_by_fault done other o) lane
+faulted_no_fewer : (done : List (ℕ × ℕ)) (other : ℕ) (o : Option Build) (lane : ℕ)
+    → done_of done lane ≤ done_of (done_by_fault done other o) lane
 faulted_no_fewer done other None lane = no_fewer done other lane
 faulted_no_fewer done other (Some build) lane = omega arith
 
 -- an active build that is over after a step has raised its lane's count
-left_more : (s : State) (x : StoryStep) (lane : ℕ) (build : Build) → IsLeft s x lane build → done_of (after s x).done lane ≡ done_of s.done lane + 1
+left_more : (s : State) (x : StoryStep) (lane : ℕ) (build : Build) → IsLeft s x lane build
+    → done_of (after s x).done lane ≡ done_of s.done lane + 1
 left_more s x lane build h =
     subst (λ y. done_of (after s y).done lane ≡ done_of s.done lane + 1) (sym h.is)
     (subst (λ n. done_of (with_done s.done n) lane ≡ done_of s.done lane + 1) (sym h.of_lane) (own_done s.done lane))
@@ -51,13 +55,15 @@ not_more : (n m : ℕ) → m ≡ n → m ≡ n + 1 → ⊥
 not_more n m same more = omega (arith, same, more)
 
 -- so a build goes on where it has not
-pub step_builds : (s : State) (x : StoryStep) → Lawful s x → (lane : ℕ) (build : Build) → build_of s.active lane ≡ Some build → done_of (after s x).done lane ≡ done_of s.done lane →
+pub step_builds : (s : State) (x : StoryStep) → Lawful s x → (lane : ℕ) (build : Build) → build_of s.active lane ≡ Some build
+    → done_of (after s x).done lane ≡ done_of s.done lane →
     StillBuilds build (build_of (after s x).active lane)
 step_builds s x e lane build is same = by (step_goes s x lane build is e)
   where
     by : StaysTheBuild build (build_of (after s x).active lane) → StillBuilds build (build_of (after s x).active lane)
     by (On new is_on on) = record { build = new; is = is_on; on = on }
-    by (Over none) = absurd (not_more (done_of s.done lane) (done_of (after s x).done lane) same (left_more s x lane build (is_left s x lane build is e none)))
+    by (Over none) = absurd (not_more (done_of s.done lane) (done_of (after s x).done lane) same
+        (left_more s x lane build (is_left s x lane build is e none)))
 
 -- what a step leaves of the phase, and of the commands finished
 record StaysInPhase (s t : State) : Type 0 where
@@ -67,10 +73,20 @@ record StaysInPhase (s t : State) : Type 0 where
   done : (lane : ℕ) → done_of s.done lane ≤ done_of t.done lane
 
 any_step_stays : (s : State) (step : Step) → StaysInPhase s (after_step s step)
-any_step_stays s (steps.Refused tag refusal) = record { number = refl; phase = refl; moment = refl; done = no_fewer s.done tag.lane }
+any_step_stays s (steps.Refused tag refusal) = record {
+  number = refl;
+  phase = refl;
+  moment = refl;
+  done = no_fewer s.done tag.lane;
+}
 any_step_stays s (steps.Answer tag text) = record { number = refl; phase = refl; moment = refl; done = no_fewer s.done tag.lane }
 any_step_stays s (steps.End tag) = record { number = refl; phase = refl; moment = refl; done = no_fewer s.done tag.lane }
-any_step_stays s (steps.Fault tag left before faults tick) = record { number = refl; phase = refl; moment = refl; done = faulted_no_fewer s.done tag.lane (build_by s tag) }
+any_step_stays s (steps.Fault tag left before faults tick) = record {
+  number = refl;
+  phase = refl;
+  moment = refl;
+  done = faulted_no_fewer s.done tag.lane (build_by s tag);
+}
 any_step_stays s step = record { number = refl; phase = refl; moment = refl; done = λ lane. omega arith }
 
 within_phase : (s : State) (x : StoryStep) → Lawful s x → StaysInPhase s (after s x) → GoesLater s (after s x)
@@ -94,8 +110,18 @@ next_phase s t more = record {
 -- each lawful step leads to a later state
 pub step_later : (s : State) (x : StoryStep) → Lawful s x → GoesLater s (after s x)
 step_later s (story_steps.Opened rows counts tells) e =
-    within_phase s (story_steps.Opened rows counts tells) e (record { number = refl; phase = refl; moment = refl; done = λ lane. omega arith })
+    within_phase s (story_steps.Opened rows counts tells) e (record {
+      number = refl;
+      phase = refl;
+      moment = refl;
+      done = λ lane. omega arith;
+    })
 step_later s (story_steps.PhaseBegun phase moment) e = next_phase s (after s (story_steps.PhaseBegun phase moment)) refl
 step_later s (story_steps.Commit row tick) e =
-    within_phase s (story_steps.Commit row tick) e (record { number = refl; phase = refl; moment = refl; done = committed_no_fewer s.done row.tag.lane row.deed })
+    within_phase s (story_steps.Commit row tick) e (record {
+      number = refl;
+      phase = refl;
+      moment = refl;
+      done = committed_no_fewer s.done row.tag.lane row.deed;
+    })
 step_later s (story_steps.Other step) e = within_phase s (story_steps.Other step) e (any_step_stays s step)

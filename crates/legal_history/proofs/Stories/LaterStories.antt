@@ -50,8 +50,10 @@ later_on a b c h g = record {
   number = at_most_on a.number b.number c.number h.number g.number;
   phase = λ same. g.phase (second same) ∙ h.phase (first same);
   moment = λ same. g.moment (second same) ∙ h.moment (first same);
-  done = λ same lane. at_most_on (done_of a.done lane) (done_of b.done lane) (done_of c.done lane) (h.done (first same) lane) (g.done (second same) lane);
-  builds = λ same lane build is idle. on_again lane build (first same) (second same) is (h.done (first same) lane) (g.done (second same) lane) idle;
+  done = λ same lane. at_most_on (done_of a.done lane) (done_of b.done lane) (done_of c.done lane) (h.done (first same) lane)
+      (g.done (second same) lane);
+  builds = λ same lane build is idle. on_again lane build (first same) (second same) is (h.done (first same) lane)
+      (g.done (second same) lane) idle;
 }
   where
     first : c.number ≡ a.number → b.number ≡ a.number
@@ -61,17 +63,23 @@ later_on a b c h g = record {
     second same = between_last a.number b.number c.number h.number g.number same
 
     on_again : (lane : ℕ) (build : Build) → b.number ≡ a.number → c.number ≡ b.number → build_of a.active lane ≡ Some build →
-        done_of a.done lane ≤ done_of b.done lane → done_of b.done lane ≤ done_of c.done lane → done_of c.done lane ≡ done_of a.done lane →
+        done_of a.done lane ≤ done_of b.done lane → done_of b.done lane ≤ done_of c.done lane
+        → done_of c.done lane ≡ done_of a.done lane →
         StillBuilds build (build_of c.active lane)
     on_again lane build one two is low high idle =
-        let old = h.builds one lane build is (between_first (done_of a.done lane) (done_of b.done lane) (done_of c.done lane) low high idle) in
-        let new = g.builds two lane old.build old.is (between_last (done_of a.done lane) (done_of b.done lane) (done_of c.done lane) low high idle) in
+        let old = h.builds one lane build is (between_first (done_of a.done lane) (done_of b.done lane) (done_of c.done lane) low
+        high idle) in
+        let new = g.builds two lane old.build old.is (between_last (done_of a.done lane) (done_of b.done lane)
+        (done_of c.done lane) low high idle) in
         record { build = new.build; is = new.is; on = continues_on build old.build new.build old.on new.on }
 
 later_from : (s : State) (story : List StoryStep) → LegalFrom s story → GoesLater s (state_from s story)
 later_from s [] legal = later_itself s
-later_from s (x ∷ story) legal = later_on s (after s x) (state_from (after s x) story) (step_later s x legal.0) (later_from (after s x) story legal.1)
+later_from s (x ∷ story) legal = later_on s (after s x) (state_from (after s x) story) (step_later s x legal.0)
+    (later_from (after s x) story legal.1)
 
-pub story_later : (prefix rest : List StoryStep) → Legal (prefix ++ rest) → GoesLater (state_of prefix) (state_of (prefix ++ rest))
+pub story_later : (prefix rest : List StoryStep) → Legal (prefix ++ rest)
+    → GoesLater (state_of prefix) (state_of (prefix ++ rest))
 story_later prefix rest legal =
-    subst (GoesLater (state_of prefix)) (sym (state_goes_on start prefix rest)) (later_from (state_of prefix) rest (rest_is_legal start prefix rest legal))
+    subst (GoesLater (state_of prefix)) (sym (state_goes_on start prefix rest))
+    (later_from (state_of prefix) rest (rest_is_legal start prefix rest legal))

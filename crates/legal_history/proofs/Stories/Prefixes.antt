@@ -24,15 +24,18 @@ pub prefix_is_legal : (s : State) (prefix rest : List StoryStep) → LegalFrom s
 prefix_is_legal s [] rest h = tt
 prefix_is_legal s (x ∷ prefix) rest h = (h.0, prefix_is_legal (after s x) prefix rest h.1)
 
-pub rest_is_legal : (s : State) (prefix rest : List StoryStep) → LegalFrom s (prefix ++ rest) → LegalFrom (state_from s prefix) rest
+pub rest_is_legal : (s : State) (prefix rest : List StoryStep) → LegalFrom s (prefix ++ rest)
+    → LegalFrom (state_from s prefix) rest
 rest_is_legal s [] rest h = h
 rest_is_legal s (x ∷ prefix) rest h = rest_is_legal (after s x) prefix rest h.1
 
-pub both_are_legal : (s : State) (prefix rest : List StoryStep) → LegalFrom s prefix → LegalFrom (state_from s prefix) rest → LegalFrom s (prefix ++ rest)
+pub both_are_legal : (s : State) (prefix rest : List StoryStep) → LegalFrom s prefix → LegalFrom (state_from s prefix) rest
+    → LegalFrom s (prefix ++ rest)
 both_are_legal s [] rest h g = g
 both_are_legal s (x ∷ prefix) rest h g = (h.0, both_are_legal (after s x) prefix rest h.1 g)
 
-pub state_goes_on : (s : State) (prefix rest : List StoryStep) → state_from s (prefix ++ rest) ≡ state_from (state_from s prefix) rest
+pub state_goes_on : (s : State) (prefix rest : List StoryStep) → state_from s (prefix ++ rest)
+    ≡ state_from (state_from s prefix) rest
 state_goes_on s [] rest = refl
 state_goes_on s (x ∷ prefix) rest = state_goes_on (after s x) prefix rest
 
@@ -41,19 +44,25 @@ no_lane : (n : ℕ) → lane_at (record { lanes = [] }) n ≡ None
 no_lane zero = refl
 no_lane (suc n) = refl
 
-none_left : {A B : Type 0} (test : Bool) (f : A → Option B) (o : Option A) → o ≡ None → only_where test (option_and_then f o) ≡ None
+none_left : {A B : Type 0} (test : Bool) (f : A → Option B) (o : Option A) → o ≡ None
+    → only_where test (option_and_then f o) ≡ None
 none_left true f o e = rw e refl
 none_left false f o e = refl
 
 nothing_is_next : (tag : Tag) → next_command start tag ≡ None
-nothing_is_next tag = none_left (is_next start tag) (command_behind (done_of start.done tag.lane)) (lane_at start.phase tag.lane) (no_lane tag.lane)
+nothing_is_next tag = none_left (is_next start tag) (command_behind (done_of start.done tag.lane)) (lane_at start.phase tag.lane)
+    (no_lane tag.lane)
 
 nothing_is_decided : (tag : Tag) → decision_for start tag ≡ None
 nothing_is_decided tag = rw (nothing_is_next tag) refl
 
 pub nothing_is_committed : (row : Plain) (deed : Deed) → MakesRow start row deed → ⊥
 nothing_is_committed row (deeds.Publish view targets script entries outputs) h = let e = h.running.waits.active in cc
-nothing_is_committed row (deeds.Wink view id) h = elim h.may [ inl o ↦ let e = o.waits.active in cc | inr r ↦ let e = r.waits.active in cc ]
+nothing_is_committed row (deeds.Wink view id) h = elim h.may [
+  | inl o ↦ let e = o.waits.active in
+      cc
+  | inr r ↦ let e = r.waits.active in cc
+]
 nothing_is_committed row deed h = let e = nothing_is_decided row.tag in cc
 
 nothing_settles : (tag : Tag) (n : ℕ) (outcome : UnitEnd) → ComesTo start tag n outcome → ⊥

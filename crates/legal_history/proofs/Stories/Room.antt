@@ -20,7 +20,9 @@ all_as_waiting : (active : Active) → all_waiting active ≡ all_unfinished act
 all_as_waiting [] = refl
 all_as_waiting (entry ∷ active) = ap₂ ◌+◌ (as_waiting entry.1 0 entry.1.units) (all_as_waiting active)
 
-pub within_limit : (story : List StoryStep) → Legal story → size (state_of story).base + all_unfinished (state_of story).active ≤ row_limit
+pub within_limit : (story : List StoryStep) → Legal story → size (state_of story).base + all_unfinished (state_of story).active
+    ≤ row_limit
 within_limit [] legal = omega arith
 within_limit (x ∷ story) legal =
-    subst (λ k. size (state_of (x ∷ story)).base + k ≤ row_limit) (all_as_waiting (state_of (x ∷ story)).active) (story_is_consistent x story legal).room.room
+    subst (λ k. size (state_of (x ∷ story)).base + k ≤ row_limit) (all_as_waiting (state_of (x ∷ story)).active)
+    (story_is_consistent x story legal).room.room

@@ -22,7 +22,8 @@ use Rattle.legal_history.proofs.Stories.Prefixes.{prefix_is_legal, rest_is_legal
 use Rattle.legal_history.proofs.Stories.ConsistentStories.{base_fits}
 
 -- a scrub that was decided is of a command that scrubs
-decided_scrub : (s : State) (tag : Tag) (objects : List ℕ) → decision_for s tag ≡ Some (Ok (Makes (deeds.Scrub objects))) → AreDue s tag objects
+decided_scrub : (s : State) (tag : Tag) (objects : List ℕ) → decision_for s tag ≡ Some (Ok (Makes (deeds.Scrub objects)))
+    → AreDue s tag objects
 decided_scrub s tag objects h =
     let d = decided_of s tag (Makes (deeds.Scrub objects)) h in
     let scrub = (says_of s tag (Makes (deeds.Scrub objects)) d).scrubs in
@@ -34,10 +35,15 @@ decided_scrub s tag objects h =
       ascend = scrub_ascends (scene s) scrub.age objects is;
     }
 
-pub story_scrubs : (prefix rest : List StoryStep) (row : Plain) (tick : ℕ) (objects : List ℕ) → Legal (prefix ++ story_steps.Commit row tick ∷ rest) → row.deed ≡ deeds.Scrub objects → AreDue (state_of prefix) row.tag objects
+pub story_scrubs : (prefix rest : List StoryStep) (row : Plain) (tick : ℕ) (objects : List ℕ)
+    → Legal (prefix ++ story_steps.Commit row tick ∷ rest) → row.deed ≡ deeds.Scrub objects
+    → AreDue (state_of prefix) row.tag objects
 story_scrubs prefix rest row tick objects legal is =
     let commits = (rest_is_legal start prefix (story_steps.Commit row tick ∷ rest) legal).0 in
-    decided_scrub (state_of prefix) row.tag objects (subst (MakesRow (state_of prefix) row) is commits.may.made ∙ ap (λ deed. Some (Ok (Makes deed))) is)
+    decided_scrub (state_of prefix) row.tag objects (subst (MakesRow (state_of prefix) row) is commits.may.made
+    ∙ ap (λ deed. Some (Ok (Makes deed))) is)
 
-pub story_held_is_live : (prefix rest : List StoryStep) (v path : List ℕ) (id : ℕ) → Legal (prefix ++ rest) → held_at (objects_held (state_of prefix).base) v path ≡ Some id → is_some (live_row (state_of prefix).base id) ≡ true
-story_held_is_live prefix rest v path id legal is = held_is_live (state_of prefix).base v path id (base_fits prefix (prefix_is_legal start prefix rest legal)) is
+pub story_held_is_live : (prefix rest : List StoryStep) (v path : List ℕ) (id : ℕ) → Legal (prefix ++ rest)
+    → held_at (objects_held (state_of prefix).base) v path ≡ Some id → is_some (live_row (state_of prefix).base id) ≡ true
+story_held_is_live prefix rest v path id legal is = held_is_live (state_of prefix).base v path id
+    (base_fits prefix (prefix_is_legal start prefix rest legal)) is

@@ -21,7 +21,15 @@ use Rattle.legal_history.proofs.Worked.StoryParts.{one_lane, opened, comes_after
 use Rattle.legal_history.proofs.Worked.TwoViews.{v, hi, makefile, script}
 
 abbrev build : Command
-build = commands.Build (record { view = v; file = None; own_only = false; rebuild = false; jobs = 1; macros = []; goals = codes "out" ∷ [] })
+build = commands.Build (record {
+  view = v;
+  file = None;
+  own_only = false;
+  rebuild = false;
+  jobs = 1;
+  macros = [];
+  goals = codes "out" ∷ [];
+})
 
 -- the row that the first of two builds of private files publishes, and that of the second
 abbrev pub published : ℕ → Plain
@@ -31,7 +39,8 @@ published n = row n (deeds.Publish v (codes "out" ∷ []) script (record { path 
 abbrev pub before_build : List StoryStep
 before_build =
     opened
-    ∷ story_steps.PhaseBegun (one_lane (commands.Change (changes.Mkview v) ∷ commands.Change (changes.Save v (codes "Makefile") makefile) ∷ commands.Change (changes.Save v (codes "in") hi)
+    ∷ story_steps.PhaseBegun (one_lane (commands.Change (changes.Mkview v)
+    ∷ commands.Change (changes.Save v (codes "Makefile") makefile) ∷ commands.Change (changes.Save v (codes "in") hi)
     ∷ build ∷ build ∷ [])) 1700000000
     ∷ story_steps.Commit (row 1 (deeds.Mkview v)) 7
     ∷ story_steps.Commit (row 2 (deeds.Put v (codes "Makefile") makefile)) 11
@@ -39,13 +48,15 @@ before_build =
     ∷ []
 
 abbrev pub before_fault : List StoryStep
-before_fault = before_build ++ (story_steps.Other (steps.Begin (tag 1 1 4) 4 1) ∷ story_steps.Other (steps.Start (tag 1 1 4) 0) ∷ [])
+before_fault = before_build ++ (story_steps.Other (steps.Begin (tag 1 1 4) 4 1) ∷ story_steps.Other (steps.Start (tag 1 1 4) 0)
+    ∷ [])
 
 -- the disk fails at the first build's last sync, so that its row may be found
 abbrev fault : StoryStep
 fault = story_steps.Other (steps.Fault (tag 1 1 4) (Some (published 4)) 0 1 19)
 
-the_first_build_meets_it : option_map (λ build. build.faulted) (build_by (state_of (before_fault ++ (fault ∷ []))) (tag 1 1 4)) ≡ Some true
+the_first_build_meets_it : option_map (λ build. build.faulted) (build_by (state_of (before_fault ++ (fault ∷ []))) (tag 1 1 4))
+    ≡ Some true
 the_first_build_meets_it = refl
 
 -- a stop then may leave the object behind the rows, and it is true; one with another text would not be
@@ -56,7 +67,8 @@ it_is_sound : first_unsound (published 4 ∷ (state_of before_build).base) ≡ N
 it_is_sound = refl
 
 another_text_is_not :
-    first_unsound (row 4 (deeds.Publish v (codes "out" ∷ []) script (record { path = codes "in"; row = 3 } ∷ []) (makefile ∷ [])) ∷ (state_of before_build).base)
+    first_unsound (row 4 (deeds.Publish v (codes "out" ∷ []) script (record { path = codes "in"; row = 3 } ∷ []) (makefile ∷ []))
+    ∷ (state_of before_build).base)
     ≡ Some 4
 another_text_is_not = refl
 
@@ -86,17 +98,100 @@ fails_once_is_legal = (
           (
             record { units = _; chosen = refl; at_rows = refl; of_units = refl },
             (
-              record { build = _; unit = _; open_unit = record { waits = record { active = refl; is_unit = refl; waits = refl }; sound = refl; ready = refl; runs = refl }; fresh = refl; nothing = refl },
+              record {
+                build = _;
+                unit = _;
+                open_unit = record {
+                  waits = record { active = refl; is_unit = refl; waits = refl };
+                  sound = refl;
+                  ready = refl;
+                  runs = refl;
+                };
+                fresh = refl;
+                nothing = refl;
+              },
               (
-                record { wanted = record { row = published 4; of_tag = refl; may = record { moment = refl; made = record { n = 0; build = _; unit = _; place = refl; running = record { waits = record { active = refl; is_unit = refl; waits = refl }; sound = refl; started = refl }; nothing = refl; made = refl } } }; rose = refl; later = le_by_compare 0 0 tt; leaves = inl (refl, record { moment = refl; made = record { n = 0; build = _; unit = _; place = refl; running = record { waits = record { active = refl; is_unit = refl; waits = refl }; sound = refl; started = refl }; nothing = refl; made = refl } }); ticked = refl },
+                record {
+                  wanted = record {
+                    row = published 4;
+                    of_tag = refl;
+                    may = record {
+                      moment = refl;
+                      made = record {
+                        n = 0;
+                        build = _;
+                        unit = _;
+                        place = refl;
+                        running = record {
+                          waits = record { active = refl; is_unit = refl; waits = refl };
+                          sound = refl;
+                          started = refl;
+                        };
+                        nothing = refl;
+                        made = refl;
+                      };
+                    };
+                  };
+                  rose = refl;
+                  later = le_by_compare 0 0 tt;
+                  leaves = inl (
+                    refl,
+                    record {
+                      moment = refl;
+                      made = record {
+                        n = 0;
+                        build = _;
+                        unit = _;
+                        place = refl;
+                        running = record {
+                          waits = record { active = refl; is_unit = refl; waits = refl };
+                          sound = refl;
+                          started = refl;
+                        };
+                        nothing = refl;
+                        made = refl;
+                      };
+                    },
+                  );
+                  ticked = refl;
+                },
                 (
                   record { build = _; active = refl; over = refl },
                   (
                     record { units = _; chosen = refl; at_rows = refl; of_units = refl },
                     (
-                      record { build = _; unit = _; open_unit = record { waits = record { active = refl; is_unit = refl; waits = refl }; sound = refl; ready = refl; runs = refl }; fresh = refl; nothing = refl },
+                      record {
+                        build = _;
+                        unit = _;
+                        open_unit = record {
+                          waits = record { active = refl; is_unit = refl; waits = refl };
+                          sound = refl;
+                          ready = refl;
+                          runs = refl;
+                        };
+                        fresh = refl;
+                        nothing = refl;
+                      },
                       (
-                        record { may = record { moment = refl; made = record { n = 0; build = _; unit = _; place = refl; running = record { waits = record { active = refl; is_unit = refl; waits = refl }; sound = refl; started = refl }; nothing = refl; made = refl } }; ticked = refl },
+                        record {
+                          may = record {
+                            moment = refl;
+                            made = record {
+                              n = 0;
+                              build = _;
+                              unit = _;
+                              place = refl;
+                              running = record {
+                                waits = record { active = refl; is_unit = refl; waits = refl };
+                                sound = refl;
+                                started = refl;
+                              };
+                              nothing = refl;
+                              made = refl;
+                            };
+                          };
+                          ticked = refl;
+                        },
                         (record { build = _; active = refl; over = refl }, tt),
                       ),
                     ),
@@ -120,5 +215,6 @@ the_second_build_has_its_object = refl
 -- the base has the row of the second build alone
 one_object_is_published :
     (state_of fails_once).base
-    ≡ published 5 ∷ row 3 (deeds.Put v (codes "in") hi) ∷ row 2 (deeds.Put v (codes "Makefile") makefile) ∷ row 1 (deeds.Mkview v) ∷ []
+    ≡ published 5 ∷ row 3 (deeds.Put v (codes "in") hi) ∷ row 2 (deeds.Put v (codes "Makefile") makefile) ∷ row 1 (deeds.Mkview v)
+    ∷ []
 one_object_is_published = refl

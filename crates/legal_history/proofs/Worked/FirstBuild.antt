@@ -33,7 +33,8 @@ abbrev row_3 : Plain
 row_3 = row 3 (deeds.Put (codes "v") (codes "in") (line (codes "hi")))
 
 abbrev row_4 : Plain
-row_4 = row 4 (deeds.Publish (codes "v") (codes "out" ∷ []) (line (codes "cat in > out")) (record { path = codes "in"; row = 3 } ∷ []) (line (codes "hi") ∷ []))
+row_4 = row 4 (deeds.Publish (codes "v") (codes "out" ∷ []) (line (codes "cat in > out"))
+    (record { path = codes "in"; row = 3 } ∷ []) (line (codes "hi") ∷ []))
 
 abbrev base : Base
 base = row_4 ∷ row_3 ∷ row_2 ∷ row_1 ∷ []
@@ -64,12 +65,21 @@ phase = record {
         commands.Change (changes.Mkview (codes "v"))
         ∷ commands.Change (changes.Save (codes "v") (codes "Makefile") makefile)
         ∷ commands.Change (changes.Save (codes "v") (codes "in") (line (codes "hi")))
-        ∷ commands.Build (record { view = codes "v"; file = None; own_only = false; rebuild = false; jobs = 1; macros = []; goals = codes "out" ∷ [] }) ∷ [];
+        ∷ commands.Build (record {
+          view = codes "v";
+          file = None;
+          own_only = false;
+          rebuild = false;
+          jobs = 1;
+          macros = [];
+          goals = codes "out" ∷ [];
+        }) ∷ [];
   } ∷ [];
 }
 
 abbrev saves : List StoryStep
-saves = opened ∷ story_steps.PhaseBegun phase 1700000000 ∷ story_steps.Commit row_1 7 ∷ story_steps.Commit row_2 11 ∷ story_steps.Commit row_3 15 ∷ []
+saves = opened ∷ story_steps.PhaseBegun phase 1700000000 ∷ story_steps.Commit row_1 7 ∷ story_steps.Commit row_2 11
+    ∷ story_steps.Commit row_3 15 ∷ []
 
 saves_are_legal : Legal saves
 unfolding IsLe
@@ -107,7 +117,18 @@ build_is_legal = (
           (
             record { units = _; chosen = refl; at_rows = refl; of_units = refl },
             (
-              record { build = _; unit = _; open_unit = record { waits = record { active = refl; is_unit = refl; waits = refl }; sound = refl; ready = refl; runs = refl }; fresh = refl; nothing = refl },
+              record {
+                build = _;
+                unit = _;
+                open_unit = record {
+                  waits = record { active = refl; is_unit = refl; waits = refl };
+                  sound = refl;
+                  ready = refl;
+                  runs = refl;
+                };
+                fresh = refl;
+                nothing = refl;
+              },
               (
                 record {
                   may = record {
@@ -117,7 +138,11 @@ build_is_legal = (
                       build = _;
                       unit = _;
                       place = refl;
-                      running = record { waits = record { active = refl; is_unit = refl; waits = refl }; sound = refl; started = refl };
+                      running = record {
+                        waits = record { active = refl; is_unit = refl; waits = refl };
+                        sound = refl;
+                        started = refl;
+                      };
                       nothing = refl;
                       made = refl;
                     };

@@ -38,7 +38,8 @@ the_file_is_seen : at (base_of nested) v (codes "a/b/c/d/in") ≡ Element 7 (rec
 the_file_is_seen = refl
 
 -- 1,023 bytes
-the_last_directory_is_seen : at_names renamed v (long ∷ long ∷ long ∷ long ∷ []) ≡ Element 6 (record { row = 6; line = 1; out = true })
+the_last_directory_is_seen : at_names renamed v (long ∷ long ∷ long ∷ long ∷ [])
+    ≡ Element 6 (record { row = 6; line = 1; out = true })
 the_last_directory_is_seen = refl
 
 -- 1,026 bytes

@@ -25,7 +25,8 @@ rebuilt_is_a_base : is_base rebuilt ≡ true
 rebuilt_is_a_base = refl
 
 records_are_listed :
-    decisions two_views (commands.Query (queries.Catcr w (codes "out")) ∷ commands.Query (queries.Lsdo w) ∷ commands.Change (changes.Checkout w false (codes "in")) ∷ clearmake w ∷ [])
+    decisions two_views (commands.Query (queries.Catcr w (codes "out")) ∷ commands.Query (queries.Lsdo w)
+    ∷ commands.Change (changes.Checkout w false (codes "in")) ∷ clearmake w ∷ [])
     ≡ Ok (Answers (line (codes "target out") ++ line (codes "script cat in > out") ++ line (codes "read in@@/main/1")))
     ∷ Ok (Answers (line (codes "out@@10 references 2")))
     ∷ Ok (Makes (deeds.Checkout w 6 8 true))
@@ -42,7 +43,8 @@ the_new_object_has_its_text = refl
 differences_are_listed :
     decisions rebuilt (commands.Query (queries.Diffcr v (codes "out") w (codes "out")) ∷ commands.Query (queries.Ls w None) ∷ [])
     ≡ Ok (Answers (line (codes "< in@@/main/1") ++ line (codes "> in checkedout 13")))
-    ∷ Ok (Answers (line (codes "Makefile@@/main/1 rule 2") ++ line (codes "in checkedout from /main/1 rule 1") ++ line (codes "out@@14 object"))) ∷ []
+    ∷ Ok (Answers (line (codes "Makefile@@/main/1 rule 2") ++ line (codes "in checkedout from /main/1 rule 1")
+    ++ line (codes "out@@14 object"))) ∷ []
 unfolding digits
 differences_are_listed = refl
 
@@ -51,8 +53,10 @@ abbrev labelled : Base
 labelled = base_of (all_deeds ++ (deeds.Mktype type_kinds.Label (codes "REL") ∷ deeds.Label (codes "REL") 6 8 ∷ []))
 
 an_element_is_described :
-    decisions labelled (commands.Query (queries.Describe v (codes "in")) ∷ commands.Query (queries.Lsvtree v (codes "in")) ∷ commands.Query (queries.Cat v (codes "in") None) ∷ commands.Query (queries.Cat v (codes "out") None) ∷ [])
-    ≡ Ok (Answers (line (codes "element 6") ++ line (codes "kind file") ++ line (codes "version /main/1") ++ line (codes "label REL")))
+    decisions labelled (commands.Query (queries.Describe v (codes "in")) ∷ commands.Query (queries.Lsvtree v (codes "in"))
+    ∷ commands.Query (queries.Cat v (codes "in") None) ∷ commands.Query (queries.Cat v (codes "out") None) ∷ [])
+    ≡ Ok (Answers (line (codes "element 6") ++ line (codes "kind file") ++ line (codes "version /main/1")
+    ++ line (codes "label REL")))
     ∷ Ok (Answers (line (codes "in@@/main") ++ line (codes "in@@/main/0") ++ line (codes "in@@/main/1 (REL)")))
     ∷ Ok (Answers hi) ∷ Ok (Answers hi) ∷ []
 unfolding digits
@@ -60,7 +64,8 @@ an_element_is_described = refl
 
 a_history_is_listed :
     decisions labelled (commands.Query (queries.Lshistory v (codes "in")) ∷ [])
-    ≡ Ok (Answers (line (codes "14-Nov-2023.22:13:20 label REL /main/1") ++ line (codes "14-Nov-2023.22:13:20 create version /main/1")
+    ≡ Ok (Answers (line (codes "14-Nov-2023.22:13:20 label REL /main/1")
+    ++ line (codes "14-Nov-2023.22:13:20 create version /main/1")
     ++ line (codes "14-Nov-2023.22:13:20 create element"))) ∷ []
 unfolding digits
 a_history_is_listed = refl

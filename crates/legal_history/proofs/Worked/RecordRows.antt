@@ -74,7 +74,8 @@ private_build = base_of (deeds.Mkview v ∷ deeds.Put v (codes "Makefile") makef
     ∷ deeds.Publish v (codes "out" ∷ []) script (record { path = codes "in"; row = 3 } ∷ []) (hi ∷ []) ∷ [])
 
 a_private_file_has_no_version :
-    decisions private_build (commands.Change (changes.Mklbtype (codes "REL")) ∷ commands.Change (changes.MklabelConfig v false (codes "out") (codes "REL")) ∷ [])
+    decisions private_build (commands.Change (changes.Mklbtype (codes "REL"))
+    ∷ commands.Change (changes.MklabelConfig v false (codes "out") (codes "REL")) ∷ [])
     ≡ Ok (Makes (deeds.Mktype type_kinds.Label (codes "REL"))) ∷ Err (refusals.NotVersion (codes "in")) ∷ []
 a_private_file_has_no_version = refl
 
@@ -89,7 +90,8 @@ abbrev by_record : List ℕ
 by_record = line (codes "element in -config out@@10") ++ line (codes "element * /main/LATEST")
 
 a_view_selects_by_the_record :
-    decisions (base_of recorded) (commands.Change (changes.Mkview x) ∷ commands.Change (changes.Setcs x by_record) ∷ clearmake x ∷ [])
+    decisions (base_of recorded) (commands.Change (changes.Mkview x) ∷ commands.Change (changes.Setcs x by_record) ∷ clearmake x
+    ∷ [])
     ≡ Ok (Makes (deeds.Mkview x)) ∷ Ok (Makes (deeds.Setcs x by_record)) ∷ Ok (Begins (unit ∷ [])) ∷ []
 a_view_selects_by_the_record = refl
 
@@ -115,9 +117,11 @@ the_record_decides = refl
 the_latest_is_newer : file_at selected_by_record w (codes "in") ≡ Some 17
 the_latest_is_newer = refl
 
-such_a_view_covers_the_record : decisions selected_by_record (commands.Query (queries.Covers x w (codes "out")) ∷ []) ≡ Ok (Answers (line (codes "covered"))) ∷ []
+such_a_view_covers_the_record : decisions selected_by_record (commands.Query (queries.Covers x w (codes "out")) ∷ [])
+    ≡ Ok (Answers (line (codes "covered"))) ∷ []
 such_a_view_covers_the_record = refl
 
 a_record_needs_a_row :
-    decisions two_views (commands.Change (changes.Setcs w (line (codes "element in -config out"))) ∷ []) ≡ Err (refusals.BadSpec 1 causes.BadSelector) ∷ []
+    decisions two_views (commands.Change (changes.Setcs w (line (codes "element in -config out"))) ∷ [])
+    ≡ Err (refusals.BadSpec 1 causes.BadSelector) ∷ []
 a_record_needs_a_row = refl

@@ -21,7 +21,8 @@ abbrev script : List ℕ
 script = line (codes "cat in > out")
 
 abbrev publish : Deed
-publish = deeds.Publish (codes "v") (codes "out" ∷ []) script (record { path = codes "in"; row = 2 } ∷ []) (line (codes "hi") ∷ [])
+publish = deeds.Publish (codes "v") (codes "out" ∷ []) script (record { path = codes "in"; row = 2 } ∷ [])
+    (line (codes "hi") ∷ [])
 
 abbrev base : Base
 base = base_of (deeds.Mkview (codes "v") ∷ deeds.Put (codes "v") (codes "in") (line (codes "hi")) ∷ publish ∷ [])
@@ -58,7 +59,8 @@ other_from_nothing = refl
 failed : reply_of base (build 2 2 (Concluded (Failed (NoRule (codes "in"))))) ≡ reply (words.Failed (NoRule (codes "in")))
 failed = refl
 
-failed_from_nothing : reply_from_nothing base (build 2 2 (Concluded (Failed (NoRule (codes "in"))))) ≡ reply (words.Failed (NoRule (codes "in")))
+failed_from_nothing : reply_from_nothing base (build 2 2 (Concluded (Failed (NoRule (codes "in")))))
+    ≡ reply (words.Failed (NoRule (codes "in")))
 failed_from_nothing = refl
 
 -- the view keeps its own object
@@ -104,10 +106,12 @@ pair_is_built = refl
 pair_from_nothing : reply_from_nothing pair_base (pair_build 3 (Given 3)) ≡ pair_reply
 pair_from_nothing = refl
 
-pair_failed : reply_of pair_base (pair_build 2 (Concluded (Failed (NoRule (codes "in"))))) ≡ first_reply (words.Failed (NoRule (codes "in")))
+pair_failed : reply_of pair_base (pair_build 2 (Concluded (Failed (NoRule (codes "in")))))
+    ≡ first_reply (words.Failed (NoRule (codes "in")))
 pair_failed = refl
 
-pair_failed_from_nothing : reply_from_nothing pair_base (pair_build 2 (Concluded (Failed (NoRule (codes "in"))))) ≡ first_reply (words.Failed (NoRule (codes "in")))
+pair_failed_from_nothing : reply_from_nothing pair_base (pair_build 2 (Concluded (Failed (NoRule (codes "in")))))
+    ≡ first_reply (words.Failed (NoRule (codes "in")))
 pair_failed_from_nothing = refl
 
 pair_blocked : reply_of pair_base (pair_build 3 (Concluded (Blocked (codes "in")))) ≡ first_reply (words.Blocked (codes "in"))

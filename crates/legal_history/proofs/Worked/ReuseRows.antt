@@ -14,12 +14,22 @@ use Rattle.legal_history.specs.Builds.Reuse.{reusable}
 use Rattle.base_model.specs.Objects.{held_at_all}
 use Rattle.legal_history.specs.Stories.Steps.{new_build}
 use Rattle.legal_history.specs.Worked.{tag, base_of, decisions}
-use Rattle.legal_history.proofs.Worked.TwoViews.{v, w, hi, makefile, script, unit, built, publish, first_deeds, all_deeds, two_views}
+use Rattle.legal_history.proofs.Worked.TwoViews.{v, w, hi, makefile, script, unit, built, publish, first_deeds, all_deeds}
+use Rattle.legal_history.proofs.Worked.TwoViews.{two_views}
 
 -- a build of the one unit in a view, at some reference rows, with `-V` or not, and with `-u` or not
 abbrev build_with : Bool → Bool → List ℕ → ℕ → Build
 build_with own_only rebuild view rows =
-    record { tag = tag 1 1 1; view = view; rows = rows; own_only = own_only; rebuild = rebuild; units = unit ∷ []; comes = []; faulted = false }
+    record {
+      tag = tag 1 1 1;
+      view = view;
+      rows = rows;
+      own_only = own_only;
+      rebuild = rebuild;
+      units = unit ∷ [];
+      comes = [];
+      faulted = false;
+    }
 
 abbrev pub build_in : List ℕ → ℕ → Build
 build_in view rows = build_with false false view rows
@@ -75,16 +85,33 @@ where_w_is_first : reusable (base_of (before_both ++ (publish_in w ∷ []))) (bu
 where_w_is_first = refl
 
 both_orders_fit :
-    is_base (base_of (before_both ++ (publish_in v ∷ deeds.Wink w 11 ∷ []))) && is_base (base_of (before_both ++ (publish_in w ∷ deeds.Wink v 11 ∷ [])))
+    is_base (base_of (before_both ++ (publish_in v ∷ deeds.Wink w 11 ∷ [])))
+    && is_base (base_of (before_both ++ (publish_in w ∷ deeds.Wink v 11 ∷ [])))
     ≡ true
 both_orders_fit = refl
 
 -- a build with `-V` looks at the view's own object alone, one with `-u` at none
 abbrev own_clearmake : Command
-own_clearmake = commands.Build (record { view = w; file = None; own_only = true; rebuild = false; jobs = 1; macros = []; goals = [] })
+own_clearmake = commands.Build (record {
+  view = w;
+  file = None;
+  own_only = true;
+  rebuild = false;
+  jobs = 1;
+  macros = [];
+  goals = [];
+})
 
 abbrev anew_clearmake : Command
-anew_clearmake = commands.Build (record { view = w; file = None; own_only = false; rebuild = true; jobs = 1; macros = []; goals = [] })
+anew_clearmake = commands.Build (record {
+  view = w;
+  file = None;
+  own_only = false;
+  rebuild = true;
+  jobs = 1;
+  macros = [];
+  goals = [];
+})
 
 own_is_of_the_view : new_build (tag 1 1 1) 12 (unit ∷ []) own_clearmake ≡ Some (build_with true false w 12)
 own_is_of_the_view = refl
@@ -102,7 +129,8 @@ own_fits = refl
 own_begins : decisions (first_rows 12 own_built) (own_clearmake ∷ []) ≡ Ok (Begins (unit ∷ [])) ∷ []
 own_begins = refl
 
-others_begin : decisions (first_rows 13 own_built) (own_clearmake ∷ anew_clearmake ∷ []) ≡ Ok (Begins (unit ∷ [])) ∷ Ok (Begins (unit ∷ [])) ∷ []
+others_begin : decisions (first_rows 13 own_built) (own_clearmake ∷ anew_clearmake ∷ []) ≡ Ok (Begins (unit ∷ []))
+    ∷ Ok (Begins (unit ∷ [])) ∷ []
 others_begin = refl
 
 own_builds : reusable (first_rows 12 own_built) (build_with true false w 12) 0 unit ≡ None

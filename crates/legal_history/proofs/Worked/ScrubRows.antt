@@ -19,14 +19,17 @@ use Rattle.legal_history.proofs.Worked.TwoViews.{v, w, hi, unit, built, clearmak
 
 -- the first scrub finds nothing, since one view still holds the object, and the second one takes it
 scrubs_are_decided :
-    decisions two_views (commands.Change (changes.Rmdo w (codes "out")) ∷ commands.Change (changes.Scrub 0) ∷ commands.Change (changes.Rmdo v (codes "out")) ∷ commands.Change (changes.Scrub 0) ∷ clearmake w ∷ [])
-    ≡ Ok (Makes (deeds.Drop w (codes "out"))) ∷ Ok (Answers []) ∷ Ok (Makes (deeds.Drop v (codes "out"))) ∷ Ok (Makes (deeds.Scrub (10 ∷ [])))
+    decisions two_views (commands.Change (changes.Rmdo w (codes "out")) ∷ commands.Change (changes.Scrub 0)
+    ∷ commands.Change (changes.Rmdo v (codes "out")) ∷ commands.Change (changes.Scrub 0) ∷ clearmake w ∷ [])
+    ≡ Ok (Makes (deeds.Drop w (codes "out"))) ∷ Ok (Answers []) ∷ Ok (Makes (deeds.Drop v (codes "out")))
+    ∷ Ok (Makes (deeds.Scrub (10 ∷ [])))
     ∷ Ok (Begins (unit ∷ [])) ∷ []
 scrubs_are_decided = refl
 
 -- the rows that were made of this, and the object of the build
 abbrev scrubbed : Base
-scrubbed = base_of (all_deeds ++ (deeds.Drop w (codes "out") ∷ deeds.Drop v (codes "out") ∷ deeds.Scrub (10 ∷ []) ∷ publish_in w ∷ []))
+scrubbed = base_of (all_deeds ++ (deeds.Drop w (codes "out") ∷ deeds.Drop v (codes "out") ∷ deeds.Scrub (10 ∷ []) ∷ publish_in w
+    ∷ []))
 
 -- it is due once no view holds it, and it has the age; the row that drops it is no object
 it_is_held_by_one : is_due_object (first_rows 14 scrubbed) 1700000000 0 10 ≡ false

@@ -25,7 +25,8 @@ use Rattle.legal_history.proofs.Worked.TwoViews.{v, w, hi, makefile, first_comma
 -- a phase of two lanes, each of which builds in a view of its own
 abbrev both_lanes : Phase
 both_lanes = record {
-  lanes = record { name = codes "a"; commands = clearmake v ∷ [] } ∷ record { name = codes "b"; commands = clearmake w ∷ [] } ∷ [];
+  lanes = record { name = codes "a"; commands = clearmake v ∷ [] } ∷ record { name = codes "b"; commands = clearmake w ∷ [] }
+      ∷ [];
 }
 
 -- a row of a lane's command in that phase
@@ -90,15 +91,74 @@ side_by_side_is_legal = (
                             (
                               record { units = _; chosen = refl; at_rows = refl; of_units = refl },
                               (
-                                record { build = _; unit = _; open_unit = record { waits = record { active = refl; is_unit = refl; waits = refl }; sound = refl; ready = refl; runs = refl }; fresh = refl; nothing = refl },
+                                record {
+                                  build = _;
+                                  unit = _;
+                                  open_unit = record {
+                                    waits = record { active = refl; is_unit = refl; waits = refl };
+                                    sound = refl;
+                                    ready = refl;
+                                    runs = refl;
+                                  };
+                                  fresh = refl;
+                                  nothing = refl;
+                                },
                                 (
-                                  record { build = _; unit = _; open_unit = record { waits = record { active = refl; is_unit = refl; waits = refl }; sound = refl; ready = refl; runs = refl }; fresh = refl; nothing = refl },
+                                  record {
+                                    build = _;
+                                    unit = _;
+                                    open_unit = record {
+                                      waits = record { active = refl; is_unit = refl; waits = refl };
+                                      sound = refl;
+                                      ready = refl;
+                                      runs = refl;
+                                    };
+                                    fresh = refl;
+                                    nothing = refl;
+                                  },
                                   (
-                                    record { may = record { moment = refl; made = record { n = 0; build = _; unit = _; place = refl; running = record { waits = record { active = refl; is_unit = refl; waits = refl }; sound = refl; started = refl }; nothing = refl; made = refl } }; ticked = refl },
+                                    record {
+                                      may = record {
+                                        moment = refl;
+                                        made = record {
+                                          n = 0;
+                                          build = _;
+                                          unit = _;
+                                          place = refl;
+                                          running = record {
+                                            waits = record { active = refl; is_unit = refl; waits = refl };
+                                            sound = refl;
+                                            started = refl;
+                                          };
+                                          nothing = refl;
+                                          made = refl;
+                                        };
+                                      };
+                                      ticked = refl;
+                                    },
                                     (
                                       record { build = _; active = refl; over = refl },
                                       (
-                                        record { may = record { moment = refl; made = record { n = 0; build = _; unit = _; place = refl; may = inr (record { waits = record { active = refl; is_unit = refl; waits = refl }; sound = refl; started = refl }); of_view = refl; chosen = refl; lacks = refl } }; ticked = refl },
+                                        record {
+                                          may = record {
+                                            moment = refl;
+                                            made = record {
+                                              n = 0;
+                                              build = _;
+                                              unit = _;
+                                              place = refl;
+                                              may = inr (record {
+                                                waits = record { active = refl; is_unit = refl; waits = refl };
+                                                sound = refl;
+                                                started = refl;
+                                              });
+                                              of_view = refl;
+                                              chosen = refl;
+                                              lacks = refl;
+                                            };
+                                          };
+                                          ticked = refl;
+                                        },
                                         (record { build = _; active = refl; over = refl }, tt),
                                       ),
                                     ),

@@ -22,7 +22,8 @@ use Rattle.legal_history.proofs.Worked.TwoViews.{v, w, hi, makefile, first_comma
 abbrev both_build : List StoryStep
 both_build =
     opened
-    ∷ story_steps.PhaseBegun (one_lane (first_commands ++ (clearmake v ∷ commands.Change (changes.Mkview w) ∷ clearmake w ∷ clearmake v ∷ []))) 1700000000
+    ∷ story_steps.PhaseBegun (one_lane (first_commands ++ (clearmake v ∷ commands.Change (changes.Mkview w) ∷ clearmake w
+    ∷ clearmake v ∷ []))) 1700000000
     ∷ story_steps.Commit (row 1 (deeds.Mkview v)) 7
     ∷ story_steps.Commit (row 2 (deeds.Checkout v 0 0 true)) 11
     ∷ story_steps.Commit (row 3 (deeds.Mkelem v 0 (codes "Makefile") File true)) 15
@@ -72,9 +73,38 @@ both_build_is_legal = (
                       (
                         record { units = _; chosen = refl; at_rows = refl; of_units = refl },
                         (
-                          record { build = _; unit = _; open_unit = record { waits = record { active = refl; is_unit = refl; waits = refl }; sound = refl; ready = refl; runs = refl }; fresh = refl; nothing = refl },
+                          record {
+                            build = _;
+                            unit = _;
+                            open_unit = record {
+                              waits = record { active = refl; is_unit = refl; waits = refl };
+                              sound = refl;
+                              ready = refl;
+                              runs = refl;
+                            };
+                            fresh = refl;
+                            nothing = refl;
+                          },
                           (
-                            record { may = record { moment = refl; made = record { n = 0; build = _; unit = _; place = refl; running = record { waits = record { active = refl; is_unit = refl; waits = refl }; sound = refl; started = refl }; nothing = refl; made = refl } }; ticked = refl },
+                            record {
+                              may = record {
+                                moment = refl;
+                                made = record {
+                                  n = 0;
+                                  build = _;
+                                  unit = _;
+                                  place = refl;
+                                  running = record {
+                                    waits = record { active = refl; is_unit = refl; waits = refl };
+                                    sound = refl;
+                                    started = refl;
+                                  };
+                                  nothing = refl;
+                                  made = refl;
+                                };
+                              };
+                              ticked = refl;
+                            },
                             (
                               record { build = _; active = refl; over = refl },
                               (
@@ -82,13 +112,44 @@ both_build_is_legal = (
                                 (
                                   record { units = _; chosen = refl; at_rows = refl; of_units = refl },
                                   (
-                                    record { may = record { moment = refl; made = record { n = 0; build = _; unit = _; place = refl; may = inl (record { waits = record { active = refl; is_unit = refl; waits = refl }; sound = refl; ready = refl; runs = refl }); of_view = refl; chosen = refl; lacks = refl } }; ticked = refl },
+                                    record {
+                                      may = record {
+                                        moment = refl;
+                                        made = record {
+                                          n = 0;
+                                          build = _;
+                                          unit = _;
+                                          place = refl;
+                                          may = inl (record {
+                                            waits = record { active = refl; is_unit = refl; waits = refl };
+                                            sound = refl;
+                                            ready = refl;
+                                            runs = refl;
+                                          });
+                                          of_view = refl;
+                                          chosen = refl;
+                                          lacks = refl;
+                                        };
+                                      };
+                                      ticked = refl;
+                                    },
                                     (
                                       record { build = _; active = refl; over = refl },
                                       (
                                         record { units = _; chosen = refl; at_rows = refl; of_units = refl },
                                         (
-                                          record { build = _; unit = _; open_unit = record { waits = record { active = refl; is_unit = refl; waits = refl }; sound = refl; ready = refl; runs = refl }; chosen = refl; holds = refl },
+                                          record {
+                                            build = _;
+                                            unit = _;
+                                            open_unit = record {
+                                              waits = record { active = refl; is_unit = refl; waits = refl };
+                                              sound = refl;
+                                              ready = refl;
+                                              runs = refl;
+                                            };
+                                            chosen = refl;
+                                            holds = refl;
+                                          },
                                           (record { build = _; active = refl; over = refl }, tt),
                                         ),
                                       ),

@@ -73,7 +73,15 @@ abbrev pub unit : Unit
 unit = record { targets = codes "out" ∷ []; prerequisites = codes "in" ∷ []; script = scripts.Lines script }
 
 abbrev pub clearmake : List ℕ → Command
-clearmake view = commands.Build (record { view = view; file = None; own_only = false; rebuild = false; jobs = 1; macros = []; goals = [] })
+clearmake view = commands.Build (record {
+  view = view;
+  file = None;
+  own_only = false;
+  rebuild = false;
+  jobs = 1;
+  macros = [];
+  goals = [];
+})
 
 first_build_begins : decisions (base_of first_deeds) (clearmake v ∷ []) ≡ Ok (Begins (unit ∷ [])) ∷ []
 first_build_begins = refl

@@ -1,5 +1,7 @@
--- The replies of builds, worked: an object that one view builds and another winks in; one that is built again once it was scrubbed;
--- builds of a view for itself; a build of a view that selects by a record; and one on a checkout. Each is replied as from nothing.
+-- The replies of builds, worked: an object that one view builds and another winks in; one that is built again once it was
+-- scrubbed;
+-- builds of a view for itself; a build of a view that selects by a record; and one on a checkout. Each is replied as from
+-- nothing.
 use Rattle.std.proofs.Common.{◌≡◌, refl, ℕ, Bool, true, false, List, [], ◌∷◌, ◌++◌}
 use Rattle.std.specs.Prelude.{codes}
 use Rattle.cc_names.specs.declared.replies.Digest.{Digest}
@@ -24,7 +26,8 @@ use Rattle.legal_history.specs.Builds.Replied.{reply_of, reply_from_nothing}
 abbrev out_line : (Digest → UnitWord) → Reply
 out_line word = Built (record { path = codes "out"; word = word (record { length = 3; sha256 = sha256 hi }) } ∷ [])
 
--- the build of a view by command n of the one lane, at some reference rows, whose unit has come to this; with `-V` or not, and with
+-- the build of a view by command n of the one lane, at some reference rows, whose unit has come to this; with `-V` or not, and
+-- with
 -- `-u` or not
 abbrev build_with : Bool → Bool → List ℕ → ℕ → ℕ → Came → Build
 build_with own_only rebuild view n rows came = record {
@@ -60,7 +63,8 @@ w_from_nothing = refl
 
 -- commands 13 and 15 drop the object, 16 scrubs it, and 17 builds again; 14 was a scrub that found nothing
 abbrev built_again : Base
-built_again = row 17 (object w 8) ∷ row 16 (deeds.Scrub (10 ∷ [])) ∷ row 15 (deeds.Drop v (codes "out")) ∷ row 13 (deeds.Drop w (codes "out")) ∷ two_views
+built_again = row 17 (object w 8) ∷ row 16 (deeds.Scrub (10 ∷ [])) ∷ row 15 (deeds.Drop v (codes "out"))
+    ∷ row 13 (deeds.Drop w (codes "out")) ∷ two_views
 
 built_again_fits : is_base built_again ≡ true
 built_again_fits = refl
@@ -87,7 +91,8 @@ own_from_nothing = refl
 w_keeps_its_own : reply_of (first_rows 13 own_built) (build_with true false w 13 13 (Concluded (Kept 12))) ≡ out_line words.Kept
 w_keeps_its_own = refl
 
-kept_from_nothing : reply_from_nothing (first_rows 13 own_built) (build_with true false w 13 13 (Concluded (Kept 12))) ≡ out_line words.Kept
+kept_from_nothing : reply_from_nothing (first_rows 13 own_built) (build_with true false w 13 13 (Concluded (Kept 12)))
+    ≡ out_line words.Kept
 kept_from_nothing = refl
 
 w_builds_anew : reply_of own_built (build_with false true w 14 13 (Given 13)) ≡ out_line words.Made

@@ -17,7 +17,8 @@ use Rattle.legal_history.specs.Stories.Steps.{state_of}
 use Rattle.legal_history.specs.Stories.Lawful.{Lawful}
 use Rattle.legal_history.specs.Worked.{tag, row, base_of}
 use Rattle.legal_history.proofs.Worked.FaultRows.{before_fault, published}
-use Rattle.legal_history.proofs.Worked.NoSteps.{apart, published_is, no_second, no_second_row, no_publish, no_start, no_second_start, no_end, no_failure, no_early_end, no_keep, no_wink}
+use Rattle.legal_history.proofs.Worked.NoSteps.{apart, published_is, no_second, no_second_row, no_publish, no_start}
+use Rattle.legal_history.proofs.Worked.NoSteps.{no_second_start, no_end, no_failure, no_early_end, no_keep, no_wink}
 use Rattle.legal_history.proofs.Worked.StoryParts.{one_lane}
 use Rattle.legal_history.proofs.Worked.TwoViews.{v, w, hi, makefile, script, clearmake, publish, first_deeds}
 
@@ -43,15 +44,18 @@ an_entry_too_few h = apart is_empty_record (published_is refl refl refl refl h.m
 a_fault_that_left_another_object : Lawful started (story_steps.Other (steps.Fault (tag 1 1 4) (Some without_entries) 0 1 17)) → ⊥
 unfolding is_empty_record
 a_fault_that_left_another_object h =
-    ⊎_elim (λ made. apart is_empty_record (published_is refl refl refl refl made.1.made) refl refl) (λ e. apart is_some (sym e) refl refl) h.leaves
+    ⊎_elim (λ made. apart is_empty_record (published_is refl refl refl refl made.1.made) refl refl)
+    (λ e. apart is_some (sym e) refl refl) h.leaves
 
 a_second_start : Lawful started (story_steps.Other (steps.Start (tag 1 1 4) 0)) → ⊥
 a_second_start h = no_second_start refl refl h
 
-a_failure_of_a_run_that_succeeds : Lawful started (story_steps.Other (steps.Concluded (tag 1 1 4) 0 (ends.Failed (Script (script_faults.Absent (codes "in")))))) → ⊥
+a_failure_of_a_run_that_succeeds : Lawful started (story_steps.Other (steps.Concluded (tag 1 1 4) 0
+    (ends.Failed (Script (script_faults.Absent (codes "in")))))) → ⊥
 a_failure_of_a_run_that_succeeds h = no_failure refl refl refl h
 
-a_failure_without_a_run : Lawful started (story_steps.Other (steps.Concluded (tag 1 1 4) 0 (ends.Failed (NoRule (codes "in"))))) → ⊥
+a_failure_without_a_run : Lawful started (story_steps.Other (steps.Concluded (tag 1 1 4) 0 (ends.Failed (NoRule (codes "in")))))
+    → ⊥
 a_failure_without_a_run h = no_early_end refl refl refl h
 
 ended_too_early : Lawful started (story_steps.Other (steps.End (tag 1 1 4))) → ⊥
@@ -60,14 +64,22 @@ ended_too_early h = no_end refl refl h
 -- a build whose one prerequisite is not there, which ends without a run, once
 abbrev without_source : List StoryStep
 without_source =
-    story_steps.Opened (reverse (base_of (deeds.Mkview v ∷ deeds.Put v (codes "Makefile") makefile ∷ []))) (record { ticks = 0; faults = 0 }) true
+    story_steps.Opened (reverse (base_of (deeds.Mkview v ∷ deeds.Put v (codes "Makefile") makefile ∷ [])))
+    (record { ticks = 0; faults = 0 }) true
     ∷ story_steps.PhaseBegun (one_lane (clearmake v ∷ [])) 1700000000 ∷ story_steps.Other (steps.Begin (tag 1 1 1) 3 1) ∷ []
 
 abbrev no_source : StoryStep
 no_source = story_steps.Other (steps.Concluded (tag 1 1 1) 0 (ends.Failed (NoRule (codes "in"))))
 
 a_first_outcome : Lawful (state_of without_source) no_source
-a_first_outcome = record { build = _; unit = _; waits = record { active = refl; is_unit = refl; waits = refl }; sound = refl; ready = refl; ends = refl }
+a_first_outcome = record {
+  build = _;
+  unit = _;
+  waits = record { active = refl; is_unit = refl; waits = refl };
+  sound = refl;
+  ready = refl;
+  ends = refl;
+}
 
 a_second_outcome : Lawful (state_of (without_source ++ (no_source ∷ []))) no_source → ⊥
 a_second_outcome h = no_second refl refl h.waits
@@ -90,7 +102,8 @@ a_wink_of_what_is_held h = no_wink refl refl refl refl h.may.made
 -- a build has begun in a view that holds nothing, and could wink in the object of another view
 abbrev begun_in_w : State
 begun_in_w = state_of (
-    story_steps.Opened (reverse (base_of (first_deeds ++ (publish ∷ deeds.Mkview w ∷ [])))) (record { ticks = 0; faults = 0 }) true
+    story_steps.Opened (reverse (base_of (first_deeds ++ (publish ∷ deeds.Mkview w ∷ [])))) (record { ticks = 0; faults = 0 })
+    true
     ∷ story_steps.PhaseBegun (one_lane (clearmake w ∷ [])) 1700000000 ∷ story_steps.Other (steps.Begin (tag 1 1 1) 12 1) ∷ [])
 
 kept_and_not_held : Lawful begun_in_w (story_steps.Other (steps.Concluded (tag 1 1 1) 0 (ends.Kept 10))) → ⊥

@@ -1,5 +1,6 @@
 -- Steps that open, plan and decide, and rows and faults, each with one thing wrong and refused.
-use Rattle.std.proofs.Common.{◌≡◌, refl, sym, ⊎_elim, ℕ, ◌≤◌, Bool, true, false, Option, Some, None, Result, Ok, Err, List, [], ◌∷◌, ◌++◌, length, arith}
+use Rattle.std.proofs.Common.{◌≡◌, refl, sym, ⊎_elim, ℕ, ◌≤◌, Bool, true, false, Option, Some, None, Result, Ok, Err, List, []}
+use Rattle.std.proofs.Common.{◌∷◌, ◌++◌, length, arith}
 use Rattle.std.specs.Prelude.{codes, is_some, is_none, not, nat_eq, reverse, bytes_eq}
 use Rattle.cc_names.specs.declared.commands.Command.TheVariants as commands
 use Rattle.cc_names.specs.declared.commands.Query.TheVariants as queries
@@ -32,7 +33,8 @@ opened_on_no_base : Lawful start (story_steps.Opened (row 1 (deeds.Rmview v) ∷
 opened_on_no_base h = apart not h.fits refl refl
 
 -- a view without a name fits, and no journal spells it
-opened_on_a_row_without_form : Lawful start (story_steps.Opened (row 1 (deeds.Mkview []) ∷ []) (record { ticks = 0; faults = 0 }) true) → ⊥
+opened_on_a_row_without_form : Lawful start (story_steps.Opened (row 1 (deeds.Mkview []) ∷ []) (record { ticks = 0; faults = 0 })
+    true) → ⊥
 opened_on_a_row_without_form h = absurd (let named = h.formed.0.deed.no_fault in cc)
 
 planned_too_early : Lawful started (story_steps.PhaseBegun (one_lane []) 1700000000) → ⊥
@@ -47,8 +49,10 @@ planned_after_the_last_moment h = let late : 253402300800 ≤ 253402300799 = h.i
 -- a scrub is the next command. View w has dropped the object of row 10, which is due; view v holds that of row 13
 abbrev scrubbing : State
 scrubbing = state_of (
-    story_steps.Opened (reverse (base_of (all_deeds ++ (publish ∷ deeds.Drop w (codes "out") ∷ [])))) (record { ticks = 0; faults = 0 }) true
-    ∷ story_steps.PhaseBegun (one_lane (commands.Change (changes.Scrub 0) ∷ commands.Query (queries.Lsdo v) ∷ [])) 1700000000 ∷ [])
+    story_steps.Opened (reverse (base_of (all_deeds ++ (publish ∷ deeds.Drop w (codes "out") ∷ []))))
+    (record { ticks = 0; faults = 0 }) true
+    ∷ story_steps.PhaseBegun (one_lane (commands.Change (changes.Scrub 0) ∷ commands.Query (queries.Lsdo v) ∷ [])) 1700000000
+    ∷ [])
 
 the_scrub_takes_one : decision_for scrubbing (tag 1 1 1) ≡ Some (Ok (Makes (deeds.Scrub (10 ∷ []))))
 the_scrub_takes_one = refl
@@ -62,7 +66,11 @@ a_scrub_of_one_too_many : Lawful scrubbing (story_steps.Commit (row 1 (deeds.Scr
 unfolding scrubs
 a_scrub_of_one_too_many h = apart (λ d. not (scrubs 2 d)) h.may.made refl refl
 
-a_row_of_another_moment : Lawful scrubbing (story_steps.Commit (record { tag = tag 1 1 1; moment = 1700000001; deed = deeds.Scrub (10 ∷ []) }) 1) → ⊥
+a_row_of_another_moment : Lawful scrubbing (story_steps.Commit (record {
+  tag = tag 1 1 1;
+  moment = 1700000001;
+  deed = deeds.Scrub (10 ∷ []);
+}) 1) → ⊥
 a_row_of_another_moment h = apart (λ moment. nat_eq moment 1700000001) h.may.moment refl refl
 
 a_tick_that_stands_still : Lawful scrubbing (story_steps.Commit (row 1 (deeds.Scrub (10 ∷ []))) 0) → ⊥
@@ -87,7 +95,8 @@ answers text decision_for = false
 
 -- a fault where the scrub's row was to be committed
 abbrev scrub_fault : List ℕ → ℕ → ℕ → StoryStep
-scrub_fault objects before faults = story_steps.Other (steps.Fault (tag 1 1 1) (Some (row 1 (deeds.Scrub objects))) before faults 1)
+scrub_fault objects before faults = story_steps.Other (steps.Fault (tag 1 1 1) (Some (row 1 (deeds.Scrub objects))) before faults
+    1)
 
 a_fault_that_left_another_row : Lawful scrubbing (scrub_fault (10 ∷ 13 ∷ []) 0 1) → ⊥
 unfolding scrubs
@@ -99,7 +108,8 @@ a_fault_without_a_rise h = apart not h.rose refl refl
 
 -- a query is the next command
 abbrev asked : State
-asked = state_of (opened ∷ story_steps.PhaseBegun (one_lane (commands.Change (changes.Mkview v) ∷ commands.Query (queries.Lsdo v) ∷ [])) 1700000000 ∷ story_steps.Commit (row 1 (deeds.Mkview v)) 7 ∷ [])
+asked = state_of (opened ∷ story_steps.PhaseBegun (one_lane (commands.Change (changes.Mkview v) ∷ commands.Query (queries.Lsdo v)
+    ∷ [])) 1700000000 ∷ story_steps.Commit (row 1 (deeds.Mkview v)) 7 ∷ [])
 
 an_answer_of_another_text : Lawful asked (story_steps.Other (steps.Answer (tag 1 1 2) (codes "out"))) → ⊥
 unfolding answers

@@ -1,12 +1,13 @@
 -- The builds that are active, and what their units have come to.
-use Rattle.std.specs.Prelude.{ℕ, ◌+◌, Bool, true, false, Option, Some, None, option_map, List, [], ◌∷◌, length, find, bytes_eq, slice_get}
+use Rattle.std.specs.Prelude.{ℕ, ◌+◌, Bool, true, false, Option, Some, None, option_map, List, [], ◌∷◌, length, find, bytes_eq}
+use Rattle.std.specs.Prelude.{slice_get}
 use Rattle.std.specs.Ordering.{nat_cmp}
 use Rattle.std.specs.FinMap.Entries.{find as find_key}
 use Rattle.cc_names.specs.declared.rows.Tag.{Tag}
 use Rattle.cc_names.specs.declared.steps.UnitEnd.{UnitEnd}
 use Rattle.cc_names.specs.declared.steps.UnitEnd.TheVariants.{Kept}
 use Rattle.cc_names.specs.declared.units.Unit.{Unit}
-use Rattle.base_model.specs.Closures.{is_among}
+use Rattle.base_model.specs.Closures.{is_path_among}
 
 -- what a unit has come to: its script was started, it ended without a row, or it was given an object by a row
 pub data Came : Type 0 where
@@ -39,12 +40,12 @@ abbrev pub is_of_view : List ℕ → ℕ × Build → Bool
 is_of_view v entry = bytes_eq entry.1.view v
 
 -- the command of a build
-abbrev pub tag_of : ℕ × Build → Tag
-tag_of entry = entry.1.tag
+abbrev pub build_tag : ℕ × Build → Tag
+build_tag entry = entry.1.tag
 
 -- the command that builds in the view
 abbrev pub building : Active → List ℕ → Option Tag
-building active v = option_map tag_of (find (is_of_view v) active)
+building active v = option_map build_tag (find (is_of_view v) active)
 
 -- one row for each unit of the active builds
 abbrev pub rows_reserved : Active → ℕ
@@ -75,7 +76,11 @@ object_of _ = None
 -- the number of the unit that has this target, counted from n on
 abbrev pub number_from : ℕ → List ℕ → List Unit → Option ℕ
 number_from n path [] = None
-number_from n path (unit ∷ units) = elim (is_among path unit.targets) [ true ↦ Some n | false ↦ number_from (n + 1) path units ]
+number_from n path (unit ∷ units) = elim (is_path_among path unit.targets) [
+  | true ↦ Some n
+  | false ↦
+      number_from (n + 1) path units
+]
 
 -- the number of the unit that has this target
 abbrev pub unit_with : Build → List ℕ → Option ℕ

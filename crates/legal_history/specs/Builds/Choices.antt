@@ -29,7 +29,8 @@ unit_of_member member = member.unit
 -- units with what they have come to, numbered from n on; the last first
 abbrev pub members_from : Build → ℕ → List Unit → List Member → List Member
 members_from build n [] earlier = earlier
-members_from build n (unit ∷ units) earlier = members_from build (n + 1) units (record { unit = unit; came = came_to build n } ∷ earlier)
+members_from build n (unit ∷ units) earlier = members_from build (n + 1) units (record { unit = unit; came = came_to build n }
+    ∷ earlier)
 
 -- the units before unit n, the last first
 abbrev pub members_before : Build → ℕ → List Member
@@ -48,7 +49,8 @@ object_among path (member ∷ members) = option_or (object_at path member) (obje
 -- needs, directly or through others, else the file of the view
 abbrev pub visible_in : Base → Build → ℕ → Unit → List ℕ → Option ℕ
 visible_in rows build n unit path =
-    option_or (object_among path (needed_units unit_of_member unit.prerequisites (members_before build n))) (file_at rows build.view path)
+    option_or (object_among path (needed_units unit_of_member unit.prerequisites (members_before build n)))
+    (file_at rows build.view path)
 
 -- what unit n of a build sees at a path
 abbrev pub visible : Base → Build → ℕ → Unit → List ℕ → Option ℕ

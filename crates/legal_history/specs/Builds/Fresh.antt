@@ -39,7 +39,8 @@ output_of path unit (Without end) = None
 -- the output of finished units at a path, else the file
 abbrev pub output_or_file : Files → List Finished → Files
 output_or_file files [] path = files path
-output_or_file files (finished ∷ earlier) path = option_or (output_of path finished.unit finished.outcome) (output_or_file files earlier path)
+output_or_file files (finished ∷ earlier) path = option_or (output_of path finished.unit finished.outcome)
+    (output_or_file files earlier path)
 
 -- what a run makes of its unit
 abbrev pub outcome_of_run : Result (List (List ℕ)) ScriptFault → Outcome
@@ -54,7 +55,8 @@ end_or_run None unit files = outcome_of_run (run (script_text unit.script) unit.
 -- what a unit comes to where these earlier ones are finished: its script sees the files and the outputs of what it needs
 abbrev pub serial_of : Files → (List ℕ → Bool) → (List ℕ → Bool) → List Finished → Unit → Outcome
 serial_of files is_file is_directory earlier unit =
-    end_or_run (early_end is_directory (standing_in is_file earlier) unit) unit (output_or_file files (needed_units unit_of unit.prerequisites earlier))
+    end_or_run (early_end is_directory (standing_in is_file earlier) unit) unit
+    (output_or_file files (needed_units unit_of unit.prerequisites earlier))
 
 -- what units come to one after the other, the last first in both lists
 abbrev pub serial : Files → (List ℕ → Bool) → (List ℕ → Bool) → List Unit → List Finished

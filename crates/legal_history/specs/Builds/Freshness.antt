@@ -12,7 +12,8 @@ use Rattle.legal_history.specs.Builds.Consistency.{IsObjectOf, IsConsistent}
 
 -- the first n units of a build, finished from nothing at its reference rows, the last first
 abbrev pub done_in : Base → Build → ℕ → List Finished
-done_in rows build n = serial (texts rows build.view) (sees_file rows build.view) (sees_directory rows build.view) (reverse (take n build.units))
+done_in rows build n = serial (texts rows build.view) (sees_file rows build.view) (sees_directory rows build.view)
+    (reverse (take n build.units))
 
 -- what unit n comes to from nothing
 abbrev pub outcome_in : Base → Build → ℕ → Unit → Outcome
@@ -21,7 +22,8 @@ outcome_in rows build n unit =
 
 -- what unit n comes to from nothing without a run, if to anything
 abbrev pub early_from_nothing : Base → Build → ℕ → Unit → Option UnitEnd
-early_from_nothing rows build n unit = early_end (sees_directory rows build.view) (standing_in (sees_file rows build.view) (done_in rows build n)) unit
+early_from_nothing rows build n unit = early_end (sees_directory rows build.view)
+    (standing_in (sees_file rows build.view) (done_in rows build n)) unit
 
 -- an object of the base has exactly these outputs for a unit's targets
 pub record HasOutputs (b : Base) (unit : Unit) (id : ℕ) (outputs : List (List ℕ)) : Type 0 where
@@ -40,6 +42,8 @@ Agrees b unit came outcome = ⊥
 -- What each unit of a consistent build has come to so far agrees with the build from nothing at its reference rows.
 pub record AgreesSoFar (b : Base) (build : Build) : Type 0 where
   pub consistent : IsConsistent b build
-  pub runs : (n : ℕ) (unit : Unit) → unit_at build n ≡ Some unit → came_to build n ≡ Some Started → early_from_nothing (first_rows build.rows b) build n unit ≡ None
-  pub agrees : (n : ℕ) (unit : Unit) (came : Came) → unit_at build n ≡ Some unit → came_to build n ≡ Some came → is_outcome (Some came) ≡ true →
+  pub runs : (n : ℕ) (unit : Unit) → unit_at build n ≡ Some unit → came_to build n ≡ Some Started
+      → early_from_nothing (first_rows build.rows b) build n unit ≡ None
+  pub agrees : (n : ℕ) (unit : Unit) (came : Came) → unit_at build n ≡ Some unit → came_to build n ≡ Some came
+      → is_outcome (Some came) ≡ true →
       Agrees b unit came (outcome_in (first_rows build.rows b) build n unit)

@@ -1,5 +1,6 @@
 -- What a build that has ended is replied: by what its units have come to, and by the build from nothing.
-use Rattle.std.specs.Prelude.{ℕ, ◌+◌, Bool, true, false, ◌&&◌, nat_le, Option, Some, None, is_some, List, [], ◌∷◌, ◌++◌, length, take, unwrap_or}
+use Rattle.std.specs.Prelude.{ℕ, ◌+◌, Bool, true, false, ◌&&◌, nat_le, Option, Some, None, is_some, List, [], ◌∷◌, ◌++◌, length}
+use Rattle.std.specs.Prelude.{take, unwrap_or}
 use Rattle.cc_names.specs.Formed.{Plain}
 use Rattle.cc_names.specs.declared.replies.Digest.{Digest}
 use Rattle.cc_names.specs.declared.replies.Reply.{Reply}
@@ -47,7 +48,7 @@ word_of_object b build (Some (Concluded (ends.Kept id))) digest = words.Kept dig
 word_of_object b build (Some (Given id)) digest = word_of_given (is_own b build id) digest
 word_of_object b build _ digest = words.Made digest
 
--- the word for an end without a row; an object that was kept is told by its output at the path
+-- the word for an end without a row; an object that was kept is given by its output at the path
 abbrev pub word_of_end : Base → List ℕ → UnitEnd → UnitWord
 word_of_end b path (ends.Kept id) = words.Kept (digest_at (text b id path))
 word_of_end b path ends.Bare = words.Bare
@@ -64,7 +65,8 @@ word_of_came b build path (Some (Given id)) = Some (word_of_object b build (Some
 -- the word for a unit at one of its targets, by what the unit comes to from nothing; of what it has come to itself only
 -- the word kept, winked or built
 abbrev pub word_of_outcome : Base → Build → List ℕ → List (List ℕ) → Option Came → Outcome → UnitWord
-word_of_outcome b build path targets came (Made outputs) = word_of_object b build came (digest_at (output_at path targets outputs))
+word_of_outcome b build path targets came (Made outputs) = word_of_object b build came
+    (digest_at (output_at path targets outputs))
 word_of_outcome b build path targets came (Without end) = word_of_end b path end
 
 -- a line before others, where it has its word
@@ -83,22 +85,23 @@ has_outputs (Made outputs) = true
 has_outputs (Without end) = false
 
 -- a line for each of some targets
-abbrev pub lines_of : (List ℕ → Option UnitWord) → List (List ℕ) → List UnitLine
-lines_of word [] = []
-lines_of word (path ∷ paths) = line_before path (word path) (lines_of word paths)
+abbrev pub unit_lines_of : (List ℕ → Option UnitWord) → List (List ℕ) → List UnitLine
+unit_lines_of word [] = []
+unit_lines_of word (path ∷ paths) = line_before path (word path) (unit_lines_of word paths)
 
 -- the lines of units that are numbered from n on, by what they have come to
 abbrev pub lines_from : Base → Build → ℕ → List Unit → List UnitLine
 lines_from b build n [] = []
 lines_from b build n (unit ∷ units) =
-    lines_of (λ path. word_of_came b build path (came_to build n)) (reported_targets (is_some (object_of (came_to build n))) unit.targets)
+    unit_lines_of (λ path. word_of_came b build path (came_to build n))
+    (reported_targets (is_some (object_of (came_to build n))) unit.targets)
     ++ lines_from b build (n + 1) units
 
 -- the lines of finished units that are numbered from n on
 abbrev pub finished_from : Base → Build → ℕ → List Finished → List UnitLine
 finished_from b build n [] = []
 finished_from b build n (finished ∷ more) =
-    lines_of (λ path. Some (word_of_outcome b build path finished.unit.targets (came_to build n) finished.outcome))
+    unit_lines_of (λ path. Some (word_of_outcome b build path finished.unit.targets (came_to build n) finished.outcome))
     (reported_targets (has_outputs finished.outcome) finished.unit.targets)
     ++ finished_from b build (n + 1) more
 

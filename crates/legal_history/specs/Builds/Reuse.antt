@@ -51,4 +51,5 @@ by_options false false own newest = option_or own newest
 -- newest live one whose record matches.
 abbrev pub reusable : Base → Build → ℕ → Unit → Option ℕ
 reusable b build n unit =
-    by_options build.own_only build.rebuild (if_matches b build n unit (held_at_all b build.view unit.targets)) (newest_match b build n unit b)
+    by_options build.own_only build.rebuild (if_matches b build n unit (held_at_all b build.view unit.targets))
+    (newest_match b build n unit b)

@@ -10,7 +10,7 @@ use Rattle.cc_names.specs.declared.units.UnitScript.{UnitScript}
 use Rattle.cc_names.specs.declared.units.UnitScript.TheVariants as scripts
 use Rattle.make_grammar.specs.Graphs.{first_target}
 use Rattle.base_model.specs.Rows.{only_where}
-use Rattle.base_model.specs.Closures.{is_among}
+use Rattle.base_model.specs.Closures.{is_path_among}
 use Rattle.legal_history.specs.Commands.FileLines.{parent}
 
 -- what a path is to a unit that has it as a prerequisite: neither a unit nor a file; a file, or a unit that was made; or
@@ -100,12 +100,13 @@ standing_or_file is_file None = standing_of_file is_file
 
 -- whether a unit has the target
 abbrev pub makes : List ℕ → Unit → Bool
-makes path unit = is_among path unit.targets
+makes path unit = is_path_among path unit.targets
 
 -- what a path is where these units are finished
 abbrev pub standing_in : (List ℕ → Bool) → List Finished → List ℕ → Standing
 standing_in is_file earlier path =
-    standing_or_file (is_file path) (option_map (λ finished. standing_of_outcome finished.outcome) (find (λ finished. makes path finished.unit) earlier))
+    standing_or_file (is_file path) (option_map (λ finished. standing_of_outcome finished.outcome)
+    (find (λ finished. makes path finished.unit) earlier))
 
 -- The units among earlier ones, the last first, that make these paths, and those that these need in turn.
 abbrev pub needed_units : {A : Type 0} → (A → Unit) → List (List ℕ) → List A → List A

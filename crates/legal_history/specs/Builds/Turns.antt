@@ -24,7 +24,8 @@ standing_of_unit build path = option_map (λ n. standing_of_came (came_to build 
 -- what a unit comes to without a run, where its build's reference rows are these
 abbrev pub early_in : Base → Build → Unit → Option UnitEnd
 early_in rows build unit =
-    early_end (sees_directory rows build.view) (λ path. standing_or_file (sees_file rows build.view path) (standing_of_unit build path)) unit
+    early_end (sees_directory rows build.view) (λ path. standing_or_file (sees_file rows build.view path)
+    (standing_of_unit build path)) unit
 
 -- what a unit of a build comes to without a run, where each unit that it has as a prerequisite has its outcome
 abbrev pub early : Base → Build → Unit → Option UnitEnd
@@ -36,8 +37,8 @@ is_over build None = true
 is_over build (Some n) = is_outcome (came_to build n)
 
 -- whether each unit that this one has as a prerequisite has its outcome
-abbrev pub is_ready : Build → Unit → Bool
-is_ready build unit = list_all (λ path. is_over build (unit_with build path)) unit.prerequisites
+abbrev pub is_unit_ready : Build → Unit → Bool
+is_unit_ready build unit = list_all (λ path. is_over build (unit_with build path)) unit.prerequisites
 
 -- whether units that are numbered from n on all have their outcomes
 abbrev pub all_over : Build → ℕ → List Unit → Bool
@@ -49,13 +50,13 @@ abbrev pub is_complete : Build → Bool
 is_complete build = all_over build 0 build.units
 
 -- the fault of a text that cannot be read
-abbrev pub fault_of : {A : Type 0} → Result A ScriptFault → Option ScriptFault
-fault_of (Err fault) = Some fault
-fault_of (Ok script) = None
+abbrev pub script_fault_of : {A : Type 0} → Result A ScriptFault → Option ScriptFault
+script_fault_of (Err fault) = Some fault
+script_fault_of (Ok script) = None
 
 -- The fault of a unit's script that cannot be read.
 abbrev pub unreadable : Unit → Option ScriptFault
-unreadable unit = fault_of (script_of (script_text unit.script))
+unreadable unit = script_fault_of (script_of (script_text unit.script))
 
 -- what a unit that is started comes to: where its script cannot be read, this is its outcome
 abbrev pub came_by_start : Option ScriptFault → Came

@@ -14,7 +14,7 @@ use Rattle.legal_history.specs.Builds.Choices.{here, publish_of}
 use Rattle.base_model.specs.Objects.{held_at_all}
 use Rattle.legal_history.specs.Builds.Reuse.{reusable}
 use Rattle.legal_history.specs.Stories.States.{State, build_by}
-use Rattle.legal_history.specs.Builds.Turns.{early, is_ready}
+use Rattle.legal_history.specs.Builds.Turns.{early, is_unit_ready}
 
 -- the unit of this number of the command's active build has no outcome
 pub record Waits (s : State) (tag : Tag) (n : ℕ) (build : Build) (unit : Unit) : Type 0 where
@@ -27,7 +27,7 @@ pub record Waits (s : State) (tag : Tag) (n : ℕ) (build : Build) (unit : Unit)
 pub record IsOpen (s : State) (tag : Tag) (n : ℕ) (build : Build) (unit : Unit) : Type 0 where
   pub waits : Waits s tag n build unit
   pub sound : build.faulted ≡ false
-  pub ready : is_ready build unit ≡ true
+  pub ready : is_unit_ready build unit ≡ true
   pub runs : early s.base build unit ≡ None
 
 -- a unit runs where it was started and has no outcome, and its build has met no fault
@@ -65,7 +65,7 @@ pub record EndsEarly (s : State) (tag : Tag) (n : ℕ) (outcome : UnitEnd) : Typ
   pub unit : Unit
   pub waits : Waits s tag n build unit
   pub sound : build.faulted ≡ false
-  pub ready : is_ready build unit ≡ true
+  pub ready : is_unit_ready build unit ≡ true
   pub ends : early s.base build unit ≡ Some outcome
 
 -- when a unit may be concluded so, without a row

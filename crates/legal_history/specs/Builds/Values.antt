@@ -1,5 +1,6 @@
 -- What the record of an object gives where it is run again: on its own entries, and on what a view sees.
-use Rattle.std.specs.Prelude.{◌≡◌, ℕ, zero, suc, ◌+◌, Bool, true, false, not, ◌&&◌, ◌||◌, ◌==◌, Option, Some, None, Result, Ok, Err, List, [], ◌∷◌, is_some, option_and_then}
+use Rattle.std.specs.Prelude.{◌≡◌, ℕ, zero, suc, ◌+◌, Bool, true, false, not, ◌&&◌, ◌||◌, ◌==◌, Option, Some, None, Result, Ok}
+use Rattle.std.specs.Prelude.{Err, List, [], ◌∷◌, is_some, option_and_then}
 use Rattle.std.specs.List.{list_all}
 use Rattle.std.specs.Option.{option_or}
 use Rattle.cc_names.specs.Files.{Files}
@@ -73,7 +74,8 @@ reads_of_run (Some ran) = ran.reads
 
 -- whether a publish has as its outputs those of a run, and an entry for each path that the run asked for
 abbrev pub is_true_deed : Option Ran → Option Deed → Bool
-is_true_deed ran (Some (deeds.Publish v targets script entries outputs)) = are_stored outputs (outputs_of_run ran) && has_entries entries (reads_of_run ran)
+is_true_deed ran (Some (deeds.Publish v targets script entries outputs)) =
+    are_stored outputs (outputs_of_run ran) && has_entries entries (reads_of_run ran)
 is_true_deed ran _ = false
 
 -- Whether an object is true: its record, run again, gives the stored outputs and asks for nothing else.
@@ -87,7 +89,8 @@ is_dead_or_true b id = not (is_some (live_row b id)) || is_true b id
 -- the oldest of some rows that is a live object and not true
 abbrev pub unsound_among : Base → Base → Option ℕ
 unsound_among b [] = None
-unsound_among b (row ∷ older) = option_or (unsound_among b older) (only_where (not (is_dead_or_true b (size older))) (Some (size older)))
+unsound_among b (row ∷ older) = option_or (unsound_among b older) (only_where (not (is_dead_or_true b (size older)))
+    (Some (size older)))
 
 -- the first live object that is not true
 abbrev pub first_unsound : Base → Option ℕ
@@ -122,7 +125,11 @@ texts_seen b seen again entries path = option_and_then (text_seen b seen again p
 abbrev pub rerun_on : Files → Base → ℕ → Option Ran
 rerun_on seen [] id = None
 rerun_on seen (row ∷ older) id =
-    elim (size older == id) [ true ↦ run_of_deed (texts_seen older seen (rerun_on seen older)) row.deed | false ↦ rerun_on seen older id ]
+    elim (size older == id) [
+      | true ↦ run_of_deed (texts_seen older seen (rerun_on seen older)) row.deed
+      | false ↦
+          rerun_on seen older id
+    ]
 
 -- The outputs of an object's record where it is run again in a view.
 abbrev pub again : Base → List ℕ → ℕ → Option (List (List ℕ))

@@ -11,7 +11,8 @@ use Rattle.base_model.specs.Rows.{Base}
 use Rattle.legal_history.specs.Commands.Decisions.{Scene, Decision, past, makes}
 use Rattle.legal_history.specs.Commands.Found.{for_selected, for_element}
 use Rattle.base_model.specs.Seen.{at, rules}
-use Rattle.legal_history.specs.Commands.CheckoutTests.{needs_out, needs_not_out, needs_unreserved, needs_no_other, needs_latest, needs_latest_origin, needs_change, needs_checkout_rule}
+use Rattle.legal_history.specs.Commands.CheckoutTests.{needs_out, needs_not_out, needs_unreserved, needs_no_other, needs_latest}
+use Rattle.legal_history.specs.Commands.CheckoutTests.{needs_latest_origin, needs_change, needs_checkout_rule}
 use Rattle.legal_history.specs.Commands.Tests.{needs_view, needs_idle, needs_branch_type, needs_no_branch}
 use Rattle.base_model.specs.Views.{out}
 

@@ -55,7 +55,8 @@ is_same_text _ _ = false
 abbrev pub needs_change : Base → List ℕ → List ℕ → ℕ → Option Checkout → Option Refusal
 needs_change b v path e None = None
 needs_change b v path e (Some checkout) =
-    refused_where (is_file b e && is_same_text (text_of_row b path (making b v e)) (text b checkout.origin path)) (refusals.Identical checkout.origin)
+    refused_where (is_file b e && is_same_text (text_of_row b path (making b v e)) (text b checkout.origin path))
+    (refusals.Identical checkout.origin)
 
 -- the rule that decided lets check out; the refusal names its line
 abbrev pub needs_checkout_rule : Option Rule → Option Refusal

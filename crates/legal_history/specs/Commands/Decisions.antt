@@ -54,5 +54,5 @@ abbrev pub answers : List (Option Refusal) → List ℕ → Result Decision Refu
 answers tests text = unless_refused (first_refusal tests) (Answers text)
 
 -- a build reserves a row for each of its units
-abbrev pub begins : Scene → ℕ → List Unit → Result Decision Refusal
-begins scene rows units = unless_refused (needs_room scene rows) (Begins units)
+abbrev pub begins_build : Scene → ℕ → List Unit → Result Decision Refusal
+begins_build scene rows units = unless_refused (needs_room scene rows) (Begins units)

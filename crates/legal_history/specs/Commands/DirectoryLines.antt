@@ -62,7 +62,8 @@ renamed_path path name = path_or path (join_of (parent path) name)
 
 -- the tests of a new name in a directory
 abbrev pub mv_tests : Scene → List ℕ → List ℕ → List ℕ → ℕ → List (Option Refusal)
-mv_tests s v path name d = needs_name s.base v path d (last_name path) ∷ needs_free_path s.base v (renamed_path path name) d name ∷ []
+mv_tests s v path name d = needs_name s.base v path d (last_name path) ∷ needs_free_path s.base v (renamed_path path name) d name
+    ∷ []
 
 -- a new name in a directory
 abbrev pub mv_in : Scene → List ℕ → List ℕ → List ℕ → ℕ → Result Decision Refusal

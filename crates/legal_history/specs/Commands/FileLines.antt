@@ -15,7 +15,8 @@ use Rattle.base_model.specs.Conditions.{is_directory}
 use Rattle.legal_history.specs.Commands.Decisions.{Scene, Decision, makes}
 use Rattle.base_model.specs.Seen.{at}
 use Rattle.legal_history.specs.Commands.CheckoutTests.{needs_out}
-use Rattle.legal_history.specs.Commands.Tests.{refused_where, needs_view, needs_new_view, needs_idle, needs_no_checkouts, needs_rules, needs_selected, needs_directory, needs_private}
+use Rattle.legal_history.specs.Commands.Tests.{refused_where, needs_view, needs_new_view, needs_idle, needs_no_checkouts}
+use Rattle.legal_history.specs.Commands.Tests.{needs_rules, needs_selected, needs_directory, needs_private}
 use Rattle.base_model.specs.Views.{Checkout, out}
 
 -- The path of the directory in which a path lies. That of the root is never asked for: the paths of the commands that ask
@@ -56,7 +57,7 @@ abbrev pub saves_element : Bool → List ℕ → Option Checkout → Option Refu
 saves_element true path taken = Some (refusals.IsDirectory path)
 saves_element false path taken = needs_out path taken
 
--- what may be saved at a path where this stands: a private file always, a file element that the view has out, and a new
+-- what may be saved at a path where this stands: a private file always, a file element that the view has checked out, and a new
 -- private file where the view holds no object
 abbrev pub saves_at : Base → List ℕ → List ℕ → Seen → Option Refusal
 saves_at b v path (Private row) = None

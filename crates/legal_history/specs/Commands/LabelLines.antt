@@ -1,5 +1,6 @@
 -- The commands on types, labels and arrows: the tests of each in their order, and its deed.
-use Rattle.std.specs.Prelude.{ℕ, Bool, true, false, ◌&&◌, ◌==◌, nat_lt, Option, Some, None, Result, List, [], ◌∷◌, is_none, option_map, option_and_then}
+use Rattle.std.specs.Prelude.{ℕ, Bool, true, false, ◌&&◌, ◌==◌, nat_lt, Option, Some, None, Result, List, [], ◌∷◌, is_none}
+use Rattle.std.specs.Prelude.{option_map, option_and_then}
 use Rattle.std.specs.Option.{option_or}
 use Rattle.cc_names.specs.Branches.{branch_behind}
 use Rattle.cc_names.specs.Labels.{holder}
@@ -86,7 +87,8 @@ outsider b id = outsider_among b (closure b id)
 -- the label is free on each of some elements
 abbrev pub labels_free : Base → Bool → List ℕ → List Placed → List (Option Refusal)
 labels_free b replace label [] = []
-labels_free b replace label (placed ∷ more) = needs_label_free b replace label placed.element placed.version ∷ labels_free b replace label more
+labels_free b replace label (placed ∷ more) = needs_label_free b replace label placed.element placed.version
+    ∷ labels_free b replace label more
 
 -- the tests of a label on each version that the record of an object lists
 abbrev pub mklabel_config_tests : Scene → Bool → List ℕ → ℕ → List (Option Refusal)
@@ -110,7 +112,8 @@ mklabel_config s v replace path label =
 
 -- the element's version of this name
 abbrev pub version_named : Base → ℕ → VersionName → Option ℕ
-version_named b e name = option_and_then (λ branch. version_of_number (tree b) branch name.number) (branch_behind (tree b) e name.branches)
+version_named b e name = option_and_then (λ branch. version_of_number (tree b) branch name.number)
+    (branch_behind (tree b) e name.branches)
 
 -- the tests of an arrow to an element of which this was picked, from this version of it
 abbrev pub mkarrow_tests : Scene → List ℕ → ℕ → Picked → ℕ → List (Option Refusal)

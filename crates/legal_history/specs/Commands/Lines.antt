@@ -16,7 +16,8 @@ use Rattle.legal_history.specs.Commands.DirectoryLines.{mkelem, rmname, mv}
 use Rattle.legal_history.specs.Commands.FileLines.{mkview, rmview, setcs, save, rm}
 use Rattle.legal_history.specs.Commands.LabelLines.{mktype, mklabel, rmlabel, mklabel_config, mkarrow}
 use Rattle.legal_history.specs.Commands.ObjectLines.{rmdo, scrub, clearmake}
-use Rattle.legal_history.specs.Queries.QueryLines.{catcs, lsdo, ls, cat, describe, lsvtree, lshistory, catcr, diffcr, covers, findmerge}
+use Rattle.legal_history.specs.Queries.QueryLines.{catcs, lsdo, ls, cat, describe, lsvtree, lshistory, catcr, diffcr, covers}
+use Rattle.legal_history.specs.Queries.QueryLines.{findmerge}
 
 -- What is decided of a change: its first refusal in the order of its tests, else its row; or that there is nothing to change.
 abbrev pub change_decision : Scene → Change → Result Decision Refusal

@@ -1,5 +1,6 @@
 -- The commands on objects: dropping one, scrubbing those that are due, and building.
-use Rattle.std.specs.Prelude.{ℕ, ◌+◌, Bool, not, ◌&&◌, nat_le, Option, Some, None, Result, Ok, Err, List, [], ◌∷◌, is_some, length, reverse}
+use Rattle.std.specs.Prelude.{ℕ, ◌+◌, Bool, not, ◌&&◌, nat_le, Option, Some, None, Result, Ok, Err, List, [], ◌∷◌, is_some}
+use Rattle.std.specs.Prelude.{length, reverse}
 use Rattle.cc_names.specs.References.{is_held}
 use Rattle.cc_names.specs.Versions.{put_if}
 use Rattle.cc_names.specs.declared.commands.Macro.{Macro}
@@ -9,7 +10,7 @@ use Rattle.cc_names.specs.declared.units.Unit.{Unit}
 use Rattle.make_grammar.specs.Graphs.{units}
 use Rattle.base_model.specs.Rows.{Base, size}
 use Rattle.base_model.specs.Changes.{objects_held, live_row}
-use Rattle.legal_history.specs.Commands.Decisions.{Scene, Decision, first_refusal, makes, answers, begins}
+use Rattle.legal_history.specs.Commands.Decisions.{Scene, Decision, first_refusal, makes, answers, begins_build}
 use Rattle.base_model.specs.Texts.{texts}
 use Rattle.legal_history.specs.Commands.Tests.{needs_view, needs_idle, needs_object}
 
@@ -28,7 +29,8 @@ is_due b moment age id published = is_some (live_row b id) && not (is_held (obje
 -- the objects among some rows that are due, newest first
 abbrev pub due_among : Base → ℕ → ℕ → Base → List ℕ
 due_among b moment age [] = []
-due_among b moment age (row ∷ older) = put_if (is_due b moment age (size older) row.moment) (size older) (due_among b moment age older)
+due_among b moment age (row ∷ older) = put_if (is_due b moment age (size older) row.moment) (size older)
+    (due_among b moment age older)
 
 -- the objects that are due, oldest first
 abbrev pub due_objects : Base → ℕ → ℕ → List ℕ
@@ -50,7 +52,7 @@ clearmake_tests s v = needs_view s.base v ∷ needs_idle s v ∷ []
 -- the units of a build, where there is room for their rows
 abbrev pub build_of_units : Scene → Result (List Unit) Refusal → Result Decision Refusal
 build_of_units s (Err refusal) = Err refusal
-build_of_units s (Ok units) = begins s (length units) units
+build_of_units s (Ok units) = begins_build s (length units) units
 
 -- a build, unless a test before it refuses
 abbrev pub build_unless : Scene → Option Refusal → Result (List Unit) Refusal → Result Decision Refusal

@@ -86,7 +86,8 @@ needs_name b v path d name = refused_unless (has_name b v d name) (refusals.NoPa
 -- neither that catalog has the name, nor the view a private file or an object at the path
 abbrev pub needs_free_path : Base → List ℕ → List ℕ → ℕ → List ℕ → Option Refusal
 needs_free_path b v path d name =
-    refused_where (has_name b v d name || is_some (private b v path) || is_some (held_at (objects_held b) v path)) (refusals.NameTaken path)
+    refused_where (has_name b v d name || is_some (private b v path) || is_some (held_at (objects_held b) v path))
+    (refusals.NameTaken path)
 
 -- a label type has the name
 abbrev pub needs_label_type : Base → List ℕ → Option Refusal

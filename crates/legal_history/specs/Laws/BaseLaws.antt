@@ -5,12 +5,12 @@ use Rattle.std.specs.FinMap.Entries.{is_sorted}
 use Rattle.std.specs.List.{list_any}
 use Rattle.std.specs.Ordering.{nat_cmp}
 use Rattle.cc_names.specs.Formed.{Plain}
-use Rattle.cc_names.specs.References.{Held, view_path_cmp, held_at, is_held, is_held_by, count}
+use Rattle.cc_names.specs.References.{ReferencesByPath, view_path_cmp, held_at, is_held, is_held_by, count}
 use Rattle.cc_names.specs.declared.rows.Deed.TheVariants as deeds
 use Rattle.base_model.specs.Rows.{Base, size, first_rows, row_at}
 use Rattle.base_model.specs.Catalogs.{catalog_of, element_named, own_of}
 use Rattle.base_model.specs.Changes.{objects_held, live_row}
-use Rattle.base_model.specs.Closures.{is_among, is_version_of}
+use Rattle.base_model.specs.Closures.{is_path_among, is_version_of}
 use Rattle.base_model.specs.Fits.{is_base}
 use Rattle.base_model.specs.Counts.{AreOnce, holding_views}
 use Rattle.base_model.specs.Directories.{directory_of}
@@ -80,26 +80,26 @@ ReferencesAreCountedByViewsOrder = (b : Base) → is_sorted view_path_cmp (objec
 
 -- The same law, its part *count*.
 abbrev pub ReferencesAreCountedByViewsCount : Type 0
-ReferencesAreCountedByViewsCount = (objects_held : Held) (id : ℕ)
+ReferencesAreCountedByViewsCount = (objects_held : ReferencesByPath) (id : ℕ)
     → count objects_held id ≡ length (holding_views objects_held id)
 
 -- The same law, its part *views*.
 abbrev pub ReferencesAreCountedByViewsViews : Type 0
-ReferencesAreCountedByViewsViews = (objects_held : Held) (v : List ℕ) (id : ℕ)
-    → is_among v (holding_views objects_held id) ≡ is_held_by objects_held v id
+ReferencesAreCountedByViewsViews = (objects_held : ReferencesByPath) (v : List ℕ) (id : ℕ)
+    → is_path_among v (holding_views objects_held id) ≡ is_held_by objects_held v id
 
 -- The same law, its part *once*.
 abbrev pub ReferencesAreCountedByViewsOnce : Type 0
-ReferencesAreCountedByViewsOnce = (objects_held : Held) (id : ℕ) → AreOnce (holding_views objects_held id)
+ReferencesAreCountedByViewsOnce = (objects_held : ReferencesByPath) (id : ℕ) → AreOnce (holding_views objects_held id)
 
 -- The same law, its part *none*.
 abbrev pub ReferencesAreCountedByViewsNone : Type 0
-ReferencesAreCountedByViewsNone = (objects_held : Held) (id : ℕ) → is_held objects_held id ≡ false
+ReferencesAreCountedByViewsNone = (objects_held : ReferencesByPath) (id : ℕ) → is_held objects_held id ≡ false
     → count objects_held id ≡ 0
 
 -- The same law, its part *some*.
 abbrev pub ReferencesAreCountedByViewsSome : Type 0
-ReferencesAreCountedByViewsSome = (objects_held : Held) (id : ℕ) → count objects_held id ≡ 0
+ReferencesAreCountedByViewsSome = (objects_held : ReferencesByPath) (id : ℕ) → count objects_held id ≡ 0
     → is_held objects_held id ≡ false
 
 -- A scrub that fits a base takes no object that a view holds.

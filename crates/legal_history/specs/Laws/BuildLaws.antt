@@ -68,7 +68,8 @@ StartedUnitSeesTheSameRun = (story : List StoryStep) (x : StoryStep) (lane : ℕ
 
 -- The same law, its part *seen*.
 abbrev pub StartedUnitSeesTheSameSeen : Type 0
-StartedUnitSeesTheSameSeen = (story : List StoryStep) (x : StoryStep) (lane : ℕ) (old new : Build) (n : ℕ) (unit : Unit) (path : List ℕ)
+StartedUnitSeesTheSameSeen = (story : List StoryStep) (x : StoryStep) (lane : ℕ) (old new : Build) (n : ℕ) (unit : Unit)
+    (path : List ℕ)
     → Legal story → Lawful (state_of story) x → build_of (state_of story).active lane ≡ Some old
     → build_of (after (state_of story) x).active lane ≡ Some new → unit_at old n ≡ Some unit
     → is_some (came_to old n) ≡ true
@@ -94,7 +95,8 @@ PlaceOfAUnitStays = (story : List StoryStep) (x : StoryStep) (lane : ℕ) (old n
     → Legal story → Lawful (state_of story) x → build_of (state_of story).active lane ≡ Some old
     → build_of (after (state_of story) x).active lane ≡ Some new → unit_at old n ≡ Some unit
     → is_outcome (came_to new n) ≡ false → makes path unit ≡ true
-    → held_at (objects_held (after (state_of story) x).base) old.view path ≡ held_at (objects_held (state_of story).base) old.view path
+    → held_at (objects_held (after (state_of story) x).base) old.view path
+    ≡ held_at (objects_held (state_of story).base) old.view path
 
 -- Along a legal story each object that an active build has given to a unit is live, and the build's view holds it at every
 -- target of the unit, whatever rows other lanes have committed since.
@@ -120,7 +122,8 @@ BuildAgrees = (story : List StoryStep) (opening : Opening) (lane : ℕ) (build :
 -- rows: an object with exactly the outputs of the run, or the same end without one. This holds where the base was sound as
 -- it was opened.
 abbrev pub EndedBuildHasItsOutcomesFromNothing : Type 0
-EndedBuildHasItsOutcomesFromNothing = (story : List StoryStep) (opening : Opening) (x : StoryStep) (lane : ℕ) (build : Build) (n : ℕ) (unit : Unit)
+EndedBuildHasItsOutcomesFromNothing = (story : List StoryStep) (opening : Opening) (x : StoryStep) (lane : ℕ) (build : Build)
+    (n : ℕ) (unit : Unit)
     → Legal story → (state_of story).opened ≡ Some opening → IsSound opening.base
     → build_of (state_of story).active lane ≡ Some build → IsLeft (state_of story) x lane build
     → build.faulted ≡ false → unit_at build n ≡ Some unit

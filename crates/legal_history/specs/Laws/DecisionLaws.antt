@@ -11,7 +11,7 @@ use Rattle.cc_names.specs.declared.rows.Deed.{Deed}
 use Rattle.cc_names.specs.declared.rows.Deed.TheVariants as deeds
 use Rattle.cc_names.specs.declared.rows.Placed.{Placed}
 use Rattle.base_model.specs.Changes.{objects_held, targets_of, tree}
-use Rattle.base_model.specs.Closures.{Input, closure, is_among, recorded_version}
+use Rattle.base_model.specs.Closures.{Input, closure, is_path_among, recorded_version}
 use Rattle.legal_history.specs.Commands.Decisions.{Scene, Makes}
 use Rattle.base_model.specs.Fits.{fits, is_base}
 use Rattle.legal_history.specs.Laws.Dues.{is_due_object}
@@ -47,7 +47,8 @@ RecordIsLabelledAsListedObject = (s : Scene) (v path label name : List ℕ) (rep
 
 -- The same law, its part *exactly*.
 abbrev pub RecordIsLabelledAsListedExactly : Type 0
-RecordIsLabelledAsListedExactly = (s : Scene) (v path label name : List ℕ) (replace : Bool) (placed : List Placed) (id : ℕ) (one : Placed)
+RecordIsLabelledAsListedExactly = (s : Scene) (v path label name : List ℕ) (replace : Bool) (placed : List Placed) (id : ℕ)
+    (one : Placed)
     → decision s (commands.Change (changes.MklabelConfig v replace path label)) ≡ Ok (Makes (deeds.Labels name placed))
     → held_at (objects_held s.base) v path ≡ Some id
     → Contains placed one ↔ IsListed s.base (closure s.base id) one.element one.version
@@ -60,14 +61,16 @@ RecordIsLabelledAsListedOrder = (s : Scene) (v path label name : List ℕ) (repl
 
 -- The same law, its part *selected*.
 abbrev pub RecordIsLabelledAsListedSelected : Type 0
-RecordIsLabelledAsListedSelected = (s : Scene) (v path label name : List ℕ) (replace : Bool) (placed : List Placed) (id : ℕ) (target : List ℕ) (one : Placed)
+RecordIsLabelledAsListedSelected = (s : Scene) (v path label name : List ℕ) (replace : Bool) (placed : List Placed) (id : ℕ)
+    (target : List ℕ) (one : Placed)
     → decision s (commands.Change (changes.MklabelConfig v replace path label)) ≡ Ok (Makes (deeds.Labels name placed))
-    → held_at (objects_held s.base) v path ≡ Some id → is_among target (targets_of s.base id) ≡ true
+    → held_at (objects_held s.base) v path ≡ Some id → is_path_among target (targets_of s.base id) ≡ true
     → Contains placed one ↔ (recorded_version s.base id target one.element ≡ Some one.version)
 
 -- The same law, its part *versions*.
 abbrev pub RecordIsLabelledAsListedVersions : Type 0
-RecordIsLabelledAsListedVersions = (s : Scene) (v path label name : List ℕ) (replace : Bool) (placed : List Placed) (id : ℕ) (input : Input × ℕ)
+RecordIsLabelledAsListedVersions = (s : Scene) (v path label name : List ℕ) (replace : Bool) (placed : List Placed) (id : ℕ)
+    (input : Input × ℕ)
     → decision s (commands.Change (changes.MklabelConfig v replace path label)) ≡ Ok (Makes (deeds.Labels name placed))
     → held_at (objects_held s.base) v path ≡ Some id → Contains (closure s.base id) input → 0 < input.1
     → is_some (version_id (tree s.base) input.1) ≡ true

@@ -7,7 +7,8 @@ use Rattle.cc_names.specs.declared.steps.Step.TheVariants as steps
 use Rattle.cc_names.specs.declared.steps.StoryStep.{StoryStep}
 use Rattle.cc_names.specs.declared.steps.StoryStep.TheVariants as story_steps
 use Rattle.legal_history.specs.Builds.Active.{Build}
-use Rattle.legal_history.specs.Stories.States.{State, Opening, End, Committed, Faulted, build_by, decision_for, ticks_of, faults_of}
+use Rattle.legal_history.specs.Stories.States.{State, Opening, End, Committed, Faulted, build_by, decision_for, ticks_of}
+use Rattle.legal_history.specs.Stories.States.{faults_of}
 use Rattle.cc_names.specs.Counts.{rises}
 use Rattle.legal_history.specs.Builds.Turns.{is_complete}
 

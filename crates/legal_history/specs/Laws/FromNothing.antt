@@ -7,7 +7,7 @@ use Rattle.legal_history.specs.Builds.Active.{Build, Came, Started, came_to, is_
 use Rattle.legal_history.specs.Builds.Freshness.{Agrees, HasOutputs, outcome_in}
 use Rattle.legal_history.specs.Builds.Serials.{Made}
 use Rattle.legal_history.specs.Stories.States.{State}
-use Rattle.legal_history.specs.Builds.Turns.{early, is_ready}
+use Rattle.legal_history.specs.Builds.Turns.{early, is_unit_ready}
 use Rattle.legal_history.specs.Builds.UnitTurns.{IsOpen, IsRunning}
 
 -- From nothing, at the build's reference rows, unit n is made, and the object has exactly its targets and outputs.
@@ -30,4 +30,5 @@ MayTake s tag n build unit = IsOpen s tag n build unit ⊎ IsRunning s tag n bui
 -- its outcome, and nothing ends it without a run.
 pub data MayRun (b : Base) (build : Build) (n : ℕ) (unit : Unit) : Type 0 where
   IsStarted : came_to build n ≡ Some Started → MayRun b build n unit
-  IsReadyToStart : is_outcome (came_to build n) ≡ false → is_ready build unit ≡ true → early b build unit ≡ None → MayRun b build n unit
+  IsReadyToStart : is_outcome (came_to build n) ≡ false → is_unit_ready build unit ≡ true → early b build unit ≡ None
+      → MayRun b build n unit

@@ -5,7 +5,7 @@ use Rattle.cc_names.specs.declared.units.Unit.{Unit}
 use Rattle.base_model.specs.Rows.{Base, first_rows}
 use Rattle.legal_history.specs.Builds.Active.{Build, came_to, object_of, unit_at}
 use Rattle.base_model.specs.Changes.{objects_held, live_row}
-use Rattle.base_model.specs.Closures.{is_among}
+use Rattle.base_model.specs.Closures.{is_path_among}
 use Rattle.base_model.specs.Seen.{file_at}
 use Rattle.legal_history.specs.Builds.Serials.{makes}
 
@@ -28,13 +28,14 @@ pub record MakesOne (build : Build) (paths : List (List ℕ)) (m : ℕ) : Type 0
   pub unit : Unit
   pub is_unit : unit_at build m ≡ Some unit
   pub path : List ℕ
-  pub among : is_among path paths ≡ true
+  pub among : is_path_among path paths ≡ true
   pub is_target : makes path unit ≡ true
 
 -- a unit is needed for some paths: it makes one of them, or one that a unit which is needed for them has as a prerequisite
 pub data IsNeeded (build : Build) (paths : List (List ℕ)) : ℕ → Type 0 where
   AtOnce : (m : ℕ) → MakesOne build paths m → IsNeeded build paths m
-  Through : (k m : ℕ) (between : Unit) → IsNeeded build paths k → unit_at build k ≡ Some between → MakesOne build between.prerequisites m → IsNeeded build paths m
+  Through : (k m : ℕ) (between : Unit) → IsNeeded build paths k → unit_at build k ≡ Some between
+      → MakesOne build between.prerequisites m → IsNeeded build paths m
 
 -- an object was given to a unit that stands before unit n, is needed for some paths, and makes this path
 pub record GivenBefore (build : Build) (n : ℕ) (paths : List (List ℕ)) (path : List ℕ) (id : ℕ) : Type 0 where

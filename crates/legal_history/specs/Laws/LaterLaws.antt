@@ -10,7 +10,7 @@ use Rattle.legal_history.specs.Stories.Lanes.{IsFinished, IsWithin}
 use Rattle.legal_history.specs.Stories.Steps.{state_of}
 use Rattle.legal_history.specs.Stories.Lawful.{Legal}
 
--- A lane's build in a front of a legal story is active still in the whole story: a build of the same command is.
+-- A lane's build in a prefix of a legal story is active still in the whole story: a build of the same command is.
 pub record IsStillActive (prefix rest : List StoryStep) (lane : ℕ) (old new : Build) : Type 0 where
   pub legal : Legal (prefix ++ rest)
   pub before : build_of (state_of prefix).active lane ≡ Some old
@@ -53,7 +53,8 @@ WhatAUnitCameToStaysStart = (prefix rest : List StoryStep) (lane : ℕ) (old new
 
 -- While a build is active, a unit of it that was started sees the same row at each path.
 abbrev pub StartedUnitSeesTheSameLaterSeen : Type 0
-StartedUnitSeesTheSameLaterSeen = (prefix rest : List StoryStep) (lane : ℕ) (old new : Build) (n : ℕ) (unit : Unit) (path : List ℕ)
+StartedUnitSeesTheSameLaterSeen = (prefix rest : List StoryStep) (lane : ℕ) (old new : Build) (n : ℕ) (unit : Unit)
+    (path : List ℕ)
     → IsStillActive prefix rest lane old new
     → unit_at old n ≡ Some unit → is_some (came_to old n) ≡ true
     → visible (state_of (prefix ++ rest)).base new n unit path ≡ visible (state_of prefix).base old n unit path

@@ -1,4 +1,5 @@
--- What an object is worth that a unit takes in place of a run, and how a base stays sound. Each is promised by a function of `laws::reuse`.
+-- What an object is worth that a unit takes in place of a run, and how a base stays sound. Each is promised by a function of
+-- `laws::reuse`.
 use Rattle.std.specs.Prelude.{◌≡◌, ℕ, suc, List, [], ◌∷◌, Some, None, is_some, true, false}
 use Rattle.cc_names.specs.Formed.{Plain}
 use Rattle.cc_names.specs.declared.rows.Deed.TheVariants as deeds
@@ -86,7 +87,8 @@ abbrev pub NoMatchIsPassedOverRecordIsNew : Type 0
 NoMatchIsPassedOverRecordIsNew = (b : Base) (build : Build) (n : ℕ) (unit : Unit) (id : ℕ) (v : List ℕ) (outputs : List (List ℕ))
     → is_base b ≡ true → GivesLive b build → build.own_only ≡ false → build.rebuild ≡ false
     → reusable b build n unit ≡ None
-    → deed_at b id ≡ Some (deeds.Publish v unit.targets (script_text unit.script) (entries (visible b build n unit) (here b build n unit).reads) outputs)
+    → deed_at b id ≡ Some (deeds.Publish v unit.targets (script_text unit.script)
+    (entries (visible b build n unit) (here b build n unit).reads) outputs)
     → is_some (live_row b id) ≡ false
 
 -- An object that a unit keeps, since its view holds it at every target, and one that it winks in, are live and held by the
@@ -125,7 +127,8 @@ ReuseIsARebuildRun = (story : List StoryStep) (opening : Opening) (lane : ℕ) (
 
 -- The same law, its part *from_nothing*.
 abbrev pub ReuseIsARebuildFromNothing : Type 0
-ReuseIsARebuildFromNothing = (story : List StoryStep) (opening : Opening) (tag : Tag) (n : ℕ) (build : Build) (unit : Unit) (id : ℕ)
+ReuseIsARebuildFromNothing = (story : List StoryStep) (opening : Opening) (tag : Tag) (n : ℕ) (build : Build) (unit : Unit)
+    (id : ℕ)
     → Legal story → (state_of story).opened ≡ Some opening → IsSound opening.base
     → MayTake (state_of story) tag n build unit
     → reusable (state_of story).base build n unit ≡ Some id

@@ -22,7 +22,8 @@ pub record SeesByRecord (b : Base) (v target : List ℕ) (id : ℕ) (path : List
 
 -- a row is the one version of element e in an object's closure
 pub record IsOnlyVersion (b : Base) (id e row : ℕ) : Type 0 where
-  pub only : (input : Input) → is_some (find input_cmp input (closure b id)) ≡ true → is_version_of b e input.1 ≡ true → input.1 ≡ row
+  pub only : (input : Input) → is_some (find input_cmp input (closure b id)) ≡ true → is_version_of b e input.1 ≡ true
+      → input.1 ≡ row
 
 -- An input is selected by the record: nothing was there and the view sees nothing, or it is the one version of an element
 -- that the view sees there by the record.

@@ -55,7 +55,8 @@ pub record ReusesAny (s : State) (tag : Tag) (build : Build) : Type 0 where
 -- Unit n of the command's active build, whose script was started, publishes what its script's run on what it sees gives. The
 -- record has an entry for each path that the run asked for, with the row that the unit sees there, or 0 where it sees nothing,
 -- and no other.
-pub record PublishesWhatItRead (s : State) (row : Plain) (targets : List (List ℕ)) (script : List ℕ) (listed : List ReadOf) (outputs : List (List ℕ)) : Type 0 where
+pub record PublishesWhatItRead (s : State) (row : Plain) (targets : List (List ℕ)) (script : List ℕ) (listed : List ReadOf)
+    (outputs : List (List ℕ)) : Type 0 where
   pub n : ℕ
   pub build : Build
   pub unit : Unit

@@ -1,5 +1,6 @@
 -- The texts that tell of one element: what is selected of it, and its tree of versions.
-use Rattle.std.specs.Prelude.{ℕ, zero, suc, Bool, true, false, ◌==◌, Option, Some, None, List, [], ◌∷◌, ◌++◌, codes, map, filter, reverse, decimal}
+use Rattle.std.specs.Prelude.{ℕ, zero, suc, Bool, true, false, ◌==◌, Option, Some, None, List, [], ◌∷◌, ◌++◌, codes, map, filter}
+use Rattle.std.specs.Prelude.{reverse, decimal}
 use Rattle.std.specs.List.{concat}
 use Rattle.std.specs.Ordering.{nat_cmp}
 use Rattle.std.specs.Cmp.Lexicographic.{slice_cmp}
@@ -34,12 +35,12 @@ label_types [] = []
 label_types (row ∷ older) = with_label_type row.deed (label_types older)
 
 -- the key of an entry
-abbrev pub first_of : List ℕ × List ℕ → List ℕ
-first_of entry = entry.0
+abbrev pub entry_key : List ℕ × List ℕ → List ℕ
+entry_key entry = entry.0
 
 -- the labels that stand on a version of the element, in byte order
 abbrev pub labels_on : Base → ℕ → ℕ → List (List ℕ)
-labels_on b e version = filter (λ label. is_number version (holder (labels b) label e)) (map first_of (label_types b))
+labels_on b e version = filter (λ label. is_number version (holder (labels b) label e)) (map entry_key (label_types b))
 
 -- the kind of an element
 abbrev pub kind_word : Bool → List ℕ
@@ -50,12 +51,14 @@ kind_word false = codes "file"
 abbrev pub selected_lines : Base → List ℕ → ℕ → Picked → Bool → List ℕ
 selected_lines b v e picked true = line (codes "checkedout from " ++ origin_name b (out b v e))
 selected_lines b v e picked false =
-    line (codes "version " ++ version_name b picked.row) ++ concat (map (λ label. line (codes "label " ++ label)) (labels_on b e picked.row))
+    line (codes "version " ++ version_name b picked.row) ++ concat (map (λ label. line (codes "label " ++ label))
+    (labels_on b e picked.row))
 
 -- `describe`: the element, its kind, and what is selected of it
 abbrev pub describe_text : Base → List ℕ → ℕ → Picked → List ℕ
 describe_text b v e picked =
-    line (codes "element " ++ decimal e) ++ line (codes "kind " ++ kind_word (is_directory b e)) ++ selected_lines b v e picked picked.out
+    line (codes "element " ++ decimal e) ++ line (codes "kind " ++ kind_word (is_directory b e))
+    ++ selected_lines b v e picked picked.out
 
 -- words with a comma between each two
 abbrev pub with_commas : List (List ℕ) → List ℕ

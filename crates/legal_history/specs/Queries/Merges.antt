@@ -1,5 +1,6 @@
 -- Which versions have reached which, by the trees and by merge arrows; and what is left to be merged.
-use Rattle.std.specs.Prelude.{ℕ, zero, suc, Bool, true, false, not, ◌&&◌, ◌||◌, ◌==◌, ◌≡◌, Option, Some, None, List, [], ◌∷◌, ◌++◌, codes, map, option_and_then, bytes_eq}
+use Rattle.std.specs.Prelude.{ℕ, zero, suc, Bool, true, false, not, ◌&&◌, ◌||◌, ◌==◌, ◌≡◌, Option, Some, None, List, [], ◌∷◌}
+use Rattle.std.specs.Prelude.{◌++◌, codes, map, option_and_then, bytes_eq}
 use Rattle.std.specs.List.{concat, list_any}
 use Rattle.std.specs.Option.{option_or, option_map_or}
 use Rattle.std.specs.Ordering.{nat_cmp}
@@ -16,7 +17,7 @@ use Rattle.cc_names.specs.declared.selection.Seen.TheVariants.{Element}
 use Rattle.base_model.specs.Rows.{Base, size, only_where}
 use Rattle.base_model.specs.Catalogs.{Catalog}
 use Rattle.base_model.specs.Changes.{tree}
-use Rattle.legal_history.specs.Queries.DirectoryTexts.{path_in, catalog_or_none}
+use Rattle.legal_history.specs.Queries.DirectoryTexts.{path_of_entry, catalog_or_none}
 use Rattle.base_model.specs.Seen.{at, entries_of}
 use Rattle.legal_history.specs.Queries.VersionNames.{line, version_name, at_version}
 use Rattle.base_model.specs.Views.{Checkout, out}
@@ -24,7 +25,8 @@ use Rattle.base_model.specs.Views.{Checkout, out}
 -- whether one version is the successor of another on its branch
 abbrev pub is_successor : Base → ℕ → ℕ → Bool
 is_successor b one two =
-    is_number two (option_and_then (λ version. version_of_number (tree b) version.branch (suc version.number)) (version_at (tree b) one))
+    is_number two (option_and_then (λ version. version_of_number (tree b) version.branch (suc version.number))
+    (version_at (tree b) one))
 
 -- whether a version begins a branch that leaves another one
 abbrev pub is_branch_from : List TreeChange → ℕ → ℕ → Bool
@@ -62,13 +64,13 @@ followers b versions [] = with_follower b versions 0 []
 followers b versions (row ∷ older) = with_follower b versions (size older) (followers b versions older)
 
 -- versions with all that they reach in at most so many rounds of taking in followers
-abbrev pub within : ℕ → Base → List ℕ → List ℕ
-within zero b versions = versions
-within (suc rounds) b versions = within rounds b (followers b versions b ++ versions)
+abbrev pub reached_within : ℕ → Base → List ℕ → List ℕ
+reached_within zero b versions = versions
+reached_within (suc rounds) b versions = reached_within rounds b (followers b versions b ++ versions)
 
--- whether one version reaches another; each round but the last takes in some row, so there are at most as many as rows
+-- whether one version reaches another; each round but the last adds some row, so there are at most as many as rows
 abbrev pub reaches : Base → ℕ → ℕ → Bool
-reaches b one two = is_in two (within (size b) b (one ∷ []))
+reaches b one two = is_in two (reached_within (size b) b (one ∷ []))
 
 -- the element's branch of a type; `main` is named by the element
 abbrev pub branch_of_type : Base → ℕ → List ℕ → Option ℕ
@@ -104,7 +106,8 @@ with_element path seen found = found
 -- what is found below each name of a catalog, put among others
 abbrev pub in_catalog : (List ℕ → Elements → Elements) → List ℕ → Catalog → Elements → Elements
 in_catalog below directory [] found = found
-in_catalog below directory (entry ∷ catalog) found = below (path_in directory entry.0) (in_catalog below directory catalog found)
+in_catalog below directory (entry ∷ catalog) found = below (path_of_entry directory entry.0)
+    (in_catalog below directory catalog found)
 
 -- the elements selected at a path and below it, put among others; no directory lies deeper than there are rows
 abbrev pub elements_below : ℕ → Base → List ℕ → List ℕ → Elements → Elements
@@ -115,7 +118,8 @@ elements_below (suc depth) b v path found =
 
 -- the line of a path, where its element is to be merged
 abbrev pub found_line : Base → List ℕ → List ℕ → List ℕ → Seen → List ℕ
-found_line b v name path (Element e picked) = merge_line b path (merge_target picked.out picked (out b v e)) (merge_source b e name)
+found_line b v name path (Element e picked) = merge_line b path (merge_target picked.out picked (out b v e))
+    (merge_source b e name)
 found_line b v name path seen = []
 
 -- `findmerge`: the elements at a path and below it whose last version on a branch has not reached what the view selects

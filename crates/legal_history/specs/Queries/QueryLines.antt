@@ -1,5 +1,6 @@
 -- The queries: the tests of each in their order, and its text.
-use Rattle.std.specs.Prelude.{ℕ, ◌||◌, is_none, Option, Some, None, Result, List, [], ◌∷◌, codes, unwrap_or, option_and_then, bytes_eq}
+use Rattle.std.specs.Prelude.{ℕ, ◌||◌, is_none, Option, Some, None, Result, List, [], ◌∷◌, codes, unwrap_or, option_and_then}
+use Rattle.std.specs.Prelude.{bytes_eq}
 use Rattle.cc_names.specs.Paths.{root}
 use Rattle.cc_names.specs.References.{held_at}
 use Rattle.cc_names.specs.declared.commands.VersionName.{VersionName}
@@ -21,7 +22,8 @@ use Rattle.legal_history.specs.Queries.Merges.{findmerge_text}
 use Rattle.legal_history.specs.Queries.RecordTexts.{catcr_text, diffcr_text, covers_text}
 use Rattle.base_model.specs.Objects.{uncovered_path}
 use Rattle.base_model.specs.Seen.{at, file_at}
-use Rattle.legal_history.specs.Commands.Tests.{refused_where, refused_unless, needs_view, needs_selected, needs_directory, needs_no_directory, needs_element}
+use Rattle.legal_history.specs.Commands.Tests.{refused_where, refused_unless, needs_view, needs_selected, needs_directory}
+use Rattle.legal_history.specs.Commands.Tests.{needs_no_directory, needs_element}
 use Rattle.base_model.specs.Texts.{text}
 use Rattle.base_model.specs.Views.{spec_text}
 
@@ -54,8 +56,8 @@ text_row b v path seen = file_at b v path
 
 -- The text that a row made at a path. It is asked for behind the tests of `cat` alone, which leave a row, and each makes
 -- the text of a file or of an object there.
-abbrev pub text_at : Base → List ℕ → Option ℕ → List ℕ
-text_at b path row = unwrap_or (option_and_then (λ r. text b r path) row) []
+abbrev pub made_text_at : Base → List ℕ → Option ℕ → List ℕ
+made_text_at b path row = unwrap_or (option_and_then (λ r. text b r path) row) []
 
 -- the tests of `cat V P`
 abbrev pub cat_tests : Base → List ℕ → List ℕ → Seen → List (Option Refusal)
@@ -75,9 +77,9 @@ cat_version_tests b v path seen name =
 
 -- `cat V P` and `cat V P@@VERSION`: the text that the view sees there, or that of a version
 abbrev pub cat : Base → List ℕ → List ℕ → Option VersionName → Result Decision Refusal
-cat b v path None = answers (cat_tests b v path (at b v path)) (text_at b path (text_row b v path (at b v path)))
+cat b v path None = answers (cat_tests b v path (at b v path)) (made_text_at b path (text_row b v path (at b v path)))
 cat b v path (Some name) =
-    answers (cat_version_tests b v path (at b v path) name) (text_at b path (version_seen b (at b v path) name))
+    answers (cat_version_tests b v path (at b v path) name) (made_text_at b path (version_seen b (at b v path) name))
 
 -- what is answered of the element that the view selects at a path, and of what it picks of it
 abbrev pub answers_of : Base → List ℕ → List ℕ → (ℕ → Picked → List ℕ) → Result Decision Refusal

@@ -24,16 +24,16 @@ abbrev pub recorded_script : Base → ℕ → List ℕ
 recorded_script b id = script_of_deed (deed_at b id)
 
 -- one read of a record; row 0 says that nothing was there
-abbrev pub read_line : Base → List ℕ → ℕ → List ℕ
-read_line b path zero = line (codes "absent " ++ path)
-read_line b path (suc row) = line (codes "read " ++ row_name b path (suc row))
+abbrev pub line_of_read : Base → List ℕ → ℕ → List ℕ
+line_of_read b path zero = line (codes "absent " ++ path)
+line_of_read b path (suc row) = line (codes "read " ++ row_name b path (suc row))
 
 -- `catcr`: the record of an object
 abbrev pub catcr_text : Base → ℕ → List ℕ
 catcr_text b id =
     concat (map (λ target. line (codes "target " ++ target)) (targets_of b id))
     ++ concat (map (λ text. line (codes "script " ++ text)) (lines_of (recorded_script b id)))
-    ++ concat (map (λ entry. read_line b entry.path entry.row) (record_of b id))
+    ++ concat (map (λ entry. line_of_read b entry.path entry.row) (record_of b id))
 
 -- paths in byte order, each with itself
 abbrev pub Paths : Type 0
@@ -76,7 +76,8 @@ abbrev pub diffcr_text : Base → ℕ → ℕ → List ℕ
 diffcr_text b one two =
     unless_same (are_same_paths (targets_of b one) (targets_of b two)) (line (codes "targets differ"))
     ++ unless_same (bytes_eq (recorded_script b one) (recorded_script b two)) (line (codes "script differs"))
-    ++ concat (map (λ path. path_lines b (record_of b one) (record_of b two) path.0) (with_paths (record_of b one) (with_paths (record_of b two) [])))
+    ++ concat (map (λ path. path_lines b (record_of b one) (record_of b two) path.0)
+    (with_paths (record_of b one) (with_paths (record_of b two) [])))
 
 -- `covers`: whether what a view sees covers a record
 abbrev pub covers_text : Option (List ℕ) → List ℕ

@@ -1,5 +1,6 @@
 -- What a story has come to: the state that its steps leave, one after the other.
-use Rattle.std.specs.Prelude.{ℕ, ◌+◌, Bool, true, ◌&&◌, ◌==◌, Option, Some, None, Result, is_none, List, [], ◌∷◌, length, slice_get, option_map, option_and_then, unwrap_or}
+use Rattle.std.specs.Prelude.{ℕ, ◌+◌, Bool, true, ◌&&◌, ◌==◌, Option, Some, None, Result, is_none, List, [], ◌∷◌, length}
+use Rattle.std.specs.Prelude.{slice_get, option_map, option_and_then, unwrap_or}
 use Rattle.std.specs.Ordering.{nat_cmp}
 use Rattle.std.specs.FinMap.Entries.{put, find}
 use Rattle.cc_names.specs.Commands.{lane_at}
@@ -82,7 +83,8 @@ is_next s tag = same_tag tag (next_tag s tag.lane) && is_none (build_of s.active
 
 -- the command of this tag, where it is its lane's next
 abbrev pub next_command : State → Tag → Option Command
-next_command s tag = only_where (is_next s tag) (option_and_then (command_behind (done_of s.done tag.lane)) (lane_at s.phase tag.lane))
+next_command s tag = only_where (is_next s tag) (option_and_then (command_behind (done_of s.done tag.lane))
+    (lane_at s.phase tag.lane))
 
 -- what is decided of the command of this tag, where it is its lane's next
 abbrev pub decision_for : State → Tag → Option (Result Decision Refusal)

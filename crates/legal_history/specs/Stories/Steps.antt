@@ -1,5 +1,6 @@
 -- What each step of a story leaves of the state before it.
-use Rattle.std.specs.Prelude.{ℕ, ◌+◌, true, false, not, ◌==◌, Option, Some, None, Result, Ok, List, [], ◌∷◌, reverse, option_and_then}
+use Rattle.std.specs.Prelude.{ℕ, ◌+◌, true, false, not, ◌==◌, Option, Some, None, Result, Ok, List, [], ◌∷◌, reverse}
+use Rattle.std.specs.Prelude.{option_and_then}
 use Rattle.std.specs.Ordering.{nat_cmp}
 use Rattle.std.specs.FinMap.Entries.{put, where_key}
 use Rattle.cc_names.specs.declared.commands.Clearmake.{Clearmake}
@@ -53,8 +54,10 @@ done_after done lane deed = with_done done lane
 
 -- the active builds after a commit: a publish or a wink gives its object to the unit with its targets
 abbrev pub active_after : Base → Active → ℕ → Deed → Active
-active_after b active lane (deeds.Publish v targets script entries outputs) = with_outcome active lane (λ build. unit_with_first build targets) (Given (size b))
-active_after b active lane (deeds.Wink v id) = with_outcome active lane (λ build. unit_with_first build (targets_of b id)) (Given id)
+active_after b active lane (deeds.Publish v targets script entries outputs) =
+    with_outcome active lane (λ build. unit_with_first build targets) (Given (size b))
+active_after b active lane (deeds.Wink v id) = with_outcome active lane (λ build. unit_with_first build (targets_of b id))
+    (Given id)
 active_after b active lane deed = active
 
 -- the build of some units that a clearmake command asks for
@@ -108,8 +111,14 @@ abbrev pub after_step : State → Step → State
 after_step s (steps.Refused tag refusal) = record s { done = with_done s.done tag.lane }
 after_step s (steps.Answer tag text) = record s { done = with_done s.done tag.lane }
 after_step s (steps.Begin tag rows units) = record s { active = with_build s.active tag.lane (build_begun_by s tag) }
-after_step s (steps.Start tag n) = record s { active = with_outcome s.active tag.lane (λ build. Some n) (came_by_starting (build_of s.active tag.lane) n) }
-after_step s (steps.Concluded tag n outcome) = record s { active = with_outcome s.active tag.lane (λ build. Some n) (Concluded outcome) }
+after_step s (steps.Start tag n) = record s {
+  active = with_outcome s.active tag.lane (λ build. Some n)
+      (came_by_starting (build_of s.active tag.lane) n);
+}
+after_step s (steps.Concluded tag n outcome) = record s {
+  active = with_outcome s.active tag.lane (λ build. Some n)
+      (Concluded outcome);
+}
 after_step s (steps.End tag) = record s { done = with_done s.done tag.lane; active = without_build s.active tag.lane }
 after_step s (steps.Fault tag left before faults tick) = record s {
   done = done_by_fault s.done tag.lane (build_by s tag);

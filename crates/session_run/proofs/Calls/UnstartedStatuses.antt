@@ -8,7 +8,8 @@ use Rattle.session_run.specs.declared.sessions.Unstarted.TheVariants as why
 use Rattle.session_run.specs.declared.statuses.Status.TheVariants as statuses
 
 -- want of memory is told for nothing else
-pub only_memory : (unstarted : Unstarted) → unstarted_status unstarted ≡ statuses.NoMemory → unstarted ≡ why.Unopened opens.NoMemory
+pub only_memory : (unstarted : Unstarted) → unstarted_status unstarted ≡ statuses.NoMemory
+    → unstarted ≡ why.Unopened opens.NoMemory
 only_memory why.BadWords is = absurd (cc)
 only_memory why.ReadFault is = absurd (cc)
 only_memory why.TooLong is = absurd (cc)

@@ -16,8 +16,10 @@ use Rattle.session_run.specs.Calls.Causes.{Change}
 use Rattle.session_run.specs.Faults.Accounted.{CountsFrom, KeepsFiles, is_calm}
 
 -- the file of objects is as it was before, also through a third moment
-objects_then : (one two three : Option Device) → Both SameObjects one two → Both SameObjects two three → Both SameObjects one three
-objects_then one two three h k = both_then SameObjects SameObjects SameObjects one two three (λ d e f first second. second ∙ first) h k
+objects_then : (one two three : Option Device) → Both SameObjects one two → Both SameObjects two three
+    → Both SameObjects one three
+objects_then one two three h k = both_then SameObjects SameObjects SameObjects one two three (λ d e f first second. second
+    ∙ first) h k
 
 of_files : (one two : Option Device) → Both SameFiles one two → Both SameObjects one two
 of_files None None h = tt
@@ -46,7 +48,8 @@ step_leaves (story_steps.PhaseBegun phase moment) old new h = same_ghost_state o
 
 steps_leave : (more : List StoryStep) (old new : DiskState) → CountsSteps more old new → Both SameObjects old.modeled new.modeled
 steps_leave [] old new h = same_ghost_state old new h
-steps_leave (step ∷ more) old new h = objects_then old.modeled h.0.modeled new.modeled (step_leaves step old h.0 h.1) (steps_leave more h.0 new h.2)
+steps_leave (step ∷ more) old new h = objects_then old.modeled h.0.modeled new.modeled (step_leaves step old h.0 h.1)
+    (steps_leave more h.0 new h.2)
 
 -- steps without a commit and a fault make no call on the disk
 calm_rests : (more : List StoryStep) (old new : DiskState) → is_calm more ≡ true → CountsSteps more old new → new ≡ old
@@ -63,14 +66,19 @@ calm_ends s [] calm = refl
 calm_ends s (story_steps.Commit row tick ∷ more) calm = absurd (cc)
 calm_ends s (story_steps.Other (steps.Fault tag left before faults tick) ∷ more) calm = absurd (cc)
 calm_ends s (story_steps.Other step ∷ more) calm = calm_ends (after s (story_steps.Other step)) more calm
-calm_ends s (story_steps.Opened rows counts tells ∷ more) calm = calm_ends (after s (story_steps.Opened rows counts tells)) more calm
-calm_ends s (story_steps.PhaseBegun phase moment ∷ more) calm = calm_ends (after s (story_steps.PhaseBegun phase moment)) more calm
+calm_ends s (story_steps.Opened rows counts tells ∷ more) calm = calm_ends (after s (story_steps.Opened rows counts tells)) more
+    calm
+calm_ends s (story_steps.PhaseBegun phase moment ∷ more) calm = calm_ends (after s (story_steps.PhaseBegun phase moment)) more
+    calm
 
 -- a calm story that begins with an opening has no fault
-calm_story : (story : List StoryStep) (first : StoryStep) (more : List StoryStep) → story ≡ first ∷ more → is_calm story ≡ true → (is_calm more ≡ true) × (may_be_open (state_of story).ends ≡ false)
-calm_story story first more is calm = subst (λ s. is_calm s ≡ true → (is_calm more ≡ true) × (may_be_open (state_of s).ends ≡ false)) (sym is) (by first) calm
+calm_story : (story : List StoryStep) (first : StoryStep) (more : List StoryStep) → story ≡ first ∷ more → is_calm story ≡ true
+    → (is_calm more ≡ true) × (may_be_open (state_of story).ends ≡ false)
+calm_story story first more is calm = subst (λ s. is_calm s ≡ true → (is_calm more ≡ true)
+    × (may_be_open (state_of s).ends ≡ false)) (sym is) (by first) calm
   where
-    none : (x : StoryStep) → is_calm more ≡ true → (after start x).ends ≡ [] → may_be_open (state_from (after start x) more).ends ≡ false
+    none : (x : StoryStep) → is_calm more ≡ true → (after start x).ends ≡ []
+        → may_be_open (state_from (after start x) more).ends ≡ false
     none x calm empty = ap may_be_open (calm_ends (after start x) more calm ∙ empty)
 
     by : (x : StoryStep) → is_calm (x ∷ more) ≡ true → (is_calm more ≡ true) × (may_be_open (state_of (x ∷ more)).ends ≡ false)
@@ -81,11 +89,14 @@ calm_story story first more is calm = subst (λ s. is_calm s ≡ true → (is_ca
     by (story_steps.PhaseBegun phase moment) calm = (calm, none (story_steps.PhaseBegun phase moment) calm refl)
 
 -- The files of a session whose base was opened
-pub keeps_files : (disk : Change DiskState) (opened : DiskState) (story : List StoryStep) → Both SameFiles disk.before.modeled opened.modeled → CountsFrom opened disk.after story → KeepsFiles disk story
+pub keeps_files : (disk : Change DiskState) (opened : DiskState) (story : List StoryStep)
+    → Both SameFiles disk.before.modeled opened.modeled → CountsFrom opened disk.after story → KeepsFiles disk story
 keeps_files disk opened story same counted = record {
   objects =
       objects_then disk.before.modeled opened.modeled disk.after.modeled (of_files disk.before.modeled opened.modeled same)
-      (objects_then opened.modeled counted.ended.modeled disk.after.modeled (steps_leave counted.steps opened counted.ended counted.counts) (of_writes counted.ended.modeled disk.after.modeled counted.settled.writes));
+      (objects_then opened.modeled counted.ended.modeled disk.after.modeled
+      (steps_leave counted.steps opened counted.ended counted.counts)
+      (of_writes counted.ended.modeled disk.after.modeled counted.settled.writes));
   files = λ calm.
       let parts = calm_story story counted.first counted.steps counted.story_is calm in
       let rests = counted.settled.rests parts.1 ∙ calm_rests counted.steps opened counted.ended parts.0 counted.counts in

@@ -1,5 +1,6 @@
 -- What a stop finds, from what the core and the disk tell.
-use Rattle.std.proofs.Common.{◌≡◌, ℕ, ◌-◌, ◌^◌, ◌<◌, ◌≤◌, inl, inr, Bool, true, false, Option, Some, None, Result, Ok, Err, List, [], ◌∷◌, length, reverse, refl, ap, sym, subst, ◌∙◌, arith}
+use Rattle.std.proofs.Common.{◌≡◌, ℕ, ◌-◌, ◌^◌, ◌<◌, ◌≤◌, inl, inr, Bool, true, false, Option, Some, None, Result, Ok, Err, List}
+use Rattle.std.proofs.Common.{[], ◌∷◌, length, reverse, refl, ap, sym, subst, ◌∙◌, arith}
 use Rattle.std.specs.Prelude.{is_some, OnOk, OnErr}
 use Rattle.std.proofs.lemmas.Bool.Decides.{nat_tests}
 use Rattle.cc_names.specs.Formed.{Plain}
@@ -7,7 +8,7 @@ use Rattle.cc_names.specs.declared.steps.Counts.{Counts}
 use Rattle.cc_names.specs.declared.steps.Step.TheVariants as steps
 use Rattle.cc_names.specs.declared.steps.StoryStep.{StoryStep}
 use Rattle.cc_names.specs.declared.steps.StoryStep.TheVariants as story_steps
-use Rattle.disk_model.specs.Devices.{Device, MayLeave, bytes_of, file_of}
+use Rattle.disk_model.specs.Devices.{Device, MayLeave, bytes_now, file_of}
 use Rattle.disk_model.specs.Files.{IsImage, stable}
 use Rattle.disk_model.specs.DiskStates.{DiskState, Both, IfModeled, IsCounted}
 use Rattle.legal_history.specs.Stories.States.{State, Opening, start, faults_of, hanging}
@@ -24,16 +25,19 @@ use Rattle.story_log.specs.Stopping.Standing.{MayBeFound}
 use Rattle.base_rows.specs.Order.{oldest_first}
 use Rattle.story_log.proofs.Stopping.Backing.{left_within_calls}
 use Rattle.story_log.proofs.Cases.{some_same}
-use Rattle.session_run.specs.Faults.Stopped.{AllOpenAgain, AreApart, IsHandedIn, IsMended, IsStopped, KeepsFrames, rises_of}
+use Rattle.session_run.specs.Faults.Stopped.{AllOpenAgain, AreApart, IsHandedIn, IsMended, IsStopped, StopKeepsFrames, rises_of}
 use Rattle.session_run.specs.Promises.Headline.{BeginsOn}
 use Rattle.session_run.specs.Story.Begun.{first_step, is_opened}
 
 -- each fault of a story has a rise of its own
-apart_from : (s : State) (story : List StoryStep) → is_some s.opened ≡ true → LegalFrom s story → AreApart (faults_of s.opened s.ends) (rises_of story) (faults_of (state_from s story).opened (state_from s story).ends)
+apart_from : (s : State) (story : List StoryStep) → is_some s.opened ≡ true → LegalFrom s story
+    → AreApart (faults_of s.opened s.ends) (rises_of story) (faults_of (state_from s story).opened (state_from s story).ends)
 apart_from s [] opened legal = omega arith
 apart_from s (story_steps.Opened rows counts tells ∷ story) opened legal = let first = legal.0.first in absurd (cc)
-apart_from s (story_steps.PhaseBegun phase moment ∷ story) opened legal = apart_from (after s (story_steps.PhaseBegun phase moment)) story opened legal.1
-apart_from s (story_steps.Commit row tick ∷ story) opened legal = apart_from (after s (story_steps.Commit row tick)) story opened legal.1
+apart_from s (story_steps.PhaseBegun phase moment ∷ story) opened legal =
+    apart_from (after s (story_steps.PhaseBegun phase moment)) story opened legal.1
+apart_from s (story_steps.Commit row tick ∷ story) opened legal = apart_from (after s (story_steps.Commit row tick)) story opened
+    legal.1
 apart_from s (story_steps.Other (steps.Fault tag left before faults tick) ∷ story) opened legal = (
   legal.0.later,
   legal.0.rose,
@@ -46,20 +50,29 @@ apart_wider low [] high most h le = omega arith
 apart_wider low (rise ∷ rs) high most h le = (h.0, h.1, apart_wider rise.1 rs high most h.2 le)
 
 -- the base stays the one that was opened
-opened_stays : (s : State) (story : List StoryStep) → is_some s.opened ≡ true → LegalFrom s story → (state_from s story).opened ≡ s.opened
+opened_stays : (s : State) (story : List StoryStep) → is_some s.opened ≡ true → LegalFrom s story
+    → (state_from s story).opened ≡ s.opened
 opened_stays s [] opened legal = refl
 opened_stays s (story_steps.Opened rows counts tells ∷ story) opened legal = let first = legal.0.first in absurd (cc)
-opened_stays s (story_steps.PhaseBegun phase moment ∷ story) opened legal = opened_stays (after s (story_steps.PhaseBegun phase moment)) story opened legal.1
-opened_stays s (story_steps.Commit row tick ∷ story) opened legal = opened_stays (after s (story_steps.Commit row tick)) story opened legal.1
-opened_stays s (story_steps.Other (steps.Fault tag left before faults tick) ∷ story) opened legal = opened_stays (after s (story_steps.Other (steps.Fault tag left before faults tick))) story opened legal.1
-opened_stays s (story_steps.Other step ∷ story) opened legal = opened_stays (after s (story_steps.Other step)) story opened legal.1
+opened_stays s (story_steps.PhaseBegun phase moment ∷ story) opened legal =
+    opened_stays (after s (story_steps.PhaseBegun phase moment)) story opened legal.1
+opened_stays s (story_steps.Commit row tick ∷ story) opened legal = opened_stays (after s (story_steps.Commit row tick)) story
+    opened legal.1
+opened_stays s (story_steps.Other (steps.Fault tag left before faults tick) ∷ story) opened legal =
+    opened_stays (after s (story_steps.Other (steps.Fault tag left before faults tick))) story opened legal.1
+opened_stays s (story_steps.Other step ∷ story) opened legal = opened_stays (after s (story_steps.Other step)) story opened
+    legal.1
 
 -- a story without a fault leaves no row behind
-none_hangs : (s : State) (story : List StoryStep) → hanging s.ends ≡ None → rises_of story ≡ [] → hanging (state_from s story).ends ≡ None
+none_hangs : (s : State) (story : List StoryStep) → hanging s.ends ≡ None → rises_of story ≡ []
+    → hanging (state_from s story).ends ≡ None
 none_hangs s [] none sound = none
-none_hangs s (story_steps.Opened rows counts tells ∷ story) none sound = none_hangs (after s (story_steps.Opened rows counts tells)) story none sound
-none_hangs s (story_steps.PhaseBegun phase moment ∷ story) none sound = none_hangs (after s (story_steps.PhaseBegun phase moment)) story none sound
-none_hangs s (story_steps.Commit row tick ∷ story) none sound = none_hangs (after s (story_steps.Commit row tick)) story refl sound
+none_hangs s (story_steps.Opened rows counts tells ∷ story) none sound =
+    none_hangs (after s (story_steps.Opened rows counts tells)) story none sound
+none_hangs s (story_steps.PhaseBegun phase moment ∷ story) none sound =
+    none_hangs (after s (story_steps.PhaseBegun phase moment)) story none sound
+none_hangs s (story_steps.Commit row tick ∷ story) none sound = none_hangs (after s (story_steps.Commit row tick)) story refl
+    sound
 none_hangs s (story_steps.Other (steps.Fault tag left before faults tick) ∷ story) none sound = absurd (cc)
 none_hangs s (story_steps.Other step ∷ story) none sound = none_hangs (after s (story_steps.Other step)) story none sound
 
@@ -72,14 +85,17 @@ pub record IsBegun (story : List StoryStep) (rows : List Plain) (counts : Counts
   pub opened : (state_of story).opened ≡ Some (opening_of rows counts tells)
   apart : AreApart counts.faults (rises_of story) (faults_of (state_of story).opened (state_of story).ends)
 
-pub is_begun : (story : List StoryStep) (rows : List Plain) (counts : Counts) (tells : Bool) → first_step story ≡ Some (story_steps.Opened rows counts tells) → Legal story → IsBegun story rows counts tells
+pub is_begun : (story : List StoryStep) (rows : List Plain) (counts : Counts) (tells : Bool)
+    → first_step story ≡ Some (story_steps.Opened rows counts tells) → Legal story → IsBegun story rows counts tells
 is_begun [] rows counts tells first legal = absurd (cc)
-is_begun (x ∷ story) rows counts tells first legal = subst (λ y. IsBegun (y ∷ story) rows counts tells) (sym same) (begun (subst (λ y. Legal (y ∷ story)) same legal))
+is_begun (x ∷ story) rows counts tells first legal = subst (λ y. IsBegun (y ∷ story) rows counts tells) (sym same)
+    (begun (subst (λ y. Legal (y ∷ story)) same legal))
   where
     same : x ≡ story_steps.Opened rows counts tells
     same = cc
 
-    begun : Legal (story_steps.Opened rows counts tells ∷ story) → IsBegun (story_steps.Opened rows counts tells ∷ story) rows counts tells
+    begun : Legal (story_steps.Opened rows counts tells ∷ story) → IsBegun (story_steps.Opened rows counts tells ∷ story) rows
+        counts tells
     begun legal = record {
       opened = opened_stays (after start (story_steps.Opened rows counts tells)) story refl legal.1;
       apart = apart_from (after start (story_steps.Opened rows counts tells)) story refl legal.1;
@@ -88,18 +104,21 @@ is_begun (x ∷ story) rows counts tells first legal = subst (λ y. IsBegun (y �
 none_without : (story : List StoryStep) → rises_of story ≡ [] → hanging (state_of story).ends ≡ None
 none_without story sound = none_hangs start story refl sound
 
-same_counts : (one : Opening) (rows : List Plain) (counts : Counts) (tells : Bool) (found : Option Opening) → found ≡ Some one → found ≡ Some (opening_of rows counts tells) → (one.counts ≡ counts) × (one.tells ≡ tells)
+same_counts : (one : Opening) (rows : List Plain) (counts : Counts) (tells : Bool) (found : Option Opening) → found ≡ Some one
+    → found ≡ Some (opening_of rows counts tells) → (one.counts ≡ counts) × (one.tells ≡ tells)
 same_counts one rows counts tells found is begun =
     let same : one ≡ opening_of rows counts tells = some_same one (opening_of rows counts tells) (sym is ∙ begun) in
     (ap (λ o. o.counts) same, ap (λ o. o.tells) same)
 
--- what is told of a disk
-modeled_map : (modeled : Option Device) (P Q : Device → Type 0) → IfModeled modeled P → ((d : Device) → P d → Q d) → IfModeled modeled Q
+-- what is known of a disk
+modeled_map : (modeled : Option Device) (P Q : Device → Type 0) → IfModeled modeled P → ((d : Device) → P d → Q d)
+    → IfModeled modeled Q
 modeled_map None P Q h f = tt
 modeled_map (Some d) P Q h f = f d h
 
 -- A stop finds a prefix of what was committed, where the base of the disk was opened
-pub keeps_prefix : (before now : DiskState) (story : List StoryStep) → BeginsOn before story → Legal story → IsAccounted (state_of story) now → IsMended (state_of story) now → AllOpenAgain story → IsStopped before now story
+pub keeps_prefix : (before now : DiskState) (story : List StoryStep) → BeginsOn before story → Legal story
+    → IsAccounted (state_of story) now → IsMended (state_of story) now → AllOpenAgain story → IsStopped before now story
 keeps_prefix before now story begins legal accounted mended again = record {
   tells = sym accounted.tells ∙ counts.1 ∙ begins.on.tells;
   on_base = λ opened. record {
@@ -107,16 +126,20 @@ keeps_prefix before now story begins legal accounted mended again = record {
     opened = accounted.opened;
     ticks = accounted.ticks;
     stops =
-        modeled_map now.modeled _ (λ d. (k : ℕ) (image : List ℕ) → before.ticks < k → MayLeave 0 d k image → MayBeFound accounted.opening (state_of story).ends k (frames image)) accounted.stops
+        modeled_map now.modeled _ (λ d. (k : ℕ) (image : List ℕ) → before.ticks < k → MayLeave 0 d k image
+        → MayBeFound accounted.opening (state_of story).ends k (frames image)) accounted.stops
         (λ d h k image later. h k image (omega (arith, later, ap (λ c. c.ticks) counts.0, begins.on.ticks)));
     again =
-        modeled_map now.modeled _ (λ d. (k : ℕ) (image : List ℕ) → before.ticks < k → MayLeave 0 d k image → OpensAgain accounted.opening.base (frames image)) accounted.stops
-        (λ d h k image later may. again accounted.opening k (frames image) accounted.opened (h k image (omega (arith, later, ap (λ c. c.ticks) counts.0, begins.on.ticks)) may));
+        modeled_map now.modeled _ (λ d. (k : ℕ) (image : List ℕ) → before.ticks < k → MayLeave 0 d k image
+        → OpensAgain accounted.opening.base (frames image)) accounted.stops
+        (λ d h k image later may. again accounted.opening k (frames image) accounted.opened
+        (h k image (omega (arith, later, ap (λ c. c.ticks) counts.0, begins.on.ticks)) may));
     sound = λ sound. accounted.settled (none_without story sound);
     mended = mended;
     apart =
         apart_wider before.faults (rises_of story) (faults_of (state_of story).opened (state_of story).ends) now.faults
-        (subst (λ n. AreApart n (rises_of story) (faults_of (state_of story).opened (state_of story).ends)) begins.on.faults begun.apart) accounted.faults;
+        (subst (λ n. AreApart n (rises_of story) (faults_of (state_of story).opened (state_of story).ends)) begins.on.faults
+        begun.apart) accounted.faults;
   };
   on_none = λ closed. absurd (not_closed story begins.first closed);
   files = λ closed. absurd (not_closed story begins.first closed);
@@ -126,26 +149,33 @@ keeps_prefix before now story begins legal accounted mended again = record {
     begun = is_begun story (oldest_first begins.base) begins.handed.counts begins.handed.tells begins.first legal
 
     counts : (accounted.opening.counts ≡ begins.handed.counts) × (accounted.opening.tells ≡ begins.handed.tells)
-    counts = same_counts accounted.opening (oldest_first begins.base) begins.handed.counts begins.handed.tells (state_of story).opened accounted.opened begun.opened
+    counts = same_counts accounted.opening (oldest_first begins.base) begins.handed.counts begins.handed.tells
+        (state_of story).opened accounted.opened begun.opened
 
-    not_closed : (xs : List StoryStep) → first_step xs ≡ Some (story_steps.Opened (oldest_first begins.base) begins.handed.counts begins.handed.tells) → is_opened xs ≡ false → ⊥
+    not_closed : (xs : List StoryStep) → first_step xs ≡ Some (story_steps.Opened (oldest_first begins.base) begins.handed.counts
+        begins.handed.tells) → is_opened xs ≡ false → ⊥
     not_closed [] first closed = cc
     not_closed (x ∷ xs) first closed = cc
 
 -- a disk on which no call was made
-frames_stay : (modeled : Option Device) (ticks : ℕ) → IfModeled modeled (λ d. ticks ≡ length d.calls) → IfModeled modeled (λ d. file_of 0 d ≡ stable (bytes_of 0 d)) → IfModeled modeled (λ d. IfModeled modeled (λ e. (k : ℕ) (image : List ℕ) → ticks < k → MayLeave 0 e k image → frames image ≡ frames (bytes_of 0 d)))
+frames_stay : (modeled : Option Device) (ticks : ℕ) → IfModeled modeled (λ d. ticks ≡ length d.calls)
+    → IfModeled modeled (λ d. file_of 0 d ≡ stable (bytes_now 0 d)) → IfModeled modeled
+    (λ d. IfModeled modeled (λ e. (k : ℕ) (image : List ℕ) → ticks < k → MayLeave 0 e k image
+    → frames image ≡ frames (bytes_now 0 d)))
 frames_stay None ticks counted handed = tt
 frames_stay (Some d) ticks counted handed = λ k image later may. by k image later may
   where
-    by : (k : ℕ) (image : List ℕ) → ticks < k → MayLeave 0 d k image → frames image ≡ frames (bytes_of 0 d)
-    by k image later (inl earlier) = let within = left_within_calls d k image earlier in absurd (omega (arith, within, later, counted))
-    by k image later (inr now) = ap frames (stable_image (bytes_of 0 d) image (subst (λ s. IsImage s image) handed now.1))
+    by : (k : ℕ) (image : List ℕ) → ticks < k → MayLeave 0 d k image → frames image ≡ frames (bytes_now 0 d)
+    by k image later (inl earlier) = let within = left_within_calls d k image earlier in
+        absurd (omega (arith, within, later, counted))
+    by k image later (inr now) = ap frames (stable_image (bytes_now 0 d) image (subst (λ s. IsImage s image) handed now.1))
 
-first_stable : (modeled : Option Device) → IfModeled modeled (λ d. (file_of 0 d ≡ stable (bytes_of 0 d)) × (file_of 1 d ≡ stable (bytes_of 1 d))) → IfModeled modeled (λ d. file_of 0 d ≡ stable (bytes_of 0 d))
+first_stable : (modeled : Option Device) → IfModeled modeled (λ d. (file_of 0 d ≡ stable (bytes_now 0 d))
+    × (file_of 1 d ≡ stable (bytes_now 1 d))) → IfModeled modeled (λ d. file_of 0 d ≡ stable (bytes_now 0 d))
 first_stable None h = tt
 first_stable (Some d) h = h.0
 
-pub journal_stable : (disk : DiskState) → IsHandedIn disk → IfModeled disk.modeled (λ d. file_of 0 d ≡ stable (bytes_of 0 d))
+pub journal_stable : (disk : DiskState) → IsHandedIn disk → IfModeled disk.modeled (λ d. file_of 0 d ≡ stable (bytes_now 0 d))
 journal_stable disk h = first_stable disk.modeled h
 
 pub stays_untouched : (disk : DiskState) → IsCounted disk → IsHandedIn disk → IsStopped disk disk []
@@ -156,7 +186,8 @@ stays_untouched disk counted handed = record {
   files = λ closed. modeled_stay disk.modeled;
 }
 
-pub stays_closed : (before now : DiskState) (story : List StoryStep) → story ≡ [] → is_some now.modeled ≡ is_some before.modeled → KeepsFrames before now → Both SameFiles before.modeled now.modeled → IsStopped before now story
+pub stays_closed : (before now : DiskState) (story : List StoryStep) → story ≡ [] → is_some now.modeled ≡ is_some before.modeled
+    → StopKeepsFrames before now → Both SameFiles before.modeled now.modeled → IsStopped before now story
 stays_closed before now story empty tells frames files = record {
   tells = tells;
   on_base = λ opened. absurd (not_opened story empty opened);
@@ -172,6 +203,8 @@ stays_closed before now story empty tells frames files = record {
 no_rise : (low high : ℕ) → low ≡ high → high < 2 ^ 64 - 1 → rises low high ≡ true → ⊥
 no_rise low high same below rose = grind (arith, nat_tests)
 
-pub mended_by : {A E : Type 0} (result : Result A E) (s : State) (ghost_state : DiskState) → OnOk result (IsSettled s ghost_state) → OnErr result (rises (faults_of s.opened s.ends) ghost_state.faults ≡ true) → IsMended s ghost_state
+pub mended_by : {A E : Type 0} (result : Result A E) (s : State) (ghost_state : DiskState) → OnOk result (IsSettled s ghost_state)
+    → OnErr result (rises (faults_of s.opened s.ends) ghost_state.faults ≡ true) → IsMended s ghost_state
 mended_by (Ok a) s ghost_state settled rose = λ same below. settled
-mended_by (Err fault) s ghost_state settled rose = λ same below. absurd (no_rise (faults_of s.opened s.ends) ghost_state.faults same below rose)
+mended_by (Err fault) s ghost_state settled rose = λ same below. absurd
+    (no_rise (faults_of s.opened s.ends) ghost_state.faults same below rose)

@@ -66,7 +66,8 @@ as_opened = record { opening = refl; ends = (λ within. (refl, refl, refl), tt);
 
 -- The dodge: a failed append is tried once more, its row committed by tick 9, and the fault told of the next command, at
 -- whatever tick and with whatever counts.
-dodge : (before faults tick : ℕ) → IsBlamed 0 (opened ∷ story_steps.Commit (row 1) 9 ∷ fault 2 before faults tick ∷ []) (device (Measured 0 ∷ Wrote 0 0 1 (0 ∷ []) ∷ Failed ∷ put ++ put ++ put)) → ⊥
+dodge : (before faults tick : ℕ) → IsBlamed 0 (opened ∷ story_steps.Commit (row 1) 9 ∷ fault 2 before faults tick ∷ [])
+    (device (Measured 0 ∷ Wrote 0 0 1 (0 ∷ []) ∷ Failed ∷ put ++ put ++ put)) → ⊥
 unfolding device put opened fault
 dodge before faults tick h = absurd (omega (arith, h.ends.0))
 
@@ -75,9 +76,11 @@ unblamed : IsBlamed 0 (opened ∷ story_steps.Commit (row 1) 5 ∷ []) (device (
 unfolding device put opened
 unblamed h = absurd (omega (arith, h.behind))
 
--- Or the fault before takes it in: the sync of tick 7 fails under command 2, the write of tick 8 under command 3, which is answered by
+-- Or the fault before takes it in: the sync of tick 7 fails under command 2, the write of tick 8 under command 3, which is
+-- answered by
 -- something else, and the fault is told with both.
-blamed_as_settling : (before faults : ℕ) → IsBlamed 0 (opened ∷ story_steps.Commit (row 1) 5 ∷ fault 2 before faults 8 ∷ []) (device (Measured 0 ∷ put ++ put ++ Wrote 0 0 1 (0 ∷ []) ∷ Failed ∷ Failed ∷ [])) → ⊥
+blamed_as_settling : (before faults : ℕ) → IsBlamed 0 (opened ∷ story_steps.Commit (row 1) 5 ∷ fault 2 before faults 8 ∷ [])
+    (device (Measured 0 ∷ put ++ put ++ Wrote 0 0 1 (0 ∷ []) ∷ Failed ∷ Failed ∷ [])) → ⊥
 unfolding device put opened fault
 blamed_as_settling before faults h =
     let meets = h.ends.1.0 (omega arith) in
@@ -85,7 +88,8 @@ blamed_as_settling before faults h =
 
 -- Or it hides behind the last fault, which left nothing: the write of tick 8 fails under command 3, which is answered by want of
 -- memory.
-hidden : IsBlamed 0 (opened ∷ story_steps.Commit (row 1) 5 ∷ fault 2 0 1 7 ∷ []) (device (Measured 0 ∷ put ++ put ++ Wrote 0 0 1 (0 ∷ []) ∷ Failed ∷ Failed ∷ [])) → ⊥
+hidden : IsBlamed 0 (opened ∷ story_steps.Commit (row 1) 5 ∷ fault 2 0 1 7 ∷ [])
+    (device (Measured 0 ∷ put ++ put ++ Wrote 0 0 1 (0 ∷ []) ∷ Failed ∷ Failed ∷ [])) → ⊥
 unfolding device put opened fault
 hidden h = absurd (omega (arith, h.behind))
 
@@ -94,7 +98,8 @@ hidden_and_settled : IsBlamed 0 (opened ∷ story_steps.Commit (row 1) 5 ∷ lea
 unfolding device broken put opened leaving
 hidden_and_settled h = absurd (omega (arith, h.behind.0))
 
-hidden_and_not_settled : IsBlamed 0 (opened ∷ story_steps.Commit (row 1) 5 ∷ leaving 2 0 1 9 ∷ []) (broken (Failed ∷ Failed ∷ [])) → ⊥
+hidden_and_not_settled : IsBlamed 0 (opened ∷ story_steps.Commit (row 1) 5 ∷ leaving 2 0 1 9 ∷ []) (broken (Failed ∷ Failed ∷ []))
+    → ⊥
 unfolding device broken put opened leaving
 hidden_and_not_settled h = absurd (omega (arith, h.behind.1))
 
@@ -112,8 +117,10 @@ made_up h = absurd (omega (arith, (h.ends.0 (omega arith)).1))
 reread : reads_first (Measured 0 ∷ Failed ∷ Fetched 0 0 4 ∷ []) ≡ false
 reread = refl
 
--- What calls cannot tell: one that was made without need under a query, and failed, may be told of the command behind the query, since
+-- What calls cannot tell: one that was made without need under a query, and failed, may be told of the command behind the query,
+-- since
 -- these are the calls of a run that is right. The calls of the core tell it.
-without_need : IsBlamed 0 (opened ∷ story_steps.Other (steps.Answer (tag 1) []) ∷ fault 2 0 1 2 ∷ []) (device (Measured 0 ∷ Failed ∷ []))
+without_need : IsBlamed 0 (opened ∷ story_steps.Other (steps.Answer (tag 1) []) ∷ fault 2 0 1 2 ∷ [])
+    (device (Measured 0 ∷ Failed ∷ []))
 unfolding device opened fault
 without_need = record { opening = refl; ends = (λ within. (refl, refl, refl), tt); behind = (omega arith, omega arith) }

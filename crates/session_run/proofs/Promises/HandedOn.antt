@@ -2,7 +2,7 @@
 use Rattle.std.proofs.Common.{◌≡◌, ℕ, ◌<◌, true, Option, Some, List, [], ◌∷◌, refl, ap, sym, subst, ◌∙◌}
 use Rattle.std.proofs.lemmas.List.{reverse-reverse}
 use Rattle.cc_names.specs.declared.steps.StoryStep.{StoryStep}
-use Rattle.disk_model.specs.Devices.{Device, MayLeave, bytes_of}
+use Rattle.disk_model.specs.Devices.{Device, MayLeave, bytes_now}
 use Rattle.disk_model.specs.DiskStates.{DiskState, IfModeled}
 use Rattle.legal_history.specs.Builds.Values.{IsSound}
 use Rattle.legal_history.specs.Stories.States.{Opening}
@@ -23,26 +23,32 @@ has_opened : (story : List StoryStep) (opening : Opening) → (state_of story).o
 has_opened [] opening is = absurd (cc)
 has_opened (x ∷ story) opening is = refl
 
-modeled_so : (modeled : Option Device) (device : Device) (P : Device → Type 0) → modeled ≡ Some device → IfModeled modeled P → P device
+modeled_so : (modeled : Option Device) (device : Device) (P : Device → Type 0) → modeled ≡ Some device → IfModeled modeled P
+    → P device
 modeled_so modeled device P is h = subst (λ t. IfModeled t P) is h
 
 -- the base that was opened is the one on which the history begins
-opened_on : (disk : DiskState) (story : List StoryStep) (opened : Opening) (status : Status) (held holds : Option (List ℕ)) (history : IsOneHistory status story disk held holds) (is : (state_of story).opened ≡ Some opened) →
+opened_on : (disk : DiskState) (story : List StoryStep) (opened : Opening) (status : Status) (held holds : Option (List ℕ))
+    (history : IsOneHistory status story disk held holds) (is : (state_of story).opened ≡ Some opened) →
     opened.base ≡ (history.base (has_opened story opened is)).base
 opened_on disk story opened status held holds history is =
     let begins : BeginsOn disk story = history.base (has_opened story opened is) in
     let begun = is_begun story (oldest_first begins.base) begins.handed.counts begins.handed.tells begins.first history.legal in
-    let same : opened ≡ opening_of (oldest_first begins.base) begins.handed.counts begins.handed.tells = some_same _ _ (sym is ∙ begun.opened) in
+    let same : opened ≡ opening_of (oldest_first begins.base) begins.handed.counts begins.handed.tells =
+    some_same _ _ (sym is ∙ begun.opened) in
     ap (λ o. o.base) same ∙ reverse-reverse begins.base
 
 pub handed_on : FoundBaseIsSound → SoundnessIsHandedOn
-handed_on law before after next left read k story later status held holds stopped is_open modeled since may next_modeled history sound = record {
-  base = λ opened begun.
-      let keeps : KeepsPrefix before after story = stopped.on_base is_open in
-      let again : OpensAgain keeps.opening.base (frames (bytes_of 0 read)) =
-      modeled_so after.modeled left (λ d. (k : ℕ) (image : List ℕ) → before.ticks < k → MayLeave 0 d k image → OpensAgain keeps.opening.base (frames image)) modeled keeps.again k (bytes_of 0 read) since may
-      in
-      let begins : BeginsOn next later = history.base (has_opened later opened begun) in
-      subst IsSound (sym (opened_on next later opened status held holds history begun))
-      (law keeps.opening.base begins.base next read begins.handed next_modeled again begins.on (sound.base keeps.opening keeps.opened));
-}
+handed_on law before after next left read k story later status held holds stopped is_open modeled since may next_modeled history
+    sound = record {
+      base = λ opened begun.
+          let keeps : KeepsPrefix before after story = stopped.on_base is_open in
+          let again : OpensAgain keeps.opening.base (frames (bytes_now 0 read)) =
+          modeled_so after.modeled left (λ d. (k : ℕ) (image : List ℕ) → before.ticks < k → MayLeave 0 d k image
+          → OpensAgain keeps.opening.base (frames image)) modeled keeps.again k (bytes_now 0 read) since may
+          in
+          let begins : BeginsOn next later = history.base (has_opened later opened begun) in
+          subst IsSound (sym (opened_on next later opened status held holds history begun))
+          (law keeps.opening.base begins.base next read begins.handed next_modeled again begins.on
+          (sound.base keeps.opening keeps.opened));
+    }

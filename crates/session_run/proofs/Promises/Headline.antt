@@ -1,5 +1,6 @@
 -- The promises of the headline, from what a run left, or a session that was not started.
-use Rattle.std.proofs.Common.{◌≡◌, ℕ, inl, inr, Bool, true, false, Option, Some, None, Result, Ok, Err, List, [], ◌++◌, length, refl, ap, sym, subst, ◌∙◌}
+use Rattle.std.proofs.Common.{◌≡◌, ℕ, inl, inr, Bool, true, false, Option, Some, None, Result, Ok, Err, List, [], ◌++◌, length}
+use Rattle.std.proofs.Common.{refl, ap, sym, subst, ◌∙◌}
 use Rattle.std.specs.Prelude.{IfSome, IfOk, IfErr}
 use Rattle.std.specs.Io.KnownBytes.{Appends}
 use Rattle.std.proofs.lemmas.List.{append-nil}
@@ -11,7 +12,7 @@ use Rattle.cc_names.specs.declared.steps.StoryStep.TheVariants as story_steps
 use Rattle.cc_names.specs.Counts.{Rose, raised_count, rises}
 use Rattle.cc_outside.specs.Feeds.{AppendsPrefix}
 use Rattle.cc_outside.specs.declared.sinks.WriteFault.{WriteFault}
-use Rattle.disk_model.specs.Devices.{bytes_of}
+use Rattle.disk_model.specs.Devices.{bytes_now}
 use Rattle.disk_model.specs.DiskStates.{DiskState, Both, IsCounted}
 use Rattle.vob_journal.specs.Reads.{SameFiles}
 use Rattle.vob_journal.proofs.Staying.{modeled_stay}
@@ -26,9 +27,9 @@ use Rattle.story_log.specs.declared.opening.OpenCause.TheVariants as opens
 use Rattle.legal_history.specs.Stories.Steps.{state_of}
 use Rattle.legal_history.specs.Stories.Lawful.{Legal}
 use Rattle.session_run.specs.Calls.Asked.{is_session, phases_spelled}
-use Rattle.session_run.specs.Calls.Causes.{Change, DiskUndamaged, Intake, IsAsked, IsUntouched, IsWhole, HasCause, disk_rose}
+use Rattle.session_run.specs.Calls.Causes.{Change, DiskUndamaged, Intake, IsAsked, IsUntouched, IsWholeRun, HasCause, disk_rose}
 use Rattle.session_run.specs.Calls.Statuses.{is_cut, status_line}
-use Rattle.session_run.specs.Faults.Accounted.{CountsFrom, IsAccountedFor, KeepsFiles, Settles}
+use Rattle.session_run.specs.Faults.Accounted.{CountsFrom, IsAccountedFor, KeepsFiles, SettlesJournal}
 use Rattle.session_run.specs.Faults.Stopped.{AllOpenAgain, IsHandedIn, IsMended, IsStopped}
 use Rattle.session_run.specs.Promises.Headline.{BeginsOn, IsSession, ReadsClock, IsOneHistory, ArePrinted, clock_moments}
 use Rattle.session_run.specs.Running.Outcomes.{RunsOpened, RunsSession}
@@ -46,8 +47,9 @@ use Rattle.session_run.proofs.Faults.Files.{closed_files, keeps_files}
 use Rattle.session_run.proofs.Faults.Stopping.{keeps_prefix, stays_closed, stays_untouched}
 use Rattle.session_run.proofs.Running.Runs.{clock_length, raised_none}
 
--- what is told of bytes
-modeled_so : (text : Option (List ℕ)) (P Q : List ℕ → Type 0) → IfSome text P → ((bytes : List ℕ) → P bytes → Q bytes) → IfSome text Q
+-- what is known of bytes
+modeled_so : (text : Option (List ℕ)) (P Q : List ℕ → Type 0) → IfSome text P → ((bytes : List ℕ) → P bytes → Q bytes)
+    → IfSome text Q
 modeled_so None P Q h f = tt
 modeled_so (Some bytes) P Q h f = f bytes h
 
@@ -63,41 +65,61 @@ abbrev readings_of : Outside → Change ℕ
 readings_of outside = record { before = outside.first; after = outside.reading }
 
 -- The session, where the phases were run
-session_run : (status : Status) (story : List StoryStep) (phases : List Phase) (intake : Intake) (outside : Outside) (failed : Bool) → GivesPhases intake phases → HasRunPhases phases story outside failed → IsSession status story intake outside.moments (readings_of outside)
+session_run : (status : Status) (story : List StoryStep) (phases : List Phase) (intake : Intake) (outside : Outside)
+    (failed : Bool) → GivesPhases intake phases → HasRunPhases phases story outside failed
+    → IsSession status story intake outside.moments (readings_of outside)
 session_run status story phases intake outside failed gives ran = record {
-  begun = λ words. modeled_so intake.text.before _ (λ bytes. IsPrefixOf (phases_begun story) (phases_spelled bytes)) gives.spelled (λ bytes e. ([], e ∙ sym ran.phases_are ∙ sym (append-nil (phases_begun story))));
-  all = λ words through. modeled_so intake.text.before _ (λ bytes. phases_begun story ≡ phases_spelled bytes) gives.spelled (λ bytes e. ran.phases_are ∙ sym e);
-  none = λ words. modeled_so intake.text.before _ (λ bytes. is_session bytes ≡ false → story ≡ []) gives.session (λ bytes e f. not_false (is_session bytes) e f);
+  begun = λ words. modeled_so intake.text.before _ (λ bytes. IsPrefixOf (phases_begun story) (phases_spelled bytes)) gives.spelled
+      (λ bytes e. ([], e ∙ sym ran.phases_are ∙ sym (append-nil (phases_begun story))));
+  all = λ words through. modeled_so intake.text.before _ (λ bytes. phases_begun story ≡ phases_spelled bytes) gives.spelled
+      (λ bytes e. ran.phases_are ∙ sym e);
+  none = λ words. modeled_so intake.text.before _ (λ bytes. is_session bytes ≡ false
+      → story ≡ []) gives.session (λ bytes e f. not_false (is_session bytes) e f);
   moments =
-      modeled_so outside.moments _ (λ modeled. moments_begun story ≡ clock_moments modeled outside.first (length (moments_begun story))) ran.moments_are
-      (λ modeled e. e ∙ ap (clock_moments modeled outside.first) (sym (clock_length modeled outside.first (length phases)) ∙ sym (ap length e)));
-  read = let times = ran.reading_is ∙ ap (raised_count outside.first) (sym (ap length ran.phases_are)) in record { once = λ other. times; most = inl times };
+      modeled_so outside.moments _ (λ modeled. moments_begun story ≡ clock_moments modeled outside.first
+      (length (moments_begun story))) ran.moments_are
+      (λ modeled e. e ∙ ap (clock_moments modeled outside.first) (sym (clock_length modeled outside.first (length phases))
+      ∙ sym (ap length e)));
+  read = let times = ran.reading_is ∙ ap (raised_count outside.first) (sym (ap length ran.phases_are)) in
+      record { once = λ other. times; most = inl times };
 }
 
-session_cut : (status : Status) (cut : Or WriteFault) (story : List StoryStep) (phases : List Phase) (intake : Intake) (outside : Outside) → is_through status story ≡ false → GivesPhases intake phases → IsRunGivenUp cut phases story outside → ReadsClock status story (readings_of outside) → IsSession status story intake outside.moments (readings_of outside)
+session_cut : (status : Status) (cut : Or WriteFault) (story : List StoryStep) (phases : List Phase) (intake : Intake)
+    (outside : Outside) → is_through status story ≡ false → GivesPhases intake phases → IsRunGivenUp cut phases story outside
+    → ReadsClock status story (readings_of outside) → IsSession status story intake outside.moments (readings_of outside)
 session_cut status cut story phases intake outside not gives left read = record {
-  begun = λ words. modeled_so intake.text.before _ (λ bytes. IsPrefixOf (phases_begun story) (phases_spelled bytes)) gives.spelled (λ bytes e. (left.begun.0, e ∙ left.begun.1));
+  begun = λ words. modeled_so intake.text.before _ (λ bytes. IsPrefixOf (phases_begun story) (phases_spelled bytes)) gives.spelled
+      (λ bytes e. (left.begun.0, e ∙ left.begun.1));
   all = λ words through. not_false (is_through status story) through not;
-  none = λ words. modeled_so intake.text.before _ (λ bytes. is_session bytes ≡ false → story ≡ []) gives.session (λ bytes e f. not_false (is_session bytes) e f);
+  none = λ words. modeled_so intake.text.before _ (λ bytes. is_session bytes ≡ false
+      → story ≡ []) gives.session (λ bytes e f. not_false (is_session bytes) e f);
   moments = left.moments_are;
   read = read;
 }
 
-session_none : (status : Status) (intake : Intake) (outside : Outside) → is_through status [] ≡ false → outside.reading ≡ outside.first → IsSession status [] intake outside.moments (readings_of outside)
+session_none : (status : Status) (intake : Intake) (outside : Outside) → is_through status [] ≡ false
+    → outside.reading ≡ outside.first → IsSession status [] intake outside.moments (readings_of outside)
 session_none status intake outside not unread = record {
-  begun = λ words. always intake.text.before (λ bytes. IsPrefixOf [] (phases_spelled bytes)) (λ bytes. (phases_spelled bytes, refl));
+  begun = λ words. always intake.text.before (λ bytes. IsPrefixOf [] (phases_spelled bytes))
+      (λ bytes. (phases_spelled bytes, refl));
   all = λ words through. not_false (is_through status []) through not;
-  none = λ words. always intake.text.before (λ bytes. let none : List StoryStep = [] in is_session bytes ≡ false → none ≡ []) (λ bytes e. refl);
-  moments = always outside.moments (λ modeled. let none : List ℕ = [] in none ≡ clock_moments modeled outside.first 0) (λ modeled. refl);
+  none = λ words. always intake.text.before (λ bytes. let none : List StoryStep = [] in is_session bytes ≡ false
+      → none ≡ []) (λ bytes e. refl);
+  moments = always outside.moments (λ modeled. let none : List ℕ = [] in
+      none ≡ clock_moments modeled outside.first 0) (λ modeled. refl);
   read = let times = unread ∙ sym (raised_none outside.first) in record { once = λ other. times; most = inl times };
 }
 
-run_session : (result : Result Bool (Or WriteFault)) (rose : Bool) (story : List StoryStep) (phases : List Phase) (intake : Intake) (outside : Outside) → GivesPhases intake phases → HasRunSo result phases story outside → IsSession (run_status result rose) story intake outside.moments (readings_of outside)
+run_session : (result : Result Bool (Or WriteFault)) (rose : Bool) (story : List StoryStep) (phases : List Phase)
+    (intake : Intake) (outside : Outside) → GivesPhases intake phases → HasRunSo result phases story outside
+    → IsSession (run_status result rose) story intake outside.moments (readings_of outside)
 run_session (Ok failed) rose story phases intake outside gives ran = session_run _ story phases intake outside failed gives ran
 run_session (Err NoMemory) rose story phases intake outside gives left =
-    session_cut _ NoMemory story phases intake outside refl gives left (record { once = λ other. absurd (other refl); most = left.reading_is })
+    session_cut _ NoMemory story phases intake outside refl gives left
+    (record { once = λ other. absurd (other refl); most = left.reading_is })
 run_session (Err (Is fault)) rose story phases intake outside gives left =
-    session_cut _ (Is fault) story phases intake outside refl gives left (record { once = λ other. left.reading_is; most = inl left.reading_is })
+    session_cut _ (Is fault) story phases intake outside refl gives left
+    (record { once = λ other. left.reading_is; most = inl left.reading_is })
 
 -- One legal history
 not_cut : (failed rose : Bool) → run_status (Ok failed) rose ≡ statuses.WriteFault → ⊥
@@ -106,12 +128,23 @@ not_cut false true e = cc
 not_cut true false e = cc
 not_cut false false e = cc
 
-run_history : (result : Result Bool (Or WriteFault)) (rose : Bool) (story : List StoryStep) (phases : List Phase) (disk : DiskState) (outside : Outside) → Legal story → BeginsOn disk story → HasRunSo result phases story outside → IsOneHistory (run_status result rose) story disk outside.held outside.holds
-run_history (Ok failed) rose story phases disk outside legal begins ran = record { legal = legal; base = λ opened. begins; complete = λ through. ran.finished; cut = λ opened e. absurd (not_cut failed rose e) }
-run_history (Err NoMemory) rose story phases disk outside legal begins left = record { legal = legal; base = λ opened. begins; complete = λ through. absurd (cc); cut = λ opened e. absurd (cc) }
-run_history (Err (Is fault)) rose story phases disk outside legal begins left = record { legal = legal; base = λ opened. begins; complete = λ through. absurd (cc); cut = λ opened e. left.cut_at }
+run_history : (result : Result Bool (Or WriteFault)) (rose : Bool) (story : List StoryStep) (phases : List Phase)
+    (disk : DiskState) (outside : Outside) → Legal story → BeginsOn disk story → HasRunSo result phases story outside
+    → IsOneHistory (run_status result rose) story disk outside.held outside.holds
+run_history (Ok failed) rose story phases disk outside legal begins ran =
+    record {
+      legal = legal;
+      base = λ opened. begins;
+      complete = λ through. ran.finished;
+      cut = λ opened e. absurd (not_cut failed rose e);
+    }
+run_history (Err NoMemory) rose story phases disk outside legal begins left =
+    record { legal = legal; base = λ opened. begins; complete = λ through. absurd (cc); cut = λ opened e. absurd (cc) }
+run_history (Err (Is fault)) rose story phases disk outside legal begins left =
+    record { legal = legal; base = λ opened. begins; complete = λ through. absurd (cc); cut = λ opened e. left.cut_at }
 
-history_none : (status : Status) (disk : DiskState) (old new : Option (List ℕ)) → is_through status [] ≡ false → IsOneHistory status [] disk old new
+history_none : (status : Status) (disk : DiskState) (old new : Option (List ℕ)) → is_through status [] ≡ false
+    → IsOneHistory status [] disk old new
 history_none status disk old new not = record {
   legal = tt;
   base = λ opened. absurd (cc);
@@ -120,7 +153,9 @@ history_none status disk old new not = record {
 }
 
 -- Printed replies
-printed_whole : (status : Status) (story : List StoryStep) (intake : Intake) (faults : Change ℕ) (disk : Change DiskState) (old new : Option (List ℕ)) → is_opened story ≡ true → is_cut status ≡ false → Appends old new (text_of_story story) → ArePrinted status story intake faults disk old new
+printed_whole : (status : Status) (story : List StoryStep) (intake : Intake) (faults : Change ℕ) (disk : Change DiskState)
+    (old new : Option (List ℕ)) → is_opened story ≡ true → is_cut status ≡ false → Appends old new (text_of_story story)
+    → ArePrinted status story intake faults disk old new
 printed_whole status story intake faults disk old new opened whole written = record {
   whole = λ o c. written;
   prefix = λ o c. not_false (is_cut status) c whole;
@@ -129,7 +164,9 @@ printed_whole status story intake faults disk old new opened whole written = rec
   nothing = λ o c. not_false (is_opened story) opened o;
 }
 
-printed_prefix : (status : Status) (story : List StoryStep) (intake : Intake) (faults : Change ℕ) (disk : Change DiskState) (old new : Option (List ℕ)) → is_opened story ≡ true → is_cut status ≡ true → AppendsPrefix old new (text_of_story story) → ArePrinted status story intake faults disk old new
+printed_prefix : (status : Status) (story : List StoryStep) (intake : Intake) (faults : Change ℕ) (disk : Change DiskState)
+    (old new : Option (List ℕ)) → is_opened story ≡ true → is_cut status ≡ true → AppendsPrefix old new (text_of_story story)
+    → ArePrinted status story intake faults disk old new
 printed_prefix status story intake faults disk old new opened cut written = record {
   whole = λ o c. not_false (is_cut status) cut c;
   prefix = λ o c. written;
@@ -144,43 +181,70 @@ not_cut_short false true = refl
 not_cut_short true false = refl
 not_cut_short false false = refl
 
-run_printed : (result : Result Bool (Or WriteFault)) (rose : Bool) (story : List StoryStep) (phases : List Phase) (intake : Intake) (outside : Outside) (faults : Change ℕ) (disk : Change DiskState) → HasRunSo result phases story outside → ArePrinted (run_status result rose) story intake faults disk outside.held outside.holds
-run_printed (Ok failed) rose story phases intake outside faults disk ran = printed_whole _ story intake faults disk outside.held outside.holds ran.opened (not_cut_short failed rose) ran.written
-run_printed (Err NoMemory) rose story phases intake outside faults disk left = printed_prefix _ story intake faults disk outside.held outside.holds left.opened refl left.written
-run_printed (Err (Is fault)) rose story phases intake outside faults disk left = printed_prefix _ story intake faults disk outside.held outside.holds left.opened refl left.written
+run_printed : (result : Result Bool (Or WriteFault)) (rose : Bool) (story : List StoryStep) (phases : List Phase)
+    (intake : Intake) (outside : Outside) (faults : Change ℕ) (disk : Change DiskState) → HasRunSo result phases story outside
+    → ArePrinted (run_status result rose) story intake faults disk outside.held outside.holds
+run_printed (Ok failed) rose story phases intake outside faults disk ran =
+    printed_whole _ story intake faults disk outside.held outside.holds ran.opened (not_cut_short failed rose) ran.written
+run_printed (Err NoMemory) rose story phases intake outside faults disk left =
+    printed_prefix _ story intake faults disk outside.held outside.holds left.opened refl left.written
+run_printed (Err (Is fault)) rose story phases intake outside faults disk left =
+    printed_prefix _ story intake faults disk outside.held outside.holds left.opened refl left.written
 
 -- The cause
-whole : (intake : Intake) (story : List StoryStep) (phases : List Phase) (outside : Outside) (failed : Bool) → GivesPhases intake phases → HasRunPhases phases story outside failed → IsWhole intake story
+whole : (intake : Intake) (story : List StoryStep) (phases : List Phase) (outside : Outside) (failed : Bool)
+    → GivesPhases intake phases → HasRunPhases phases story outside failed → IsWholeRun intake story
 whole intake story phases outside failed gives ran =
     record { read = gives.read; session = gives.session; opened = ran.opened; finished = ran.finished }
 
 pub asked : (intake : Intake) (phases : List Phase) → GivesPhases intake phases → IsAsked intake
 asked intake phases gives = record { read = gives.read; session = gives.session }
 
-run_cause : (result : Result Bool (Or WriteFault)) (rose : Bool) (story : List StoryStep) (phases : List Phase) (intake : Intake) (outside : Outside) (faults : Change ℕ) (disk : Change DiskState) → disk_rose disk ≡ rose → GivesPhases intake phases → HasRunSo result phases story outside → OnWriteFault result (Rose faults.before faults.after) → DiskUndamaged disk → HasCause (run_status result rose) intake faults disk story
-run_cause (Ok true) true story phases intake outside faults disk by gives ran wrote sound = (asked intake phases gives, by, λ opened. ran.finished)
-run_cause (Ok false) true story phases intake outside faults disk by gives ran wrote sound = (asked intake phases gives, by, λ opened. ran.finished)
-run_cause (Ok true) false story phases intake outside faults disk by gives ran wrote sound = (whole intake story phases outside true gives ran, ran.failures, by, sound)
-run_cause (Ok false) false story phases intake outside faults disk by gives ran wrote sound = (whole intake story phases outside false gives ran, ran.failures, by, sound)
-run_cause (Err NoMemory) rose story phases intake outside faults disk by gives left wrote sound = λ closed. not_false (is_opened story) left.opened closed
+run_cause : (result : Result Bool (Or WriteFault)) (rose : Bool) (story : List StoryStep) (phases : List Phase) (intake : Intake)
+    (outside : Outside) (faults : Change ℕ) (disk : Change DiskState) → disk_rose disk ≡ rose → GivesPhases intake phases
+    → HasRunSo result phases story outside → OnWriteFault result (Rose faults.before faults.after) → DiskUndamaged disk
+    → HasCause (run_status result rose) intake faults disk story
+run_cause (Ok true) true story phases intake outside faults disk by gives ran wrote sound =
+    (asked intake phases gives, by, λ opened. ran.finished)
+run_cause (Ok false) true story phases intake outside faults disk by gives ran wrote sound =
+    (asked intake phases gives, by, λ opened. ran.finished)
+run_cause (Ok true) false story phases intake outside faults disk by gives ran wrote sound =
+    (whole intake story phases outside true gives ran, ran.failures, by, sound)
+run_cause (Ok false) false story phases intake outside faults disk by gives ran wrote sound =
+    (whole intake story phases outside false gives ran, ran.failures, by, sound)
+run_cause (Err NoMemory) rose story phases intake outside faults disk by gives left wrote sound =
+    λ closed. not_false (is_opened story) left.opened closed
 run_cause (Err (Is fault)) rose story phases intake outside faults disk by gives left wrote sound = wrote
 
 -- the steps since a base was opened, and the settling of its journal, have the disk's counts
-counts_from : (one ran : Shown) (settled : List StoryStep) (ghost_state : DiskState) → IsJustOpened one.story → KeepsCount one ran → settled ≡ ran.story → Settles (may_be_open (state_of ran.story).ends) ran.ghost_state ghost_state → CountsFrom one.ghost_state ghost_state settled
+counts_from : (one ran : Shown) (settled : List StoryStep) (ghost_state : DiskState) → IsJustOpened one.story → KeepsCount one ran
+    → settled ≡ ran.story → SettlesJournal (may_be_open (state_of ran.story).ends) ran.ghost_state ghost_state
+    → CountsFrom one.ghost_state ghost_state settled
 counts_from one ran settled ghost_state just keeps same settles = record {
   first = story_steps.Opened just.rows just.counts just.tells;
   steps = keeps.steps;
   ended = ran.ghost_state;
   story_is = same ∙ keeps.grows ∙ ap (λ story. story ++ keeps.steps) just.is;
   counts = keeps.counts;
-  settled = subst (λ story. Settles (may_be_open (state_of story).ends) ran.ghost_state ghost_state) (sym same) settles;
+  settled = subst (λ story. SettlesJournal (may_be_open (state_of story).ends) ran.ghost_state ghost_state) (sym same) settles;
 }
 
 -- a base was opened, and this is what became of it: the story as it was when the journal was settled is the one that was run
-pub runs_opened : (result : Result Bool (Or WriteFault)) (phases : List Phase) (status : Status) (first : Option StoryStep) (one ran : Shown) (settled history : List StoryStep) (before : ℕ) (ghost_state now : DiskState) (outside : Outside) (faults : Change ℕ) → let story = ran.story in IsJustOpened one.story → KeepsCount one ran → Settles (may_be_open (state_of ran.story).ends) ran.ghost_state ghost_state → settled ≡ story → history ≡ settled → now ≡ ghost_state → status ≡ run_status result (rises before ghost_state.faults) → first_step story ≡ first → Legal settled → IfOk result (HasRunPhases phases story outside) → IfErr result (λ cut. IsRunGivenUp cut phases story outside) → OnWriteFault result (Rose faults.before faults.after) → IsAccounted (state_of settled) ghost_state → IsMended (state_of settled) ghost_state → AllOpenAgain settled → RunsOpened phases status first history before (record { before = one.ghost_state; after = now }) outside faults
-runs_opened result phases status first one ran settled history before ghost_state now outside faults just keeps settles kept same seen is begins legal done left wrote accounted mended again =
-    subst (λ s. RunsOpened phases status first s before (record { before = one.ghost_state; after = now }) outside faults) (sym same)
-    (subst (λ d. RunsOpened phases status first settled before (record { before = one.ghost_state; after = d }) outside faults) (sym seen)
+pub runs_opened : (result : Result Bool (Or WriteFault)) (phases : List Phase) (status : Status) (first : Option StoryStep)
+    (one ran : Shown) (settled history : List StoryStep) (before : ℕ) (ghost_state now : DiskState) (outside : Outside)
+    (faults : Change ℕ) → let story = ran.story in IsJustOpened one.story → KeepsCount one ran
+    → SettlesJournal (may_be_open (state_of ran.story).ends) ran.ghost_state ghost_state → settled ≡ story → history ≡ settled
+    → now ≡ ghost_state → status ≡ run_status result (rises before ghost_state.faults) → first_step story ≡ first → Legal settled
+    → IfOk result (HasRunPhases phases story outside) → IfErr result (λ cut. IsRunGivenUp cut phases story outside)
+    → OnWriteFault result (Rose faults.before faults.after) → IsAccounted (state_of settled) ghost_state
+    → IsMended (state_of settled) ghost_state → AllOpenAgain settled → RunsOpened phases status first history before
+    (record { before = one.ghost_state; after = now }) outside faults
+runs_opened result phases status first one ran settled history before ghost_state now outside faults just keeps settles kept same
+    seen is begins legal done left wrote accounted mended again =
+    subst (λ s. RunsOpened phases status first s before (record { before = one.ghost_state; after = now }) outside faults)
+    (sym same)
+    (subst (λ d. RunsOpened phases status first settled before (record { before = one.ghost_state; after = d }) outside faults)
+    (sym seen)
     (record {
       result = result;
       status_is = is;
@@ -194,12 +258,14 @@ runs_opened result phases status first one ran settled history before ghost_stat
       counted = counts_from one ran settled ghost_state just keeps kept settles;
     }))
   where
-    ran_so : (r : Result Bool (Or WriteFault)) → IfOk r (HasRunPhases phases ran.story outside) → IfErr r (λ cut. IsRunGivenUp cut phases ran.story outside) → HasRunSo r phases ran.story outside
+    ran_so : (r : Result Bool (Or WriteFault)) → IfOk r (HasRunPhases phases ran.story outside)
+        → IfErr r (λ cut. IsRunGivenUp cut phases ran.story outside) → HasRunSo r phases ran.story outside
     ran_so (Ok failed) one two = one
     ran_so (Err cut) one two = two
 
 -- the promises of one call
-pub record Promised (status : Status) (story : List StoryStep) (intake : Intake) (outside : Outside) (faults : Change ℕ) (disk : Change DiskState) : Type 0 where
+pub record Promised (status : Status) (story : List StoryStep) (intake : Intake) (outside : Outside) (faults : Change ℕ)
+    (disk : Change DiskState) : Type 0 where
   pub session : IsSession status story intake outside.moments (readings_of outside)
   pub history : IsOneHistory status story disk.before outside.held outside.holds
   pub printed : ArePrinted status story intake faults disk outside.held outside.holds
@@ -211,7 +277,8 @@ pub record Promised (status : Status) (story : List StoryStep) (intake : Intake)
 pub untouched : (disk : DiskState) → IsUntouched (record { before = disk; after = disk }) []
 untouched disk = record { disk_is = refl; story_is = refl }
 
-unstarted_cause : (unstarted : Unstarted) (intake : Intake) (faults : Change ℕ) (disk : DiskState) → IsUnstarted unstarted intake → HasCause (unstarted_status unstarted) intake faults (record { before = disk; after = disk }) []
+unstarted_cause : (unstarted : Unstarted) (intake : Intake) (faults : Change ℕ) (disk : DiskState) → IsUnstarted unstarted intake
+    → HasCause (unstarted_status unstarted) intake faults (record { before = disk; after = disk }) []
 unstarted_cause why.BadWords intake faults disk h = (h.0, h.1, untouched disk)
 unstarted_cause why.ReadFault intake faults disk h = (h, untouched disk)
 unstarted_cause why.TooLong intake faults disk h = (h, untouched disk)
@@ -221,7 +288,8 @@ unstarted_cause (why.Unopened opens.DiskFault) intake faults disk h = absurd h
 unstarted_cause (why.Unopened opens.NoMemory) intake faults disk h = λ closed. refl
 
 -- a status that is none of theirs is that of a cut
-cut_cause : (status : Status) (intake : Intake) (faults : Change ℕ) (disk : Change DiskState) → is_cut status ≡ true → (status ≡ statuses.WriteFault → Rose faults.before faults.after)
+cut_cause : (status : Status) (intake : Intake) (faults : Change ℕ) (disk : Change DiskState) → is_cut status ≡ true
+    → (status ≡ statuses.WriteFault → Rose faults.before faults.after)
     → (status ≡ statuses.NoMemory → disk.after.faults ≡ disk.before.faults) → HasCause status intake faults disk []
 cut_cause statuses.WriteFault intake faults disk e rose stood = rose refl
 cut_cause statuses.NoMemory intake faults disk e rose stood = λ closed. stood refl
@@ -241,17 +309,25 @@ unstarted_not_through (why.Unopened (opens.Damaged row)) = refl
 unstarted_not_through (why.Unopened opens.DiskFault) = refl
 unstarted_not_through (why.Unopened opens.NoMemory) = refl
 
-not_through : (unstarted : Unstarted) (status : Status) (is : Bool) → is_cut status ≡ is → (is_cut status ≡ false → status ≡ unstarted_status unstarted) → is_through status [] ≡ false
+not_through : (unstarted : Unstarted) (status : Status) (is : Bool) → is_cut status ≡ is
+    → (is_cut status ≡ false → status ≡ unstarted_status unstarted) → is_through status [] ≡ false
 not_through unstarted status true e h = cut_not_through status e
 not_through unstarted status false e h = ap (λ s. is_through s []) (h e) ∙ unstarted_not_through unstarted
 
-has_cause : (unstarted : Unstarted) (status : Status) (intake : Intake) (faults : Change ℕ) (disk : Change DiskState) (is : Bool) → is_cut status ≡ is → HasCause (unstarted_status unstarted) intake faults disk [] → (is_cut status ≡ false → status ≡ unstarted_status unstarted) → (status ≡ statuses.WriteFault → Rose faults.before faults.after)
+has_cause : (unstarted : Unstarted) (status : Status) (intake : Intake) (faults : Change ℕ) (disk : Change DiskState) (is : Bool)
+    → is_cut status ≡ is → HasCause (unstarted_status unstarted) intake faults disk []
+    → (is_cut status ≡ false → status ≡ unstarted_status unstarted) → (status ≡ statuses.WriteFault
+    → Rose faults.before faults.after)
     → (status ≡ statuses.NoMemory → unstarted ≡ why.Unopened opens.NoMemory) → HasCause status intake faults disk []
 has_cause unstarted status intake faults disk true e h is rose memory =
-    cut_cause status intake faults disk e rose (λ so. subst (λ s. HasCause (unstarted_status s) intake faults disk []) (memory so) h refl)
-has_cause unstarted status intake faults disk false e h is rose memory = subst (λ s. HasCause s intake faults disk []) (sym (is e)) h
+    cut_cause status intake faults disk e rose (λ so. subst (λ s. HasCause (unstarted_status s) intake faults disk []) (memory so)
+    h refl)
+has_cause unstarted status intake faults disk false e h is rose memory =
+    subst (λ s. HasCause s intake faults disk []) (sym (is e)) h
 
-unstarted_printed : (unstarted : Unstarted) (status : Status) (intake : Intake) (old new : Option (List ℕ)) (faults : Change ℕ) (disk : Change DiskState) → HasCause (unstarted_status unstarted) intake faults disk [] → WritesUnstarted unstarted status old new faults → ArePrinted status [] intake faults disk old new
+unstarted_printed : (unstarted : Unstarted) (status : Status) (intake : Intake) (old new : Option (List ℕ)) (faults : Change ℕ)
+    (disk : Change DiskState) → HasCause (unstarted_status unstarted) intake faults disk []
+    → WritesUnstarted unstarted status old new faults → ArePrinted status [] intake faults disk old new
 unstarted_printed unstarted status intake old new faults disk cause wrote = record {
   whole = λ o c. absurd (cc);
   prefix = λ o c. absurd (cc);
@@ -265,7 +341,10 @@ unstarted_printed unstarted status intake old new faults disk cause wrote = reco
   nothing = λ o e. wrote.nothing e;
 }
 
-unstarted_so : (unstarted : Unstarted) (status : Status) (intake : Intake) (outside : Outside) (faults : Change ℕ) (disk : Change DiskState) → Both SameFiles disk.before.modeled disk.after.modeled → outside.reading ≡ outside.first → HasCause (unstarted_status unstarted) intake faults disk [] → WritesUnstarted unstarted status outside.held outside.holds faults → IsStopped disk.before disk.after [] → Promised status [] intake outside faults disk
+unstarted_so : (unstarted : Unstarted) (status : Status) (intake : Intake) (outside : Outside) (faults : Change ℕ)
+    (disk : Change DiskState) → Both SameFiles disk.before.modeled disk.after.modeled → outside.reading ≡ outside.first
+    → HasCause (unstarted_status unstarted) intake faults disk [] → WritesUnstarted unstarted status outside.held outside.holds
+    faults → IsStopped disk.before disk.after [] → Promised status [] intake outside faults disk
 unstarted_so unstarted status intake outside faults disk same unread cause wrote stopped =
     let not = not_through unstarted status (is_cut status) refl wrote.answer in
     record {
@@ -279,25 +358,36 @@ unstarted_so unstarted status intake outside faults disk same unread cause wrote
     }
 
 -- The promises where the source gave no session
-pub promised_unstarted : (unstarted : Unstarted) (status : Status) (intake : Intake) (outside : Outside) (faults : Change ℕ) (disk : DiskState) → outside.reading ≡ outside.first → IsCounted disk → IsHandedIn disk → IsUnstarted unstarted intake → WritesUnstarted unstarted status outside.held outside.holds faults → Promised status [] intake outside faults (record { before = disk; after = disk })
+pub promised_unstarted : (unstarted : Unstarted) (status : Status) (intake : Intake) (outside : Outside) (faults : Change ℕ)
+    (disk : DiskState) → outside.reading ≡ outside.first → IsCounted disk → IsHandedIn disk → IsUnstarted unstarted intake
+    → WritesUnstarted unstarted status outside.held outside.holds faults
+    → Promised status [] intake outside faults (record { before = disk; after = disk })
 promised_unstarted unstarted status intake outside faults disk unread counted handed h wrote =
-    unstarted_so unstarted status intake outside faults (record { before = disk; after = disk }) (modeled_stay disk.modeled) unread (unstarted_cause unstarted intake faults disk h) wrote (stays_untouched disk counted handed)
+    unstarted_so unstarted status intake outside faults (record { before = disk; after = disk }) (modeled_stay disk.modeled)
+    unread (unstarted_cause unstarted intake faults disk h) wrote (stays_untouched disk counted handed)
 
 -- why a base is not opened is the cause of the status
-open_cause : (because : OpenCause) (rose : Bool) (intake : Intake) (faults : Change ℕ) (disk : Change DiskState) → disk_rose disk ≡ rose → IsAsked intake → StopsBy disk.before.modeled (λ d. frames (bytes_of 0 d)) because disk.before.faults disk.after.faults → HasCause (unstarted_status (of_unopened because rose)) intake faults disk []
+open_cause : (because : OpenCause) (rose : Bool) (intake : Intake) (faults : Change ℕ) (disk : Change DiskState)
+    → disk_rose disk ≡ rose → IsAsked intake → StopsBy disk.before.modeled (λ d. frames (bytes_now 0 d)) because
+    disk.before.faults disk.after.faults → HasCause (unstarted_status (of_unopened because rose)) intake faults disk []
 open_cause opens.NoMemory rose intake faults disk by asked is = λ closed. is
 open_cause (opens.Damaged row) true intake faults disk by asked is = (asked, by, λ opened. absurd (cc))
 open_cause (opens.Damaged row) false intake faults disk by asked is = (asked, is.1, by, refl)
 open_cause opens.DiskFault rose intake faults disk by asked is = (asked, is, λ opened. absurd (cc))
 
-promised_closed : (because : OpenCause) (status : Status) (intake : Intake) (outside : Outside) (faults : Change ℕ) (disk : Change DiskState) → outside.reading ≡ outside.first → IsAsked intake → FailsToOpen disk.before because disk.after → WritesUnstarted (of_unopened because (disk_rose disk)) status outside.held outside.holds faults → Promised status [] intake outside faults disk
+promised_closed : (because : OpenCause) (status : Status) (intake : Intake) (outside : Outside) (faults : Change ℕ)
+    (disk : Change DiskState) → outside.reading ≡ outside.first → IsAsked intake → FailsToOpen disk.before because disk.after
+    → WritesUnstarted (of_unopened because (disk_rose disk)) status outside.held outside.holds faults
+    → Promised status [] intake outside faults disk
 promised_closed because status intake outside faults disk unread asked fails wrote =
     unstarted_so (of_unopened because (disk_rose disk)) status intake outside faults disk fails.files unread
     (open_cause because (disk_rose disk) intake faults disk refl asked fails.because) wrote
     (stays_closed disk.before disk.after [] refl fails.tells fails.unchanged fails.files)
 
 -- The promises where the source gave a session
-pub promised_run : (phases : List Phase) (status : Status) (story : List StoryStep) (intake : Intake) (outside : Outside) (faults : Change ℕ) (disk : Change DiskState) → IsCounted disk.before → IsCounted disk.after → GivesPhases intake phases → RunsSession phases status story outside faults disk → Promised status story intake outside faults disk
+pub promised_run : (phases : List Phase) (status : Status) (story : List StoryStep) (intake : Intake) (outside : Outside)
+    (faults : Change ℕ) (disk : Change DiskState) → IsCounted disk.before → IsCounted disk.after → GivesPhases intake phases
+    → RunsSession phases status story outside faults disk → Promised status story intake outside faults disk
 promised_run phases status story intake outside faults disk was now gives (inl run) =
     let ran = run.runs in
     let rose = disk_rose disk in
@@ -307,21 +397,25 @@ promised_run phases status story intake outside faults disk was now gives (inl r
       history = run_history ran.result rose story phases disk.before outside ran.legal run.begins ran.ran;
       printed = run_printed ran.result rose story phases intake outside faults disk ran.ran;
       stopped = keeps_prefix disk.before disk.after story run.begins ran.legal ran.accounted ran.mended ran.again;
-      cause = run_cause ran.result rose story phases intake outside faults disk refl gives ran.ran ran.fault (undamaged_on disk.before run.begins.base run.begins.handed run.begins.on);
+      cause = run_cause ran.result rose story phases intake outside faults disk refl gives ran.ran ran.fault
+          (undamaged_on disk.before run.begins.base run.begins.handed run.begins.on);
       accounted = λ opened. record {
         opened = run.opened;
         sound = run.sound;
         counted = ran.counted;
-        calls = blamed disk.before run.opened disk.after story _ _ _ was run.fit now run.sound run.adds run.begins.first ran.counted;
+        calls = blamed disk.before run.opened disk.after story _ _ _ was run.fit now run.sound run.adds run.begins.first
+            ran.counted;
       };
       files = keeps_files disk run.opened story run.files ran.counted;
     })
 promised_run phases status story intake outside faults disk was now gives (inr closed) =
     subst (λ s. Promised status s intake outside faults disk) (sym closed.empty)
-    (promised_closed closed.because status intake outside faults disk closed.unread (asked intake phases gives) closed.fails closed.wrote)
+    (promised_closed closed.because status intake outside faults disk closed.unread (asked intake phases gives) closed.fails
+    closed.wrote)
 
 -- a base that was just opened, and its story since
-pub begins_on : (disk opened : DiskState) (one story : List StoryStep) (first : Option StoryStep) → OpensCore disk one opened → first ≡ first_step one → first_step story ≡ first → BeginsOn disk story
+pub begins_on : (disk opened : DiskState) (one story : List StoryStep) (first : Option StoryStep) → OpensCore disk one opened
+    → first ≡ first_step one → first_step story ≡ first → BeginsOn disk story
 begins_on disk opened one story first opens is same = record {
   base = opens.base;
   handed = opens.handed;
@@ -330,4 +424,9 @@ begins_on disk opened one story first opens is same = record {
 }
 
 pub just_opened : (disk opened : DiskState) (story : List StoryStep) → OpensCore disk story opened → IsJustOpened story
-just_opened disk opened story opens = record { rows = oldest_first opens.base; counts = opens.handed.counts; tells = opens.handed.tells; is = opens.story_is }
+just_opened disk opened story opens = record {
+  rows = oldest_first opens.base;
+  counts = opens.handed.counts;
+  tells = opens.handed.tells;
+  is = opens.story_is;
+}

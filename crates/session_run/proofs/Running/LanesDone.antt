@@ -6,7 +6,7 @@ use Rattle.cc_names.specs.declared.commands.Command.TheVariants as commands
 use Rattle.cc_names.specs.declared.occasions.Next.TheVariants as nexts
 use Rattle.cc_names.specs.declared.rows.Tag.{Tag}
 use Rattle.cc_names.specs.declared.steps.StoryStep.{StoryStep}
-use Rattle.legal_history.specs.Stories.Commanded.{command_of}
+use Rattle.legal_history.specs.Stories.Commanded.{next_command_of}
 use Rattle.legal_history.specs.Stories.Lanes.{IsWithin}
 use Rattle.legal_history.specs.Stories.States.{all_done, next_tag}
 use Rattle.legal_history.specs.Stories.Steps.{state_of}
@@ -23,13 +23,17 @@ none_by (Some command) tag e = by_command command e
     by_command (commands.Build asked) e = absurd (cc)
     by_command command e = absurd (cc)
 
-phase_is_done : (story : List StoryStep) (lanes number : ℕ) → lanes ≡ length (state_of story).phase.lanes → ((k : ℕ) → IsWithin (state_of story) k) → AreLanesDone story 1 lanes number → all_done (state_of story) ≡ true
+phase_is_done : (story : List StoryStep) (lanes number : ℕ) → lanes ≡ length (state_of story).phase.lanes
+    → ((k : ℕ) → IsWithin (state_of story) k) → AreLanesDone story 1 lanes number → all_done (state_of story) ≡ true
 phase_is_done story lanes number count within done =
     all_finished (state_of story) (λ k from upto.
     let lane = done k from (omega (arith, count, upto)) in
-    finished_where (state_of story) k (within k) (none_by (command_of (state_of story) k) (next_tag (state_of story) k) lane.finished))
+    finished_where (state_of story) k (within k) (none_by (next_command_of (state_of story) k) (next_tag (state_of story) k)
+    lane.finished))
 
 -- so it is by what running the lanes answered
-pub phase_done_if : {A E : Type 0} (ran : Result A E) (story : List StoryStep) (lanes number : ℕ) → lanes ≡ length (state_of story).phase.lanes → ((k : ℕ) → IsWithin (state_of story) k) → OnOk ran (AreLanesDone story 1 lanes number) → OnOk ran (all_done (state_of story) ≡ true)
+pub phase_done_if : {A E : Type 0} (ran : Result A E) (story : List StoryStep) (lanes number : ℕ)
+    → lanes ≡ length (state_of story).phase.lanes → ((k : ℕ) → IsWithin (state_of story) k)
+    → OnOk ran (AreLanesDone story 1 lanes number) → OnOk ran (all_done (state_of story) ≡ true)
 phase_done_if (Ok a) story lanes number count within h = phase_is_done story lanes number count within h
 phase_done_if (Err error) story lanes number count within h = tt

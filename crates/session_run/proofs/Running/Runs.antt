@@ -1,5 +1,6 @@
 -- The run of a session's phases, one after the other.
-use Rattle.std.proofs.Common.{◌≡◌, ℕ, zero, suc, ◌+◌, inl, inr, Bool, true, false, Option, Some, None, List, [], ◌∷◌, ◌++◌, length, take, refl, ap, ap₂, sym, subst, ◌∙◌, arith, length-append, append_assoc}
+use Rattle.std.proofs.Common.{◌≡◌, ℕ, zero, suc, ◌+◌, inl, inr, Bool, true, false, Option, Some, None, List, [], ◌∷◌, ◌++◌}
+use Rattle.std.proofs.Common.{length, take, refl, ap, ap₂, sym, subst, ◌∙◌, arith, length-append, append_assoc}
 use Rattle.std.specs.List.{list_any}
 use Rattle.std.specs.Prelude.{◌||◌, ◌&&◌, nat_lt, min, IfSome}
 use Rattle.std.specs.Io.KnownBytes.{Appends}
@@ -24,14 +25,17 @@ use Rattle.session_run.specs.Promises.Headline.{IsCutAtLast, clock_moments}
 use Rattle.session_run.specs.Running.Phases.{GoesInPhase, RunsPhase, LeavesPhase}
 use Rattle.session_run.specs.Running.Runs.{IsJustOpened, Outside, HasRunPhases, IsCutBy, IsRunGivenUp, ReadsBy}
 use Rattle.session_run.specs.Story.Begun.{phases_begun, moments_begun, is_opened}
-use Rattle.session_run.specs.Story.Rendered.{EndedPhase, Replies, earlier_phases, ended_phases, replies_over, last_phase, phase_where, is_ended, transcript, transcript_of, transcripts, lanes_fail, phase_fails}
+use Rattle.session_run.specs.Story.Rendered.{EndedPhase, Replies, earlier_phases, ended_phases, replies_over, last_ended_phase}
+use Rattle.session_run.specs.Story.Rendered.{phase_where, is_ended, transcript, transcript_of, transcripts, lanes_fail}
+use Rattle.session_run.specs.Story.Rendered.{phase_fails}
 
 -- what a clock may tell
 if_modeled : (clock : Option (List ℕ)) (P : List ℕ → Type 0) → ((modeled : List ℕ) → P modeled) → IfSome clock P
 if_modeled None P h = tt
 if_modeled (Some modeled) P h = h modeled
 
-both_modeled : (clock : Option (List ℕ)) (P Q R : List ℕ → Type 0) → IfSome clock P → IfSome clock Q → ((modeled : List ℕ) → P modeled → Q modeled → R modeled) → IfSome clock R
+both_modeled : (clock : Option (List ℕ)) (P Q R : List ℕ → Type 0) → IfSome clock P → IfSome clock Q
+    → ((modeled : List ℕ) → P modeled → Q modeled → R modeled) → IfSome clock R
 both_modeled None P Q R p q h = tt
 both_modeled (Some modeled) P Q R p q h = h modeled p q
 
@@ -40,7 +44,8 @@ pub nothing_more : (held : Option (List ℕ)) → Appends held held []
 nothing_more None = tt
 nothing_more (Some xs) = sym (append-nil xs)
 
-pub appends_more : (one two three : Option (List ℕ)) (xs ys : List ℕ) → Appends one two xs → Appends two three ys → Appends one three (xs ++ ys)
+pub appends_more : (one two three : Option (List ℕ)) (xs ys : List ℕ) → Appends one two xs → Appends two three ys
+    → Appends one three (xs ++ ys)
 appends_more None two three xs ys h k = tt
 appends_more (Some a) None three xs ys h k = absurd h
 appends_more (Some a) (Some b) None xs ys h k = absurd k
@@ -60,9 +65,14 @@ pub is_prefix : (one two : Option (List ℕ)) (xs ys : List ℕ) → Appends one
 is_prefix one two xs ys h =
     (length xs, omega (arith, length-append xs ys), subst (Appends one two) (sym (take_all xs ys)) h)
 
-pub prefix_more : (one two three : Option (List ℕ)) (xs ys : List ℕ) → Appends one two xs → AppendsPrefix two three ys → AppendsPrefix one three (xs ++ ys)
-prefix_more one two three xs ys h k =
-    (length xs + k.0, omega (arith, length-append xs ys, k.1), subst (Appends one three) (sym (take_past xs ys k.0)) (appends_more one two three xs (take k.0 ys) h k.2))
+pub prefix_more : (one two three : Option (List ℕ)) (xs ys : List ℕ) → Appends one two xs → AppendsPrefix two three ys
+    → AppendsPrefix one three (xs ++ ys)
+prefix_more one two three xs ys h k = (
+  length xs + k.0,
+  omega (arith, length-append xs ys, k.1),
+  subst (Appends one three) (sym (take_past xs ys k.0))
+      (appends_more one two three xs (take k.0 ys) h k.2),
+)
 
 -- one more moment of a clock
 pub raised_none : (first : ℕ) → raised_count first 0 ≡ first
@@ -74,11 +84,13 @@ raised_more first n = omega arith
 raised_last : (first n : ℕ) → raised_count (raised_count first n) 1 ≡ raised_count first (suc n)
 raised_last first n = omega arith
 
-clock_more : (modeled : List ℕ) (first n : ℕ) → clock_moments modeled first (suc n) ≡ clock_moments modeled first n ++ min (moment_at modeled (raised_count first n)) last_moment ∷ []
+clock_more : (modeled : List ℕ) (first n : ℕ) → clock_moments modeled first (suc n) ≡ clock_moments modeled first n
+    ++ min (moment_at modeled (raised_count first n)) last_moment ∷ []
 clock_more modeled first zero = ap (λ r. min (moment_at modeled r) last_moment ∷ []) (sym (raised_none first))
 clock_more modeled first (suc n) =
     ap (λ ms. min (moment_at modeled first) last_moment ∷ ms)
-    (clock_more modeled (raised_count first 1) n ∙ ap (λ r. clock_moments modeled (raised_count first 1) n ++ min (moment_at modeled r) last_moment ∷ []) (raised_more first n))
+    (clock_more modeled (raised_count first 1) n ∙ ap (λ r. clock_moments modeled (raised_count first 1) n
+    ++ min (moment_at modeled r) last_moment ∷ []) (raised_more first n))
 
 pub clock_length : (modeled : List ℕ) (first n : ℕ) → length (clock_moments modeled first n) ≡ n
 clock_length modeled first zero = refl
@@ -91,7 +103,8 @@ ended s n e done =
     ap₂ ◌&&◌ began done
 
 -- the replies that the core gives are those that its steps leave
-replies_same : (s : State) (replies : Replies) (story : List StoryStep) → replies_over replies_after s replies story ≡ replies_from s replies story
+replies_same : (s : State) (replies : Replies) (story : List StoryStep)
+    → replies_over replies_after s replies story ≡ replies_from s replies story
 replies_same s replies [] = refl
 replies_same s replies (x ∷ story) = replies_same (after s x) (replies_after s x replies) story
 
@@ -99,12 +112,19 @@ replies_same s replies (x ∷ story) = replies_same (after s x) (replies_after s
 ended_as : List StoryStep → ℕ → EndedPhase
 ended_as story number = record { number = number; phase = (state_of story).phase; replies = replies_of story }
 
-last_is : (s : State) (number : ℕ) (is : Bool) (one two : Replies) → is ≡ true → s.number ≡ number → one ≡ two → phase_where is (record { number = s.number; phase = s.phase; replies = one }) ≡ record { number = number; phase = s.phase; replies = two } ∷ []
+last_is : (s : State) (number : ℕ) (is : Bool) (one two : Replies) → is ≡ true → s.number ≡ number → one ≡ two
+    → phase_where is (record { number = s.number; phase = s.phase; replies = one }) ≡ record {
+      number = number;
+      phase = s.phase;
+      replies = two;
+    } ∷ []
 last_is s number is one two e at same =
     ap (λ b. phase_where b (record { number = s.number; phase = s.phase; replies = one })) e
     ∙ ap₂ (λ n r. let p : EndedPhase = record { number = n; phase = s.phase; replies = r } in p ∷ []) at same
 
-given_more : (old new : List StoryStep) (phase : Phase) (moment number : ℕ) → GoesInPhase phase moment old new → all_done (state_of new) ≡ true → number ≡ (state_of old).number + 1 → ended_phases new ≡ ended_phases old ++ ended_as new number ∷ []
+given_more : (old new : List StoryStep) (phase : Phase) (moment number : ℕ) → GoesInPhase phase moment old new
+    → all_done (state_of new) ≡ true → number ≡ (state_of old).number + 1
+    → ended_phases new ≡ ended_phases old ++ ended_as new number ∷ []
 unfolding ended_as
 given_more old new phase moment number goes done e =
     ap₂ (λ prefix last. prefix ++ last) goes.earlier
@@ -121,14 +141,19 @@ one_fails ended = or_false (phase_fails ended)
     or_false true = refl
     or_false false = refl
 
-rendered_more : (old new : List StoryStep) (phase : Phase) (moment number : ℕ) → GoesInPhase phase moment old new → all_done (state_of new) ≡ true → number ≡ (state_of old).number + 1 → transcripts (ended_phases new) ≡ transcripts (ended_phases old) ++ transcript number (state_of new).phase (replies_of new)
+rendered_more : (old new : List StoryStep) (phase : Phase) (moment number : ℕ) → GoesInPhase phase moment old new
+    → all_done (state_of new) ≡ true → number ≡ (state_of old).number + 1
+    → transcripts (ended_phases new) ≡ transcripts (ended_phases old) ++ transcript number (state_of new).phase (replies_of new)
 unfolding ended_as
 rendered_more old new phase moment number goes done e =
     ap transcripts (given_more old new phase moment number goes done e)
     ∙ flat_map-append transcript_of (ended_phases old) (ended_as new number ∷ [])
     ∙ ap (λ text. transcripts (ended_phases old) ++ text) (one_text (ended_as new number))
 
-failures_more : (old new : List StoryStep) (phase : Phase) (moment number : ℕ) (before now : Bool) → GoesInPhase phase moment old new → all_done (state_of new) ≡ true → number ≡ (state_of old).number + 1 → list_any phase_fails (ended_phases old) ≡ before → now ≡ lanes_fail 1 (state_of new).phase.lanes (replies_of new) → list_any phase_fails (ended_phases new) ≡ (before || now)
+failures_more : (old new : List StoryStep) (phase : Phase) (moment number : ℕ) (before now : Bool)
+    → GoesInPhase phase moment old new → all_done (state_of new) ≡ true → number ≡ (state_of old).number + 1
+    → list_any phase_fails (ended_phases old) ≡ before → now ≡ lanes_fail 1 (state_of new).phase.lanes (replies_of new)
+    → list_any phase_fails (ended_phases new) ≡ (before || now)
 unfolding ended_as
 failures_more old new phase moment number before now goes done e was is =
     ap (list_any phase_fails) (given_more old new phase moment number goes done e)
@@ -136,13 +161,15 @@ failures_more old new phase moment number before now goes done e was is =
     ∙ ap₂ (λ a b. a || b) was (one_fails (ended_as new number) ∙ sym is)
 
 -- nothing has been run
-pub run_starts : (story : List StoryStep) (held clock : Option (List ℕ)) (first : ℕ) → IsJustOpened story → HasRunPhases [] story (record { held = held; holds = held; moments = clock; first = first; reading = first }) false
+pub run_starts : (story : List StoryStep) (held clock : Option (List ℕ)) (first : ℕ) → IsJustOpened story
+    → HasRunPhases [] story (record { held = held; holds = held; moments = clock; first = first; reading = first }) false
 run_starts story held clock first just = record {
   opened = ap is_opened is;
   phases_are = ap phases_begun is;
   number = ap (λ s. (state_of s).number) is;
   finished = ap (λ s. all_done (state_of s)) is;
-  moments_are = if_modeled clock (λ modeled. moments_begun story ≡ clock_moments modeled first 0) (λ modeled. ap moments_begun is);
+  moments_are = if_modeled clock (λ modeled. moments_begun story ≡ clock_moments modeled first 0)
+      (λ modeled. ap moments_begun is);
   reading_is = sym (raised_none first);
   failures = ap (λ s. list_any phase_fails (ended_phases s)) is;
   written = subst (Appends held held) (sym (ap (λ s. transcripts (ended_phases s)) is)) (nothing_more held);
@@ -155,106 +182,168 @@ one_more : (phases : List Phase) (phase : Phase) → length (phases ++ phase ∷
 one_more phases phase = omega (arith, length-append phases (phase ∷ []))
 
 -- the moments of a phase more
-moments_on : (modeled : List ℕ) (old new : List StoryStep) (first reading count moment : ℕ) → moments_begun new ≡ moments_begun old ++ moment ∷ [] → moments_begun old ≡ clock_moments modeled first count → reading ≡ raised_count first count → moment ≡ min (moment_at modeled reading) last_moment → moments_begun new ≡ clock_moments modeled first (suc count)
+moments_on : (modeled : List ℕ) (old new : List StoryStep) (first reading count moment : ℕ)
+    → moments_begun new ≡ moments_begun old ++ moment ∷ [] → moments_begun old ≡ clock_moments modeled first count
+    → reading ≡ raised_count first count → moment ≡ min (moment_at modeled reading) last_moment
+    → moments_begun new ≡ clock_moments modeled first (suc count)
 moments_on modeled old new first reading count moment is before at now =
-    is ∙ ap₂ (λ ms m. ms ++ m ∷ []) before (now ∙ ap (λ r. min (moment_at modeled r) last_moment) at) ∙ sym (clock_more modeled first count)
+    is ∙ ap₂ (λ ms m. ms ++ m ∷ []) before (now ∙ ap (λ r. min (moment_at modeled r) last_moment) at)
+    ∙ sym (clock_more modeled first count)
 
 -- one phase more has been run
-pub run_goes_on : (phases : List Phase) (phase : Phase) (old new : List StoryStep) (outside : Outside) (holds : Option (List ℕ)) (reading moment number : ℕ) (failed more : Bool) → HasRunPhases phases old outside failed → RunsPhase phase moment old new → more ≡ lanes_fail 1 (state_of new).phase.lanes (replies_of new) → IfSome outside.moments (λ modeled. moment ≡ min (moment_at modeled outside.reading) last_moment) → reading ≡ raised_count outside.reading 1 → number ≡ length phases + 1 → Appends outside.holds holds (transcript number (state_of new).phase (replies_of new)) → HasRunPhases (phases ++ phase ∷ []) new (record { held = outside.held; holds = holds; moments = outside.moments; first = outside.first; reading = reading }) (failed || more)
-run_goes_on phases phase old new outside holds reading moment number failed more so_far runs fails modeled reads count wrote = record {
-  opened = runs.goes.opened;
-  phases_are = runs.goes.phases ∙ ap (λ ps. ps ++ phase ∷ []) so_far.phases_are;
-  number = omega (arith, runs.goes.number, so_far.number, one_more phases phase);
-  finished = runs.finished;
-  moments_are =
-      both_modeled outside.moments _ _ (λ modeled. moments_begun new ≡ clock_moments modeled outside.first (length (phases ++ phase ∷ []))) so_far.moments_are modeled
-      (λ modeled before now. moments_on modeled old new outside.first outside.reading (length phases) moment runs.goes.moments before so_far.reading_is now ∙ ap (clock_moments modeled outside.first) (sym (one_more phases phase)));
-  reading_is = reads ∙ ap (λ r. raised_count r 1) so_far.reading_is ∙ raised_last outside.first (length phases) ∙ ap (raised_count outside.first) (sym (one_more phases phase));
-  failures = failures_more old new phase moment number failed more runs.goes runs.finished (omega (arith, count, so_far.number)) so_far.failures fails;
-  written =
-      subst (Appends outside.held holds) (sym (rendered_more old new phase moment number runs.goes runs.finished (omega (arith, count, so_far.number))))
-      (appends_more outside.held outside.holds holds (transcripts (ended_phases old)) (transcript number (state_of new).phase (replies_of new)) so_far.written wrote);
-}
+pub run_goes_on : (phases : List Phase) (phase : Phase) (old new : List StoryStep) (outside : Outside) (holds : Option (List ℕ))
+    (reading moment number : ℕ) (failed more : Bool) → HasRunPhases phases old outside failed → RunsPhase phase moment old new
+    → more ≡ lanes_fail 1 (state_of new).phase.lanes (replies_of new) → IfSome outside.moments
+    (λ modeled. moment ≡ min (moment_at modeled outside.reading) last_moment) → reading ≡ raised_count outside.reading 1
+    → number ≡ length phases + 1 → Appends outside.holds holds (transcript number (state_of new).phase (replies_of new))
+    → HasRunPhases (phases ++ phase ∷ []) new (record {
+      held = outside.held;
+      holds = holds;
+      moments = outside.moments;
+      first = outside.first;
+      reading = reading;
+    }) (failed || more)
+run_goes_on phases phase old new outside holds reading moment number failed more so_far runs fails modeled reads count wrote =
+    record {
+      opened = runs.goes.opened;
+      phases_are = runs.goes.phases ∙ ap (λ ps. ps ++ phase ∷ []) so_far.phases_are;
+      number = omega (arith, runs.goes.number, so_far.number, one_more phases phase);
+      finished = runs.finished;
+      moments_are =
+          both_modeled outside.moments _ _ (λ modeled. moments_begun new ≡ clock_moments modeled outside.first
+          (length (phases ++ phase ∷ []))) so_far.moments_are modeled
+          (λ modeled before now. moments_on modeled old new outside.first outside.reading (length phases) moment runs.goes.moments
+          before so_far.reading_is now ∙ ap (clock_moments modeled outside.first) (sym (one_more phases phase)));
+      reading_is = reads ∙ ap (λ r. raised_count r 1) so_far.reading_is ∙ raised_last outside.first (length phases)
+          ∙ ap (raised_count outside.first) (sym (one_more phases phase));
+      failures = failures_more old new phase moment number failed more runs.goes runs.finished (omega (arith, count, so_far.number))
+          so_far.failures fails;
+      written =
+          subst (Appends outside.held holds) (sym (rendered_more old new phase moment number runs.goes runs.finished
+          (omega (arith, count, so_far.number))))
+          (appends_more outside.held outside.holds holds (transcripts (ended_phases old))
+          (transcript number (state_of new).phase (replies_of new)) so_far.written wrote);
+    }
 
-moments_kept : (modeled : List ℕ) (story : List StoryStep) (first count : ℕ) → moments_begun story ≡ clock_moments modeled first count → moments_begun story ≡ clock_moments modeled first (length (moments_begun story))
-moments_kept modeled story first count is = is ∙ ap (clock_moments modeled first) (sym (clock_length modeled first count) ∙ sym (ap length is))
+moments_kept : (modeled : List ℕ) (story : List StoryStep) (first count : ℕ)
+    → moments_begun story ≡ clock_moments modeled first count → moments_begun story
+    ≡ clock_moments modeled first (length (moments_begun story))
+moments_kept modeled story first count is = is ∙ ap (clock_moments modeled first) (sym (clock_length modeled first count)
+    ∙ sym (ap length is))
 
 -- the last phase, as it is printed where its commands are all finished
 abbrev last_given : List StoryStep → List EndedPhase
-last_given story = last_phase (state_of story) (replies_over replies_after start no_replies story)
+last_given story = last_ended_phase (state_of story) (replies_over replies_after start no_replies story)
 
 -- the clock was read for the phase that began last, and for one that did not begin
-read_for_it : (first before reading count begun : ℕ) → before ≡ raised_count first count → reading ≡ raised_count before 1 → begun ≡ suc count → reading ≡ raised_count first begun
-read_for_it first before reading count begun was reads is = reads ∙ ap (λ r. raised_count r 1) was ∙ raised_last first count ∙ ap (raised_count first) (sym is)
+read_for_it : (first before reading count begun : ℕ) → before ≡ raised_count first count → reading ≡ raised_count before 1
+    → begun ≡ suc count → reading ≡ raised_count first begun
+read_for_it first before reading count begun was reads is = reads ∙ ap (λ r. raised_count r 1) was ∙ raised_last first count
+    ∙ ap (raised_count first) (sym is)
 
-read_once_more : (first before reading count begun : ℕ) → before ≡ raised_count first count → reading ≡ raised_count before 1 → begun ≡ count → reading ≡ raised_count first (begun + 1)
-read_once_more first before reading count begun was reads is = read_for_it first before reading count (begun + 1) was reads (omega (arith, is))
+read_once_more : (first before reading count begun : ℕ) → before ≡ raised_count first count → reading ≡ raised_count before 1
+    → begun ≡ count → reading ≡ raised_count first (begun + 1)
+read_once_more first before reading count begun was reads is = read_for_it first before reading count (begun + 1) was reads
+    (omega (arith, is))
 
-read_by : (cut : Or WriteFault) (count : ℕ) (outside : Outside) → outside.reading ≡ raised_count outside.first count → ReadsBy cut count outside
+read_by : (cut : Or WriteFault) (count : ℕ) (outside : Outside) → outside.reading ≡ raised_count outside.first count
+    → ReadsBy cut count outside
 read_by NoMemory count outside is = inl is
 read_by (Is fault) count outside is = is
 
 -- the run was given up for want of memory
-pub run_leaves : (phases rest all : List Phase) (phase : Phase) (old new : List StoryStep) (outside : Outside) (moment reading : ℕ) (failed : Bool) → HasRunPhases phases old outside failed → LeavesPhase phase moment old new → IfSome outside.moments (λ modeled. moment ≡ min (moment_at modeled outside.reading) last_moment) → phases ++ phase ∷ rest ≡ all → reading ≡ raised_count outside.reading 1 → IsRunGivenUp NoMemory all new (record outside { reading = reading })
+pub run_leaves : (phases rest all : List Phase) (phase : Phase) (old new : List StoryStep) (outside : Outside)
+    (moment reading : ℕ) (failed : Bool) → HasRunPhases phases old outside failed → LeavesPhase phase moment old new
+    → IfSome outside.moments (λ modeled. moment ≡ min (moment_at modeled outside.reading) last_moment)
+    → phases ++ phase ∷ rest ≡ all → reading ≡ raised_count outside.reading 1
+    → IsRunGivenUp NoMemory all new (record outside { reading = reading })
 run_leaves phases rest all phase old new outside moment reading failed so_far (inl is) modeled whole reads = record {
   opened = ap is_opened is ∙ so_far.opened;
   begun = (phase ∷ rest, sym whole ∙ ap (λ ps. ps ++ phase ∷ rest) (sym (ap phases_begun is ∙ so_far.phases_are)));
   moments_are =
-      both_modeled outside.moments _ _ (λ modeled. moments_begun new ≡ clock_moments modeled outside.first (length (moments_begun new))) so_far.moments_are modeled
+      both_modeled outside.moments _ _ (λ modeled. moments_begun new ≡ clock_moments modeled outside.first
+      (length (moments_begun new))) so_far.moments_are modeled
       (λ modeled before now. moments_kept modeled new outside.first (length phases) (ap moments_begun is ∙ before));
-  reading_is = inr (read_once_more outside.first outside.reading reading (length phases) (length (phases_begun new)) so_far.reading_is reads (ap length (ap phases_begun is ∙ so_far.phases_are)));
+  reading_is = inr (read_once_more outside.first outside.reading reading (length phases) (length (phases_begun new))
+      so_far.reading_is reads (ap length (ap phases_begun is ∙ so_far.phases_are)));
   written =
-      subst (AppendsPrefix outside.held outside.holds) (append-nil (transcripts (ended_phases old)) ∙ sym (ap (λ s. transcripts (ended_phases s)) is))
+      subst (AppendsPrefix outside.held outside.holds) (append-nil (transcripts (ended_phases old))
+      ∙ sym (ap (λ s. transcripts (ended_phases s)) is))
       (is_prefix outside.held outside.holds (transcripts (ended_phases old)) [] so_far.written);
   cut_at = tt;
 }
 run_leaves phases rest all phase old new outside moment reading failed so_far (inr goes) modeled whole reads = record {
   opened = goes.opened;
-  begun = (rest, sym whole ∙ sym (append_assoc phases (phase ∷ []) rest) ∙ ap (λ ps. ps ++ rest) (sym (goes.phases ∙ ap (λ ps. ps ++ phase ∷ []) so_far.phases_are)));
+  begun = (
+    rest,
+    sym whole ∙ sym (append_assoc phases (phase ∷ []) rest)
+        ∙ ap (λ ps. ps ++ rest) (sym (goes.phases ∙ ap (λ ps. ps ++ phase ∷ []) so_far.phases_are)),
+  );
   moments_are =
-      both_modeled outside.moments _ _ (λ modeled. moments_begun new ≡ clock_moments modeled outside.first (length (moments_begun new))) so_far.moments_are modeled
-      (λ modeled before now. moments_kept modeled new outside.first (suc (length phases)) (moments_on modeled old new outside.first outside.reading (length phases) moment goes.moments before so_far.reading_is now));
+      both_modeled outside.moments _ _ (λ modeled. moments_begun new ≡ clock_moments modeled outside.first
+      (length (moments_begun new))) so_far.moments_are modeled
+      (λ modeled before now. moments_kept modeled new outside.first (suc (length phases))
+      (moments_on modeled old new outside.first outside.reading (length phases) moment goes.moments before so_far.reading_is
+      now));
   reading_is =
       inl (read_for_it outside.first outside.reading reading (length phases) (length (phases_begun new)) so_far.reading_is reads
       (ap length (goes.phases ∙ ap (λ ps. ps ++ phase ∷ []) so_far.phases_are) ∙ one_more phases phase));
   written =
       subst (AppendsPrefix outside.held outside.holds)
-      (ap (λ prefix. prefix ++ transcripts (last_given new)) (ap transcripts (sym goes.earlier)) ∙ sym (flat_map-append transcript_of (earlier_phases new) (last_given new)))
+      (ap (λ prefix. prefix ++ transcripts (last_given new)) (ap transcripts (sym goes.earlier))
+      ∙ sym (flat_map-append transcript_of (earlier_phases new) (last_given new)))
       (is_prefix outside.held outside.holds (transcripts (ended_phases old)) (transcripts (last_given new)) so_far.written);
   cut_at = tt;
 }
 
-cut_in : (cut : Or WriteFault) (story : List StoryStep) (old new : Option (List ℕ)) → IsCutAtLast story (transcripts (earlier_phases story)) old new → IsCutBy cut story old new
+cut_in : (cut : Or WriteFault) (story : List StoryStep) (old new : Option (List ℕ))
+    → IsCutAtLast story (transcripts (earlier_phases story)) old new → IsCutBy cut story old new
 cut_in NoMemory story old new h = tt
 cut_in (Is fault) story old new h = h
 
 -- the run was given up in a transcript
-pub run_is_cut : (cut : Or WriteFault) (phases rest all : List Phase) (phase : Phase) (old new : List StoryStep) (outside : Outside) (holds : Option (List ℕ)) (moment reading number : ℕ) (failed : Bool) → HasRunPhases phases old outside failed → RunsPhase phase moment old new → IfSome outside.moments (λ modeled. moment ≡ min (moment_at modeled outside.reading) last_moment) → number ≡ length phases + 1 → phases ++ phase ∷ rest ≡ all → AppendsPrefix outside.holds holds (transcript number (state_of new).phase (replies_of new)) → reading ≡ raised_count outside.reading 1 → IsRunGivenUp cut all new (record outside { holds = holds; reading = reading })
-run_is_cut cut phases rest all phase old new outside holds moment reading number failed so_far runs modeled count whole wrote reads =
+pub run_is_cut : (cut : Or WriteFault) (phases rest all : List Phase) (phase : Phase) (old new : List StoryStep)
+    (outside : Outside) (holds : Option (List ℕ)) (moment reading number : ℕ) (failed : Bool)
+    → HasRunPhases phases old outside failed → RunsPhase phase moment old new
+    → IfSome outside.moments (λ modeled. moment ≡ min (moment_at modeled outside.reading) last_moment)
+    → number ≡ length phases + 1 → phases ++ phase ∷ rest ≡ all → AppendsPrefix outside.holds holds
+    (transcript number (state_of new).phase (replies_of new)) → reading ≡ raised_count outside.reading 1
+    → IsRunGivenUp cut all new (record outside { holds = holds; reading = reading })
+run_is_cut cut phases rest all phase old new outside holds moment reading number failed so_far runs modeled count whole wrote
+    reads =
     let begun : phases_begun new ≡ phases ++ phase ∷ [] = runs.goes.phases ∙ ap (λ ps. ps ++ phase ∷ []) so_far.phases_are in
     record {
       opened = runs.goes.opened;
       begun = (rest, sym whole ∙ sym (append_assoc phases (phase ∷ []) rest) ∙ ap (λ ps. ps ++ rest) (sym begun));
       moments_are =
-          both_modeled outside.moments _ _ (λ modeled. moments_begun new ≡ clock_moments modeled outside.first (length (moments_begun new))) so_far.moments_are modeled
-          (λ modeled before now. moments_kept modeled new outside.first (suc (length phases)) (moments_on modeled old new outside.first outside.reading (length phases) moment runs.goes.moments before so_far.reading_is now));
+          both_modeled outside.moments _ _ (λ modeled. moments_begun new
+          ≡ clock_moments modeled outside.first (length (moments_begun new))) so_far.moments_are modeled
+          (λ modeled before now. moments_kept modeled new outside.first (suc (length phases))
+          (moments_on modeled old new outside.first outside.reading (length phases) moment runs.goes.moments before
+          so_far.reading_is now));
       reading_is =
           read_by cut (length (phases_begun new)) (record outside { holds = holds; reading = reading })
-          (read_for_it outside.first outside.reading reading (length phases) (length (phases_begun new)) so_far.reading_is reads (ap length begun ∙ one_more phases phase));
+          (read_for_it outside.first outside.reading reading (length phases) (length (phases_begun new)) so_far.reading_is reads
+          (ap length begun ∙ one_more phases phase));
       written =
-          subst (AppendsPrefix outside.held holds) (sym (rendered_more old new phase moment number runs.goes runs.finished (omega (arith, count, so_far.number))))
-          (prefix_more outside.held outside.holds holds (transcripts (ended_phases old)) (transcript number (state_of new).phase (replies_of new)) so_far.written wrote);
+          subst (AppendsPrefix outside.held holds) (sym (rendered_more old new phase moment number runs.goes runs.finished
+          (omega (arith, count, so_far.number))))
+          (prefix_more outside.held outside.holds holds (transcripts (ended_phases old))
+          (transcript number (state_of new).phase (replies_of new)) so_far.written wrote);
       cut_at = cut_in cut new outside.held holds (record {
         begun = omega (arith, ap length begun, one_more phases phase);
         finished = runs.finished;
         written = (
           take wrote.0 (transcript number (state_of new).phase (replies_of new)),
-          subst (λ prefix. Appends outside.held holds (prefix ++ take wrote.0 (transcript number (state_of new).phase (replies_of new)))) (sym (ap transcripts runs.goes.earlier))
-              (appends_more outside.held outside.holds holds (transcripts (ended_phases old)) (take wrote.0 (transcript number (state_of new).phase (replies_of new))) so_far.written wrote.2),
+          subst (λ prefix. Appends outside.held holds (prefix ++ take wrote.0
+              (transcript number (state_of new).phase (replies_of new)))) (sym (ap transcripts runs.goes.earlier))
+              (appends_more outside.held outside.holds holds (transcripts (ended_phases old))
+              (take wrote.0 (transcript number (state_of new).phase (replies_of new))) so_far.written wrote.2),
         );
       });
     }
 
 -- the phases that have been taken, the one in hand and those behind it are all
-pub in_hand : (taken left rest all items : List Phase) (phase : Phase) → taken ++ left ≡ all → left ≡ phase ∷ rest → all ≡ items → taken ++ phase ∷ rest ≡ items
+pub in_hand : (taken left rest all items : List Phase) (phase : Phase) → taken ++ left ≡ all → left ≡ phase ∷ rest → all ≡ items
+    → taken ++ phase ∷ rest ≡ items
 in_hand taken left rest all items phase one two three = ap (λ ps. taken ++ ps) (sym two) ∙ one ∙ three

@@ -27,11 +27,14 @@ moments_more [] more = refl
 moments_more (story_steps.PhaseBegun phase moment ∷ story) more = ap (λ moments. moment ∷ moments) (moments_more story more)
 moments_more (x ∷ story) more = moments_more story more
 
-pub closed_more : (leave : State → StoryStep → Replies → Replies) (s : State) (replies : Replies) (story more : List StoryStep) → closed_over leave s replies (story ++ more) ≡ closed_over leave s replies story ++ closed_over leave (state_from s story) (replies_over leave s replies story) more
+pub closed_more : (leave : State → StoryStep → Replies → Replies) (s : State) (replies : Replies) (story more : List StoryStep)
+    → closed_over leave s replies (story ++ more) ≡ closed_over leave s replies story
+    ++ closed_over leave (state_from s story) (replies_over leave s replies story) more
 closed_more leave s replies [] more = refl
 closed_more leave s replies (x ∷ story) more =
     ap (λ phases. closed_by s replies x ++ phases) (closed_more leave (after s x) (leave s x replies) story more)
-    ∙ sym (append_assoc (closed_by s replies x) (closed_over leave (after s x) (leave s x replies) story) (closed_over leave (state_from (after s x) story) (replies_over leave (after s x) (leave s x replies) story) more))
+    ∙ sym (append_assoc (closed_by s replies x) (closed_over leave (after s x) (leave s x replies) story)
+    (closed_over leave (state_from (after s x) story) (replies_over leave (after s x) (leave s x replies) story) more))
 
 pub opened_more : (story more : List StoryStep) → is_opened story ≡ true → is_opened (story ++ more) ≡ is_opened story
 opened_more [] more e = absurd (cc)
@@ -77,31 +80,37 @@ rest_none (story_steps.Opened rows counts tells) more e = e
 rest_none (story_steps.Commit row tick) more e = e
 rest_none (story_steps.Other step) more e = e
 
-closes_no_phase : (s : State) (replies : Replies) (x : StoryStep) (more : List StoryStep) → phases_begun (x ∷ more) ≡ [] → closed_by s replies x ≡ []
+closes_no_phase : (s : State) (replies : Replies) (x : StoryStep) (more : List StoryStep) → phases_begun (x ∷ more) ≡ []
+    → closed_by s replies x ≡ []
 closes_no_phase s replies (story_steps.PhaseBegun phase moment) more e = absurd (cc)
 closes_no_phase s replies (story_steps.Opened rows counts tells) more e = refl
 closes_no_phase s replies (story_steps.Commit row tick) more e = refl
 closes_no_phase s replies (story_steps.Other step) more e = refl
 
-closes_none : (leave : State → StoryStep → Replies → Replies) (s : State) (replies : Replies) (more : List StoryStep) → phases_begun more ≡ [] → closed_over leave s replies more ≡ []
+closes_none : (leave : State → StoryStep → Replies → Replies) (s : State) (replies : Replies) (more : List StoryStep)
+    → phases_begun more ≡ [] → closed_over leave s replies more ≡ []
 closes_none leave s replies [] e = refl
 closes_none leave s replies (x ∷ more) e =
     ap (λ phases. phases ++ closed_over leave (after s x) (leave s x replies) more) (closes_no_phase s replies x more e)
     ∙ closes_none leave (after s x) (leave s x replies) more (rest_none x more e)
 
 -- a story that goes on by steps that leave the last phase
-pub goes_on : (old new more : List StoryStep) → new ≡ old ++ more → SamePhase (state_of old) (state_of new) → is_opened old ≡ true → Goes old new
+pub goes_on : (old new more : List StoryStep) → new ≡ old ++ more → SamePhase (state_of old) (state_of new) → is_opened old ≡ true
+    → Goes old new
 goes_on old new more grows same opened =
     let state : state_of new ≡ state_from (state_of old) more = ap state_of grows ∙ state_more start old more in
     let none = no_phases (state_of old) more (ap (λ s. s.number) (sym state) ∙ same.number) in
     record {
-      phases = ap phases_begun grows ∙ phases_more old more ∙ ap (λ ps. phases_begun old ++ ps) none ∙ append-nil (phases_begun old);
-      moments = ap moments_begun grows ∙ moments_more old more ∙ ap (λ ms. moments_begun old ++ ms) (no_moments more none) ∙ append-nil (moments_begun old);
+      phases = ap phases_begun grows ∙ phases_more old more ∙ ap (λ ps. phases_begun old ++ ps) none
+          ∙ append-nil (phases_begun old);
+      moments = ap moments_begun grows ∙ moments_more old more ∙ ap (λ ms. moments_begun old ++ ms) (no_moments more none)
+          ∙ append-nil (moments_begun old);
       phase = same.phase;
       number = same.number;
       earlier =
           ap (λ story. earlier_phases story) grows ∙ closed_more replies_after start no_replies old more
-          ∙ ap (λ ps. earlier_phases old ++ ps) (closes_none replies_after (state_of old) (replies_over replies_after start no_replies old) more none)
+          ∙ ap (λ ps. earlier_phases old ++ ps) (closes_none replies_after (state_of old)
+          (replies_over replies_after start no_replies old) more none)
           ∙ append-nil (earlier_phases old);
       first = ap first_step grows ∙ first_more old more opened;
       opened = ap is_opened grows ∙ opened_more old more opened;

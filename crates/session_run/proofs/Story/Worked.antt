@@ -19,7 +19,13 @@ use Rattle.session_run.specs.Story.Rendered.{earlier_text, has_failure, text_of_
 
 -- a view and a private file, and then the view once more
 saves : Phase
-saves = record { lanes = record { name = codes "a"; commands = commands.Change (Mkview (codes "v")) ∷ commands.Change (Save (codes "v") (codes "in") (codes "hi\n")) ∷ [] } ∷ [] }
+saves = record {
+  lanes = record {
+    name = codes "a";
+    commands = commands.Change (Mkview (codes "v"))
+        ∷ commands.Change (Save (codes "v") (codes "in") (codes "hi\n")) ∷ [];
+  } ∷ [];
+}
 
 again : Phase
 again = record { lanes = record { name = codes "a"; commands = commands.Change (Mkview (codes "v")) ∷ [] } ∷ [] }
@@ -32,11 +38,16 @@ no_counts = record { ticks = 0; faults = 0 }
 
 first_command : List StoryStep
 first_command =
-    story_steps.Opened [] no_counts true ∷ story_steps.PhaseBegun saves 5 ∷ story_steps.Commit (record { tag = tag 1 1; moment = 5; deed = deeds.Mkview (codes "v") }) 1 ∷ []
+    story_steps.Opened [] no_counts true ∷ story_steps.PhaseBegun saves 5
+    ∷ story_steps.Commit (record { tag = tag 1 1; moment = 5; deed = deeds.Mkview (codes "v") }) 1 ∷ []
 
 first_phase : List StoryStep
 first_phase =
-    first_command ++ story_steps.Commit (record { tag = tag 1 2; moment = 5; deed = deeds.Put (codes "v") (codes "in") (codes "hi\n") }) 2 ∷ []
+    first_command ++ story_steps.Commit (record {
+      tag = tag 1 2;
+      moment = 5;
+      deed = deeds.Put (codes "v") (codes "in") (codes "hi\n");
+    }) 2 ∷ []
 
 two_phases : List StoryStep
 two_phases = first_phase ++ story_steps.PhaseBegun again 6 ∷ story_steps.Other (steps.Refused (tag 2 1) ViewExists) ∷ []
@@ -50,7 +61,8 @@ finished : text_of_story first_phase ≡ codes "phase 1\nlane a\n1 mkview ok\n2 
 unfolding first_phase first_command saves tag digits
 finished = refl
 
-both : text_of_story two_phases ≡ codes "phase 1\nlane a\n1 mkview ok\n2 save ok\nphase 2\nlane a\n1 mkview refused C2 ViewExists\n"
+both : text_of_story two_phases
+    ≡ codes "phase 1\nlane a\n1 mkview ok\n2 save ok\nphase 2\nlane a\n1 mkview refused C2 ViewExists\n"
 unfolding two_phases first_phase first_command saves again tag digits
 both = refl
 

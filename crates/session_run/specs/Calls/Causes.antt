@@ -5,7 +5,7 @@ use Rattle.cc_names.specs.declared.refusals.SessionError.{SessionError}
 use Rattle.cc_names.specs.declared.steps.StoryStep.{StoryStep}
 use Rattle.cc_names.specs.Counts.{raised_count, Rose, RoseAbove, RoseAtMost, rises}
 use Rattle.cc_outside.specs.GhostStates.{SinkState, SourceState}
-use Rattle.disk_model.specs.Devices.{bytes_of}
+use Rattle.disk_model.specs.Devices.{bytes_now}
 use Rattle.disk_model.specs.DiskStates.{DiskState, IfModeled}
 use Rattle.vob_journal.specs.Frames.{frames}
 use Rattle.story_log.specs.Bases.Opening.{IsDamaged, IsUndamaged}
@@ -49,7 +49,7 @@ abbrev pub disk_ghost_states : DiskState → DiskState → Change DiskState
 disk_ghost_states before after = record { before = before; after = after }
 
 -- the words have the form, and the source was read to its end, which came within the limit
-pub record IsRead (intake : Intake) : Type 0 where
+pub record IsIntakeRead (intake : Intake) : Type 0 where
   pub words : is_run intake.words ≡ true
   pub at_end : IsAtEnd intake.text.after
   pub count : ℕ
@@ -58,15 +58,15 @@ pub record IsRead (intake : Intake) : Type 0 where
   pub bytes : IfSome intake.text.before (λ bytes. length bytes ≡ count)
 
 -- a whole run: the source's bytes spell a session, a base was opened, and each command is finished
-pub record IsWhole (intake : Intake) (story : List StoryStep) : Type 0 where
-  pub read : IsRead intake
+pub record IsWholeRun (intake : Intake) (story : List StoryStep) : Type 0 where
+  pub read : IsIntakeRead intake
   pub session : IfSome intake.text.before (λ bytes. is_session bytes ≡ true)
   pub opened : is_opened story ≡ true
   pub finished : all_done (state_of story) ≡ true
 
 -- the source's bytes spell a session, so the base was to be opened
 pub record IsAsked (intake : Intake) : Type 0 where
-  pub read : IsRead intake
+  pub read : IsIntakeRead intake
   pub session : IfSome intake.text.before (λ bytes. is_session bytes ≡ true)
 
 -- the source's bytes spell no session: this is their first line that stands wrong, and why
@@ -102,24 +102,30 @@ pub record IsUntouched (disk : Change DiskState) (story : List StoryStep) : Type
 -- the frame of this number is the first of the disk's journal that spells no formed row, or whose row does not fit those
 -- before it
 abbrev pub DiskDamaged : Change DiskState → ℕ → Type 0
-DiskDamaged disk row = IfModeled disk.before.modeled (λ d. IsDamaged (frames (bytes_of 0 d)) row)
+DiskDamaged disk row = IfModeled disk.before.modeled (λ d. IsDamaged (frames (bytes_now 0 d)) row)
 
 -- no frame of the disk's journal is so
 abbrev pub DiskUndamaged : Change DiskState → Type 0
-DiskUndamaged disk = IfModeled disk.before.modeled (λ d. IsUndamaged (frames (bytes_of 0 d)))
+DiskUndamaged disk = IfModeled disk.before.modeled (λ d. IsUndamaged (frames (bytes_now 0 d)))
 
 -- *The cause of each status*. Memory may run out anywhere, but where no base was opened it hides no fault of the disk. The other
 -- causes exclude one another, a failed source and a failed sink aside, so each status but those comes exactly where its cause
 -- does, unless the sink fails or memory runs out. Where the disk failed and a base was opened, each command is finished.
 abbrev pub HasCause : Status → Intake → Change ℕ → Change DiskState → List StoryStep → Type 0
-HasCause statuses.Good intake sink_faults disk story = IsWhole intake story × (has_failure story ≡ false) × (disk_rose disk ≡ false) × DiskUndamaged disk
-HasCause statuses.SomeFailed intake sink_faults disk story = IsWhole intake story × (has_failure story ≡ true) × (disk_rose disk ≡ false) × DiskUndamaged disk
-HasCause statuses.BadWords intake sink_faults disk story = (is_run intake.words ≡ false) × IsUnread intake × IsUntouched disk story
-HasCause (statuses.BadSession error) intake sink_faults disk story = IsRead intake × IsFirstWrong intake error × IsUntouched disk story
-HasCause (statuses.Damaged row) intake sink_faults disk story = IsAsked intake × DiskDamaged disk row × (disk_rose disk ≡ false) × (story ≡ [])
+HasCause statuses.Good intake sink_faults disk story = IsWholeRun intake story × (has_failure story ≡ false)
+    × (disk_rose disk ≡ false) × DiskUndamaged disk
+HasCause statuses.SomeFailed intake sink_faults disk story = IsWholeRun intake story × (has_failure story ≡ true)
+    × (disk_rose disk ≡ false) × DiskUndamaged disk
+HasCause statuses.BadWords intake sink_faults disk story = (is_run intake.words ≡ false) × IsUnread intake
+    × IsUntouched disk story
+HasCause (statuses.BadSession error) intake sink_faults disk story = IsIntakeRead intake × IsFirstWrong intake error
+    × IsUntouched disk story
+HasCause (statuses.Damaged row) intake sink_faults disk story = IsAsked intake × DiskDamaged disk row × (disk_rose disk ≡ false)
+    × (story ≡ [])
 HasCause statuses.ReadFault intake sink_faults disk story = SourceFailed intake × IsUntouched disk story
 HasCause statuses.WriteFault intake sink_faults disk story = Rose sink_faults.before sink_faults.after
-HasCause statuses.DiskFault intake sink_faults disk story = IsAsked intake × (disk_rose disk ≡ true) × (is_opened story ≡ true → all_done (state_of story) ≡ true)
+HasCause statuses.DiskFault intake sink_faults disk story = IsAsked intake × (disk_rose disk ≡ true)
+    × (is_opened story ≡ true → all_done (state_of story) ≡ true)
 HasCause statuses.NoMemory intake sink_faults disk story = is_opened story ≡ false → disk.after.faults ≡ disk.before.faults
 HasCause statuses.TooLong intake sink_faults disk story = GaveTooMuch intake × IsUntouched disk story
 
@@ -132,7 +138,8 @@ pub record IsToOpen (intake : Intake) : Type 0 where
 -- *A damaged journal*, the other way. Where the base was to be opened on a disk that tells a damaged journal, and the count of
 -- the disk's faults did not rise, the status says so with the frame's number, unless the sink fails or memory runs out.
 pub record FindsDamage (status : Status) (intake : Intake) (disk : Change DiskState) : Type 0 where
-  pub damaged : (row : ℕ) → IsToOpen intake → is_some disk.before.modeled ≡ true → DiskDamaged disk row → disk_rose disk ≡ false → is_cut status ≡ false → status ≡ statuses.Damaged row
+  pub damaged : (row : ℕ) → IsToOpen intake → is_some disk.before.modeled ≡ true → DiskDamaged disk row → disk_rose disk ≡ false
+      → is_cut status ≡ false → status ≡ statuses.Damaged row
 
 -- *The disk of a call that read no session*, whatever the status: no base was opened, and no call was made on the disk.
 pub record LeavesAlone (intake : Intake) (disk : Change DiskState) (story : List StoryStep) : Type 0 where

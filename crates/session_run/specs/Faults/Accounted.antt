@@ -16,7 +16,7 @@ use Rattle.session_run.specs.Faults.Blamed.{IsBlamed}
 
 -- A journal was settled: at most two calls were made, at most one fault more was counted, no call read, the file of objects is
 -- as it was, and where no fault may have left its tail open no call was made.
-pub record Settles (ajar : Bool) (old new : DiskState) : Type 0 where
+pub record SettlesJournal (ajar : Bool) (old new : DiskState) : Type 0 where
   pub few : new.ticks ≤ old.ticks + 2
   pub faults : (new.faults ≡ old.faults) ⊎ (new.faults ≡ next_count old.faults)
   pub writes : Both WritesOn old.modeled new.modeled
@@ -31,10 +31,10 @@ pub record CountsFrom (opened after : DiskState) (story : List StoryStep) : Type
   pub ended : DiskState
   pub story_is : story ≡ first ∷ steps
   pub counts : CountsSteps steps opened ended
-  pub settled : Settles (may_be_open (state_of story).ends) ended after
+  pub settled : SettlesJournal (may_be_open (state_of story).ends) ended after
 
 -- *Whose fault*: opening counted no fault, and from then on the count rose at the faults of the history, and once more at most as
--- the journal was settled, by the counts of some disk between one step and the next. Where the disk tells its device, the calls
+-- the journal was settled, by the counts of some disk between one step and the next. Where the disk models its device, the calls
 -- that it tells say at which tick each of them failed.
 pub record IsAccountedFor (disk : Change DiskState) (story : List StoryStep) : Type 0 where
   pub opened : DiskState

@@ -3,7 +3,7 @@ use Rattle.std.specs.Prelude.{◌≡◌, ℕ, ◌-◌, ◌^◌, ◌<◌, ◌≤�
 use Rattle.cc_names.specs.declared.steps.Step.TheVariants as steps
 use Rattle.cc_names.specs.declared.steps.StoryStep.{StoryStep}
 use Rattle.cc_names.specs.declared.steps.StoryStep.TheVariants as story_steps
-use Rattle.disk_model.specs.Devices.{MayLeave, bytes_of, file_of}
+use Rattle.disk_model.specs.Devices.{MayLeave, bytes_now, file_of}
 use Rattle.disk_model.specs.Files.{stable}
 use Rattle.disk_model.specs.DiskStates.{DiskState, Both, IfModeled}
 use Rattle.legal_history.specs.Stories.States.{State, Opening, faults_of, ticks_of}
@@ -18,7 +18,7 @@ use Rattle.session_run.specs.Story.Begun.{is_opened}
 
 -- what a call asks of its disk: where it tells its files, both are on the disk as they read
 abbrev pub IsHandedIn : DiskState → Type 0
-IsHandedIn disk = IfModeled disk.modeled (λ d. (file_of 0 d ≡ stable (bytes_of 0 d)) × (file_of 1 d ≡ stable (bytes_of 1 d)))
+IsHandedIn disk = IfModeled disk.modeled (λ d. (file_of 0 d ≡ stable (bytes_now 0 d)) × (file_of 1 d ≡ stable (bytes_now 1 d)))
 
 -- the counts of the disk's faults before and after each fault of a story, in order
 abbrev pub rises_of : List StoryStep → List (ℕ × ℕ)
@@ -47,7 +47,8 @@ pub record KeepsPrefix (before after : DiskState) (story : List StoryStep) : Typ
   pub opening : Opening
   pub opened : (state_of story).opened ≡ Some opening
   pub ticks : ticks_of (state_of story).opened (state_of story).ends ≤ after.ticks
-  pub stops : IfModeled after.modeled (λ d. (k : ℕ) (image : List ℕ) → before.ticks < k → MayLeave 0 d k image → MayBeFound opening (state_of story).ends k (frames image))
+  pub stops : IfModeled after.modeled (λ d. (k : ℕ) (image : List ℕ) → before.ticks < k → MayLeave 0 d k image
+      → MayBeFound opening (state_of story).ends k (frames image))
   pub again : IfModeled after.modeled (λ d. (k : ℕ) (image : List ℕ) → before.ticks < k
       → MayLeave 0 d k image → OpensAgain opening.base (frames image))
   pub sound : rises_of story ≡ [] → IsSettled (state_of story) after
@@ -55,8 +56,9 @@ pub record KeepsPrefix (before after : DiskState) (story : List StoryStep) : Typ
   pub apart : AreApart before.faults (rises_of story) after.faults
 
 -- Where none was opened. A stop finds the frames that the disk had.
-abbrev pub KeepsFrames : DiskState → DiskState → Type 0
-KeepsFrames before after = IfModeled before.modeled (λ d. IfModeled after.modeled (λ e. (k : ℕ) (image : List ℕ) → before.ticks < k → MayLeave 0 e k image → frames image ≡ frames (bytes_of 0 d)))
+abbrev pub StopKeepsFrames : DiskState → DiskState → Type 0
+StopKeepsFrames before after = IfModeled before.modeled (λ d. IfModeled after.modeled (λ e. (k : ℕ) (image : List ℕ)
+    → before.ticks < k → MayLeave 0 e k image → frames image ≡ frames (bytes_now 0 d)))
 
 -- whatever a stop may find of a story opens again, to a base that is sound where the opened one was
 abbrev pub AllOpenAgain : List StoryStep → Type 0
@@ -69,5 +71,5 @@ AllOpenAgain story = (opening : Opening) (k : ℕ) (found : List (List ℕ))
 pub record IsStopped (before after : DiskState) (story : List StoryStep) : Type 0 where
   pub tells : is_some after.modeled ≡ is_some before.modeled
   pub on_base : is_opened story ≡ true → KeepsPrefix before after story
-  pub on_none : is_opened story ≡ false → KeepsFrames before after
+  pub on_none : is_opened story ≡ false → StopKeepsFrames before after
   pub files : is_opened story ≡ false → Both SameFiles before.modeled after.modeled

@@ -1,7 +1,7 @@
 -- That soundness is handed on from one call to the next.
 use Rattle.std.specs.Prelude.{◌≡◌, ℕ, ◌<◌, true, Option, Some, List}
 use Rattle.cc_names.specs.declared.steps.StoryStep.{StoryStep}
-use Rattle.disk_model.specs.Devices.{Device, MayLeave, bytes_of}
+use Rattle.disk_model.specs.Devices.{Device, MayLeave, bytes_now}
 use Rattle.disk_model.specs.DiskStates.{DiskState}
 use Rattle.session_run.specs.Faults.Stopped.{IsStopped}
 use Rattle.session_run.specs.Promises.Headline.{IsOneHistory}
@@ -16,6 +16,6 @@ abbrev pub SoundnessIsHandedOn : Type 0
 SoundnessIsHandedOn = (before after next : DiskState) (left read : Device) (k : ℕ)
     (story later : List StoryStep) (status : Status) (held holds : Option (List ℕ))
     → IsStopped before after story → is_opened story ≡ true
-    → after.modeled ≡ Some left → before.ticks < k → MayLeave 0 left k (bytes_of 0 read)
+    → after.modeled ≡ Some left → before.ticks < k → MayLeave 0 left k (bytes_now 0 read)
     → next.modeled ≡ Some read → IsOneHistory status later next held holds
     → WasSound story → WasSound later

@@ -12,7 +12,8 @@
 -- or faults, each failed call on the disk lies, `Objects` which objects a scrub takes and that those that views hold are live,
 -- `Reused` which objects builds take in place of runs. What they say of bytes, moments and stops holds where the source, the
 -- sink, the clock and the disk tell them.
-use Rattle.std.specs.Prelude.{◌≡◌, ◌≢◌, ◌⊎◌, ℕ, zero, suc, ◌+◌, ◌<◌, min, true, false, Option, Some, IfSome, List, [], ◌∷◌, ◌++◌, length}
+use Rattle.std.specs.Prelude.{◌≡◌, ◌≢◌, ◌⊎◌, ℕ, zero, suc, ◌+◌, ◌<◌, min, true, false, Option, Some, IfSome, List, [], ◌∷◌, ◌++◌}
+use Rattle.std.specs.Prelude.{length}
 use Rattle.std.specs.Io.KnownBytes.{Appends}
 use Rattle.cc_names.specs.declared.rows.Tag.{Tag}
 use Rattle.cc_names.specs.declared.steps.Step.TheVariants as steps
@@ -45,7 +46,8 @@ use Rattle.session_run.specs.declared.statuses.Status.TheVariants as statuses
 -- the moments that a clock tells from a reading on, none above the last one of all
 abbrev pub clock_moments : List ℕ → ℕ → ℕ → List ℕ
 clock_moments modeled reading zero = []
-clock_moments modeled reading (suc n) = min (moment_at modeled reading) last_moment ∷ clock_moments modeled (raised_count reading 1) n
+clock_moments modeled reading (suc n) = min (moment_at modeled reading) last_moment
+    ∷ clock_moments modeled (raised_count reading 1) n
 
 -- the counts of readings of a clock before and after
 abbrev pub clock_readings : ClockState → ClockState → Change ℕ
@@ -64,11 +66,15 @@ pub record ReadsClock (status : Status) (story : List StoryStep) (readings : Cha
 -- *The session*, where the words are those of a run: the phases of the history are the first of the session that the source's
 -- bytes spell, and all of them where it was run through; where the bytes spell none the history is empty. Their moments are
 -- the clock's, in order, which is read once a phase.
-pub record IsSession (status : Status) (story : List StoryStep) (intake : Intake) (clock : Option (List ℕ)) (readings : Change ℕ) : Type 0 where
-  pub begun : is_run intake.words ≡ true → IfSome intake.text.before (λ bytes. IsPrefixOf (phases_begun story) (phases_spelled bytes))
-  pub all : is_run intake.words ≡ true → is_through status story ≡ true → IfSome intake.text.before (λ bytes. phases_begun story ≡ phases_spelled bytes)
+pub record IsSession (status : Status) (story : List StoryStep) (intake : Intake) (clock : Option (List ℕ))
+    (readings : Change ℕ) : Type 0 where
+  pub begun : is_run intake.words ≡ true → IfSome intake.text.before (λ bytes. IsPrefixOf (phases_begun story)
+      (phases_spelled bytes))
+  pub all : is_run intake.words ≡ true → is_through status story ≡ true
+      → IfSome intake.text.before (λ bytes. phases_begun story ≡ phases_spelled bytes)
   pub none : is_run intake.words ≡ true → IfSome intake.text.before (λ bytes. is_session bytes ≡ false → story ≡ [])
-  pub moments : IfSome clock (λ modeled. moments_begun story ≡ clock_moments modeled readings.before (length (moments_begun story)))
+  pub moments : IfSome clock (λ modeled. moments_begun story ≡ clock_moments modeled readings.before
+      (length (moments_begun story)))
   pub read : ReadsClock status story readings
 
 -- a sink that failed took the transcripts of all phases but the last, and each command of these phases is finished
@@ -118,9 +124,10 @@ pub record PrintsPrefix (intake : Intake) (faults : Change ℕ) (disk : Change D
   pub written : AppendsPrefix old new (status_line status)
 
 -- *Printed replies*: what the sink holds more is the text of the history, where a base was opened; else it is the
--- status's line. Where the sink failed it is a front of the history's text, or of the line of the cause that had come. Where
--- memory ran out it is a front of the history's text; where no base was opened, nothing.
-pub record ArePrinted (status : Status) (story : List StoryStep) (intake : Intake) (faults : Change ℕ) (disk : Change DiskState) (old new : Option (List ℕ)) : Type 0 where
+-- status's line. Where the sink failed it is a prefix of the history's text, or of the line of the cause that had come. Where
+-- memory ran out it is a prefix of the history's text; where no base was opened, nothing.
+pub record ArePrinted (status : Status) (story : List StoryStep) (intake : Intake) (faults : Change ℕ) (disk : Change DiskState)
+    (old new : Option (List ℕ)) : Type 0 where
   pub whole : is_opened story ≡ true → is_cut status ≡ false → Appends old new (text_of_story story)
   pub prefix : is_opened story ≡ true → is_cut status ≡ true → AppendsPrefix old new (text_of_story story)
   pub line : is_opened story ≡ false → is_cut status ≡ false → Appends old new (status_line status)

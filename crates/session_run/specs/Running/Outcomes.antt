@@ -24,7 +24,8 @@ use Rattle.session_run.specs.declared.statuses.Status.{Status}
 
 -- The phases were run on a base that was opened, or their run was given up, and the disk was handed back: it is seen as the base
 -- was opened and as it came back. The story has this first step, and the disk had this count of faults as the call began.
-pub record RunsOpened (phases : List Phase) (status : Status) (first : Option StoryStep) (story : List StoryStep) (before : ℕ) (disk : Change DiskState) (outside : Outside) (faults : Change ℕ) : Type 0 where
+pub record RunsOpened (phases : List Phase) (status : Status) (first : Option StoryStep) (story : List StoryStep) (before : ℕ)
+    (disk : Change DiskState) (outside : Outside) (faults : Change ℕ) : Type 0 where
   pub result : Result Bool (Or WriteFault)
   pub status_is : status ≡ run_status result (rises before disk.after.faults)
   pub first_is : first_step story ≡ first
@@ -37,7 +38,8 @@ pub record RunsOpened (phases : List Phase) (status : Status) (first : Option St
   pub counted : CountsFrom disk.before disk.after story
 
 -- the base that the disk stood for was opened, by calls that read and of which none failed
-pub record RunsOn (phases : List Phase) (status : Status) (story : List StoryStep) (outside : Outside) (faults : Change ℕ) (disk : Change DiskState) : Type 0 where
+pub record RunsOn (phases : List Phase) (status : Status) (story : List StoryStep) (outside : Outside) (faults : Change ℕ)
+    (disk : Change DiskState) : Type 0 where
   pub begins : BeginsOn disk.before story
   pub first : Option StoryStep
   pub opened : DiskState
@@ -45,10 +47,12 @@ pub record RunsOn (phases : List Phase) (status : Status) (story : List StorySte
   pub fit : IsCounted opened
   pub adds : Both (Adds may_read) disk.before.modeled opened.modeled
   pub files : Both SameFiles disk.before.modeled opened.modeled
-  pub runs : RunsOpened phases status first story disk.before.faults (record { before = opened; after = disk.after }) outside faults
+  pub runs : RunsOpened phases status first story disk.before.faults (record { before = opened; after = disk.after }) outside
+      faults
 
 -- no base was opened, the line of the cause was written, and the clock was not read
-pub record StaysClosed (status : Status) (story : List StoryStep) (outside : Outside) (faults : Change ℕ) (disk : Change DiskState) : Type 0 where
+pub record StaysClosed (status : Status) (story : List StoryStep) (outside : Outside) (faults : Change ℕ)
+    (disk : Change DiskState) : Type 0 where
   pub because : OpenCause
   pub fails : FailsToOpen disk.before because disk.after
   pub empty : story ≡ []
@@ -57,4 +61,5 @@ pub record StaysClosed (status : Status) (story : List StoryStep) (outside : Out
 
 -- A session was run: its base was opened and the phases carried out, or it could not be opened.
 abbrev pub RunsSession : List Phase → Status → List StoryStep → Outside → Change ℕ → Change DiskState → Type 0
-RunsSession phases status story outside faults disk = RunsOn phases status story outside faults disk ⊎ StaysClosed status story outside faults disk
+RunsSession phases status story outside faults disk = RunsOn phases status story outside faults disk
+    ⊎ StaysClosed status story outside faults disk

@@ -50,7 +50,13 @@ pub record Outside : Type 0 where
 -- the outside of a run by how its sink and its clock were seen before and after
 abbrev pub outside_of : SinkState → SinkState → ClockState → ClockState → Outside
 outside_of sink new_sink clock new_clock =
-    record { held = sink.held; holds = new_sink.held; moments = clock.modeled; first = clock.readings; reading = new_clock.readings }
+    record {
+      held = sink.held;
+      holds = new_sink.held;
+      moments = clock.modeled;
+      first = clock.readings;
+      reading = new_clock.readings;
+    }
 
 -- these phases have been run, and their transcripts written
 pub record HasRunPhases (phases : List Phase) (story : List StoryStep) (outside : Outside) (failed : Bool) : Type 0 where
@@ -70,14 +76,16 @@ IsCutBy (Is fault) story old new = IsCutAtLast story (earlier_text story) old ne
 
 -- how often the clock was read where so many phases had begun: once for each, or where memory ran out perhaps once more
 abbrev pub ReadsBy : Or WriteFault → ℕ → Outside → Type 0
-ReadsBy NoMemory count outside = (outside.reading ≡ raised_count outside.first count) ⊎ (outside.reading ≡ raised_count outside.first (count + 1))
+ReadsBy NoMemory count outside = (outside.reading ≡ raised_count outside.first count)
+    ⊎ (outside.reading ≡ raised_count outside.first (count + 1))
 ReadsBy (Is fault) count outside = outside.reading ≡ raised_count outside.first count
 
 -- the run of these phases was given up
 pub record IsRunGivenUp (cut : Or WriteFault) (phases : List Phase) (story : List StoryStep) (outside : Outside) : Type 0 where
   pub opened : is_opened story ≡ true
   pub begun : IsPrefixOf (phases_begun story) phases
-  pub moments_are : IfSome outside.moments (λ modeled. moments_begun story ≡ clock_moments modeled outside.first (length (moments_begun story)))
+  pub moments_are : IfSome outside.moments (λ modeled. moments_begun story
+      ≡ clock_moments modeled outside.first (length (moments_begun story)))
   pub reading_is : ReadsBy cut (length (phases_begun story)) outside
   pub written : AppendsPrefix outside.held outside.holds (text_of_story story)
   pub cut_at : IsCutBy cut story outside.held outside.holds

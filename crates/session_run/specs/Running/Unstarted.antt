@@ -13,7 +13,7 @@ use Rattle.cc_outside.specs.declared.sources.Unread.TheVariants as unreads
 use Rattle.story_log.specs.declared.opening.OpenCause.{OpenCause}
 use Rattle.story_log.specs.declared.opening.OpenCause.TheVariants as opens
 use Rattle.session_run.specs.Calls.Asked.{is_run, is_session, phases_spelled}
-use Rattle.session_run.specs.Calls.Causes.{Change, Intake, IsFirstWrong, IsRead, IsUnread, SourceFailed, GaveTooMuch}
+use Rattle.session_run.specs.Calls.Causes.{Change, Intake, IsFirstWrong, IsIntakeRead, IsUnread, SourceFailed, GaveTooMuch}
 use Rattle.session_run.specs.Calls.Statuses.{is_cut, status_line}
 use Rattle.session_run.specs.Running.Runs.{IsRunnable}
 use Rattle.session_run.specs.declared.sessions.Unstarted.{Unstarted}
@@ -23,7 +23,7 @@ use Rattle.session_run.specs.declared.statuses.Status.TheVariants as statuses
 
 -- the source gave a session with these phases, and they can be run
 pub record GivesPhases (intake : Intake) (phases : List Phase) : Type 0 where
-  pub read : IsRead intake
+  pub read : IsIntakeRead intake
   pub spelled : IfSome intake.text.before (λ bytes. phases_spelled bytes ≡ phases)
   pub session : IfSome intake.text.before (λ bytes. is_session bytes ≡ true)
   pub runnable : IsRunnable phases
@@ -46,7 +46,7 @@ IsUnstarted why.ReadFault intake = SourceFailed intake
 IsUnstarted why.TooLong intake = GaveTooMuch intake
 IsUnstarted (why.Unopened (opens.Damaged row)) intake = ⊥
 IsUnstarted (why.Unopened opens.DiskFault) intake = ⊥
-IsUnstarted (why.BadSession error) intake = IsRead intake × IsFirstWrong intake error
+IsUnstarted (why.BadSession error) intake = IsIntakeRead intake × IsFirstWrong intake error
 IsUnstarted (why.Unopened opens.NoMemory) intake = Unit {0}
 
 -- where the base could not be opened: where the disk's faults rose, the disk failed
@@ -70,12 +70,13 @@ unstarted_status (why.Unopened opens.NoMemory) = statuses.NoMemory
 abbrev pub unstarted_line : Unstarted → List ℕ
 unstarted_line unstarted = status_line (unstarted_status unstarted)
 
--- that line was written, unless the sink failed, which then took a front of it; want of memory has no line
-pub record WritesUnstarted (unstarted : Unstarted) (status : Status) (old new : Option (List ℕ)) (faults : Change ℕ) : Type 0 where
-  pub whole : is_cut status ≡ false → Appends old new (unstarted_line unstarted)
-  pub answer : is_cut status ≡ false → status ≡ unstarted_status unstarted
-  pub prefix : status ≡ statuses.WriteFault → AppendsPrefix old new (unstarted_line unstarted)
-  pub nothing : status ≡ statuses.NoMemory → Appends old new []
-  pub memory : status ≡ statuses.NoMemory → unstarted ≡ why.Unopened opens.NoMemory
-  pub fault : status ≡ statuses.WriteFault → Rose faults.before faults.after
-  pub line : status ≡ statuses.WriteFault → is_cut (unstarted_status unstarted) ≡ false
+-- that line was written, unless the sink failed, which then took a prefix of it; want of memory has no line
+pub record WritesUnstarted (unstarted : Unstarted) (status : Status) (old new : Option (List ℕ)) (faults : Change ℕ) : Type 0
+  where
+    pub whole : is_cut status ≡ false → Appends old new (unstarted_line unstarted)
+    pub answer : is_cut status ≡ false → status ≡ unstarted_status unstarted
+    pub prefix : status ≡ statuses.WriteFault → AppendsPrefix old new (unstarted_line unstarted)
+    pub nothing : status ≡ statuses.NoMemory → Appends old new []
+    pub memory : status ≡ statuses.NoMemory → unstarted ≡ why.Unopened opens.NoMemory
+    pub fault : status ≡ statuses.WriteFault → Rose faults.before faults.after
+    pub line : status ≡ statuses.WriteFault → is_cut (unstarted_status unstarted) ≡ false

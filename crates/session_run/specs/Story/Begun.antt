@@ -35,6 +35,6 @@ moments_begun [] = []
 moments_begun (story_steps.PhaseBegun phase moment ∷ story) = moment ∷ moments_begun story
 moments_begun (x ∷ story) = moments_begun story
 
--- the first items of a list, from its front on
+-- the first items of a list, from its start on
 abbrev pub IsPrefixOf : {A : Type 0} → List A → List A → Type 0
 IsPrefixOf {A = A} prefix whole = (rest : List A) × (whole ≡ prefix ++ rest)

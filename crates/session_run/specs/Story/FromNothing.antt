@@ -1,4 +1,4 @@
--- The text of a story where each clearmake is told by the build from nothing at its reference rows.
+-- The text of a story where each clearmake is given by the build from nothing at its reference rows.
 use Rattle.std.specs.Prelude.{ℕ, Option, Some, None, List, [], ◌++◌, if◌then◌else◌}
 use Rattle.cc_names.specs.declared.replies.Reply.{Reply}
 use Rattle.cc_names.specs.declared.replies.Reply.TheVariants as replies

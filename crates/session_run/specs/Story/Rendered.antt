@@ -1,6 +1,6 @@
 -- The text of a story: the transcripts of its phases whose commands are all finished.
 --
--- Each clearmake is told by what its own units have come to. `FromNothing` tells it by the build from nothing.
+-- Each clearmake is given by what its own units have come to. `FromNothing` tells it by the build from nothing.
 use Rattle.std.specs.Prelude.{ℕ, ◌+◌, Bool, true, false, ◌&&◌, ◌||◌, not, nat_lt, List, [], ◌∷◌, ◌++◌, codes}
 use Rattle.std.specs.Fmt.{decimal}
 use Rattle.std.specs.List.{flat_map, list_any, list_all}
@@ -35,12 +35,12 @@ phase_where true ended = ended ∷ []
 phase_where false ended = []
 
 -- the last phase, where all its commands are finished
-abbrev pub last_phase : State → Replies → List EndedPhase
-last_phase s replies = phase_where (is_ended s) (record { number = s.number; phase = s.phase; replies = replies })
+abbrev pub last_ended_phase : State → Replies → List EndedPhase
+last_ended_phase s replies = phase_where (is_ended s) (record { number = s.number; phase = s.phase; replies = replies })
 
 -- the phase that a step closes: a phase that begins closes the one before it
 abbrev pub closed_by : State → Replies → StoryStep → List EndedPhase
-closed_by s replies (story_steps.PhaseBegun phase moment) = last_phase s replies
+closed_by s replies (story_steps.PhaseBegun phase moment) = last_ended_phase s replies
 closed_by s replies step = []
 
 -- the replies after the steps of a story, where each step leaves them so
@@ -56,7 +56,7 @@ closed_over leave s replies (x ∷ story) = closed_by s replies x ++ closed_over
 -- the phases of a story in order, the last one where all its commands are finished, where each step leaves the replies so
 abbrev pub ended_over : (State → StoryStep → Replies → Replies) → List StoryStep → List EndedPhase
 ended_over leave story =
-    closed_over leave start no_replies story ++ last_phase (state_of story) (replies_over leave start no_replies story)
+    closed_over leave start no_replies story ++ last_ended_phase (state_of story) (replies_over leave start no_replies story)
 
 -- all phases of a story but the last
 abbrev pub earlier_phases : List StoryStep → List EndedPhase

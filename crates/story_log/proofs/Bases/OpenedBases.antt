@@ -1,8 +1,9 @@
 -- What is known of a base that was opened, and what stops find where none was.
-use Rattle.std.proofs.Common.{◌≡◌, ℕ, ◌<◌, ◌⊎◌, inl, inr, true, Option, Some, None, is_some, List, [], ◌∷◌, ◌++◌, length, reverse, refl, sym, ap, subst, ◌∙◌, arith}
+use Rattle.std.proofs.Common.{◌≡◌, ℕ, ◌<◌, ◌⊎◌, inl, inr, true, Option, Some, None, is_some, List, [], ◌∷◌, ◌++◌, length}
+use Rattle.std.proofs.Common.{reverse, refl, sym, ap, subst, ◌∙◌, arith}
 use Rattle.std.proofs.lemmas.List.{append-nil}
 use Rattle.cc_names.specs.declared.steps.StoryStep.TheVariants as story_steps
-use Rattle.disk_model.specs.Devices.{Device, Failed, Leaves, LeavesNow, MayLeave, Measures, Idles, bytes_of, file_of}
+use Rattle.disk_model.specs.Devices.{Device, Failed, Leaves, LeavesNow, MayLeave, Measures, Idles, bytes_now, file_of}
 use Rattle.disk_model.specs.Files.{IsImage, stable}
 use Rattle.disk_model.specs.DiskStates.{DiskState, IfModeled, Both, IsCounted}
 use Rattle.base_model.specs.Rows.{Base}
@@ -35,20 +36,22 @@ use Rattle.story_log.proofs.Logging.LogSteps.{oldest_back}
 use Rattle.story_log.proofs.Bases.ReadRows.{adds_on, finds_list, moves_then, raised_rises}
 
 -- what stops since find, where a journal was only read
-leaves_list : (list : List (List ℕ)) (d e : Device) (k : ℕ) (image : List ℕ) → length d.calls < k → Moves list [] list [] d e → Leaves 0 e k image → frames image ≡ list
+leaves_list : (list : List (List ℕ)) (d e : Device) (k : ℕ) (image : List ℕ) → length d.calls < k → Moves list [] list [] d e
+    → Leaves 0 e k image → frames image ≡ list
 leaves_list list d e k image later moves left = by (moves.passes.each k image left)
   where
     by : Leaves 0 d k image ⊎ ((length d.calls < k) × Between list [] list [] image) → frames image ≡ list
     by (inl earlier) = let within = left_within_calls d k image earlier in absurd (omega (arith, within, later))
     by (inr since) = elim since.1 [ inl stands ↦ finds_list list image stands | inr is ↦ is ∙ append-nil list ]
 
-may_leave_list : (list : List (List ℕ)) (d e : Device) (k : ℕ) (image : List ℕ) → length d.calls < k → Moves list [] list [] d e → MayLeave 0 e k image → frames image ≡ list
+may_leave_list : (list : List (List ℕ)) (d e : Device) (k : ℕ) (image : List ℕ) → length d.calls < k → Moves list [] list [] d e
+    → MayLeave 0 e k image → frames image ≡ list
 may_leave_list list d e k image later moves (inl left) = leaves_list list d e k image later moves left
 may_leave_list list d e k image later moves (inr now) = finds_list list image (moves.now image now.1)
 
 -- a journal is only read, and its frames are those of the disk as it was handed in
 abbrev pub Keeps : Device → Device → Type 0
-Keeps d e = Moves (frames (bytes_of 0 d)) [] (frames (bytes_of 0 d)) [] d e
+Keeps d e = Moves (frames (bytes_now 0 d)) [] (frames (bytes_now 0 d)) [] d e
 
 both_tells : (R : Device → Device → Type 0) (old new : Option Device) → Both R old new → is_some new ≡ is_some old
 both_tells R None None both = refl
@@ -57,78 +60,108 @@ both_tells R (Some d) None both = absurd both
 both_tells R (Some d) (Some e) both = refl
 
 -- the call that fails to open
-handed_image : (d : Device) → file_of 0 d ≡ stable (bytes_of 0 d) → (image : List ℕ) → LeavesNow 0 d image → frames image ≡ frames (bytes_of 0 d)
-handed_image d is image left = ap frames (stable_image (bytes_of 0 d) image (subst (λ s. IsImage s image) is left))
+handed_image : (d : Device) → file_of 0 d ≡ stable (bytes_now 0 d) → (image : List ℕ) → LeavesNow 0 d image
+    → frames image ≡ frames (bytes_now 0 d)
+handed_image d is image left = ap frames (stable_image (bytes_now 0 d) image (subst (λ s. IsImage s image) is left))
 
-idle_keeps : (d e : Device) → file_of 0 d ≡ stable (bytes_of 0 d) → Idles d e → Keeps d e
+idle_keeps : (d e : Device) → file_of 0 d ≡ stable (bytes_now 0 d) → Idles d e → Keeps d e
 idle_keeps d e is (inl same) = subst (Keeps d) (sym same) (record {
-  passes = passes_none d (Between (frames (bytes_of 0 d)) [] (frames (bytes_of 0 d)) []);
+  passes = passes_none d (Between (frames (bytes_now 0 d)) [] (frames (bytes_now 0 d)) []);
   now = λ image left. inl (handed_image d is image left);
 })
 idle_keeps d e is (inr missed) = subst (Keeps d) (sym missed) (record {
-  passes = passes_call Failed d (Between (frames (bytes_of 0 d)) [] (frames (bytes_of 0 d)) []) (λ image left. inl (inl (handed_image d is image left))) (λ image left. left) refl;
+  passes = passes_call Failed d (Between (frames (bytes_now 0 d)) [] (frames (bytes_now 0 d)) [])
+      (λ image left. inl (inl (handed_image d is image left))) (λ image left. left) refl;
   now = λ image left. inl (handed_image d is image left);
 })
 
-both_idle : (old new : Option Device) → IfModeled old (λ d. file_of 0 d ≡ stable (bytes_of 0 d)) → Both Idles old new → Both Keeps old new
-both_idle old new is idles = both_from (λ d. file_of 0 d ≡ stable (bytes_of 0 d)) Idles Keeps old new idle_keeps is idles
+both_idle : (old new : Option Device) → IfModeled old (λ d. file_of 0 d ≡ stable (bytes_now 0 d)) → Both Idles old new
+    → Both Keeps old new
+both_idle old new is idles = both_from (λ d. file_of 0 d ≡ stable (bytes_now 0 d)) Idles Keeps old new idle_keeps is idles
 
 -- A journal that was opened on a disk: it has the disk's frames, none of them read yet.
 pub record IsNewOn {D : Type 0} (ghost_state : D → DiskState) (first : DiskState) (journal : Shown D) : Type 0 where
-  pub list : IfModeled first.modeled (λ d. journal.list ≡ frames (bytes_of 0 d))
+  pub list : IfModeled first.modeled (λ d. journal.list ≡ frames (bytes_now 0 d))
   pub left : journal.left ≡ lefts.Nothing
   pub keeps : Both (Moves journal.list [] journal.list []) first.modeled (ghost_state journal.disk).modeled
   pub adds : Both (Adds may_read) first.modeled (ghost_state journal.disk).modeled
   pub files : Both SameFiles first.modeled (ghost_state journal.disk).modeled
   pub counts : OneMore first (ghost_state journal.disk)
 
-pub new_on : {D : Type 0} (ghost_state : D → DiskState) (first : DiskState) (journal : Shown D) → IfModeled first.modeled (λ d. journal.list ≡ frames (bytes_of 0 d)) → journal.left ≡ lefts.Nothing → journal.leftover ≡ [] → Both (Moves journal.list [] journal.list journal.leftover) first.modeled (ghost_state journal.disk).modeled → Both (Measures 0) first.modeled (ghost_state journal.disk).modeled → Both SameFiles first.modeled (ghost_state journal.disk).modeled → OneMore first (ghost_state journal.disk) → IsNewOn ghost_state first journal
+pub new_on : {D : Type 0} (ghost_state : D → DiskState) (first : DiskState) (journal : Shown D)
+    → IfModeled first.modeled (λ d. journal.list ≡ frames (bytes_now 0 d)) → journal.left ≡ lefts.Nothing → journal.leftover ≡ []
+    → Both (Moves journal.list [] journal.list journal.leftover) first.modeled (ghost_state journal.disk).modeled
+    → Both (Measures 0) first.modeled (ghost_state journal.disk).modeled
+    → Both SameFiles first.modeled (ghost_state journal.disk).modeled → OneMore first (ghost_state journal.disk)
+    → IsNewOn ghost_state first journal
 new_on ghost_state first journal list left leftover moves measured files counts = record {
   list = list;
   left = left;
-  keeps = subst (λ l. Both (Moves journal.list [] journal.list l) first.modeled (ghost_state journal.disk).modeled) leftover moves;
+  keeps = subst (λ l. Both (Moves journal.list [] journal.list l) first.modeled (ghost_state journal.disk).modeled) leftover
+      moves;
   adds = both_map (Measures 0) (Adds may_read) first.modeled (ghost_state journal.disk).modeled measured_adds measured;
   files = files;
   counts = counts;
 }
 
-since_first : {D : Type 0} (ghost_state : D → DiskState) (first : DiskState) (opened read : Shown D) → IsNewOn ghost_state first opened → OnlyReads ghost_state opened read → Both (Moves opened.list [] opened.list []) first.modeled (ghost_state read.disk).modeled
+since_first : {D : Type 0} (ghost_state : D → DiskState) (first : DiskState) (opened read : Shown D)
+    → IsNewOn ghost_state first opened → OnlyReads ghost_state opened read
+    → Both (Moves opened.list [] opened.list []) first.modeled (ghost_state read.disk).modeled
 since_first ghost_state first opened read new reads =
     let P : Device → Device → Type 0 = Moves opened.list [] opened.list [] in
-    both_then P P P first.modeled (ghost_state opened.disk).modeled (ghost_state read.disk).modeled (moves_then opened.list) new.keeps reads.stops
+    both_then P P P first.modeled (ghost_state opened.disk).modeled (ghost_state read.disk).modeled (moves_then opened.list)
+    new.keeps reads.stops
 
-pub keeps_first : {D : Type 0} (ghost_state : D → DiskState) (first : DiskState) (opened read : Shown D) → IsNewOn ghost_state first opened → OnlyReads ghost_state opened read → Both Keeps first.modeled (ghost_state read.disk).modeled
+pub keeps_first : {D : Type 0} (ghost_state : D → DiskState) (first : DiskState) (opened read : Shown D)
+    → IsNewOn ghost_state first opened → OnlyReads ghost_state opened read
+    → Both Keeps first.modeled (ghost_state read.disk).modeled
 keeps_first ghost_state first opened read new reads =
-    both_from (λ d. opened.list ≡ frames (bytes_of 0 d)) (Moves opened.list [] opened.list []) Keeps first.modeled (ghost_state read.disk).modeled
+    both_from (λ d. opened.list ≡ frames (bytes_now 0 d)) (Moves opened.list [] opened.list []) Keeps first.modeled
+    (ghost_state read.disk).modeled
     (λ d e is moves. subst (λ l. Moves l [] l [] d e) is moves) new.list (since_first ghost_state first opened read new reads)
 
 -- both files are as they were handed in
-pub files_first : {D : Type 0} (ghost_state : D → DiskState) (first : DiskState) (opened read : Shown D) → IsNewOn ghost_state first opened → OnlyReads ghost_state opened read → Both SameFiles first.modeled (ghost_state read.disk).modeled
-files_first ghost_state first opened read new reads = modeled_then first.modeled (ghost_state opened.disk).modeled (ghost_state read.disk).modeled new.files reads.files
+pub files_first : {D : Type 0} (ghost_state : D → DiskState) (first : DiskState) (opened read : Shown D)
+    → IsNewOn ghost_state first opened → OnlyReads ghost_state opened read
+    → Both SameFiles first.modeled (ghost_state read.disk).modeled
+files_first ghost_state first opened read new reads = modeled_then first.modeled (ghost_state opened.disk).modeled
+    (ghost_state read.disk).modeled new.files reads.files
 
 -- why reading stopped, told of the disk as it was handed in
-pub stops_first : {D : Type 0} (ghost_state : D → DiskState) (first : DiskState) (cause : OpenCause) (opened read : Shown D) → IsNewOn ghost_state first opened → StopsBy (ghost_state opened.disk).modeled (λ _. opened.list) cause (ghost_state opened.disk).faults (ghost_state read.disk).faults → StopsBy first.modeled (λ d. frames (bytes_of 0 d)) cause first.faults (ghost_state read.disk).faults
+pub stops_first : {D : Type 0} (ghost_state : D → DiskState) (first : DiskState) (cause : OpenCause) (opened read : Shown D)
+    → IsNewOn ghost_state first opened → StopsBy (ghost_state opened.disk).modeled (λ _. opened.list) cause
+    (ghost_state opened.disk).faults (ghost_state read.disk).faults → StopsBy first.modeled (λ d. frames (bytes_now 0 d)) cause
+    first.faults (ghost_state read.disk).faults
 stops_first ghost_state first (causes.Damaged n) opened read new h = (
   h.0 ∙ new.counts.1,
-  modeled_both (λ _. IsDamaged opened.list n) (λ d. opened.list ≡ frames (bytes_of 0 d)) (λ d. IsDamaged (frames (bytes_of 0 d)) n) first.modeled
+  modeled_both (λ _. IsDamaged opened.list n) (λ d. opened.list ≡ frames (bytes_now 0 d))
+      (λ d. IsDamaged (frames (bytes_now 0 d)) n) first.modeled
       (λ d damaged is. subst (λ l. IsDamaged l n) is damaged)
-      (modeled_back (Moves opened.list [] opened.list []) (λ _. IsDamaged opened.list n) (λ _. IsDamaged opened.list n) first.modeled (ghost_state opened.disk).modeled (λ d e moves damaged. damaged) new.keeps h.1) new.list,
+      (modeled_back (Moves opened.list [] opened.list []) (λ _. IsDamaged opened.list n) (λ _. IsDamaged opened.list n)
+      first.modeled (ghost_state opened.disk).modeled (λ d e moves damaged. damaged) new.keeps h.1) new.list,
 )
-stops_first ghost_state first causes.DiskFault opened read new h = subst (λ f. rises f (ghost_state read.disk).faults ≡ true) new.counts.1 h
+stops_first ghost_state first causes.DiskFault opened read new h = subst (λ f. rises f (ghost_state read.disk).faults ≡ true)
+    new.counts.1 h
 stops_first ghost_state first causes.NoMemory opened read new h = h ∙ new.counts.1
 
 -- no base was opened
-unchanged_modeled : (first : DiskState) (now : Option Device) → IfModeled first.modeled (λ d. first.ticks ≡ length d.calls) → Both Keeps first.modeled now
-    → IfModeled first.modeled (λ d. IfModeled now (λ e. (k : ℕ) (image : List ℕ) → first.ticks < k → MayLeave 0 e k image → frames image ≡ frames (bytes_of 0 d)))
+unchanged_modeled : (first : DiskState) (now : Option Device) → IfModeled first.modeled (λ d. first.ticks ≡ length d.calls)
+    → Both Keeps first.modeled now
+    → IfModeled first.modeled (λ d. IfModeled now (λ e. (k : ℕ) (image : List ℕ) → first.ticks < k → MayLeave 0 e k image
+    → frames image ≡ frames (bytes_now 0 d)))
 unchanged_modeled first now ticks keeps = by first.modeled now ticks keeps
   where
     by : (old new : Option Device) → IfModeled old (λ d. first.ticks ≡ length d.calls) → Both Keeps old new
-        → IfModeled old (λ d. IfModeled new (λ e. (k : ℕ) (image : List ℕ) → first.ticks < k → MayLeave 0 e k image → frames image ≡ frames (bytes_of 0 d)))
+        → IfModeled old (λ d. IfModeled new (λ e. (k : ℕ) (image : List ℕ) → first.ticks < k → MayLeave 0 e k image
+        → frames image ≡ frames (bytes_now 0 d)))
     by None new same keep = tt
     by (Some d) None same keep = tt
-    by (Some d) (Some e) same keep = λ k image later left. may_leave_list (frames (bytes_of 0 d)) d e k image (omega (arith, same, later)) keep left
+    by (Some d) (Some e) same keep = λ k image later left. may_leave_list (frames (bytes_now 0 d)) d e k image
+        (omega (arith, same, later)) keep left
 
-pub fails_to_open : (first now : DiskState) (cause : OpenCause) → IsCounted first → Both Keeps first.modeled now.modeled → Both SameFiles first.modeled now.modeled → StopsBy first.modeled (λ d. frames (bytes_of 0 d)) cause first.faults now.faults → FailsToOpen first cause now
+pub fails_to_open : (first now : DiskState) (cause : OpenCause) → IsCounted first → Both Keeps first.modeled now.modeled
+    → Both SameFiles first.modeled now.modeled → StopsBy first.modeled (λ d. frames (bytes_now 0 d)) cause first.faults now.faults
+    → FailsToOpen first cause now
 fails_to_open first now cause counted keeps files because = record {
   because = because;
   tells = both_tells Keeps first.modeled now.modeled keeps;
@@ -137,12 +170,17 @@ fails_to_open first now cause counted keeps files because = record {
 }
 
 -- the length of the journal could not be asked
-pub fails_at_once : (first now : DiskState) → IsCounted first → IsCounted now → IfModeled first.modeled (λ d. file_of 0 d ≡ stable (bytes_of 0 d)) → Both Idles first.modeled now.modeled → Both SameFiles first.modeled now.modeled → OneFault first now → FailsToOpen first causes.DiskFault now
+pub fails_at_once : (first now : DiskState) → IsCounted first → IsCounted now
+    → IfModeled first.modeled (λ d. file_of 0 d ≡ stable (bytes_now 0 d)) → Both Idles first.modeled now.modeled
+    → Both SameFiles first.modeled now.modeled → OneFault first now → FailsToOpen first causes.DiskFault now
 fails_at_once first now counted after is idles files fault =
-    fails_to_open first now causes.DiskFault counted (both_idle first.modeled now.modeled is idles) files (raised_rises first now counted after fault.1)
+    fails_to_open first now causes.DiskFault counted (both_idle first.modeled now.modeled is idles) files
+    (raised_rises first now counted after fault.1)
 
 -- the journal behind a base that was opened
-covered_opened : (opening : Opening) (list leftover : List (List ℕ)) (d e : Device) → opening.counts.ticks ≡ length d.calls → list ≡ payloads opening.base → leftover ≡ [] → Moves list [] list [] d e → IsMirrored opening [] list leftover lefts.Nothing e
+covered_opened : (opening : Opening) (list leftover : List (List ℕ)) (d e : Device) → opening.counts.ticks ≡ length d.calls
+    → list ≡ payloads opening.base → leftover ≡ [] → Moves list [] list [] d e
+    → IsMirrored opening [] list leftover lefts.Nothing e
 covered_opened opening list leftover d e ticks is none moves = record {
   list_is = is;
   leftover_is = inl (ap (λ l. list ++ l) none ∙ append-nil list ∙ is);
@@ -153,47 +191,67 @@ covered_opened opening list leftover d e ticks is none moves = record {
 
 -- This base was opened.
 module _ {D : Type 0} (ghost_state : D → DiskState) (first : DiskState) (handed : Handed) (base : Base) (opened read : Shown D)
-    (counted : IsCounted first) (ticks : handed.counts.ticks ≡ first.ticks) (faults : handed.counts.faults ≡ first.faults) (tells : handed.tells ≡ is_some first.modeled)
-    (new : IsNewOn ghost_state first opened) (reads : OnlyReads ghost_state opened read) (sound : (ghost_state read.disk).faults ≡ (ghost_state opened.disk).faults) (through : IsReadThrough ghost_state base read) where
+    (counted : IsCounted first) (ticks : handed.counts.ticks ≡ first.ticks) (faults : handed.counts.faults ≡ first.faults)
+    (tells : handed.tells ≡ is_some first.modeled)
+    (new : IsNewOn ghost_state first opened) (reads : OnlyReads ghost_state opened read) (sound : (ghost_state read.disk).faults
+    ≡ (ghost_state opened.disk).faults) (through : IsReadThrough ghost_state base read) where
   list_so : IfModeled (ghost_state read.disk).modeled (λ _. opened.list ≡ payloads base)
-  list_so = modeled_both (λ _. read.list ≡ payloads base ++ read.rest) (λ _. read.rest ≡ []) (λ _. opened.list ≡ payloads base) (ghost_state read.disk).modeled
-      (λ d is none. sym reads.list ∙ is ∙ ap (λ l. payloads base ++ l) none ∙ append-nil (payloads base)) through.so_far.list_is through.nothing
+  list_so = modeled_both (λ _. read.list ≡ payloads base ++ read.rest) (λ _. read.rest ≡ []) (λ _. opened.list ≡ payloads base)
+      (ghost_state read.disk).modeled
+      (λ d is none. sym reads.list ∙ is ∙ ap (λ l. payloads base ++ l) none
+      ∙ append-nil (payloads base)) through.so_far.list_is through.nothing
 
-  pub opened_backed : IsBacked (state_of (story_steps.Opened (oldest_first base) handed.counts handed.tells ∷ [])) (ghost_state read.disk) read.list read.leftover read.ended read.left read.settled
+  pub opened_backed : IsBacked (state_of (story_steps.Opened (oldest_first base) handed.counts handed.tells ∷ []))
+      (ghost_state read.disk) read.list read.leftover read.ended read.left read.settled
   opened_backed = record {
     opening = record { base = reverse (oldest_first base); counts = handed.counts; tells = handed.tells };
     opened = refl;
-    tells = tells ∙ sym (both_tells (Moves opened.list [] opened.list []) first.modeled (ghost_state read.disk).modeled (since_first ghost_state first opened read new reads));
+    tells = tells ∙ sym (both_tells (Moves opened.list [] opened.list []) first.modeled (ghost_state read.disk).modeled
+        (since_first ghost_state first opened read new reads));
     at_end = through.ended;
     calm = λ e. reads.left ∙ new.left;
     shut = λ e some. absurd (cc);
     base = refl;
     ticks = omega (arith, ticks, new.counts.0, reads.ticks);
     faults = omega (arith, faults, new.counts.1, sound);
-    covered = by first.modeled (ghost_state read.disk).modeled counted.modeled list_so (since_first ghost_state first opened read new reads);
+    covered = by first.modeled (ghost_state read.disk).modeled counted.modeled list_so
+        (since_first ghost_state first opened read new reads);
   }
     where
-      by : (old now : Option Device) → IfModeled old (λ d. first.ticks ≡ length d.calls) → IfModeled now (λ _. opened.list ≡ payloads base) → Both (Moves opened.list [] opened.list []) old now
-          → IfModeled now (IsMirrored (record { base = reverse (oldest_first base); counts = handed.counts; tells = handed.tells }) [] read.list read.leftover read.left)
+      by : (old now : Option Device) → IfModeled old (λ d. first.ticks ≡ length d.calls)
+          → IfModeled now (λ _. opened.list ≡ payloads base) → Both (Moves opened.list [] opened.list []) old now
+          → IfModeled now (IsMirrored (record {
+            base = reverse (oldest_first base);
+            counts = handed.counts;
+            tells = handed.tells;
+          }) [] read.list read.leftover read.left)
       by old None same is moves = tt
       by None (Some e) same is moves = absurd moves
       by (Some d) (Some e) same is moves =
-          subst (λ left. IsMirrored (record { base = reverse (oldest_first base); counts = handed.counts; tells = handed.tells }) [] read.list read.leftover left e) (sym (reads.left ∙ new.left))
-          (subst (λ l. IsMirrored (record { base = reverse (oldest_first base); counts = handed.counts; tells = handed.tells }) [] l read.leftover lefts.Nothing e) (sym reads.list)
-          (covered_opened (record { base = reverse (oldest_first base); counts = handed.counts; tells = handed.tells }) opened.list read.leftover d e (ticks ∙ same) (is ∙ ap payloads (sym (oldest_back base))) through.so_far.leftover moves))
+          subst (λ left. IsMirrored (record { base = reverse (oldest_first base); counts = handed.counts; tells = handed.tells })
+          [] read.list read.leftover left e) (sym (reads.left ∙ new.left))
+          (subst (λ l. IsMirrored (record { base = reverse (oldest_first base); counts = handed.counts; tells = handed.tells }) []
+          l read.leftover lefts.Nothing e) (sym reads.list)
+          (covered_opened (record { base = reverse (oldest_first base); counts = handed.counts; tells = handed.tells })
+          opened.list read.leftover d e (ticks ∙ same) (is ∙ ap payloads (sym (oldest_back base))) through.so_far.leftover
+          moves))
 
   base_on : IsBaseOn first base handed
   base_on = record {
     ticks = ticks;
     faults = faults;
     tells = tells;
-    found = modeled_both (λ _. opened.list ≡ payloads base) (λ d. opened.list ≡ frames (bytes_of 0 d)) (λ d. frames (bytes_of 0 d) ≡ payloads base) first.modeled (λ d is same. sym same ∙ is)
-        (modeled_back (Moves opened.list [] opened.list []) (λ _. opened.list ≡ payloads base) (λ _. opened.list ≡ payloads base) first.modeled (ghost_state read.disk).modeled (λ d e moves is. is) (since_first ghost_state first opened read new reads) list_so) new.list;
+    found = modeled_both (λ _. opened.list ≡ payloads base) (λ d. opened.list ≡ frames (bytes_now 0 d))
+        (λ d. frames (bytes_now 0 d) ≡ payloads base) first.modeled (λ d is same. sym same ∙ is)
+        (modeled_back (Moves opened.list [] opened.list []) (λ _. opened.list ≡ payloads base) (λ _. opened.list ≡ payloads base)
+        first.modeled (ghost_state read.disk).modeled (λ d e moves is. is)
+        (since_first ghost_state first opened read new reads) list_so) new.list;
     fits = through.so_far.good;
     formed = through.so_far.formed;
   }
 
-  pub is_opened : (log : Logged) → log ≡ opened_log base handed (ghost_state read.disk) → IsCounted (ghost_state read.disk) → IsOpened first log
+  pub is_opened : (log : Logged) → log ≡ opened_log base handed (ghost_state read.disk) → IsCounted (ghost_state read.disk)
+      → IsOpened first log
   is_opened log is fit = record {
     base = base;
     handed = handed;
@@ -201,6 +259,8 @@ module _ {D : Type 0} (ghost_state : D → DiskState) (first : DiskState) (hande
     is = is ∙ ap (opened_log base handed) (sym (ap (λ l. l.ghost_state) is));
     sound = ap (λ l. l.ghost_state.faults) is ∙ sound ∙ new.counts.1;
     fit = subst IsCounted (sym (ap (λ l. l.ghost_state) is)) fit;
-    adds = subst (λ s. Both (Adds may_read) first.modeled s.modeled) (sym (ap (λ l. l.ghost_state) is)) (adds_on first.modeled (ghost_state opened.disk).modeled (ghost_state read.disk).modeled new.adds reads.adds);
-    files = subst (λ s. Both SameFiles first.modeled s.modeled) (sym (ap (λ l. l.ghost_state) is)) (files_first ghost_state first opened read new reads);
+    adds = subst (λ s. Both (Adds may_read) first.modeled s.modeled) (sym (ap (λ l. l.ghost_state) is))
+        (adds_on first.modeled (ghost_state opened.disk).modeled (ghost_state read.disk).modeled new.adds reads.adds);
+    files = subst (λ s. Both SameFiles first.modeled s.modeled) (sym (ap (λ l. l.ghost_state) is))
+        (files_first ghost_state first opened read new reads);
   }

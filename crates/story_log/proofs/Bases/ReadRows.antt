@@ -26,40 +26,51 @@ use Rattle.story_log.proofs.Cases.{both}
 use Rattle.story_log.proofs.Logging.Rising.{rises_raised}
 
 -- reads one after the other
-pub moves_then : (list : List (List ℕ)) (d e f : Device) → Moves list [] list [] d e → Moves list [] list [] e f → Moves list [] list [] d f
+pub moves_then : (list : List (List ℕ)) (d e f : Device) → Moves list [] list [] d e → Moves list [] list [] e f
+    → Moves list [] list [] d f
 moves_then list d e f one two = record { passes = passes_then d e f _ one.passes two.passes; now = two.now }
 
--- a stop now finds the list where nothing is loose
+-- a stop now finds the list where nothing is left over
 pub finds_list : (list : List (List ℕ)) (image : List ℕ) → Stands list [] image → frames image ≡ list
 finds_list list image (inl is) = is
 finds_list list image (inr is) = is ∙ append-nil list
 
-pub raised_rises : (one two : DiskState) → IsCounted one → IsCounted two → two.faults ≡ next_count one.faults → rises one.faults two.faults ≡ true
+pub raised_rises : (one two : DiskState) → IsCounted one → IsCounted two → two.faults ≡ next_count one.faults
+    → rises one.faults two.faults ≡ true
 raised_rises one two first second is =
     rises_raised one.faults one.faults two.faults (omega arith) first.faults (omega (arith, is)) second.faults
 
 -- a stop after reads finds the list
-read_now : {D : Type 0} (ghost_state : D → DiskState) (old new : Shown D) → OnlyReads ghost_state old new → IfModeled (ghost_state new.disk).modeled (λ d. (image : List ℕ) → LeavesNow 0 d image → frames image ≡ new.list)
+read_now : {D : Type 0} (ghost_state : D → DiskState) (old new : Shown D) → OnlyReads ghost_state old new
+    → IfModeled (ghost_state new.disk).modeled (λ d. (image : List ℕ) → LeavesNow 0 d image → frames image ≡ new.list)
 read_now ghost_state old new reads =
-    modeled_next (Moves old.list [] old.list []) (λ d. (image : List ℕ) → LeavesNow 0 d image → frames image ≡ new.list) (ghost_state old.disk).modeled (ghost_state new.disk).modeled
+    modeled_next (Moves old.list [] old.list []) (λ d. (image : List ℕ) → LeavesNow 0 d image
+    → frames image ≡ new.list) (ghost_state old.disk).modeled (ghost_state new.disk).modeled
     (λ d e moves image left. finds_list old.list image (moves.now image left) ∙ sym reads.list) reads.stops
 
 -- one more row of a base
-one_more : (base : Base) (row : Plain) (payload : List ℕ) (list rest rest' : List (List ℕ)) → list ≡ payloads base ++ rest → rest ≡ payload ∷ rest' → payload ≡ spelling_of row → list ≡ payloads (row ∷ base) ++ rest'
+one_more : (base : Base) (row : Plain) (payload : List ℕ) (list rest rest' : List (List ℕ)) → list ≡ payloads base ++ rest
+    → rest ≡ payload ∷ rest' → payload ≡ spelling_of row → list ≡ payloads (row ∷ base) ++ rest'
 one_more base row payload list rest rest' is next spells =
     is ∙ ap (λ l. payloads base ++ l) (next ∙ ap (λ p. p ∷ rest') spells)
     ∙ sym (append_assoc (payloads base) (spelling_of row ∷ []) rest')
 
 -- a further row was read
-pub read_more : {D : Type 0} (ghost_state : D → DiskState) (base : Base) (row : Plain) (payload : List ℕ) (old new : Shown D) → IsReadSoFar ghost_state base old → OnlyReads ghost_state old new → NextIs ghost_state (Some payload) old new → IsNextRow base payload row → IsReadSoFar ghost_state (row ∷ base) new
+pub read_more : {D : Type 0} (ghost_state : D → DiskState) (base : Base) (row : Plain) (payload : List ℕ) (old new : Shown D)
+    → IsReadSoFar ghost_state base old → OnlyReads ghost_state old new → NextIs ghost_state (Some payload) old new
+    → IsNextRow base payload row → IsReadSoFar ghost_state (row ∷ base) new
 read_more ghost_state base row payload old new h reads next is = record {
   good = ap₂ ◌&&◌ is.fits h.good;
   formed = (is.formed, h.formed);
   leftover = next.leftover;
   now = read_now ghost_state old new reads;
-  list_is = modeled_from (Moves old.list [] old.list []) (λ _. (old.list ≡ payloads base ++ old.rest) × (old.rest ≡ payload ∷ new.rest)) (λ _. new.list ≡ payloads (row ∷ base) ++ new.rest) (ghost_state old.disk).modeled (ghost_state new.disk).modeled
+  list_is = modeled_from (Moves old.list [] old.list []) (λ _. (old.list ≡ payloads base ++ old.rest)
+      × (old.rest ≡ payload ∷ new.rest)) (λ _. new.list ≡ payloads (row ∷ base) ++ new.rest) (ghost_state old.disk).modeled
+      (ghost_state new.disk).modeled
       (λ d e parts moves. reads.list ∙ one_more base row payload old.list old.rest new.rest parts.0 parts.1 is.spells)
-      (modeled_both (λ _. old.list ≡ payloads base ++ old.rest) (λ _. old.rest ≡ payload ∷ new.rest) (λ _. (old.list ≡ payloads base ++ old.rest) × (old.rest ≡ payload ∷ new.rest)) (ghost_state old.disk).modeled (λ d split gives. (split, gives)) h.list_is next.gives)
+      (modeled_both (λ _. old.list ≡ payloads base ++ old.rest) (λ _. old.rest ≡ payload ∷ new.rest)
+      (λ _. (old.list ≡ payloads base ++ old.rest) × (old.rest ≡ payload ∷ new.rest)) (ghost_state old.disk).modeled
+      (λ d split gives. (split, gives)) h.list_is next.gives)
       reads.stops;
 }
 
@@ -68,28 +79,35 @@ pub row_fits : (base : Base) (row : Plain) → is_base (row ∷ base) ≡ true �
 row_fits base row good = (both (fits base row.deed) (is_base base) good).0
 
 -- calls that read are added, and more of them
-pub adds_on : (one two three : Option Device) → Both (Adds may_read) one two → Both (Adds may_read) two three → Both (Adds may_read) one three
+pub adds_on : (one two three : Option Device) → Both (Adds may_read) one two → Both (Adds may_read) two three
+    → Both (Adds may_read) one three
 adds_on one two three h g = both_then (Adds may_read) (Adds may_read) (Adds may_read) one two three (adds_then may_read) h g
 
 -- reads one after the other
-pub reads_then : {D : Type 0} (ghost_state : D → DiskState) (one two three : Shown D) → OnlyReads ghost_state one two → OnlyReads ghost_state two three → OnlyReads ghost_state one three
+pub reads_then : {D : Type 0} (ghost_state : D → DiskState) (one two three : Shown D) → OnlyReads ghost_state one two
+    → OnlyReads ghost_state two three → OnlyReads ghost_state one three
 reads_then ghost_state one two three h g =
     let P : Device → Device → Type 0 = Moves one.list [] one.list [] in record {
       list = g.list ∙ h.list;
       left = g.left ∙ h.left;
       ticks = omega (arith, h.ticks, g.ticks);
-      stops = both_then P P P (ghost_state one.disk).modeled (ghost_state two.disk).modeled (ghost_state three.disk).modeled (moves_then one.list) h.stops
+      stops = both_then P P P (ghost_state one.disk).modeled (ghost_state two.disk).modeled (ghost_state three.disk).modeled
+          (moves_then one.list) h.stops
           (subst (λ l. Both (Moves l [] l []) (ghost_state two.disk).modeled (ghost_state three.disk).modeled) h.list g.stops);
       adds = adds_on (ghost_state one.disk).modeled (ghost_state two.disk).modeled (ghost_state three.disk).modeled h.adds g.adds;
-      files = modeled_then (ghost_state one.disk).modeled (ghost_state two.disk).modeled (ghost_state three.disk).modeled h.files g.files;
+      files = modeled_then (ghost_state one.disk).modeled (ghost_state two.disk).modeled (ghost_state three.disk).modeled h.files
+          g.files;
     }
 
 -- why reading stopped behind reads, told of the journal before them
-pub stops_behind : {D : Type 0} (ghost_state : D → DiskState) (cause : OpenCause) (one two : Shown D) (faults : ℕ) → OnlyReads ghost_state one two → (ghost_state two.disk).faults ≡ (ghost_state one.disk).faults
-    → StopsBy (ghost_state two.disk).modeled (λ _. two.list) cause (ghost_state two.disk).faults faults → StopsBy (ghost_state one.disk).modeled (λ _. one.list) cause (ghost_state one.disk).faults faults
+pub stops_behind : {D : Type 0} (ghost_state : D → DiskState) (cause : OpenCause) (one two : Shown D) (faults : ℕ)
+    → OnlyReads ghost_state one two → (ghost_state two.disk).faults ≡ (ghost_state one.disk).faults
+    → StopsBy (ghost_state two.disk).modeled (λ _. two.list) cause (ghost_state two.disk).faults faults
+    → StopsBy (ghost_state one.disk).modeled (λ _. one.list) cause (ghost_state one.disk).faults faults
 stops_behind ghost_state (causes.Damaged n) one two faults reads sound h = (
   h.0 ∙ sound,
-  modeled_back (Moves one.list [] one.list []) (λ _. IsDamaged one.list n) (λ _. IsDamaged two.list n) (ghost_state one.disk).modeled (ghost_state two.disk).modeled
+  modeled_back (Moves one.list [] one.list []) (λ _. IsDamaged one.list n) (λ _. IsDamaged two.list n)
+      (ghost_state one.disk).modeled (ghost_state two.disk).modeled
       (λ d e moves damaged. subst (λ l. IsDamaged l n) reads.list damaged) reads.stops h.1,
 )
 stops_behind ghost_state causes.DiskFault one two faults reads sound h = subst (λ f. rises f faults ≡ true) sound h

@@ -1,5 +1,6 @@
 -- What became of a row that was to be committed: the log then, and what it keeps.
-use Rattle.std.proofs.Common.{◌≡◌, ℕ, ◌+◌, ◌≤◌, inl, inr, Bool, true, false, Option, Some, None, List, [], ◌∷◌, ◌++◌, refl, ap, sym, subst, ◌∙◌, arith, append_assoc}
+use Rattle.std.proofs.Common.{◌≡◌, ℕ, ◌+◌, ◌≤◌, inl, inr, Bool, true, false, Option, Some, None, List, [], ◌∷◌, ◌++◌, refl, ap}
+use Rattle.std.proofs.Common.{sym, subst, ◌∙◌, arith, append_assoc}
 use Rattle.std.specs.Option.{option_to_list}
 use Rattle.std.specs.Prelude.{IfSome, Result, Ok, Err, if◌then◌else◌}
 use Rattle.cc_names.specs.Formed.{Plain, IsFormed}
@@ -38,25 +39,45 @@ abbrev pub fault_step : Tag → Option Plain → ℕ → ℕ → ℕ → Step
 fault_step tag found before faults tick = steps.Fault tag found before faults tick
 
 -- what the log shows after a fault and the step that it brings with it
-pub shown_faulted : (on : Handed) (kept more : List Step) (base : Base) (phases : List Phase) (tag : Tag) (found : Option Plain) (before faults tick : ℕ) (ending : Option Step) (old new : DiskState) → AreNamedBySteps 1 0 kept (oldest_first base) phases → IfSome ending IsQuiet → more ≡ kept ++ fault_step tag found before faults tick ∷ option_to_list ending → shown on more base phases new ≡ with_ending (with_step_on (shown on kept base phases old) (fault_step tag found before faults tick) new) ending
-shown_faulted on kept more base phases tag found before faults tick None old new h quiet e = shown_step_on on kept more base phases (fault_step tag found before faults tick) old new h refl e
+pub shown_faulted : (on : Handed) (kept more : List Step) (base : Base) (phases : List Phase) (tag : Tag) (found : Option Plain)
+    (before faults tick : ℕ) (ending : Option Step) (old new : DiskState) → AreNamedBySteps 1 0 kept (oldest_first base) phases
+    → IfSome ending IsQuiet → more ≡ kept ++ fault_step tag found before faults tick ∷ option_to_list ending
+    → shown on more base phases new ≡ with_ending (with_step_on (shown on kept base phases old)
+    (fault_step tag found before faults tick) new) ending
+shown_faulted on kept more base phases tag found before faults tick None old new h quiet e =
+    shown_step_on on kept more base phases (fault_step tag found before faults tick) old new h refl e
 shown_faulted on kept more base phases tag found before faults tick (Some step) old new h quiet e =
     let fault = fault_step tag found before faults tick in
-    shown_step on (kept ++ fault ∷ []) more base phases step new (is_named_step kept (kept ++ fault ∷ []) base phases fault h refl refl) quiet.0 (e ∙ sym (append_assoc kept (fault ∷ []) (step ∷ [])))
+    shown_step on (kept ++ fault ∷ []) more base phases step new (is_named_step kept (kept ++ fault ∷ []) base phases fault h refl
+    refl) quiet.0 (e ∙ sym (append_assoc kept (fault ∷ []) (step ∷ [])))
     ∙ ap (λ log. with_ending log (Some step)) (shown_step_on on kept (kept ++ fault ∷ []) base phases fault old new h refl refl)
 
 -- and what it keeps
-pub logged_faulted : (on : Handed) (kept more : List Step) (base : Base) (phases : List Phase) (tag : Tag) (row : Plain) (earlier found : Option Plain) (before faults tick : ℕ) (ending : Option Step) (old new : DiskState) (list leftover list' leftover' : List (List ℕ)) (ended ended' : Bool) (left left' : Left) (settled settled' : Bool) → IfSome ending IsQuiet → IsLogged on kept base phases old list leftover ended left settled → more ≡ kept ++ fault_step tag found before faults tick ∷ option_to_list ending → Both (Moves list leftover list' leftover') old.modeled new.modeled → IfModeled old.modeled (λ _. (list' ≡ list) × (leftover' ≡ leftover_after left' leftover (spelling_of row))) → earlier ≡ left_in kept → LeftSo earlier row left' found → tick ≡ new.ticks → faults ≡ new.faults → IsCounted old → IsCounted new → ended' ≡ true → settled' ≡ settled_after left' → (left' ≡ lefts.Earlier → settled ≡ false) → IsLogged on more base phases new list' leftover' ended' left' settled'
-logged_faulted on kept more base phases tag row earlier found before faults tick None old new list leftover list' leftover' ended ended' left left' settled settled' quiet h e moves stays copied so at counts was counted end set ajar =
-    logged_fault on kept more base phases tag row earlier found before faults tick old new list leftover list' leftover' ended ended' left left' settled settled' h e moves stays copied so at counts was counted end set ajar
-logged_faulted on kept more base phases tag row earlier found before faults tick (Some step) old new list leftover list' leftover' ended ended' left left' settled settled' quiet h e moves stays copied so at counts was counted end set ajar =
+pub logged_faulted : (on : Handed) (kept more : List Step) (base : Base) (phases : List Phase) (tag : Tag) (row : Plain)
+    (earlier found : Option Plain) (before faults tick : ℕ) (ending : Option Step) (old new : DiskState)
+    (list leftover list' leftover' : List (List ℕ)) (ended ended' : Bool) (left left' : Left) (settled settled' : Bool)
+    → IfSome ending IsQuiet → IsLogged on kept base phases old list leftover ended left settled
+    → more ≡ kept ++ fault_step tag found before faults tick ∷ option_to_list ending
+    → Both (Moves list leftover list' leftover') old.modeled new.modeled
+    → IfModeled old.modeled (λ _. (list' ≡ list) × (leftover' ≡ leftover_after left' leftover (spelling_of row)))
+    → earlier ≡ left_in kept → LeftSo earlier row left' found → tick ≡ new.ticks → faults ≡ new.faults → IsCounted old
+    → IsCounted new → ended' ≡ true → settled' ≡ settled_after left' → (left' ≡ lefts.Earlier → settled ≡ false)
+    → IsLogged on more base phases new list' leftover' ended' left' settled'
+logged_faulted on kept more base phases tag row earlier found before faults tick None old new list leftover list' leftover' ended
+    ended' left left' settled settled' quiet h e moves stays copied so at counts was counted end set ajar =
+    logged_fault on kept more base phases tag row earlier found before faults tick old new list leftover list' leftover' ended
+    ended' left left' settled settled' h e moves stays copied so at counts was counted end set ajar
+logged_faulted on kept more base phases tag row earlier found before faults tick (Some step) old new list leftover list' leftover'
+    ended ended' left left' settled settled' quiet h e moves stays copied so at counts was counted end set ajar =
     let fault = fault_step tag found before faults tick in
     logged_step on (kept ++ fault ∷ []) more base phases step new list' leftover' ended' left' settled'
-    (logged_fault on kept (kept ++ fault ∷ []) base phases tag row earlier found before faults tick old new list leftover list' leftover' ended ended' left left' settled settled' h refl moves stays copied so at counts was counted end set ajar)
+    (logged_fault on kept (kept ++ fault ∷ []) base phases tag row earlier found before faults tick old new list leftover list'
+    leftover' ended ended' left left' settled settled' h refl moves stays copied so at counts was counted end set ajar)
     quiet.0 quiet.1 (e ∙ sym (append_assoc kept (fault ∷ []) (step ∷ [])))
 
 -- what was left is what a fault may leave
-may_leave_so : (s : State) (row : Plain) (left' : Left) (found : Option Plain) → LeftSo (hanging s.ends) row left' found → MayLeaveRow s row found
+may_leave_so : (s : State) (row : Plain) (left' : Left) (found : Option Plain) → LeftSo (hanging s.ends) row left' found
+    → MayLeaveRow s row found
 may_leave_so s row lefts.Nothing found so = subst (MayLeaveRow s row) (sym so) tt
 may_leave_so s row lefts.Earlier found so = subst (MayLeaveRow s row) (sym so) (by (hanging s.ends) refl)
   where
@@ -71,31 +92,52 @@ some_calls true = omega arith
 some_calls false = omega arith
 
 -- the calls that commit the row's spelling commit the row
-pub commits_row : (row : Plain) (frame : List ℕ) (settled : Bool) (tail : ℕ) (old new : Option Device) → frame ≡ spelling_of row → Both (λ d e. e ≡ device_after_commit settled tail frame d) old new → Both (CommitsRow row) old new
+pub commits_row : (row : Plain) (frame : List ℕ) (settled : Bool) (tail : ℕ) (old new : Option Device) → frame ≡ spelling_of row
+    → Both (λ d e. e ≡ device_after_commit settled tail frame d) old new → Both (CommitsRow row) old new
 commits_row row frame settled tail None None is h = tt
 commits_row row frame settled tail None (Some e) is h = absurd h
 commits_row row frame settled tail (Some d) None is h = absurd h
-commits_row row frame settled tail (Some d) (Some e) is h = (settled, tail, h ∙ ap (λ payload. device_after_commit settled tail payload d) is)
+commits_row row frame settled tail (Some d) (Some e) is h = (
+  settled,
+  tail,
+  h
+      ∙ ap (λ payload. device_after_commit settled tail payload d) is,
+)
 
 -- the row was committed
-pub is_committed : (on : Handed) (kept more : List Step) (base grown : Base) (phases : List Phase) (tag : Tag) (number tick calls : ℕ) (row : Plain) (old new : DiskState) (list leftover : List (List ℕ)) (ended : Bool) (left : Left) (settled : Bool) → IsLogged on kept base phases old list leftover ended left settled → more ≡ kept ++ steps.Commit tag number tick ∷ [] → grown ≡ row ∷ base → tick ≡ new.ticks → new.ticks ≡ old.ticks + calls → 1 ≤ calls → new.faults ≡ old.faults → IsFormed row → IsCounted new → Both WritesOn old.modeled new.modeled → Both (CommitsRow row) old.modeled new.modeled → IsCommitted (shown on kept base phases old) (shown on more grown phases new) row
-is_committed on kept more base grown phases tag number tick calls row old new list leftover ended left settled h e g at spent some same formed fit writes calls' = record {
-  tick = tick;
-  ghost_state = new;
-  formed = formed;
-  grows = shown_row on kept more base grown phases tag number tick row old new h.modeled e g;
-  ticked = rises_more _ tick (omega (arith, h.backed.ticks, at, spent, some));
-  at = at;
-  spent = omega (arith, at, spent, some);
-  faults = same;
-  fit = fit;
-  writes = writes;
-  calls = calls';
-}
+pub is_committed : (on : Handed) (kept more : List Step) (base grown : Base) (phases : List Phase) (tag : Tag)
+    (number tick calls : ℕ) (row : Plain) (old new : DiskState) (list leftover : List (List ℕ)) (ended : Bool) (left : Left)
+    (settled : Bool) → IsLogged on kept base phases old list leftover ended left settled
+    → more ≡ kept ++ steps.Commit tag number tick ∷ [] → grown ≡ row ∷ base → tick ≡ new.ticks → new.ticks ≡ old.ticks + calls
+    → 1 ≤ calls → new.faults ≡ old.faults → IsFormed row → IsCounted new → Both WritesOn old.modeled new.modeled
+    → Both (CommitsRow row) old.modeled new.modeled → IsCommitted (shown on kept base phases old) (shown on more grown phases new)
+    row
+is_committed on kept more base grown phases tag number tick calls row old new list leftover ended left settled h e g at spent some
+    same formed fit writes calls' = record {
+      tick = tick;
+      ghost_state = new;
+      formed = formed;
+      grows = shown_row on kept more base grown phases tag number tick row old new h.modeled e g;
+      ticked = rises_more _ tick (omega (arith, h.backed.ticks, at, spent, some));
+      at = at;
+      spent = omega (arith, at, spent, some);
+      faults = same;
+      fit = fit;
+      writes = writes;
+      calls = calls';
+    }
 
 -- the disk failed
-pub is_faulted : (on : Handed) (kept more : List Step) (base : Base) (phases : List Phase) (tag : Tag) (row : Plain) (earlier found : Option Plain) (before faults tick : ℕ) (ending : Option Step) (old new : DiskState) (list leftover : List (List ℕ)) (ended : Bool) (left left' : Left) (settled : Bool) → tag ≡ row.tag → IfSome ending IsQuiet → IsLogged on kept base phases old list leftover ended left settled → more ≡ kept ++ fault_step tag found before faults tick ∷ option_to_list ending → earlier ≡ left_in kept → LeftSo earlier row left' found → tick ≡ new.ticks → faults ≡ new.faults → before ≡ old.faults → next_count old.ticks ≤ new.ticks → new.faults ≡ next_count old.faults → IsCounted old → IsCounted new → IsFormed row → Both WritesOn old.modeled new.modeled → IsFaulted (shown on kept base phases old) (shown on more base phases new) row ending
-is_faulted on kept more base phases tag row earlier found before faults tick ending old new list leftover ended left left' settled tagged quiet h e copied so at counts was spent rose counted counted' formed writes =
+pub is_faulted : (on : Handed) (kept more : List Step) (base : Base) (phases : List Phase) (tag : Tag) (row : Plain)
+    (earlier found : Option Plain) (before faults tick : ℕ) (ending : Option Step) (old new : DiskState)
+    (list leftover : List (List ℕ)) (ended : Bool) (left left' : Left) (settled : Bool) → tag ≡ row.tag → IfSome ending IsQuiet
+    → IsLogged on kept base phases old list leftover ended left settled
+    → more ≡ kept ++ fault_step tag found before faults tick ∷ option_to_list ending → earlier ≡ left_in kept
+    → LeftSo earlier row left' found → tick ≡ new.ticks → faults ≡ new.faults → before ≡ old.faults
+    → next_count old.ticks ≤ new.ticks → new.faults ≡ next_count old.faults → IsCounted old → IsCounted new → IsFormed row
+    → Both WritesOn old.modeled new.modeled → IsFaulted (shown on kept base phases old) (shown on more base phases new) row ending
+is_faulted on kept more base phases tag row earlier found before faults tick ending old new list leftover ended left left' settled
+    tagged quiet h e copied so at counts was spent rose counted counted' formed writes =
     let s = state_of (story_of on kept (oldest_first base) phases) in record {
       left = found;
       before = before;
@@ -104,22 +146,28 @@ is_faulted on kept more base phases tag row earlier found before faults tick end
       ghost_state = new;
       formed = formed;
       grows = shown_faulted on kept more base phases tag found before faults tick ending old new h.modeled quiet e
-          ∙ ap (λ t. with_ending (with_step_on (shown on kept base phases old) (fault_step t found before faults tick) new) ending) tagged;
-      rose = rises_raised before old.faults faults (omega (arith, was)) counted.faults (omega (arith, counts, rose)) (omega (arith, counts, counted'.faults));
+          ∙ ap (λ t. with_ending (with_step_on (shown on kept base phases old) (fault_step t found before faults tick) new)
+          ending) tagged;
+      rose = rises_raised before old.faults faults (omega (arith, was)) counted.faults (omega (arith, counts, rose))
+          (omega (arith, counts, counted'.faults));
       later = omega (arith, h.backed.faults, was);
-      leaves = may_leave_so s row left' found (subst (λ o. LeftSo o row left' found) (copied ∙ sym (hanging_is on 1 0 kept (oldest_first base) phases start h.modeled)) so);
-      ticked = rises_raised _ old.ticks tick h.backed.ticks counted.ticks (omega (arith, at, spent)) (omega (arith, at, counted'.ticks));
+      leaves = may_leave_so s row left' found (subst (λ o. LeftSo o row left' found) (copied
+          ∙ sym (hanging_is on 1 0 kept (oldest_first base) phases start h.modeled)) so);
+      ticked = rises_raised _ old.ticks tick h.backed.ticks counted.ticks (omega (arith, at, spent))
+          (omega (arith, at, counted'.ticks));
       counted = was;
       one = counts ∙ rose ∙ ap next_count (sym was);
       modeled = counts;
       at = at;
-      spent = rises_raised old.ticks old.ticks tick (omega arith) counted.ticks (omega (arith, at, spent)) (omega (arith, at, counted'.ticks));
+      spent = rises_raised old.ticks old.ticks tick (omega arith) counted.ticks (omega (arith, at, spent))
+          (omega (arith, at, counted'.ticks));
       fit = counted';
       writes = writes;
     }
 
 -- settling takes two calls at most
-pub few_calls : {T E : Type 0} (settled : Bool) (result : Result T E) (old new : DiskState) → Spends (if settled then 0 else 2) result old new → new.ticks ≤ old.ticks + 2
+pub few_calls : {T E : Type 0} (settled : Bool) (result : Result T E) (old new : DiskState)
+    → Spends (if settled then 0 else 2) result old new → new.ticks ≤ old.ticks + 2
 few_calls true (Ok value) old new h = omega (arith, h.0)
 few_calls false (Ok value) old new h = omega (arith, h.0)
 few_calls true (Err fault) old new h = omega (arith, h.1)

@@ -33,66 +33,105 @@ abbrev pub logged_state : Handed → List Step → List Plain → List Phase →
 logged_state on kept base phases = state_of (story_of on kept (oldest_first base) phases)
 
 -- a step that is neither a commit nor a fault leaves the opening, the base and the ends
-quiet_opened : (s : State) (step : Step) → stands_alone step ≡ true → is_fault (story_steps.Other step) ≡ false → (after s (story_steps.Other step)).opened ≡ s.opened
+quiet_opened : (s : State) (step : Step) → stands_alone step ≡ true → is_fault (story_steps.Other step) ≡ false
+    → (after s (story_steps.Other step)).opened ≡ s.opened
 quiet_opened s (steps.Fault tag left before faults tick) alone quiet = absurd (cc)
 quiet_opened s step alone quiet = refl
 
-quiet_base : (s : State) (step : Step) → stands_alone step ≡ true → is_fault (story_steps.Other step) ≡ false → (after s (story_steps.Other step)).base ≡ s.base
+quiet_base : (s : State) (step : Step) → stands_alone step ≡ true → is_fault (story_steps.Other step) ≡ false
+    → (after s (story_steps.Other step)).base ≡ s.base
 quiet_base s (steps.Fault tag left before faults tick) alone quiet = absurd (cc)
 quiet_base s step alone quiet = refl
 
-quiet_ends : (s : State) (step : Step) → stands_alone step ≡ true → is_fault (story_steps.Other step) ≡ false → (after s (story_steps.Other step)).ends ≡ s.ends
+quiet_ends : (s : State) (step : Step) → stands_alone step ≡ true → is_fault (story_steps.Other step) ≡ false
+    → (after s (story_steps.Other step)).ends ≡ s.ends
 quiet_ends s (steps.Fault tag left before faults tick) alone quiet = absurd (cc)
 quiet_ends s step alone quiet = refl
 
 -- a row was committed
-pub logged_row : (on : Handed) (kept more : List Step) (base grown : Base) (phases : List Phase) (tag : Tag) (number tick : ℕ) (row : Plain) (old new : DiskState) (list leftover list' leftover' : List (List ℕ)) (ended ended' : Bool) (left left' : Left) (settled settled' : Bool) → IsLogged on kept base phases old list leftover ended left settled → more ≡ kept ++ steps.Commit tag number tick ∷ [] → grown ≡ row ∷ base → row.tag ≡ tag → number ≡ length base + 1 → Both (Moves list leftover list' leftover') old.modeled new.modeled → IfModeled old.modeled (λ _. (list' ≡ list ++ spelling_of row ∷ []) × (leftover' ≡ [])) → tick ≡ new.ticks → new.faults ≡ old.faults → IsCounted old → IsCounted new → ended' ≡ true → left' ≡ lefts.Nothing → settled' ≡ settled_after left' → IsLogged on more grown phases new list' leftover' ended' left' settled'
-logged_row on kept more base grown phases tag number tick row old new list leftover list' leftover' ended ended' left left' settled settled' h e g t n moves appended at same was counted end none set = record {
-  modeled = named_row kept more base grown phases tag number tick row h.modeled e g t n;
-  backed = subst (λ s. IsBacked s new list' leftover' ended' left' settled') (sym state)
-      (backed_commit (logged_state on kept base phases) row tick old new list leftover list' leftover' ended ended' left left' settled settled' h.backed moves appended at same was counted end none set);
-}
+pub logged_row : (on : Handed) (kept more : List Step) (base grown : Base) (phases : List Phase) (tag : Tag) (number tick : ℕ)
+    (row : Plain) (old new : DiskState) (list leftover list' leftover' : List (List ℕ)) (ended ended' : Bool) (left left' : Left)
+    (settled settled' : Bool) → IsLogged on kept base phases old list leftover ended left settled
+    → more ≡ kept ++ steps.Commit tag number tick ∷ [] → grown ≡ row ∷ base → row.tag ≡ tag → number ≡ length base + 1
+    → Both (Moves list leftover list' leftover') old.modeled new.modeled
+    → IfModeled old.modeled (λ _. (list' ≡ list ++ spelling_of row ∷ []) × (leftover' ≡ [])) → tick ≡ new.ticks
+    → new.faults ≡ old.faults → IsCounted old → IsCounted new → ended' ≡ true → left' ≡ lefts.Nothing
+    → settled' ≡ settled_after left' → IsLogged on more grown phases new list' leftover' ended' left' settled'
+logged_row on kept more base grown phases tag number tick row old new list leftover list' leftover' ended ended' left left'
+    settled settled' h e g t n moves appended at same was counted end none set = record {
+      modeled = named_row kept more base grown phases tag number tick row h.modeled e g t n;
+      backed = subst (λ s. IsBacked s new list' leftover' ended' left' settled') (sym state)
+          (backed_commit (logged_state on kept base phases) row tick old new list leftover list' leftover' ended ended' left left'
+          settled settled' h.backed moves appended at same was counted end none set);
+    }
   where
     state : logged_state on more grown phases ≡ after (logged_state on kept base phases) (story_steps.Commit row tick)
-    state = ap (λ xs. logged_state on xs grown phases) e ∙ ap (λ ys. logged_state on (kept ++ steps.Commit tag number tick ∷ []) ys phases) g
+    state = ap (λ xs. logged_state on xs grown phases) e ∙ ap (λ ys. logged_state on (kept ++ steps.Commit tag number tick ∷ [])
+        ys phases) g
         ∙ ap (λ rows. state_of (story_of on (kept ++ steps.Commit tag number tick ∷ []) rows phases)) (oldest_more row base)
         ∙ ap state_of (story_of-commit on kept (oldest_first base) phases tag number tick row h.modeled)
         ∙ state_from-more start (story_of on kept (oldest_first base) phases) (story_steps.Commit row tick)
 
 -- a phase began
-pub logged_phase : (on : Handed) (kept more : List Step) (base : Base) (phases grown : List Phase) (number moment : ℕ) (phase : Phase) (ghost_state : DiskState) (list leftover : List (List ℕ)) (ended : Bool) (left : Left) (settled : Bool) → IsLogged on kept base phases ghost_state list leftover ended left settled → more ≡ kept ++ steps.PhaseBegun number moment ∷ [] → grown ≡ phases ++ phase ∷ [] → number ≡ length phases + 1 → IsLogged on more base grown ghost_state list leftover ended left settled
+pub logged_phase : (on : Handed) (kept more : List Step) (base : Base) (phases grown : List Phase) (number moment : ℕ)
+    (phase : Phase) (ghost_state : DiskState) (list leftover : List (List ℕ)) (ended : Bool) (left : Left) (settled : Bool)
+    → IsLogged on kept base phases ghost_state list leftover ended left settled
+    → more ≡ kept ++ steps.PhaseBegun number moment ∷ [] → grown ≡ phases ++ phase ∷ [] → number ≡ length phases + 1
+    → IsLogged on more base grown ghost_state list leftover ended left settled
 logged_phase on kept more base phases grown number moment phase ghost_state list leftover ended left settled h e g n = record {
   modeled = named_phase kept more base phases grown number moment phase h.modeled e g n;
   backed = subst (λ s. IsBacked s ghost_state list leftover ended left settled) (sym state)
-      (backed_same (logged_state on kept base phases) (after (logged_state on kept base phases) (story_steps.PhaseBegun phase moment)) ghost_state list leftover ended left settled refl refl refl h.backed);
+      (backed_same (logged_state on kept base phases) (after (logged_state on kept base phases)
+      (story_steps.PhaseBegun phase moment)) ghost_state list leftover ended left settled refl refl refl h.backed);
 }
   where
     state : logged_state on more base grown ≡ after (logged_state on kept base phases) (story_steps.PhaseBegun phase moment)
-    state = ap (λ xs. logged_state on xs base grown) e ∙ ap (λ ys. logged_state on (kept ++ steps.PhaseBegun number moment ∷ []) base ys) g
+    state = ap (λ xs. logged_state on xs base grown) e ∙ ap (λ ys. logged_state on (kept ++ steps.PhaseBegun number moment ∷ [])
+        base ys) g
         ∙ ap state_of (story_of-phase on kept (oldest_first base) phases number moment phase h.modeled)
         ∙ state_from-more start (story_of on kept (oldest_first base) phases) (story_steps.PhaseBegun phase moment)
 
 -- a step is told that stands alone
-state_step : (on : Handed) (kept more : List Step) (base : Base) (phases : List Phase) (step : Step) → AreNamedBySteps 1 0 kept (oldest_first base) phases → stands_alone step ≡ true → more ≡ kept ++ step ∷ [] → logged_state on more base phases ≡ after (logged_state on kept base phases) (story_steps.Other step)
+state_step : (on : Handed) (kept more : List Step) (base : Base) (phases : List Phase) (step : Step)
+    → AreNamedBySteps 1 0 kept (oldest_first base) phases → stands_alone step ≡ true → more ≡ kept ++ step ∷ []
+    → logged_state on more base phases ≡ after (logged_state on kept base phases) (story_steps.Other step)
 state_step on kept more base phases step h alone e =
     ap (λ xs. logged_state on xs base phases) e
     ∙ ap state_of (story_of-step on kept (oldest_first base) phases step h alone)
     ∙ state_from-more start (story_of on kept (oldest_first base) phases) (story_steps.Other step)
 
-pub logged_step : (on : Handed) (kept more : List Step) (base : Base) (phases : List Phase) (step : Step) (ghost_state : DiskState) (list leftover : List (List ℕ)) (ended : Bool) (left : Left) (settled : Bool) → IsLogged on kept base phases ghost_state list leftover ended left settled → stands_alone step ≡ true → is_fault (story_steps.Other step) ≡ false → more ≡ kept ++ step ∷ [] → IsLogged on more base phases ghost_state list leftover ended left settled
+pub logged_step : (on : Handed) (kept more : List Step) (base : Base) (phases : List Phase) (step : Step)
+    (ghost_state : DiskState) (list leftover : List (List ℕ)) (ended : Bool) (left : Left) (settled : Bool)
+    → IsLogged on kept base phases ghost_state list leftover ended left settled → stands_alone step ≡ true
+    → is_fault (story_steps.Other step) ≡ false → more ≡ kept ++ step ∷ []
+    → IsLogged on more base phases ghost_state list leftover ended left settled
 logged_step on kept more base phases step ghost_state list leftover ended left settled h alone quiet e = record {
   modeled = is_named_step kept more base phases step h.modeled alone e;
-  backed = subst (λ s. IsBacked s ghost_state list leftover ended left settled) (sym (state_step on kept more base phases step h.modeled alone e))
+  backed = subst (λ s. IsBacked s ghost_state list leftover ended left settled)
+      (sym (state_step on kept more base phases step h.modeled alone e))
       (let s = logged_state on kept base phases in
-      backed_same s (after s (story_steps.Other step)) ghost_state list leftover ended left settled (quiet_opened s step alone quiet) (quiet_base s step alone quiet) (quiet_ends s step alone quiet) h.backed);
+      backed_same s (after s (story_steps.Other step)) ghost_state list leftover ended left settled
+      (quiet_opened s step alone quiet) (quiet_base s step alone quiet) (quiet_ends s step alone quiet) h.backed);
 }
 
 -- the disk failed
-pub logged_fault : (on : Handed) (kept more : List Step) (base : Base) (phases : List Phase) (tag : Tag) (row : Plain) (earlier found : Option Plain) (before faults tick : ℕ) (old new : DiskState) (list leftover list' leftover' : List (List ℕ)) (ended ended' : Bool) (left left' : Left) (settled settled' : Bool) → IsLogged on kept base phases old list leftover ended left settled → more ≡ kept ++ steps.Fault tag found before faults tick ∷ [] → Both (Moves list leftover list' leftover') old.modeled new.modeled → IfModeled old.modeled (λ _. (list' ≡ list) × (leftover' ≡ leftover_after left' leftover (spelling_of row))) → earlier ≡ left_in kept → LeftSo earlier row left' found → tick ≡ new.ticks → faults ≡ new.faults → IsCounted old → IsCounted new → ended' ≡ true → settled' ≡ settled_after left' → (left' ≡ lefts.Earlier → settled ≡ false) → IsLogged on more base phases new list' leftover' ended' left' settled'
-logged_fault on kept more base phases tag row earlier found before faults tick old new list leftover list' leftover' ended ended' left left' settled settled' h e moves stays copied so at counts was counted end set ajar = record {
-  modeled = is_named_step kept more base phases (steps.Fault tag found before faults tick) h.modeled refl e;
-  backed = subst (λ t. IsBacked t new list' leftover' ended' left' settled') (sym (state_step on kept more base phases (steps.Fault tag found before faults tick) h.modeled refl e))
-      (let s = logged_state on kept base phases in
-      backed_fault s tag row found before faults tick old new list leftover list' leftover' ended ended' left left' settled settled' (after s (story_steps.Other (steps.Fault tag found before faults tick))) refl refl refl h.backed moves stays
-      (subst (λ o. LeftSo o row left' found) (copied ∙ sym (hanging_is on 1 0 kept (oldest_first base) phases start h.modeled)) so) at counts was counted end set ajar);
-}
+pub logged_fault : (on : Handed) (kept more : List Step) (base : Base) (phases : List Phase) (tag : Tag) (row : Plain)
+    (earlier found : Option Plain) (before faults tick : ℕ) (old new : DiskState) (list leftover list' leftover' : List (List ℕ))
+    (ended ended' : Bool) (left left' : Left) (settled settled' : Bool)
+    → IsLogged on kept base phases old list leftover ended left settled
+    → more ≡ kept ++ steps.Fault tag found before faults tick ∷ [] → Both (Moves list leftover list' leftover') old.modeled
+    new.modeled → IfModeled old.modeled (λ _. (list' ≡ list) × (leftover' ≡ leftover_after left' leftover (spelling_of row)))
+    → earlier ≡ left_in kept → LeftSo earlier row left' found → tick ≡ new.ticks → faults ≡ new.faults → IsCounted old
+    → IsCounted new → ended' ≡ true → settled' ≡ settled_after left' → (left' ≡ lefts.Earlier → settled ≡ false)
+    → IsLogged on more base phases new list' leftover' ended' left' settled'
+logged_fault on kept more base phases tag row earlier found before faults tick old new list leftover list' leftover' ended ended'
+    left left' settled settled' h e moves stays copied so at counts was counted end set ajar = record {
+      modeled = is_named_step kept more base phases (steps.Fault tag found before faults tick) h.modeled refl e;
+      backed = subst (λ t. IsBacked t new list' leftover' ended' left' settled')
+          (sym (state_step on kept more base phases (steps.Fault tag found before faults tick) h.modeled refl e))
+          (let s = logged_state on kept base phases in
+          backed_fault s tag row found before faults tick old new list leftover list' leftover' ended ended' left left' settled
+          settled' (after s (story_steps.Other (steps.Fault tag found before faults tick))) refl refl refl h.backed moves stays
+          (subst (λ o. LeftSo o row left' found) (copied ∙ sym (hanging_is on 1 0 kept (oldest_first base) phases start h.modeled))
+          so) at counts was counted end set ajar);
+    }

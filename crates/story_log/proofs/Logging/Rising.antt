@@ -19,7 +19,8 @@ rises_last before now a b =
     ap₂ (λ c d. nat_lt before now || (c && d)) one two ∙ ap (λ b. b || true) past
 
 -- a count that was raised, and what it was at most before
-pub rises_raised : (before old now : ℕ) → before ≤ old → old < 2 ^ 64 → next_count old ≤ now → now < 2 ^ 64 → rises before now ≡ true
+pub rises_raised : (before old now : ℕ) → before ≤ old → old < 2 ^ 64 → next_count old ≤ now → now < 2 ^ 64
+    → rises before now ≡ true
 rises_raised before old now less small rose within = by (nat_lt before now) refl
   where
     by : (is : Bool) → nat_lt before now ≡ is → rises before now ≡ true

@@ -1,6 +1,7 @@
 -- Whatever a stop may find of a legal story is a base, whose rows are of the kind of those that the story names, and which is
 -- sound where the base was sound as it was opened.
-use Rattle.std.proofs.Common.{◌≡◌, ℕ, ◌<◌, ◌⊎◌, inl, inr, true, false, Option, Some, None, List, [], ◌∷◌, ◌++◌, refl, ap, sym, subst, ◌∙◌, append_assoc}
+use Rattle.std.proofs.Common.{◌≡◌, ℕ, ◌<◌, ◌⊎◌, inl, inr, true, false, Option, Some, None, List, [], ◌∷◌, ◌++◌, refl, ap, sym}
+use Rattle.std.proofs.Common.{subst, ◌∙◌, append_assoc}
 use Rattle.std.proofs.lemmas.List.{append-nil}
 use Rattle.std.specs.List.{AllByRecursion}
 use Rattle.std.specs.Prelude.{IfSome, is_some, reverse}
@@ -9,7 +10,7 @@ use Rattle.cc_names.specs.Formed.{IsFormed, Plain}
 use Rattle.cc_names.specs.declared.steps.Step.TheVariants as steps
 use Rattle.cc_names.specs.declared.steps.StoryStep.{StoryStep}
 use Rattle.cc_names.specs.declared.steps.StoryStep.TheVariants as story_steps
-use Rattle.disk_model.specs.Devices.{Device, bytes_of}
+use Rattle.disk_model.specs.Devices.{Device, bytes_now}
 use Rattle.disk_model.specs.DiskStates.{DiskState, IfModeled}
 use Rattle.vob_journal.specs.Frames.{frames}
 use Rattle.base_model.specs.Rows.{Base}
@@ -62,22 +63,30 @@ record IsFound (P : Plain → Type 0) (s : State) (opening : Opening) : Type 0 w
   found : (k : ℕ) (found : List (List ℕ)) → MayBeFound opening s.ends k found → SpellsOnly P opening found
 
 -- a base that a journal stands for
-stands_base : (P : Plain → Type 0) (opening : Opening) (b : Base) (left : Option Plain) (found : List (List ℕ)) → IsOnly P opening b → FitsBehind P opening b left → StandsFor b left found → SpellsOnly P opening found
+stands_base : (P : Plain → Type 0) (opening : Opening) (b : Base) (left : Option Plain) (found : List (List ℕ))
+    → IsOnly P opening b → FitsBehind P opening b left → StandsFor b left found → SpellsOnly P opening found
 stands_base P opening b left found only behind (inl e) = record { base = b; only = only; is = e }
 stands_base P opening b None found only behind (inr e) = record { base = b; only = only; is = e }
 stands_base P opening b (Some row) found only behind (inr e) = record { base = row ∷ b; only = behind; is = e }
 
 -- after one more commit or fault
-one_more : (P : Plain → Type 0) (opening : Opening) (end : End) (ends : List End) → IsOnly P opening (base_by opening ends) → IsOnly P opening (base_by opening (end ∷ ends)) → FitsBehind P opening (base_by opening (end ∷ ends)) (left_after end) → FitsBehind P opening (base_by opening ends) (left_within end) → ((k : ℕ) (found : List (List ℕ)) → MayBeFound opening ends k found → SpellsOnly P opening found) → (k : ℕ) (found : List (List ℕ)) → MayBeFound opening (end ∷ ends) k found → SpellsOnly P opening found
-one_more P opening end ends old new behind within h k found (inl later) = stands_base P opening (base_by opening (end ∷ ends)) (left_after end) found new behind later.1
+one_more : (P : Plain → Type 0) (opening : Opening) (end : End) (ends : List End) → IsOnly P opening (base_by opening ends)
+    → IsOnly P opening (base_by opening (end ∷ ends)) → FitsBehind P opening (base_by opening (end ∷ ends)) (left_after end)
+    → FitsBehind P opening (base_by opening ends) (left_within end) → ((k : ℕ) (found : List (List ℕ))
+    → MayBeFound opening ends k found → SpellsOnly P opening found) → (k : ℕ) (found : List (List ℕ))
+    → MayBeFound opening (end ∷ ends) k found → SpellsOnly P opening found
+one_more P opening end ends old new behind within h k found (inl later) =
+    stands_base P opening (base_by opening (end ∷ ends)) (left_after end) found new behind later.1
 one_more P opening end ends old new behind within h k found (inr earlier) = by earlier.1
   where
-    by : MayBeFound opening ends k found ⊎ ((ticks_of (Some opening) ends < k) × StandsFor (base_by opening ends) (left_within end) found) → SpellsOnly P opening found
+    by : MayBeFound opening ends k found ⊎ ((ticks_of (Some opening) ends < k)
+        × StandsFor (base_by opening ends) (left_within end) found) → SpellsOnly P opening found
     by (inl one) = h k found one
     by (inr two) = stands_base P opening (base_by opening ends) (left_within end) found old within two.1
 
 -- what a stop leaves of a legal story is such a base
-only_left : (P : Plain → Type 0) → Laws → (prefix : List StoryStep) (opening : Opening) (b : Base) → Legal prefix → (state_of prefix).opened ≡ Some opening → IsLeftByStop (state_of prefix) b → AllByRecursion P b → IsOnly P opening b
+only_left : (P : Plain → Type 0) → Laws → (prefix : List StoryStep) (opening : Opening) (b : Base) → Legal prefix
+    → (state_of prefix).opened ≡ Some opening → IsLeftByStop (state_of prefix) b → AllByRecursion P b → IsOnly P opening b
 only_left P laws prefix opening b legal opened left each = record {
   good = laws.base prefix b legal left;
   sound = λ sound. laws.sound prefix opening b legal opened sound left;
@@ -85,29 +94,45 @@ only_left P laws prefix opening b legal opened left each = record {
 }
 
 -- a step that is neither a commit nor a fault
-stays_found : (P : Plain → Type 0) (s t : State) (opening : Opening) → t.opened ≡ s.opened → t.base ≡ s.base → t.ends ≡ s.ends → IsFound P s opening → IsFound P t opening
+stays_found : (P : Plain → Type 0) (s t : State) (opening : Opening) → t.opened ≡ s.opened → t.base ≡ s.base → t.ends ≡ s.ends
+    → IsFound P s opening → IsFound P t opening
 stays_found P s t opening opened base ends h = record {
   opened = opened ∙ h.opened;
   base = base ∙ h.base ∙ ap (base_by opening) (sym ends);
   only = subst (IsOnly P opening) (sym base) h.only;
-  found = subst (λ e. (k : ℕ) (found : List (List ℕ)) → MayBeFound opening e k found → SpellsOnly P opening found) (sym ends) h.found;
+  found = subst (λ e. (k : ℕ) (found : List (List ℕ)) → MayBeFound opening e k found
+      → SpellsOnly P opening found) (sym ends) h.found;
 }
 
 -- a fault leaves what fits
-left_fits : (P : Plain → Type 0) → Laws → (prefix : List StoryStep) (opening : Opening) (tag : Tag) (left : Option Plain) → Legal prefix → IsFound P (state_of prefix) opening → LeavesRow (state_of prefix) tag left → IfSome left P → FitsBehind P opening (state_of prefix).base left
+left_fits : (P : Plain → Type 0) → Laws → (prefix : List StoryStep) (opening : Opening) (tag : Tag) (left : Option Plain)
+    → Legal prefix → IsFound P (state_of prefix) opening → LeavesRow (state_of prefix) tag left → IfSome left P
+    → FitsBehind P opening (state_of prefix).base left
 left_fits P laws prefix opening tag None legal h leaves named = tt
 left_fits P laws prefix opening tag (Some row) legal h (inl own) named =
-    only_left P laws prefix opening (row ∷ (state_of prefix).base) legal h.opened (WithRowInFlight row own.1 refl) (named, h.only.each)
+    only_left P laws prefix opening (row ∷ (state_of prefix).base) legal h.opened (WithRowInFlight row own.1 refl) (
+      named,
+      h.only.each,
+    )
 left_fits P laws prefix opening tag (Some row) legal h (inr earlier) named =
-    only_left P laws prefix opening (row ∷ (state_of prefix).base) legal h.opened (WithRowLeft row earlier refl) (named, h.only.each)
+    only_left P laws prefix opening (row ∷ (state_of prefix).base) legal h.opened (WithRowLeft row earlier refl) (
+      named,
+      h.only.each,
+    )
 
 -- each lawful step keeps it
-step_found : (P : Plain → Type 0) → Laws → (prefix : List StoryStep) (opening : Opening) (x : StoryStep) → Legal prefix → Lawful (state_of prefix) x → NamesOnly P x → IsFound P (state_of prefix) opening → IsFound P (after (state_of prefix) x) opening
-step_found P laws prefix opening (story_steps.Opened rows counts tells) legal lawful named h = absurd (let closed : is_some (state_of prefix).opened ≡ false = lawful.first in let open_ : is_some (state_of prefix).opened ≡ true = ap is_some h.opened in cc)
-step_found P laws prefix opening (story_steps.PhaseBegun phase moment) legal lawful named h = stays_found P (state_of prefix) (after (state_of prefix) (story_steps.PhaseBegun phase moment)) opening refl refl refl h
+step_found : (P : Plain → Type 0) → Laws → (prefix : List StoryStep) (opening : Opening) (x : StoryStep) → Legal prefix
+    → Lawful (state_of prefix) x → NamesOnly P x → IsFound P (state_of prefix) opening
+    → IsFound P (after (state_of prefix) x) opening
+step_found P laws prefix opening (story_steps.Opened rows counts tells) legal lawful named h =
+    absurd (let closed : is_some (state_of prefix).opened ≡ false = lawful.first in
+    let open_ : is_some (state_of prefix).opened ≡ true = ap is_some h.opened in cc)
+step_found P laws prefix opening (story_steps.PhaseBegun phase moment) legal lawful named h =
+    stays_found P (state_of prefix) (after (state_of prefix) (story_steps.PhaseBegun phase moment)) opening refl refl refl h
 step_found P laws prefix opening (story_steps.Commit row tick) legal lawful named h =
     let s = state_of prefix in
-    let grown : IsOnly P opening (row ∷ s.base) = only_left P laws prefix opening (row ∷ s.base) legal h.opened (WithRowInFlight row lawful.may refl) (named, h.only.each) in
+    let grown : IsOnly P opening (row ∷ s.base) = only_left P laws prefix opening (row ∷ s.base) legal h.opened
+    (WithRowInFlight row lawful.may refl) (named, h.only.each) in
     let by : IsOnly P opening (row ∷ base_by opening s.ends) = subst (λ b. IsOnly P opening (row ∷ b)) h.base grown in
     record {
       opened = h.opened;
@@ -117,7 +142,8 @@ step_found P laws prefix opening (story_steps.Commit row tick) legal lawful name
     }
 step_found P laws prefix opening (story_steps.Other (steps.Fault tag left before faults tick)) legal lawful named h =
     let s = state_of prefix in
-    let by : FitsBehind P opening (base_by opening s.ends) left = subst (λ b. FitsBehind P opening b left) h.base (left_fits P laws prefix opening tag left legal h lawful.leaves named) in
+    let by : FitsBehind P opening (base_by opening s.ends) left = subst (λ b. FitsBehind P opening b left) h.base
+    (left_fits P laws prefix opening tag left legal h lawful.leaves named) in
     let only : IsOnly P opening (base_by opening s.ends) = subst (IsOnly P opening) h.base h.only in
     record {
       opened = h.opened;
@@ -125,32 +151,49 @@ step_found P laws prefix opening (story_steps.Other (steps.Fault tag left before
       only = h.only;
       found = one_more P opening (Faulted left faults tick) s.ends only only by by h.found;
     }
-step_found P laws prefix opening (story_steps.Other (steps.Refused tag refusal)) legal lawful named h = stays_found P (state_of prefix) (after (state_of prefix) (story_steps.Other (steps.Refused tag refusal))) opening refl refl refl h
-step_found P laws prefix opening (story_steps.Other (steps.Answer tag text)) legal lawful named h = stays_found P (state_of prefix) (after (state_of prefix) (story_steps.Other (steps.Answer tag text))) opening refl refl refl h
-step_found P laws prefix opening (story_steps.Other (steps.Begin tag rows units)) legal lawful named h = stays_found P (state_of prefix) (after (state_of prefix) (story_steps.Other (steps.Begin tag rows units))) opening refl refl refl h
-step_found P laws prefix opening (story_steps.Other (steps.Start tag unit)) legal lawful named h = stays_found P (state_of prefix) (after (state_of prefix) (story_steps.Other (steps.Start tag unit))) opening refl refl refl h
-step_found P laws prefix opening (story_steps.Other (steps.Concluded tag unit outcome)) legal lawful named h = stays_found P (state_of prefix) (after (state_of prefix) (story_steps.Other (steps.Concluded tag unit outcome))) opening refl refl refl h
-step_found P laws prefix opening (story_steps.Other (steps.End tag)) legal lawful named h = stays_found P (state_of prefix) (after (state_of prefix) (story_steps.Other (steps.End tag))) opening refl refl refl h
+step_found P laws prefix opening (story_steps.Other (steps.Refused tag refusal)) legal lawful named h =
+    stays_found P (state_of prefix) (after (state_of prefix) (story_steps.Other (steps.Refused tag refusal))) opening refl refl
+    refl h
+step_found P laws prefix opening (story_steps.Other (steps.Answer tag text)) legal lawful named h =
+    stays_found P (state_of prefix) (after (state_of prefix) (story_steps.Other (steps.Answer tag text))) opening refl refl refl h
+step_found P laws prefix opening (story_steps.Other (steps.Begin tag rows units)) legal lawful named h =
+    stays_found P (state_of prefix) (after (state_of prefix) (story_steps.Other (steps.Begin tag rows units))) opening refl refl
+    refl h
+step_found P laws prefix opening (story_steps.Other (steps.Start tag unit)) legal lawful named h =
+    stays_found P (state_of prefix) (after (state_of prefix) (story_steps.Other (steps.Start tag unit))) opening refl refl refl h
+step_found P laws prefix opening (story_steps.Other (steps.Concluded tag unit outcome)) legal lawful named h =
+    stays_found P (state_of prefix) (after (state_of prefix) (story_steps.Other (steps.Concluded tag unit outcome))) opening refl
+    refl refl h
+step_found P laws prefix opening (story_steps.Other (steps.End tag)) legal lawful named h =
+    stays_found P (state_of prefix) (after (state_of prefix) (story_steps.Other (steps.End tag))) opening refl refl refl h
 step_found P laws prefix opening (story_steps.Other step) legal lawful named h = absurd lawful
 
 -- and so does the rest of a legal story
-all_found : (P : Plain → Type 0) → Laws → (prefix rest : List StoryStep) (opening : Opening) → Legal prefix → LegalFrom (state_of prefix) rest → TellsOnly P rest → IsFound P (state_of prefix) opening → IsFound P (state_of (prefix ++ rest)) opening
+all_found : (P : Plain → Type 0) → Laws → (prefix rest : List StoryStep) (opening : Opening) → Legal prefix
+    → LegalFrom (state_of prefix) rest → TellsOnly P rest → IsFound P (state_of prefix) opening
+    → IsFound P (state_of (prefix ++ rest)) opening
 all_found P laws prefix [] opening legal more named h = subst (λ t. IsFound P (state_of t) opening) (sym (append-nil prefix)) h
 all_found P laws prefix (x ∷ rest) opening legal more named h =
     let one : state_of (prefix ++ x ∷ []) ≡ after (state_of prefix) x = state_from-more start prefix x in
     subst (λ t. IsFound P (state_of t) opening) (append_assoc prefix (x ∷ []) rest)
-    (all_found P laws (prefix ++ x ∷ []) rest opening (legal_more start prefix x legal more.0) (subst (λ t. LegalFrom t rest) (sym one) more.1) named.1
+    (all_found P laws (prefix ++ x ∷ []) rest opening (legal_more start prefix x legal more.0)
+    (subst (λ t. LegalFrom t rest) (sym one) more.1) named.1
     (subst (λ t. IsFound P t opening) (sym one) (step_found P laws prefix opening x legal more.0 named.0 h)))
 
 -- the first step of a legal story opens a base
-first_found : (P : Plain → Type 0) (x : StoryStep) → Lawful start x → NamesOnly P x → is_some (after start x).opened ≡ true → (opening : Opening) × IsFound P (after start x) opening
+first_found : (P : Plain → Type 0) (x : StoryStep) → Lawful start x → NamesOnly P x → is_some (after start x).opened ≡ true
+    → (opening : Opening) × IsFound P (after start x) opening
 first_found P (story_steps.Opened rows counts tells) lawful named is = (
   record { base = reverse rows; counts = counts; tells = tells },
   record {
     opened = refl;
     base = refl;
     only = record { good = lawful.fits; sound = λ sound. sound; each = named };
-    found = λ k found e. record { base = reverse rows; only = record { good = lawful.fits; sound = λ sound. sound; each = named }; is = e };
+    found = λ k found e. record {
+      base = reverse rows;
+      only = record { good = lawful.fits; sound = λ sound. sound; each = named };
+      is = e;
+    };
   },
 )
 first_found P (story_steps.PhaseBegun phase moment) lawful named is = absurd (cc)
@@ -165,22 +208,28 @@ first_found P (story_steps.Other (steps.Fault tag left before faults tick)) lawf
 first_found P (story_steps.Other step) lawful named is = absurd lawful
 
 -- whatever a stop may find is a base of such rows
-found_only : (P : Plain → Type 0) → Laws → (story : List StoryStep) (opening : Opening) (k : ℕ) (found : List (List ℕ)) → Legal story → TellsOnly P story → (state_of story).opened ≡ Some opening → MayBeFound opening (state_of story).ends k found → SpellsOnly P opening found
+found_only : (P : Plain → Type 0) → Laws → (story : List StoryStep) (opening : Opening) (k : ℕ) (found : List (List ℕ))
+    → Legal story → TellsOnly P story → (state_of story).opened ≡ Some opening → MayBeFound opening (state_of story).ends k found
+    → SpellsOnly P opening found
 found_only P laws [] opening k found legal named opened may = absurd (cc)
 found_only P laws (x ∷ story) opening k found legal named opened may =
     let first = first_found P x legal.0 named.0 (first_opens x legal.0) in
     let all = all_found P laws (x ∷ []) story first.0 (legal.0, tt) legal.1 named.1 first.1 in
     let same : first.0 ≡ opening = some_same first.0 opening (sym all.opened ∙ opened) in
-    subst (λ o. SpellsOnly P o found) same (all.found k found (subst (λ o. MayBeFound o (state_of (x ∷ story)).ends k found) (sym same) may))
+    subst (λ o. SpellsOnly P o found) same (all.found k found (subst (λ o. MayBeFound o (state_of (x ∷ story)).ends k found)
+    (sym same) may))
 
 -- whatever a stop may find is a base
-pub found_base : Laws → (story : List StoryStep) (opening : Opening) (k : ℕ) (found : List (List ℕ)) → Legal story → (state_of story).opened ≡ Some opening → MayBeFound opening (state_of story).ends k found → SpellsBase opening.base found
+pub found_base : Laws → (story : List StoryStep) (opening : Opening) (k : ℕ) (found : List (List ℕ)) → Legal story
+    → (state_of story).opened ≡ Some opening → MayBeFound opening (state_of story).ends k found → SpellsBase opening.base found
 found_base laws story opening k found legal opened may =
     let spells = found_only (λ (row : Plain). Unit {0}) laws story opening k found legal (tells_rows story) opened may in
     record { base = spells.base; good = spells.only.good; is = spells.is; sound = spells.only.sound }
 
 -- and where the story names only formed rows it opens again
-pub opens_again : Laws → (story : List StoryStep) (opening : Opening) (k : ℕ) (found : List (List ℕ)) → Legal story → TellsOnly IsFormed story → (state_of story).opened ≡ Some opening → MayBeFound opening (state_of story).ends k found → OpensAgain opening.base found
+pub opens_again : Laws → (story : List StoryStep) (opening : Opening) (k : ℕ) (found : List (List ℕ)) → Legal story
+    → TellsOnly IsFormed story → (state_of story).opened ≡ Some opening → MayBeFound opening (state_of story).ends k found
+    → OpensAgain opening.base found
 opens_again laws story opening k found legal named opened may =
     let spells = found_only IsFormed laws story opening k found legal named opened may in
     record {
@@ -194,10 +243,12 @@ opens_again laws story opening k found legal named opened may =
     }
 
 -- the base that is opened on a disk that reads so is that one
-modeled_is : (modeled : Option Device) (device : Device) (P : Device → Type 0) → modeled ≡ Some device → IfModeled modeled P → P device
+modeled_is : (modeled : Option Device) (device : Device) (P : Device → Type 0) → modeled ≡ Some device → IfModeled modeled P
+    → P device
 modeled_is modeled device P is h = subst (λ t. IfModeled t P) is h
 
-pub found_is_sound : (opened base : Base) (disk : DiskState) (device : Device) (handed : Handed) → disk.modeled ≡ Some device → OpensAgain opened (frames (bytes_of 0 device)) → IsBaseOn disk base handed → IsSound opened → IsSound base
+pub found_is_sound : (opened base : Base) (disk : DiskState) (device : Device) (handed : Handed) → disk.modeled ≡ Some device
+    → OpensAgain opened (frames (bytes_now 0 device)) → IsBaseOn disk base handed → IsSound opened → IsSound base
 found_is_sound opened base disk device handed is again on sound =
-    let spelled = modeled_is disk.modeled device (λ d. frames (bytes_of 0 d) ≡ payloads base) is on.found in
+    let spelled = modeled_is disk.modeled device (λ d. frames (bytes_now 0 d) ≡ payloads base) is on.found in
     subst IsSound (sym (again.one base on.formed spelled)) (again.sound sound)

@@ -14,46 +14,61 @@ use Rattle.story_log.specs.Story.Faults.{is_fault}
 use Rattle.story_log.specs.Story.Formed.{NamesOnly, TellsOnly}
 
 -- one more step
-pub names_more : (P : Plain → Type 0) (story : List StoryStep) (x : StoryStep) → TellsOnly P story → NamesOnly P x → TellsOnly P (story ++ x ∷ [])
+pub names_more : (P : Plain → Type 0) (story : List StoryStep) (x : StoryStep) → TellsOnly P story → NamesOnly P x
+    → TellsOnly P (story ++ x ∷ [])
 names_more P [] x h one = (one, tt)
 names_more P (y ∷ story) x h one = (h.0, names_more P story x h.1 one)
 
 -- a step that is no fault, and is told as it stands, names no row
-pub names_none : (P : Plain → Type 0) (step : Step) → is_fault (story_steps.Other step) ≡ false → NamesOnly P (story_steps.Other step)
+pub names_none : (P : Plain → Type 0) (step : Step) → is_fault (story_steps.Other step) ≡ false
+    → NamesOnly P (story_steps.Other step)
 names_none P (steps.Fault tag left before faults tick) sound = absurd (cc)
 names_none P step sound = tt
 
 -- the row that hangs behind the rows is one that the story names
-hangs_from : (P : Plain → Type 0) (s : State) (story : List StoryStep) → IfSome (hanging s.ends) P → TellsOnly P story → IfSome (hanging (state_from s story).ends) P
+hangs_from : (P : Plain → Type 0) (s : State) (story : List StoryStep) → IfSome (hanging s.ends) P → TellsOnly P story
+    → IfSome (hanging (state_from s story).ends) P
 hangs_from P s [] hangs h = hangs
-hangs_from P s (story_steps.Opened rows counts tells ∷ story) hangs h = hangs_from P (after s (story_steps.Opened rows counts tells)) story hangs h.1
-hangs_from P s (story_steps.PhaseBegun phase moment ∷ story) hangs h = hangs_from P (after s (story_steps.PhaseBegun phase moment)) story hangs h.1
+hangs_from P s (story_steps.Opened rows counts tells ∷ story) hangs h =
+    hangs_from P (after s (story_steps.Opened rows counts tells)) story hangs h.1
+hangs_from P s (story_steps.PhaseBegun phase moment ∷ story) hangs h =
+    hangs_from P (after s (story_steps.PhaseBegun phase moment)) story hangs h.1
 hangs_from P s (story_steps.Commit row tick ∷ story) hangs h = hangs_from P (after s (story_steps.Commit row tick)) story tt h.1
-hangs_from P s (story_steps.Other (steps.Fault tag left before faults tick) ∷ story) hangs h = hangs_from P (after s (story_steps.Other (steps.Fault tag left before faults tick))) story h.0 h.1
+hangs_from P s (story_steps.Other (steps.Fault tag left before faults tick) ∷ story) hangs h =
+    hangs_from P (after s (story_steps.Other (steps.Fault tag left before faults tick))) story h.0 h.1
 hangs_from P s (story_steps.Other step ∷ story) hangs h = hangs_from P (after s (story_steps.Other step)) story hangs h.1
 
 pub hanging_named : (P : Plain → Type 0) (story : List StoryStep) → TellsOnly P story → IfSome (hanging (state_of story).ends) P
 hanging_named P story h = hangs_from P start story tt h
 
 -- and so is each row of the base
-rows_from : (P : Plain → Type 0) (s : State) (story : List StoryStep) → AllByRecursion P s.base → TellsOnly P story → AllByRecursion P (state_from s story).base
+rows_from : (P : Plain → Type 0) (s : State) (story : List StoryStep) → AllByRecursion P s.base → TellsOnly P story
+    → AllByRecursion P (state_from s story).base
 rows_from P s [] rows h = rows
-rows_from P s (story_steps.Opened opened counts tells ∷ story) rows h = rows_from P (after s (story_steps.Opened opened counts tells)) story h.0 h.1
-rows_from P s (story_steps.PhaseBegun phase moment ∷ story) rows h = rows_from P (after s (story_steps.PhaseBegun phase moment)) story rows h.1
-rows_from P s (story_steps.Commit row tick ∷ story) rows h = rows_from P (after s (story_steps.Commit row tick)) story (h.0, rows) h.1
-rows_from P s (story_steps.Other (steps.Fault tag left before faults tick) ∷ story) rows h = rows_from P (after s (story_steps.Other (steps.Fault tag left before faults tick))) story rows h.1
+rows_from P s (story_steps.Opened opened counts tells ∷ story) rows h =
+    rows_from P (after s (story_steps.Opened opened counts tells)) story h.0 h.1
+rows_from P s (story_steps.PhaseBegun phase moment ∷ story) rows h = rows_from P (after s (story_steps.PhaseBegun phase moment))
+    story rows h.1
+rows_from P s (story_steps.Commit row tick ∷ story) rows h = rows_from P (after s (story_steps.Commit row tick)) story (
+  h.0,
+  rows,
+) h.1
+rows_from P s (story_steps.Other (steps.Fault tag left before faults tick) ∷ story) rows h =
+    rows_from P (after s (story_steps.Other (steps.Fault tag left before faults tick))) story rows h.1
 rows_from P s (story_steps.Other step ∷ story) rows h = rows_from P (after s (story_steps.Other step)) story rows h.1
 
 pub base_named : (P : Plain → Type 0) (story : List StoryStep) → TellsOnly P story → AllByRecursion P (state_of story).base
 base_named P story h = rows_from P start story tt h
 
 -- what a fault left is the row that was to be committed, or one that the story names
-left_by : (P : Plain → Type 0) (s : State) (row : Plain) (left : Option Plain) → MayLeaveRow s row left → P row → IfSome (hanging s.ends) P → IfSome left P
+left_by : (P : Plain → Type 0) (s : State) (row : Plain) (left : Option Plain) → MayLeaveRow s row left → P row
+    → IfSome (hanging s.ends) P → IfSome left P
 left_by P s row None leaves one hangs = tt
 left_by P s row (Some left) (inl own) one hangs = subst P (sym own) one
 left_by P s row (Some left) (inr earlier) one hangs = subst (λ o. IfSome o P) earlier hangs
 
-pub left_named : (P : Plain → Type 0) (story : List StoryStep) (row : Plain) (left : Option Plain) → MayLeaveRow (state_of story) row left → P row → TellsOnly P story → IfSome left P
+pub left_named : (P : Plain → Type 0) (story : List StoryStep) (row : Plain) (left : Option Plain)
+    → MayLeaveRow (state_of story) row left → P row → TellsOnly P story → IfSome left P
 left_named P story row left leaves one h = left_by P (state_of story) row left leaves one (hanging_named P story h)
 
 -- each row is a row

@@ -3,7 +3,7 @@ use Rattle.std.specs.Prelude.{◌≡◌, ◌<◌, ℕ, true, is_some, Option, Li
 use Rattle.cc_names.specs.Formed.{IsFormed, Plain}
 use Rattle.cc_names.specs.declared.steps.StoryStep.{StoryStep}
 use Rattle.cc_names.specs.declared.steps.StoryStep.TheVariants as story_steps
-use Rattle.disk_model.specs.Devices.{Device, MayLeave, bytes_of}
+use Rattle.disk_model.specs.Devices.{Device, MayLeave, bytes_now}
 use Rattle.disk_model.specs.DiskStates.{DiskState, IfModeled, Both, IsCounted}
 use Rattle.base_model.specs.Rows.{Base, size}
 use Rattle.base_model.specs.Fits.{fits, is_base}
@@ -26,7 +26,7 @@ pub record IsBaseOn (old : DiskState) (base : Base) (handed : Handed) : Type 0 w
   pub ticks : handed.counts.ticks ≡ old.ticks
   pub faults : handed.counts.faults ≡ old.faults
   pub tells : handed.tells ≡ is_some old.modeled
-  pub found : IfModeled old.modeled (λ d. frames (bytes_of 0 d) ≡ payloads base)
+  pub found : IfModeled old.modeled (λ d. frames (bytes_now 0 d) ≡ payloads base)
   pub fits : is_base base ≡ true
   pub formed : AreFormed base
 
@@ -66,7 +66,7 @@ pub record OpensCore (old : DiskState) (story : List StoryStep) (new : DiskState
   pub base : Base
   pub handed : Handed
   pub on : IsBaseOn old base handed
-  pub undamaged : IfModeled old.modeled (λ d. IsUndamaged (frames (bytes_of 0 d)))
+  pub undamaged : IfModeled old.modeled (λ d. IsUndamaged (frames (bytes_now 0 d)))
   pub story_is : story ≡ story_steps.Opened (oldest_first base) handed.counts handed.tells ∷ []
   pub sound : new.faults ≡ old.faults
   pub fit : IsCounted new
@@ -81,7 +81,8 @@ StopsBy modeled list causes.NoMemory old new = new ≡ old
 
 -- No base was opened: each stop since finds the frames that were there, and both files are as they were.
 pub record FailsToOpen (old : DiskState) (cause : OpenCause) (new : DiskState) : Type 0 where
-  pub because : StopsBy old.modeled (λ d. frames (bytes_of 0 d)) cause old.faults new.faults
+  pub because : StopsBy old.modeled (λ d. frames (bytes_now 0 d)) cause old.faults new.faults
   pub tells : is_some new.modeled ≡ is_some old.modeled
-  pub unchanged : IfModeled old.modeled (λ d. IfModeled new.modeled (λ e. (k : ℕ) (image : List ℕ) → old.ticks < k → MayLeave 0 e k image → frames image ≡ frames (bytes_of 0 d)))
+  pub unchanged : IfModeled old.modeled (λ d. IfModeled new.modeled (λ e. (k : ℕ) (image : List ℕ) → old.ticks < k
+      → MayLeave 0 e k image → frames image ≡ frames (bytes_now 0 d)))
   pub files : Both SameFiles old.modeled new.modeled

@@ -9,7 +9,7 @@ use Rattle.base_model.specs.Fits.{fits, is_base}
 use Rattle.cc_names.specs.Counts.{rises}
 use Rattle.row_form.specs.Spelled.{spelling_of}
 use Rattle.vob_journal.specs.Added.{Adds, may_read}
-use Rattle.vob_journal.specs.Answered.{Gives}
+use Rattle.vob_journal.specs.Answered.{GivesNext}
 use Rattle.vob_journal.specs.Frames.{frames}
 use Rattle.vob_journal.specs.Moves.{Moves}
 use Rattle.vob_journal.specs.Reads.{SameFiles}
@@ -20,7 +20,7 @@ use Rattle.story_log.specs.Stopping.Standing.{payloads}
 use Rattle.story_log.specs.declared.opening.OpenCause.{OpenCause}
 use Rattle.story_log.specs.declared.opening.OpenCause.TheVariants as causes
 
--- What reading leaves of a journal with nothing loose: its list, which each stop since finds, and both files as they were.
+-- What reading leaves of a journal with nothing left over: its list, which each stop since finds, and both files as they were.
 pub record OnlyReads {D : Type 0} (ghost_state : D → DiskState) (old new : Shown D) : Type 0 where
   pub list : new.list ≡ old.list
   pub left : new.left ≡ old.left
@@ -34,12 +34,12 @@ abbrev pub EndsAt : Option (List ℕ) → Bool → Type 0
 EndsAt None ended = ended ≡ true
 EndsAt (Some payload) ended = Unit {0}
 
--- the next payload, or the end of the list, and nothing is loose there either
+-- the next payload, or the end of the list, and nothing is left over there either
 pub record NextIs {D : Type 0} (ghost_state : D → DiskState) (found : Option (List ℕ)) (old new : Shown D) : Type 0 where
   pub leftover : new.leftover ≡ []
   pub ends : EndsAt found new.ended
   pub sound : (ghost_state new.disk).faults ≡ (ghost_state old.disk).faults
-  pub gives : IfModeled (ghost_state old.disk).modeled (λ _. Gives found old.rest new.rest)
+  pub gives : IfModeled (ghost_state old.disk).modeled (λ _. GivesNext found old.rest new.rest)
 
 -- why no payload was read, with the disk's counts of faults before and after
 abbrev pub IsMissed : OpenCause → ℕ → ℕ → Type 0
@@ -70,7 +70,8 @@ pub record IsReadSoFar {D : Type 0} (ghost_state : D → DiskState) (base : Base
   pub good : is_base base ≡ true
   pub formed : AreFormed base
   pub leftover : journal.leftover ≡ []
-  pub now : IfModeled (ghost_state journal.disk).modeled (λ d. (image : List ℕ) → LeavesNow 0 d image → frames image ≡ journal.list)
+  pub now : IfModeled (ghost_state journal.disk).modeled (λ d. (image : List ℕ) → LeavesNow 0 d image
+      → frames image ≡ journal.list)
   pub list_is : IfModeled (ghost_state journal.disk).modeled (λ _. journal.list ≡ payloads base ++ journal.rest)
 
 -- the whole journal was read: its list is that of this base

@@ -14,7 +14,7 @@ use Rattle.row_form.specs.Spelled.{spelling_of}
 use Rattle.vob_journal.specs.Added.{WritesOn}
 use Rattle.vob_journal.specs.Calls.{device_after_commit}
 use Rattle.story_log.specs.Story.Faults.{is_fault}
-use Rattle.story_log.specs.Logging.Logs.{Logged, with_row, with_step, with_step_on}
+use Rattle.story_log.specs.Logging.Logs.{Logged, with_committed_row, with_step, with_step_on}
 use Rattle.story_log.specs.Story.Telling.{stands_alone}
 use Rattle.story_log.specs.declared.logs.Appended.{Appended}
 use Rattle.story_log.specs.declared.logs.Appended.TheVariants as appends
@@ -33,7 +33,7 @@ pub record IsCommitted (old new : Logged) (row : Plain) : Type 0 where
   pub tick : ℕ
   pub ghost_state : DiskState
   pub formed : IsFormed row
-  pub grows : new ≡ with_row old row tick ghost_state
+  pub grows : new ≡ with_committed_row old row tick ghost_state
   pub ticked : rises (ticks_of (state_of old.story).opened (state_of old.story).ends) tick ≡ true
   pub at : tick ≡ ghost_state.ticks
   pub spent : old.ghost_state.ticks < tick

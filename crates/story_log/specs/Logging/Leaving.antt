@@ -7,11 +7,11 @@ use Rattle.vob_journal.specs.declared.left.Left.{Left}
 use Rattle.vob_journal.specs.declared.left.Left.TheVariants as lefts
 
 -- the row that may be found behind the rows after some steps, oldest first, from what may be found before them
-abbrev pub left_by : Option Plain → List Step → Option Plain
-left_by left [] = left
-left_by left (steps.Commit tag number tick ∷ more) = left_by None more
-left_by left (steps.Fault tag found before faults tick ∷ more) = left_by found more
-left_by left (step ∷ more) = left_by left more
+abbrev pub row_left_by : Option Plain → List Step → Option Plain
+row_left_by left [] = left
+row_left_by left (steps.Commit tag number tick ∷ more) = row_left_by None more
+row_left_by left (steps.Fault tag found before faults tick ∷ more) = row_left_by found more
+row_left_by left (step ∷ more) = row_left_by left more
 
 -- what a failed append left, by what the journal says of it: nothing, what an earlier fault left, or the row in flight
 abbrev pub LeftSo : Option Plain → Plain → Left → Option Plain → Type 0
@@ -21,4 +21,4 @@ LeftSo earlier row lefts.InFlight found = found ≡ Some row
 
 -- the row that the newest commit or fault left behind the rows
 abbrev pub left_in : List Step → Option Plain
-left_in kept = left_by None kept
+left_in kept = row_left_by None kept

@@ -23,28 +23,49 @@ pub record Logged : Type 0 where
   pub ghost_state : DiskState
 
 -- the steps tell all rows of the base and all phases, and the journal is that of their story
-pub record IsLogged (handed : Handed) (steps : List Step) (base : Base) (phases : List Phase) (ghost_state : DiskState) (list leftover : List (List ℕ)) (ended : Bool) (left : Left) (settled : Bool) : Type 0 where
+pub record IsLogged (handed : Handed) (steps : List Step) (base : Base) (phases : List Phase) (ghost_state : DiskState)
+    (list leftover : List (List ℕ)) (ended : Bool) (left : Left) (settled : Bool) : Type 0 where
   pub modeled : AreNamedBySteps 1 0 steps (oldest_first base) phases
   pub backed : IsBacked (state_of (story_of handed steps (oldest_first base) phases)) ghost_state list leftover ended left settled
 
 -- this base was opened
 abbrev pub opened_log : Base → Handed → DiskState → Logged
 opened_log base handed ghost_state =
-    record { story = story_steps.Opened (oldest_first base) handed.counts handed.tells ∷ []; base = base; phases = []; ghost_state = ghost_state }
+    record {
+      story = story_steps.Opened (oldest_first base) handed.counts handed.tells ∷ [];
+      base = base;
+      phases = [];
+      ghost_state = ghost_state;
+    }
 
 -- with a phase that began
 abbrev pub with_phase : Logged → Phase → ℕ → Logged
 with_phase log phase moment =
-    record { story = log.story ++ story_steps.PhaseBegun phase moment ∷ []; base = log.base; phases = log.phases ++ phase ∷ []; ghost_state = log.ghost_state }
+    record {
+      story = log.story ++ story_steps.PhaseBegun phase moment ∷ [];
+      base = log.base;
+      phases = log.phases ++ phase ∷ [];
+      ghost_state = log.ghost_state;
+    }
 
 -- with a row that was committed, acknowledged at this tick of the disk, which is then so
-abbrev pub with_row : Logged → Plain → ℕ → DiskState → Logged
-with_row log row tick ghost_state =
-    record { story = log.story ++ story_steps.Commit row tick ∷ []; base = row ∷ log.base; phases = log.phases; ghost_state = ghost_state }
+abbrev pub with_committed_row : Logged → Plain → ℕ → DiskState → Logged
+with_committed_row log row tick ghost_state =
+    record {
+      story = log.story ++ story_steps.Commit row tick ∷ [];
+      base = row ∷ log.base;
+      phases = log.phases;
+      ghost_state = ghost_state;
+    }
 
 -- with a step that is told as it stands
 abbrev pub with_step : Logged → Step → Logged
-with_step log step = record { story = log.story ++ story_steps.Other step ∷ []; base = log.base; phases = log.phases; ghost_state = log.ghost_state }
+with_step log step = record {
+  story = log.story ++ story_steps.Other step ∷ [];
+  base = log.base;
+  phases = log.phases;
+  ghost_state = log.ghost_state;
+}
 
 -- with another state of the disk
 abbrev pub with_ghost_state : Logged → DiskState → Logged
@@ -52,4 +73,9 @@ with_ghost_state log ghost_state = record { story = log.story; base = log.base; 
 
 -- with such a step, while the disk changed
 abbrev pub with_step_on : Logged → Step → DiskState → Logged
-with_step_on log step ghost_state = record { story = log.story ++ story_steps.Other step ∷ []; base = log.base; phases = log.phases; ghost_state = ghost_state }
+with_step_on log step ghost_state = record {
+  story = log.story ++ story_steps.Other step ∷ [];
+  base = log.base;
+  phases = log.phases;
+  ghost_state = ghost_state;
+}

@@ -1,7 +1,7 @@
 -- A base that was found, and what is promised of it. Each law is promised by a function of `laws`.
 use Rattle.std.specs.Prelude.{◌≡◌, ℕ, true, Some, List}
 use Rattle.cc_names.specs.declared.steps.StoryStep.{StoryStep}
-use Rattle.disk_model.specs.Devices.{Device, bytes_of}
+use Rattle.disk_model.specs.Devices.{Device, bytes_now}
 use Rattle.disk_model.specs.DiskStates.{DiskState}
 use Rattle.base_model.specs.Rows.{Base}
 use Rattle.base_model.specs.Fits.{is_base}
@@ -52,5 +52,5 @@ StopOpensAgain = (story : List StoryStep) (opening : Opening) (k : ℕ) (found :
 -- was that had been opened before.
 abbrev pub FoundBaseIsSound : Type 0
 FoundBaseIsSound = (opened base : Base) (disk : DiskState) (device : Device) (handed : Handed)
-    → disk.modeled ≡ Some device → OpensAgain opened (frames (bytes_of 0 device))
+    → disk.modeled ≡ Some device → OpensAgain opened (frames (bytes_now 0 device))
     → IsBaseOn disk base handed → IsSound opened → IsSound base

@@ -1,4 +1,5 @@
--- Rows that keep their form, which a journal gives back, and stories that name no others. Each law is promised by a function of `laws`.
+-- Rows that keep their form, which a journal gives back, and stories that name no others. Each law is promised by a function of
+-- `laws`.
 use Rattle.std.specs.Prelude.{IfSome, List, reverse}
 use Rattle.std.specs.List.{AllByRecursion}
 use Rattle.cc_names.specs.Formed.{Plain, IsFormed}

@@ -13,9 +13,11 @@ use Rattle.story_log.specs.Story.Handed.{Handed}
 -- each beginning of a phase with the next one.
 abbrev pub story_of : Handed → List Step → List Plain → List Phase → List StoryStep
 story_of h [] rows phases = []
-story_of h (steps.Opened n ∷ more) rows phases = story_steps.Opened (take (n - 1) rows) h.counts h.tells ∷ story_of h more (drop (n - 1) rows) phases
+story_of h (steps.Opened n ∷ more) rows phases = story_steps.Opened (take (n - 1) rows) h.counts h.tells
+    ∷ story_of h more (drop (n - 1) rows) phases
 story_of h (steps.PhaseBegun number moment ∷ more) rows [] = []
-story_of h (steps.PhaseBegun number moment ∷ more) rows (phase ∷ phases) = story_steps.PhaseBegun phase moment ∷ story_of h more rows phases
+story_of h (steps.PhaseBegun number moment ∷ more) rows (phase ∷ phases) =
+    story_steps.PhaseBegun phase moment ∷ story_of h more rows phases
 story_of h (steps.Commit tag number tick ∷ more) [] phases = []
 story_of h (steps.Commit tag number tick ∷ more) (row ∷ rows) phases = story_steps.Commit row tick ∷ story_of h more rows phases
 story_of h (step ∷ more) rows phases = story_steps.Other step ∷ story_of h more rows phases
@@ -26,11 +28,14 @@ abbrev pub AreNamedBySteps : ℕ → ℕ → List Step → List Plain → List P
 AreNamedBySteps n p [] [] [] = ⊤
 AreNamedBySteps n p [] [] (phase ∷ phases) = ⊥
 AreNamedBySteps n p [] (row ∷ rows) phases = ⊥
-AreNamedBySteps n p (steps.Opened m ∷ more) rows phases = (1 ≤ m) × (m - 1 ≤ length rows) × AreNamedBySteps (n + (m - 1)) p more (drop (m - 1) rows) phases
+AreNamedBySteps n p (steps.Opened m ∷ more) rows phases = (1 ≤ m) × (m - 1 ≤ length rows)
+    × AreNamedBySteps (n + (m - 1)) p more (drop (m - 1) rows) phases
 AreNamedBySteps n p (steps.PhaseBegun number moment ∷ more) rows [] = ⊥
-AreNamedBySteps n p (steps.PhaseBegun number moment ∷ more) rows (phase ∷ phases) = (number ≡ p + 1) × AreNamedBySteps n (p + 1) more rows phases
+AreNamedBySteps n p (steps.PhaseBegun number moment ∷ more) rows (phase ∷ phases) = (number ≡ p + 1)
+    × AreNamedBySteps n (p + 1) more rows phases
 AreNamedBySteps n p (steps.Commit tag number tick ∷ more) [] phases = ⊥
-AreNamedBySteps n p (steps.Commit tag number tick ∷ more) (row ∷ rows) phases = (row.tag ≡ tag) × (number ≡ n) × AreNamedBySteps (n + 1) p more rows phases
+AreNamedBySteps n p (steps.Commit tag number tick ∷ more) (row ∷ rows) phases = (row.tag ≡ tag) × (number ≡ n)
+    × AreNamedBySteps (n + 1) p more rows phases
 AreNamedBySteps n p (step ∷ more) rows phases = AreNamedBySteps n p more rows phases
 
 -- whether a step is told as it stands: it names no row and no phase

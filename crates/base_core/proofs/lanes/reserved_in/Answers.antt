@@ -9,4 +9,9 @@ pub overflow_add-rows : goal.overflow_add-rows
 overflow_add-rows c = omega (arith, c.requires, c.loop-lane.invariant, reserved_rows 1 (builds_in c.args.lanes.now))
 
 pub returns : goal.returns
-returns c = omega (arith, c.loop-lane.invariant, reserved_rows 1 (builds_in c.args.lanes.now), rows_none (builds_in c.loop-lane.rest.now) (builds_count c.loop-lane.rest.now ∙ c.in_default.ensures.cases))
+returns c = omega (
+  arith,
+  c.loop-lane.invariant,
+  reserved_rows 1 (builds_in c.args.lanes.now),
+  rows_none (builds_in c.loop-lane.rest.now) (builds_count c.loop-lane.rest.now ∙ c.in_default.ensures.cases),
+)

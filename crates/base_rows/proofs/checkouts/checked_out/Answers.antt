@@ -17,6 +17,7 @@ returns c =
     let b = c.args.rows.now in
     let ended = ended_by (newest (end_effect v) b) in
     let row = newest (taken_effect v e) b in
-    ap (option_map plain_checkout) (c.in_life.ensures ∙ ap (λ update_by_row. within ended update_by_row) (c.newest.ensures ∙ newest_mapped stored_checkout (taken_effect v e) b) ∙ within_mapped stored_checkout ended row)
+    ap (option_map plain_checkout) (c.in_life.ensures ∙ ap (λ update_by_row. within ended update_by_row) (c.newest.ensures
+    ∙ newest_mapped stored_checkout (taken_effect v e) b) ∙ within_mapped stored_checkout ended row)
     ∙ plain_again (within ended row)
     ∙ sym (last_within (λ older deed. out_effect v e (size older) deed) (end_effect v) (taken_effect v e) (out_parts v e) b)

@@ -7,10 +7,12 @@ use Rattle.base_rows.proofs.Labellings.{another, next_placed, one_put, other_row
 use Rattle.base_rows.proofs.labels.attach_all.Goals as goal
 
 pub attach-requires-clause-above : goal.attach-requires-clause-above
-attach-requires-clause-above c = c.loop-one.invariant.above c.loop-one.one-index (record { element = 0; version = 0 }) (omega arith) c.loop-one-test.true
+attach-requires-clause-above c = c.loop-one.invariant.above c.loop-one.one-index (record { element = 0; version = 0 })
+    (omega arith) c.loop-one-test.true
 
 pub attach-requires-clause-ready : goal.attach-requires-clause-ready
-attach-requires-clause-ready c = c.loop-one.invariant.ready c.loop-one.one-index (record { element = 0; version = 0 }) (omega arith) c.loop-one-test.true
+attach-requires-clause-ready c = c.loop-one.invariant.ready c.loop-one.one-index (record { element = 0; version = 0 })
+    (omega arith) c.loop-one-test.true
 
 pub loop-one-init : goal.loop-one-init
 loop-one-init c = record {
@@ -31,11 +33,15 @@ loop-one-preserved c =
     record {
       above = λ k d from within.
           let lower : i < k = omega arith in
-          other_rows old new change c.args.row label (get_or placed k d).element c.attach.ensures (another placed label c.args.row i k (record { element = 0; version = 0 }) d c.requires.rising lower within)
+          other_rows old new change c.args.row label (get_or placed k d).element c.attach.ensures
+          (another placed label c.args.row i k (record { element = 0; version = 0 }) d c.requires.rising lower within)
           (c.loop-one.invariant.above k d (omega arith) within);
       ready = λ k d from within.
           let lower : i < k = omega arith in
-          c.attach.ensures.ready label (get_or placed k d).element (another placed label c.args.row i k (record { element = 0; version = 0 }) d c.requires.rising lower within)
+          c.attach.ensures.ready label (get_or placed k d).element (another placed label c.args.row i k
+          (record { element = 0; version = 0 }) d c.requires.rising lower within)
           (c.loop-one.invariant.ready k d (omega arith) within);
-      same = one_put old new c.args.row label placed i one (all_placed c.args.row label placed c.args.book.now.changes) c.attach.ensures (next_placed placed i (record { element = 0; version = 0 }) c.loop-one-test.true) c.loop-one.invariant.same;
+      same = one_put old new c.args.row label placed i one (all_placed c.args.row label placed c.args.book.now.changes)
+          c.attach.ensures (next_placed placed i (record { element = 0; version = 0 }) c.loop-one-test.true)
+          c.loop-one.invariant.same;
     }

@@ -23,14 +23,17 @@ loop-entry-preserved c = λ e.
     let i = c.loop-entry.entry-index in
     let entry = c.entry-item.result in
     let old = get nat_cmp c.loop-entry.versions e in
-    entry_put b e entry (drop (i + 1) c.args.entries.now) old _ _ (c.in_ok-put_entry.ensures e)
-    (ap (λ one. greater (find nat_cmp e (listing_of b (inputs_of b (closure b) (one ∷ drop (i + 1) c.args.entries.now)))) old) c.entry-item.is
-    ∙ sym (at_drop_more (λ (rest : List ReadOf). greater (find nat_cmp e (listing_of b (inputs_of b (closure b) rest))) old) c.args.entries.now i entry c.loop-entry-test.true)
+    entry_put b e entry (drop (i + 1) c.args.entries.now) old _ _ (c.in_ok-put_entry_version.ensures e)
+    (ap (λ one. greater (find nat_cmp e (listing_of b (inputs_of b (closure b) (one ∷ drop (i + 1) c.args.entries.now)))) old)
+    c.entry-item.is
+    ∙ sym (at_drop_more (λ (rest : List ReadOf). greater (find nat_cmp e (listing_of b (inputs_of b (closure b) rest))) old)
+    c.args.entries.now i entry c.loop-entry-test.true)
     ∙ c.loop-entry.invariant e)
 
 pub returns : goal.returns
 returns c = λ e.
     let b = c.args.rows.now in
     let old = get nat_cmp c.loop-entry.versions e in
-    sym (at_drop_all (λ (rest : List ReadOf). greater (find nat_cmp e (listing_of b (inputs_of b (closure b) rest))) old) c.args.entries.now c.loop-entry.entry-index c.loop-entry-test.false)
+    sym (at_drop_all (λ (rest : List ReadOf). greater (find nat_cmp e (listing_of b (inputs_of b (closure b) rest))) old)
+    c.args.entries.now c.loop-entry.entry-index c.loop-entry-test.false)
     ∙ c.loop-entry.invariant e

@@ -15,19 +15,27 @@ pub returns-in-None : goal.returns-in-None
 returns-in-None c =
     let b = c.args.rows.now in
     let limit : size b ≤ 4000000 = omega (arith, c.size.ensures) in
-    let is : c.new.result.items ≡ placed_by b c.args.object = c.new.ensures.items ∙ ap (λ (entries : Listing). map as_placed entries) (nothing_listed b c.args.object c.in-None.ensures) in
+    let is : c.new.result.items ≡ placed_by b c.args.object = c.new.ensures.items
+    ∙ ap (λ (entries : Listing). map as_placed entries) (nothing_listed b c.args.object c.in-None.ensures) in
     record {
       placed = is;
-      formed = subst (λ (places : List Placed). IsListOf IsPlaced places × IsStrictlySortedBy nat_cmp (map element_of places)) (sym is) (placed_formed b c.args.object c.size.ensures.base limit);
+      formed = subst (λ (places : List Placed). IsListOf IsPlaced places
+          × IsStrictlySortedBy nat_cmp (map element_of places)) (sym is)
+          (placed_formed b c.args.object c.size.ensures.base limit);
     }
 
 pub returns-in-Some : goal.returns-in-Some
 returns-in-Some c =
     let b = c.args.rows.now in
     let limit : size b ≤ 4000000 = omega (arith, c.size.ensures) in
-    let kept = ap (λ (entries : Listing). map as_placed entries) (stored_listing c.in-Some.versions.now.entries b c.args.object c.places_of.ensures.ordered c.in-Some.ensures) in
+    let kept = ap (λ (entries : Listing). map as_placed entries) (stored_listing c.in-Some.versions.now.entries b c.args.object
+    c.places_of.ensures.ordered c.in-Some.ensures) in
     record {
-      placed = IfOk-weaker c.places_of.result (λ placed. placed.items ≡ map as_placed c.in-Some.versions.now.entries) (λ placed. placed.items ≡ placed_by b c.args.object) (λ placed is. is ∙ kept) c.places_of.ensures.placed;
-      formed = IfOk-weaker c.places_of.result (λ placed. placed.items ≡ map as_placed c.in-Some.versions.now.entries) (λ placed. IsListOf IsPlaced placed.items × IsStrictlySortedBy nat_cmp (map element_of placed.items))
-          (λ placed is. subst (λ (places : List Placed). IsListOf IsPlaced places × IsStrictlySortedBy nat_cmp (map element_of places)) (sym (is ∙ kept)) (placed_formed b c.args.object c.size.ensures.base limit)) c.places_of.ensures.placed;
+      placed = IfOk-weaker c.places_of.result (λ placed. placed.items ≡ map as_placed c.in-Some.versions.now.entries)
+          (λ placed. placed.items ≡ placed_by b c.args.object) (λ placed is. is ∙ kept) c.places_of.ensures.placed;
+      formed = IfOk-weaker c.places_of.result (λ placed. placed.items ≡ map as_placed c.in-Some.versions.now.entries)
+          (λ placed. IsListOf IsPlaced placed.items × IsStrictlySortedBy nat_cmp (map element_of placed.items))
+          (λ placed is. subst (λ (places : List Placed). IsListOf IsPlaced places
+          × IsStrictlySortedBy nat_cmp (map element_of places)) (sym (is ∙ kept))
+          (placed_formed b c.args.object c.size.ensures.base limit)) c.places_of.ensures.placed;
     }

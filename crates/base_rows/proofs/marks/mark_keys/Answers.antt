@@ -14,7 +14,8 @@ loop-key-preserved c =
       chained = c.mark.ensures.marks.chained c.loop-key.invariant.chained;
       rows = λ q.
           ap (with_marks row q (drop (i + 1) keys)) (c.mark.ensures.marks.rows c.loop-key.invariant.chained q)
-          ∙ sym (at_drop_more (λ left. with_marks row q left (rows_by c.loop-key.links.items (get nat_eq c.loop-key.newest) q)) keys i 0 c.loop-key-test.true)
+          ∙ sym (at_drop_more (λ left. with_marks row q left (rows_by c.loop-key.links.items (get nat_eq c.loop-key.newest) q))
+          keys i 0 c.loop-key-test.true)
           ∙ c.loop-key.invariant.rows q;
       len = omega (arith, c.mark.ensures.len, c.loop-key.invariant.len);
       capacity = omega (arith, c.mark.ensures.capacity, c.loop-key.invariant.capacity);
@@ -28,6 +29,7 @@ returns-clause-marks c =
     record {
       chained = λ before. c.loop-key.invariant.chained;
       rows = λ before q.
-          sym (at_drop_all (λ left. with_marks row q left (rows_by c.loop-key.links.items (get nat_eq c.loop-key.newest) q)) keys c.loop-key.key-index c.loop-key-test.false)
+          sym (at_drop_all (λ left. with_marks row q left (rows_by c.loop-key.links.items (get nat_eq c.loop-key.newest) q)) keys
+          c.loop-key.key-index c.loop-key-test.false)
           ∙ c.loop-key.invariant.rows q;
     }

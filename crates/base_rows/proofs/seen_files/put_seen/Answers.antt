@@ -9,7 +9,8 @@ use Rattle.base_rows.proofs.seen_files.put_seen.Goals as goal
 pub returns-in-Ok : goal.returns-in-Ok
 returns-in-Ok c = λ b before made. record {
   each = λ v kept given.
-      view_put b c.args.made.0 v c.args.made.1 kept (get bytes_eq c.args.seen.now v) made (before.each v kept) (sym (c.in-Ok.ensures.updates.0 v) ∙ given);
+      view_put b c.args.made.0 v c.args.made.1 kept (get bytes_eq c.args.seen.now v) made (before.each v kept)
+      (sym (c.in-Ok.ensures.updates.0 v) ∙ given);
 }
 
 pub returns : goal.returns

@@ -15,11 +15,14 @@ returns-then-bound-links c =
     let back : far < c.args.place = subst (λ n. IfSome n (λ p. p < c.args.place)) c.in-Some.is leads.skips in
     let there : far < length c.args.links.now = omega (arith, c.requires.there) in
     let at : Link = get_or c.args.links.now far none in
-    let rows : rows_from links (Some far) ≡ at.row ∷ rows_from links at.older = (link_in c.args.links.now far none there c.requires.linked).rows in
+    let rows : rows_from links (Some far) ≡ at.row ∷ rows_from links at.older =
+    (link_in c.args.links.now far none there c.requires.linked).rows in
     let end : IsEnd (rows_from links (Some far)) (rows_from links (Some c.args.place)) =
-    end_of _ _ _ _ (ap (rows_from links) (sym c.in-Some.is)) leads.rows (next_end link.row (rows_from links link.skip) (rows_from links link.older) leads.end) in
+    end_of _ _ _ _ (ap (rows_from links) (sym c.in-Some.is)) leads.rows
+    (next_end link.row (rows_from links link.skip) (rows_from links link.older) leads.end) in
     record {
       back = back;
       sinks = sinks_from (rows_from links (Some far)) (rows_from links (Some c.args.place)) end c.requires.sinks;
-      below = skipped c.args.bound at.row (rows_from links at.older) (rows_from links (Some far)) (rows_from links (Some c.args.place)) (search rules) rows end c.requires.sinks;
+      below = skipped c.args.bound at.row (rows_from links at.older) (rows_from links (Some far))
+          (rows_from links (Some c.args.place)) (search rules) rows end c.requires.sinks;
     }

@@ -13,5 +13,6 @@ returns c =
     let leads : LeadsOn (reverse links) c.args.place link = link_in links c.args.place none c.requires.there c.requires.linked in
     record {
       within = sooner link.skip c.args.place (length links) c.requires.there leads.skips;
-      end = end_of _ _ _ _ refl leads.rows (next_end link.row (rows_from (reverse links) link.skip) (rows_from (reverse links) link.older) leads.end);
+      end = end_of _ _ _ _ refl leads.rows (next_end link.row (rows_from (reverse links) link.skip)
+          (rows_from (reverse links) link.older) leads.end);
     }

@@ -1,4 +1,4 @@
--- A publish bears on its object, on the objects with its targets, and on what its view holds.
+-- A publish affects its object, the objects with its targets, and on what its view holds.
 use Rattle.std.proofs.Common.{ℕ, List, ◌∷◌, map, ap, sym, ◌∙◌}
 use Rattle.std.specs.List.{slice_get}
 use Rattle.cc_names.specs.declared.rows.Deed.{Deed}

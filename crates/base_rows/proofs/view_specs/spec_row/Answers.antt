@@ -12,5 +12,6 @@ returns c =
     let v = c.args.view.now in
     let b = c.args.rows.now in
     c.left_by.ensures
-    ∙ ap left_by (c.later.ensures ∙ ap₂ later c.newest.ensures c.newest-2.ensures ∙ sym (newest_of_two (spec_row_effect v) (life_effect v) (set_effect v) (λ older deed. refl) b))
+    ∙ ap left_by (c.later.ensures ∙ ap₂ later c.newest.ensures c.newest-2.ensures
+    ∙ sym (newest_of_two (spec_row_effect v) (life_effect v) (set_effect v) (λ older deed. refl) b))
     ∙ sym (last_by_newest (spec_row_effect v) b)

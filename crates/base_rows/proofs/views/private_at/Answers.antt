@@ -15,4 +15,5 @@ returns c =
     let path = c.args.path.now in
     c.in_life.ensures
     ∙ ap (λ update_by_row. within (ended_by (newest (end_effect v) c.args.rows.now)) update_by_row) c.newest.ensures
-    ∙ sym (last_within (λ older deed. private_effect v path (size older) deed) (end_effect v) (file_effect v path) (private_parts v path) c.args.rows.now)
+    ∙ sym (last_within (λ older deed. private_effect v path (size older) deed) (end_effect v) (file_effect v path)
+    (private_parts v path) c.args.rows.now)

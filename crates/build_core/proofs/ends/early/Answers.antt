@@ -14,8 +14,10 @@ returns-in-Some c =
 
 pub returns-in-Some-first_missing : goal.returns-in-Some-first_missing
 returns-in-Some-first_missing c =
-    let none : no_directory (sees_directory c.args.rows.now c.args.build.now.view) c.args.unit.now.targets c.args.unit.now.script ≡ None = sym c.in_ok-end.ensures ∙ c.in_default.is in
-    let missing = λ (paths : List (List ℕ)). find (λ path. is_missing (standing_or_file (sees_file c.args.rows.now c.args.build.now.view path) (standing_of_unit c.args.build.now path))) paths in
+    let none : no_directory (sees_directory c.args.rows.now c.args.build.now.view) c.args.unit.now.targets c.args.unit.now.script
+    ≡ None = sym c.in_ok-end.ensures ∙ c.in_default.is in
+    let missing = λ (paths : List (List ℕ)). find (λ path. is_missing (standing_or_file
+    (sees_file c.args.rows.now c.args.build.now.view path) (standing_of_unit c.args.build.now path))) paths in
     let found : missing c.args.unit.now.prerequisites ≡ Some c.in_ok-path.path =
     ap missing (sym c.as_slice.ensures) ∙ sym c.in-Some-first_missing.ensures ∙ ap Some (sym c.in_ok-path.ensures.copy)
     in
@@ -23,9 +25,12 @@ returns-in-Some-first_missing c =
 
 pub returns-in-Some-first_bad : goal.returns-in-Some-first_bad
 returns-in-Some-first_bad c =
-    let none : no_directory (sees_directory c.args.rows.now c.args.build.now.view) c.args.unit.now.targets c.args.unit.now.script ≡ None = sym c.in_ok-end.ensures ∙ c.in_default.is in
-    let missing = λ (paths : List (List ℕ)). find (λ path. is_missing (standing_or_file (sees_file c.args.rows.now c.args.build.now.view path) (standing_of_unit c.args.build.now path))) paths in
-    let bad = λ (paths : List (List ℕ)). find (λ path. is_bad (standing_or_file (sees_file c.args.rows.now c.args.build.now.view path) (standing_of_unit c.args.build.now path))) paths in
+    let none : no_directory (sees_directory c.args.rows.now c.args.build.now.view) c.args.unit.now.targets c.args.unit.now.script
+    ≡ None = sym c.in_ok-end.ensures ∙ c.in_default.is in
+    let missing = λ (paths : List (List ℕ)). find (λ path. is_missing (standing_or_file
+    (sees_file c.args.rows.now c.args.build.now.view path) (standing_of_unit c.args.build.now path))) paths in
+    let bad = λ (paths : List (List ℕ)). find (λ path. is_bad (standing_or_file
+    (sees_file c.args.rows.now c.args.build.now.view path) (standing_of_unit c.args.build.now path))) paths in
     let known : missing c.args.unit.now.prerequisites ≡ None =
     ap missing (sym c.as_slice.ensures) ∙ sym c.in_default-first_missing.ensures
     in
@@ -36,9 +41,12 @@ returns-in-Some-first_bad c =
 
 pub returns : goal.returns
 returns c =
-    let none : no_directory (sees_directory c.args.rows.now c.args.build.now.view) c.args.unit.now.targets c.args.unit.now.script ≡ None = sym c.in_ok-end.ensures ∙ c.in_default.is in
-    let missing = λ (paths : List (List ℕ)). find (λ path. is_missing (standing_or_file (sees_file c.args.rows.now c.args.build.now.view path) (standing_of_unit c.args.build.now path))) paths in
-    let bad = λ (paths : List (List ℕ)). find (λ path. is_bad (standing_or_file (sees_file c.args.rows.now c.args.build.now.view path) (standing_of_unit c.args.build.now path))) paths in
+    let none : no_directory (sees_directory c.args.rows.now c.args.build.now.view) c.args.unit.now.targets c.args.unit.now.script
+    ≡ None = sym c.in_ok-end.ensures ∙ c.in_default.is in
+    let missing = λ (paths : List (List ℕ)). find (λ path. is_missing (standing_or_file
+    (sees_file c.args.rows.now c.args.build.now.view path) (standing_of_unit c.args.build.now path))) paths in
+    let bad = λ (paths : List (List ℕ)). find (λ path. is_bad (standing_or_file
+    (sees_file c.args.rows.now c.args.build.now.view path) (standing_of_unit c.args.build.now path))) paths in
     let known : missing c.args.unit.now.prerequisites ≡ None =
     ap missing (sym c.as_slice.ensures) ∙ sym c.in_default-first_missing.ensures
     in

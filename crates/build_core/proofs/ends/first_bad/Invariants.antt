@@ -7,5 +7,6 @@ use Rattle.build_core.proofs.ends.first_bad.Given as goal
 
 abbrev pub invariant-loop-path : goal.invariant-loop-path
 invariant-loop-path l =
-    find (λ path. is_bad (standing_or_file (sees_file l.rows l.build.view path) (standing_of_unit l.build path))) (drop l.path-index l.paths) ≡
+    find (λ path. is_bad (standing_or_file (sees_file l.rows l.build.view path) (standing_of_unit l.build path)))
+    (drop l.path-index l.paths) ≡
     find (λ path. is_bad (standing_or_file (sees_file l.rows l.build.view path) (standing_of_unit l.build path))) l.paths

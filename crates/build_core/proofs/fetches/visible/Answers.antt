@@ -11,7 +11,8 @@ pub returns-in-Some : goal.returns-in-Some
 returns-in-Some c = λ it is.
     let build = c.args.build.now in
     let found : object_before build it.prerequisites c.args.unit c.args.path.now ≡ Some c.in-Some.id =
-    sym (seen_object build c.args.unit it c.args.closure.now c.args.path.now is c.requires.needs) ∙ (sym c.object_in.ensures ∙ c.in-Some.is)
+    sym (seen_object build c.args.unit it c.args.closure.now c.args.path.now is c.requires.needs)
+    ∙ (sym c.object_in.ensures ∙ c.in-Some.is)
     in
     sym (ap (λ object. option_or object (file_at (first_rows build.rows c.args.rows.now) build.view c.args.path.now)) found)
 
@@ -19,6 +20,8 @@ pub returns : goal.returns
 returns c = λ it is.
     let build = c.args.build.now in
     let none : object_before build it.prerequisites c.args.unit c.args.path.now ≡ None =
-    sym (seen_object build c.args.unit it c.args.closure.now c.args.path.now is c.requires.needs) ∙ (sym c.object_in.ensures ∙ c.in_default.is)
+    sym (seen_object build c.args.unit it c.args.closure.now c.args.path.now is c.requires.needs)
+    ∙ (sym c.object_in.ensures ∙ c.in_default.is)
     in
-    c.file_in.ensures ∙ sym (ap (λ object. option_or object (file_at (first_rows build.rows c.args.rows.now) build.view c.args.path.now)) none)
+    c.file_in.ensures ∙ sym (ap (λ object. option_or object (file_at (first_rows build.rows c.args.rows.now) build.view
+    c.args.path.now)) none)

@@ -5,4 +5,5 @@ use Rattle.legal_history.specs.Builds.Choices.{in_order, visible}
 use Rattle.build_core.proofs.publishes.rows_read.Given as goal
 
 abbrev pub invariant-loop-index : goal.invariant-loop-index
-invariant-loop-index l = (it : units.Unit) → unit_at l.build l.unit ≡ Some it → l.found.entries ≡ in_order (visible l.rows l.build l.unit it) (drop l.index l.reads)
+invariant-loop-index l = (it : units.Unit) → unit_at l.build l.unit ≡ Some it
+    → l.found.entries ≡ in_order (visible l.rows l.build l.unit it) (drop l.index l.reads)

@@ -12,5 +12,6 @@ returns c =
     let dependants = c.dependants-dependants.result.now in
     let kept = c.loop-dependant.released.items in
     let all : kept ≡ filter test dependants =
-    sym (append-nil kept) ∙ sym (at_drop_all (λ rest. kept ++ filter test rest) dependants c.loop-dependant.dependant-index (omega arith)) ∙ c.loop-dependant.invariant in
+    sym (append-nil kept) ∙ sym (at_drop_all (λ rest. kept ++ filter test rest) dependants c.loop-dependant.dependant-index
+    (omega arith)) ∙ c.loop-dependant.invariant in
     all ∙ ap (filter test) c.dependants-dependants.ensures ∙ released_are c.args.build.now c.args.unit

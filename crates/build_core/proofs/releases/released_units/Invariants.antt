@@ -5,4 +5,5 @@ use Rattle.build_core.proofs.releases.released_units.Given as goal
 
 abbrev pub invariant-loop-dependant : goal.invariant-loop-dependant
 invariant-loop-dependant l =
-    l.released.items ++ filter (can_be_driven l.build) (drop l.dependant-index l.dependants) ≡ filter (can_be_driven l.build) l.dependants
+    l.released.items ++ filter (can_be_driven l.build) (drop l.dependant-index l.dependants)
+    ≡ filter (can_be_driven l.build) l.dependants

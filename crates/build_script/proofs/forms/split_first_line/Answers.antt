@@ -15,7 +15,9 @@ filled (b ∷ text) e = omega arith
 pub returns-in-Some-clause-lines : goal.returns-in-Some-clause-lines
 returns-in-Some-clause-lines c =
     lines_in-at c.args.text.now c.in-Some.place (sym c.first_newline.ensures.place ∙ c.in-Some.is)
-    ∙ ap (λ (rest : List ℕ). take (c.in-Some.place + 1) c.args.text.now ∷ lines_in rest) (sym (behind (c.in-Some.place + 1) c.args.text.now))
+    ∙ ap (λ (rest : List ℕ). take (c.in-Some.place + 1) c.args.text.now ∷ lines_in rest)
+    (sym (behind (c.in-Some.place + 1) c.args.text.now))
 
 pub returns-in-None-2-clause-lines : goal.returns-in-None-2-clause-lines
-returns-in-None-2-clause-lines c = lines_in-none c.args.text.now (sym c.first_newline.ensures.place ∙ c.in-None.is) (filled c.args.text.now c.if-is_empty.ensures)
+returns-in-None-2-clause-lines c = lines_in-none c.args.text.now (sym c.first_newline.ensures.place
+    ∙ c.in-None.is) (filled c.args.text.now c.if-is_empty.ensures)

@@ -4,4 +4,5 @@ use Rattle.build_script.proofs.LineLemmas.{paths_onto}
 use Rattle.build_script.proofs.lines.read_paths.Given as goal
 
 abbrev pub invariant-loop-word : goal.invariant-loop-word
-invariant-loop-word l = paths_onto l.paths.items (paths_of (map (λ word. word.now) (drop l.word-index l.words))) ≡ paths_of (map (λ word. word.now) l.words)
+invariant-loop-word l = paths_onto l.paths.items (paths_of (map (λ word. word.now) (drop l.word-index l.words)))
+    ≡ paths_of (map (λ word. word.now) l.words)

@@ -13,36 +13,47 @@ use Rattle.build_script.proofs.preprocess.find_under.Goals as goal
 pub returns-in_err-found-clause-went : goal.returns-in_err-found-clause-went
 returns-in_err-found-clause-went g c =
     let p = err_from_is_err_and c.from_residual.result c.from_residual.ensures.1 in
-    let cut = item_at c.args.directories.now c.loop-directory.directory-index c.directory-item.result c.directory-item.is c.loop-directory-test.true in
-    let looks = λ (directories : List (List ℕ)). probe_of (own_of c.args.making.written.now) c.args.path.now (filter_map (under c.args.path.now) directories) c.loop-directory.probes in
+    let cut = item_at c.args.directories.now c.loop-directory.directory-index c.directory-item.result c.directory-item.is
+    c.loop-directory-test.true in
+    let looks = λ (directories : List (List ℕ)). probe_of (own_of c.args.making.written.now) c.args.path.now
+    (filter_map (under c.args.path.now) directories) c.loop-directory.probes in
     rw (p.1, p.2) (carried_over g.met.F.Files.transitive c.loop-directory.invariant.went
     (carried_ended (gives (found_with c.probe_under.new.probes))
-    (carried_as (ap looks (sym cut)) (c.in_err-found.ensures.went (drop (c.loop-directory.directory-index + 1) c.args.directories.now)))))
+    (carried_as (ap looks (sym cut)) (c.in_err-found.ensures.went (drop (c.loop-directory.directory-index + 1)
+    c.args.directories.now)))))
 
 pub returns-in-Some-clause-went : goal.returns-in-Some-clause-went
 returns-in-Some-clause-went g c =
-    let cut = item_at c.args.directories.now c.loop-directory.directory-index c.directory-item.result c.directory-item.is c.loop-directory-test.true in
-    let looks = λ (directories : List (List ℕ)). probe_of (own_of c.args.making.written.now) c.args.path.now (filter_map (under c.args.path.now) directories) c.loop-directory.probes in
-    let found = rw c.in-Some.is at (c.in_ok-found.ensures.went (drop (c.loop-directory.directory-index + 1) c.args.directories.now)) in
+    let cut = item_at c.args.directories.now c.loop-directory.directory-index c.directory-item.result c.directory-item.is
+    c.loop-directory-test.true in
+    let looks = λ (directories : List (List ℕ)). probe_of (own_of c.args.making.written.now) c.args.path.now
+    (filter_map (under c.args.path.now) directories) c.loop-directory.probes in
+    let found = rw c.in-Some.is at (c.in_ok-found.ensures.went (drop (c.loop-directory.directory-index + 1)
+    c.args.directories.now)) in
     carried_over g.met.F.Files.transitive c.loop-directory.invariant.went
     (carried_passed (gives (found_with c.probe_under.new.probes)) c.in-Some.text refl (carried_as (ap looks (sym cut)) found))
 
 pub loop-directory-preserved : goal.loop-directory-preserved
 loop-directory-preserved g c =
-    let cut = item_at c.args.directories.now c.loop-directory.directory-index c.directory-item.result c.directory-item.is c.loop-directory-test.true in
+    let cut = item_at c.args.directories.now c.loop-directory.directory-index c.directory-item.result c.directory-item.is
+    c.loop-directory-test.true in
     let own = own_of c.args.making.written.now in
-    let looks = λ (directories : List (List ℕ)). probe_of own c.args.path.now (filter_map (under c.args.path.now) directories) c.loop-directory.probes in
+    let looks = λ (directories : List (List ℕ)). probe_of own c.args.path.now (filter_map (under c.args.path.now) directories)
+    c.loop-directory.probes in
     let behind = drop (c.loop-directory.directory-index + 1) c.args.directories.now in
     let missed = rw c.in_default.is at (c.in_ok-found.ensures.went behind) in
     record {
       went = carried_over g.met.F.Files.transitive c.loop-directory.invariant.went
-          (carried_passed (λ (u : Unit {0}). probe_of own c.args.path.now (filter_map (under c.args.path.now) behind) c.probe_under.new.probes) tt refl (carried_as (ap looks (sym cut)) missed));
+          (carried_passed (λ (u : Unit {0}). probe_of own c.args.path.now (filter_map (under c.args.path.now) behind)
+          c.probe_under.new.probes) tt refl (carried_as (ap looks (sym cut)) missed));
       counted = omega (arith, c.loop-directory.invariant.counted, c.in_ok-found.ensures.counted);
     }
 
 pub returns-clause-went : goal.returns-clause-went
 returns-clause-went g c =
-    let looks = λ (directories : List (List ℕ)). probe_of (own_of c.args.making.written.now) c.args.path.now (filter_map (under c.args.path.now) directories) c.loop-directory.probes in
+    let looks = λ (directories : List (List ℕ)). probe_of (own_of c.args.making.written.now) c.args.path.now
+    (filter_map (under c.args.path.now) directories) c.loop-directory.probes in
     let none = all_dropped c.args.directories.now c.loop-directory.directory-index c.loop-directory-test.false in
     carried_over g.met.F.Files.transitive c.loop-directory.invariant.went
-    (carried_as (ap looks (sym none)) (carried_pure _ _ _ g.met.F.Files.reflexive _ _ _ _ _ (c.absent.ensures c.loop-directory.probes)))
+    (carried_as (ap looks (sym none)) (carried_pure _ _ _ g.met.F.Files.reflexive _ _ _ _ _
+    (c.absent.ensures c.loop-directory.probes)))

@@ -10,5 +10,7 @@ pub returns-clause-went : goal.returns-clause-went
 returns-clause-went g c more =
     let low : nat_lt c.args.probes.now probe_limit ≡ true = lt_true _ _ (omega arith) in
     let own = own_of c.args.making.written.now in
-    rw low (carried_as (seen_then (own c.args.place.now) c.args.place.now (found_or (probe_of own c.args.include.now more (c.args.probes.now + 1)) (c.args.probes.now + 1)))
-    (carried_shown (found_or (probe_of own c.args.include.now more (c.args.probes.now + 1)) (c.args.probes.now + 1)) c.see.ensures))
+    rw low (carried_as (seen_then (own c.args.place.now) c.args.place.now
+    (found_or (probe_of own c.args.include.now more (c.args.probes.now + 1)) (c.args.probes.now + 1)))
+    (carried_shown (found_or (probe_of own c.args.include.now more (c.args.probes.now + 1)) (c.args.probes.now + 1))
+    c.see.ensures))

@@ -12,7 +12,8 @@ behind n xs = grind (arith, common_steps)
 pub returns-in-Some-clause-pieces : goal.returns-in-Some-clause-pieces
 returns-in-Some-clause-pieces c =
     slice_split-at is_newline 0 c.args.text.now c.in-Some.index (sym c.first_newline.ensures.place ∙ c.in-Some.is)
-    ∙ ap (λ (rest : List ℕ). take c.in-Some.index c.args.text.now ∷ slice_split is_newline rest) (sym (behind (c.in-Some.index + 1) c.args.text.now))
+    ∙ ap (λ (rest : List ℕ). take c.in-Some.index c.args.text.now ∷ slice_split is_newline rest)
+    (sym (behind (c.in-Some.index + 1) c.args.text.now))
 
 pub returns-in-None-clause-pieces : goal.returns-in-None-clause-pieces
 returns-in-None-clause-pieces c = slice_split-none is_newline c.args.text.now (sym c.first_newline.ensures.place ∙ c.in-None.is)

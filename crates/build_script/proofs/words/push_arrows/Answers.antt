@@ -10,5 +10,6 @@ loop-pair-preserved c =
     arrows_cut _ _ _ s.1.0 (rw c.loop-pair.invariant.two at s.1.1) s.1.2 in
     record {
       two = s.0 ∙ c.loop-pair.invariant.two;
-      arrows = rw c.in_ok-push.ensures.items (pushed _ _ _ ∙ ap (λ (more : List (List ℕ)). map (λ w. w.now) c.loop-pair.found.items ++ more) (sym cut) ∙ c.loop-pair.invariant.arrows);
+      arrows = rw c.in_ok-push.ensures.items (pushed _ _ _ ∙ ap (λ (more : List (List ℕ)). map (λ w. w.now)
+          c.loop-pair.found.items ++ more) (sym cut) ∙ c.loop-pair.invariant.arrows);
     }

@@ -13,7 +13,8 @@ returns g c =
     let found : slice_get items c.in_ok-place.place ≡ find (λ x. eqb (row_in x) c.args.row) items = search rules in
     let within : c.in_ok-place.place < length items = search rules in
     let there : get_or items c.in_ok-place.place item ≡ item = search rules in
-    ap Some (sym there) ∙ sym (slice_get-get_or items c.in_ok-place.place item within) ∙ found ∙ sym (find-reverse row_in c.args.row items c.requires)
+    ap Some (sym there) ∙ sym (slice_get-get_or items c.in_ok-place.place item within) ∙ found
+    ∙ sym (find-reverse row_in c.args.row items c.requires)
 
 -- nothing was found
 pub returns-in_err-place : goal.returns-in_err-place

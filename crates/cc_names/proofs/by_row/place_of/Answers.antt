@@ -14,7 +14,8 @@ returns-in-Some-clause-found g c =
     let within : i < length xs = search rules in
     let there : get_or xs i item ≡ item = search rules in
     let same : row_in (get_or xs i item) ≡ c.args.row = rw there (sym c.row.ensures ∙ c.if-row.true) in
-    slice_get-get_or xs i item within ∙ sym (find_at_row row_in xs c.args.row i c.requires c.count_below-place.ensures.below item within same)
+    slice_get-get_or xs i item within ∙ sym (find_at_row row_in xs c.args.row i c.requires c.count_below-place.ensures.below item
+    within same)
 
 -- it has another one
 pub returns-in_default-clause-found : goal.returns-in_default-clause-found

@@ -16,7 +16,8 @@ returns-clause-joined c =
     let directory = c.args.directory.now in
     let name = c.args.name.now in
     let whole : c.of.result ≡ directory ++ 47 ∷ name = grind (arith, common_steps) in
-    join-below directory name c.requires.below ∙ unless_long-short _ (short directory name c.if-length-gt1024.false) ∙ ap Ok (sym whole)
+    join-below directory name c.requires.below ∙ unless_long-short _ (short directory name c.if-length-gt1024.false)
+    ∙ ap Ok (sym whole)
 
 pub returns-clause-path : goal.returns-clause-path
 returns-clause-path c =

@@ -13,7 +13,8 @@ loop-bytes-init g c = record {
 
 pub returns-then-count-eq0-clause-bytes : goal.returns-then-count-eq0-clause-bytes
 returns-then-count-eq0-clause-bytes g c =
-    rw c.of.ensures (Consumes-end _ (g.S.Source.ghost_state c.loop-bytes.source).left _ c.loop-bytes.bytes.items c.read.new.into c.in-Ok.count
+    rw c.of.ensures (Consumes-end _ (g.S.Source.ghost_state c.loop-bytes.source).left _ c.loop-bytes.bytes.items c.read.new.into
+    c.in-Ok.count
     c.loop-bytes.invariant.bytes c.in-Ok.ensures.bytes.0 c.if-count-eq0.true)
 
 pub loop-bytes-preserved : goal.loop-bytes-preserved
@@ -21,10 +22,20 @@ loop-bytes-preserved g c = record {
   room = c.loop-bytes.invariant.room;
   bytes =
       rw c.in_ok-extend_from_slice.ensures.items
-      (Consumes-then _ (g.S.Source.ghost_state c.loop-bytes.source).left _ c.loop-bytes.bytes.items (take c.in-Ok.count c.read.new.into)
+      (Consumes-then _ (g.S.Source.ghost_state c.loop-bytes.source).left _ c.loop-bytes.bytes.items
+      (take c.in-Ok.count c.read.new.into)
       c.loop-bytes.invariant.bytes c.in-Ok.ensures.bytes.0);
   short =
-      omega (arith, c.in_ok-extend_from_slice.ensures.len, c.in-Ok.ensures.within, c.read.auto.into, c.min-room.ensures, c.len-in-loop-bytes.ensures, c.loop-bytes.invariant.short, length-take {A = ℕ});
+      omega (
+        arith,
+        c.in_ok-extend_from_slice.ensures.len,
+        c.in-Ok.ensures.within,
+        c.read.auto.into,
+        c.min-room.ensures,
+        c.len-in-loop-bytes.ensures,
+        c.loop-bytes.invariant.short,
+        length-take {A = ℕ},
+      );
   counted =
       omega (arith, c.in_ok-extend_from_slice.ensures.len, c.in-Ok.ensures.counted, c.in-Ok.ensures.within, length-take {A = ℕ});
   sound = c.in-Ok.ensures.sound ∙ c.loop-bytes.invariant.sound;
@@ -40,4 +51,14 @@ returns-clause-too_long g c = λ h. omega (arith, c.loop-bytes.invariant.counted
 
 pub returns-in_err-extend_from_slice-clause-taken : goal.returns-in_err-extend_from_slice-clause-taken
 returns-in_err-extend_from_slice-clause-taken g c =
-    omega (arith, c.in-Ok.ensures.counted, c.in-Ok.ensures.within, c.read.auto.into, c.min-room.ensures, c.len-in-loop-bytes.ensures, c.loop-bytes.invariant.short, c.loop-bytes.invariant.counted, length-take {A = ℕ})
+    omega (
+      arith,
+      c.in-Ok.ensures.counted,
+      c.in-Ok.ensures.within,
+      c.read.auto.into,
+      c.min-room.ensures,
+      c.len-in-loop-bytes.ensures,
+      c.loop-bytes.invariant.short,
+      c.loop-bytes.invariant.counted,
+      length-take {A = ℕ},
+    )

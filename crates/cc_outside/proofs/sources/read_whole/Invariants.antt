@@ -8,7 +8,8 @@ invariant-loop-bytes g l = record {
   room : vec_len l.piece ≡ 65536;
   bytes : Consumes (g.S.Source.ghost_state l.initial.source).left (g.S.Source.ghost_state l.source).left l.bytes.items;
   short : vec_len l.bytes ≤ l.limit + 1;
-  counted : (g.S.Source.ghost_state l.source).given ≡ raised_count (g.S.Source.ghost_state l.initial.source).given (vec_len l.bytes);
+  counted : (g.S.Source.ghost_state l.source).given ≡ raised_count (g.S.Source.ghost_state l.initial.source).given
+      (vec_len l.bytes);
   sound : (g.S.Source.ghost_state l.source).faults ≡ (g.S.Source.ghost_state l.initial.source).faults;
 }
 

@@ -6,8 +6,19 @@ use Rattle.checkout_desk.proofs.checkins.uncheckout.Goals as goal
 
 pub returns-in_err-element : goal.returns-in_err-element
 returns-in_err-element c = λ scene now sees.
-    grind (arith, common_steps, c.in_err-element.ensures scene now c.args.occasion.taken sees (uncheckout_of scene c.args.view.now c.args.path.now))
+    grind (
+      arith,
+      common_steps,
+      c.in_err-element.ensures scene now c.args.occasion.taken sees
+          (uncheckout_of scene c.args.view.now c.args.path.now),
+    )
 
 pub returns : goal.returns
 returns c = λ scene now sees.
-    grind (arith, common_steps, c.in_ok-element.ensures scene now c.args.occasion.taken sees (uncheckout_of scene c.args.view.now c.args.path.now), c.uncheckout_of.ensures scene now sees)
+    grind (
+      arith,
+      common_steps,
+      c.in_ok-element.ensures scene now c.args.occasion.taken sees
+          (uncheckout_of scene c.args.view.now c.args.path.now),
+      c.uncheckout_of.ensures scene now sees,
+    )

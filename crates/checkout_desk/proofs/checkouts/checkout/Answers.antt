@@ -6,8 +6,19 @@ use Rattle.checkout_desk.proofs.checkouts.checkout.Goals as goal
 
 pub returns-in_err-selected : goal.returns-in_err-selected
 returns-in_err-selected c = λ scene now sees.
-    grind (arith, common_steps, c.in_err-selected.ensures scene now c.args.occasion.taken sees (λ found. checkout_of scene c.args.view.now c.args.unreserved found.element found.picked))
+    grind (
+      arith,
+      common_steps,
+      c.in_err-selected.ensures scene now c.args.occasion.taken sees
+          (λ found. checkout_of scene c.args.view.now c.args.unreserved found.element found.picked),
+    )
 
 pub returns : goal.returns
 returns c = λ scene now sees.
-    grind (arith, common_steps, c.in_ok-selected.ensures scene now c.args.occasion.taken sees (λ found. checkout_of scene c.args.view.now c.args.unreserved found.element found.picked), c.checkout_of.ensures scene now sees)
+    grind (
+      arith,
+      common_steps,
+      c.in_ok-selected.ensures scene now c.args.occasion.taken sees
+          (λ found. checkout_of scene c.args.view.now c.args.unreserved found.element found.picked),
+      c.checkout_of.ensures scene now sees,
+    )

@@ -22,9 +22,11 @@ returns-in_err-checkout_by c = λ scene now sees.
       common_steps,
       sees.base,
       refused_first c.in_err-checkout_by.field-0.0
-          (checkout_by c.args.rows.now c.args.unreserved c.args.selected.element c.args.selected.picked (branch_by (deciding_rule c.args.rows.now c.args.view.now c.args.selected.picked)))
+          (checkout_by c.args.rows.now c.args.unreserved c.args.selected.element c.args.selected.picked
+          (branch_by (deciding_rule c.args.rows.now c.args.view.now c.args.selected.picked)))
           (needs_room scene 1 ∷ [])
-          (subst (λ branch. IsOfTest c.in_err-checkout_by.field-0.0 (first_refusal (checkout_by c.args.rows.now c.args.unreserved c.args.selected.element c.args.selected.picked branch)))
+          (subst (λ branch. IsOfTest c.in_err-checkout_by.field-0.0 (first_refusal
+          (checkout_by c.args.rows.now c.args.unreserved c.args.selected.element c.args.selected.picked branch)))
           (c.branch_by-branch.ensures ∙ ap branch_by c.deciding_rule-rule.ensures) c.in_err-checkout_by.ensures),
     )
 
@@ -35,8 +37,10 @@ returns c = λ scene now sees.
       common_steps,
       sees.base,
       passed_first
-          (checkout_by c.args.rows.now c.args.unreserved c.args.selected.element c.args.selected.picked (branch_by (deciding_rule c.args.rows.now c.args.view.now c.args.selected.picked)))
+          (checkout_by c.args.rows.now c.args.unreserved c.args.selected.element c.args.selected.picked
+          (branch_by (deciding_rule c.args.rows.now c.args.view.now c.args.selected.picked)))
           (needs_room scene 1 ∷ [])
-          (subst (λ branch. first_refusal (checkout_by c.args.rows.now c.args.unreserved c.args.selected.element c.args.selected.picked branch) ≡ None)
+          (subst (λ branch. first_refusal (checkout_by c.args.rows.now c.args.unreserved c.args.selected.element
+          c.args.selected.picked branch) ≡ None)
           (c.branch_by-branch.ensures ∙ ap branch_by c.deciding_rule-rule.ensures) c.in_ok-checkout_by.ensures),
     )

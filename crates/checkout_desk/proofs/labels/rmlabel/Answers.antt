@@ -10,4 +10,9 @@ returns-in_err-element c = λ scene now sees.
 
 pub returns : goal.returns
 returns c = λ scene now sees.
-    grind (arith, common_steps, c.in_ok-element.ensures scene sees.base (rmlabel_of scene c.args.label.now c.args.path.now), c.rmlabel_of.ensures scene now c.args.view.now c.args.occasion.busy sees)
+    grind (
+      arith,
+      common_steps,
+      c.in_ok-element.ensures scene sees.base (rmlabel_of scene c.args.label.now c.args.path.now),
+      c.rmlabel_of.ensures scene now c.args.view.now c.args.occasion.busy sees,
+    )

@@ -6,8 +6,19 @@ use Rattle.checkout_desk.proofs.names.rmname.Goals as goal
 
 pub returns-in_err-directory : goal.returns-in_err-directory
 returns-in_err-directory c = λ scene now sees.
-    grind (arith, common_steps, c.in_err-directory.ensures scene now c.args.occasion.taken sees (rmname_in scene c.args.view.now c.args.path.now))
+    grind (
+      arith,
+      common_steps,
+      c.in_err-directory.ensures scene now c.args.occasion.taken sees
+          (rmname_in scene c.args.view.now c.args.path.now),
+    )
 
 pub returns : goal.returns
 returns c = λ scene now sees.
-    grind (arith, common_steps, c.in_ok-directory.ensures scene now c.args.occasion.taken sees (rmname_in scene c.args.view.now c.args.path.now), c.rmname_in.ensures scene now sees)
+    grind (
+      arith,
+      common_steps,
+      c.in_ok-directory.ensures scene now c.args.occasion.taken sees
+          (rmname_in scene c.args.view.now c.args.path.now),
+      c.rmname_in.ensures scene now sees,
+    )

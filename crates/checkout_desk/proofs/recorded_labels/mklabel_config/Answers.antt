@@ -10,4 +10,9 @@ returns-in_err-object c = λ scene now sees.
 
 pub returns : goal.returns
 returns c = λ scene now sees.
-    grind (arith, common_steps, c.in_ok-object.ensures scene sees.base (mklabel_config_of scene c.args.replace c.args.label.now), c.mklabel_config_of.ensures scene now c.args.view.now c.args.occasion.busy sees)
+    grind (
+      arith,
+      common_steps,
+      c.in_ok-object.ensures scene sees.base (mklabel_config_of scene c.args.replace c.args.label.now),
+      c.mklabel_config_of.ensures scene now c.args.view.now c.args.occasion.busy sees,
+    )

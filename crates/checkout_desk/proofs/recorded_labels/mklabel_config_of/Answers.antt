@@ -11,29 +11,36 @@ returns-in_err-placed c = λ scene now view busy sees.
     grind (
       arith,
       common_steps,
-      labels_refused scene (mklabel_config_tests scene c.args.replace c.args.label.now c.args.object) c.args.label.now (placed_by scene.base c.args.object) c.in_err-placed.field-0.0
+      labels_refused scene (mklabel_config_tests scene c.args.replace c.args.label.now c.args.object) c.args.label.now
+          (placed_by scene.base c.args.object) c.in_err-placed.field-0.0
           (c.in_err-placed.ensures.tests scene sees.base),
     )
 
 pub returns-in_err-needs_room : goal.returns-in_err-needs_room
 returns-in_err-needs_room c = λ scene now view busy sees.
-    let are : c.in_ok-placed.placed.items ≡ placed_by scene.base c.args.object = c.in_ok-placed.ensures.placed ∙ ap (λ b. placed_by b c.args.object) (sym sees.base) in
-    let some : (length (placed_by scene.base c.args.object) == 0) ≡ false = ap (λ places. length places == 0) (sym are) ∙ ap (λ n. n == 0) (sym c.in_ok-placed.placed.ok.0) ∙ sym c.is_empty.ensures ∙ c.if-is_empty.false in
+    let are : c.in_ok-placed.placed.items ≡ placed_by scene.base c.args.object = c.in_ok-placed.ensures.placed
+    ∙ ap (λ b. placed_by b c.args.object) (sym sees.base) in
+    let some : (length (placed_by scene.base c.args.object) == 0) ≡ false = ap (λ places. length places == 0) (sym are)
+    ∙ ap (λ n. n == 0) (sym c.in_ok-placed.placed.ok.0) ∙ sym c.is_empty.ensures ∙ c.if-is_empty.false in
     grind (
       arith,
       common_steps,
-      labels_made scene (mklabel_config_tests scene c.args.replace c.args.label.now c.args.object) c.args.label.now (placed_by scene.base c.args.object) (c.in_ok-placed.ensures.tests scene sees.base) some,
+      labels_made scene (mklabel_config_tests scene c.args.replace c.args.label.now c.args.object) c.args.label.now
+          (placed_by scene.base c.args.object) (c.in_ok-placed.ensures.tests scene sees.base) some,
       c.in_err-needs_room.ensures scene sees.taken,
     )
 
 pub returns : goal.returns
 returns c = λ scene now view busy sees.
-    let are : c.in_ok-placed.placed.items ≡ placed_by scene.base c.args.object = c.in_ok-placed.ensures.placed ∙ ap (λ b. placed_by b c.args.object) (sym sees.base) in
-    let some : (length (placed_by scene.base c.args.object) == 0) ≡ false = ap (λ places. length places == 0) (sym are) ∙ ap (λ n. n == 0) (sym c.in_ok-placed.placed.ok.0) ∙ sym c.is_empty.ensures ∙ c.if-is_empty.false in
+    let are : c.in_ok-placed.placed.items ≡ placed_by scene.base c.args.object = c.in_ok-placed.ensures.placed
+    ∙ ap (λ b. placed_by b c.args.object) (sym sees.base) in
+    let some : (length (placed_by scene.base c.args.object) == 0) ≡ false = ap (λ places. length places == 0) (sym are)
+    ∙ ap (λ n. n == 0) (sym c.in_ok-placed.placed.ok.0) ∙ sym c.is_empty.ensures ∙ c.if-is_empty.false in
     grind (
       arith,
       common_steps,
       are,
-      labels_made scene (mklabel_config_tests scene c.args.replace c.args.label.now c.args.object) c.args.label.now (placed_by scene.base c.args.object) (c.in_ok-placed.ensures.tests scene sees.base) some,
+      labels_made scene (mklabel_config_tests scene c.args.replace c.args.label.now c.args.object) c.args.label.now
+          (placed_by scene.base c.args.object) (c.in_ok-placed.ensures.tests scene sees.base) some,
       c.in_ok-needs_room.ensures scene sees.taken,
     )

@@ -13,8 +13,10 @@ loop-one-preserved c =
     let placed = c.args.placed.now in
     let i = c.loop-one.one-index in
     let none : Placed = record { element = 0; version = 0 } in
-    passed_one c.args.rows.now c.args.replace c.args.label.now (get_or placed i none) (drop (i + 1) placed) (first_refusal (labels_free c.args.rows.now c.args.replace c.args.label.now placed)) c.in_ok-needs_label_free.ensures
-    (sym (at_drop_more (λ (left : List Placed). first_refusal (labels_free c.args.rows.now c.args.replace c.args.label.now left)) placed i none c.loop-one-test.true) ∙ c.loop-one.invariant)
+    passed_one c.args.rows.now c.args.replace c.args.label.now (get_or placed i none) (drop (i + 1) placed)
+    (first_refusal (labels_free c.args.rows.now c.args.replace c.args.label.now placed)) c.in_ok-needs_label_free.ensures
+    (sym (at_drop_more (λ (left : List Placed). first_refusal (labels_free c.args.rows.now c.args.replace c.args.label.now left))
+    placed i none c.loop-one-test.true) ∙ c.loop-one.invariant)
 
 pub returns-in_err-needs_label_free : goal.returns-in_err-needs_label_free
 returns-in_err-needs_label_free c =
@@ -25,11 +27,14 @@ returns-in_err-needs_label_free c =
       arith,
       common_steps,
       c.loop-one.invariant,
-      at_drop_more (λ (left : List Placed). first_refusal (labels_free c.args.rows.now c.args.replace c.args.label.now left)) placed i none c.loop-one-test.true,
-      first_of c.args.rows.now c.args.replace c.args.label.now (get_or placed i none) (drop (i + 1) placed) c.in_err-needs_label_free.field-0.0 c.in_err-needs_label_free.ensures,
+      at_drop_more (λ (left : List Placed). first_refusal (labels_free c.args.rows.now c.args.replace c.args.label.now left))
+          placed i none c.loop-one-test.true,
+      first_of c.args.rows.now c.args.replace c.args.label.now (get_or placed i none) (drop (i + 1) placed)
+          c.in_err-needs_label_free.field-0.0 c.in_err-needs_label_free.ensures,
     )
 
 pub returns : goal.returns
 returns c =
     sym c.loop-one.invariant
-    ∙ at_drop_all (λ (left : List Placed). first_refusal (labels_free c.args.rows.now c.args.replace c.args.label.now left)) c.args.placed.now c.loop-one.one-index c.loop-one-test.false
+    ∙ at_drop_all (λ (left : List Placed). first_refusal (labels_free c.args.rows.now c.args.replace c.args.label.now left))
+    c.args.placed.now c.loop-one.one-index c.loop-one-test.false

@@ -5,4 +5,5 @@ use Rattle.checkout_desk.proofs.Outsiders.{first_outsider}
 use Rattle.checkout_desk.proofs.recorded_labels.outsider.Goals as goal
 
 pub returns : goal.returns
-returns c = subst (λ first. IfOk c.first_input.result (λ path. option_copied path ≡ first)) (first_outsider c.args.rows.now c.args.object) c.first_input.ensures
+returns c = subst (λ first. IfOk c.first_input.result (λ path. option_copied path ≡ first))
+    (first_outsider c.args.rows.now c.args.object) c.first_input.ensures

@@ -6,5 +6,6 @@ use Rattle.checkout_desk.proofs.scrubs.due_objects.Given as goal
 abbrev pub invariant-loop-row : goal.invariant-loop-row
 invariant-loop-row l = record {
   number : l.number ≡ l.row-index;
-  found : l.objects.items ++ due_from l.rows l.moment l.age (suc l.number) (drop l.row-index l.all) ≡ due_from l.rows l.moment l.age 1 l.all;
+  found : l.objects.items ++ due_from l.rows l.moment l.age (suc l.number) (drop l.row-index l.all)
+      ≡ due_from l.rows l.moment l.age 1 l.all;
 }

@@ -15,7 +15,8 @@ returns-in_ok-push-in-Some c =
     let names : List (List ℕ) = map (λ (label : Bor (List ℕ)). label.now) others in
     let more = concat (map (λ (word : Bor (List ℕ)). behind_comma word.now) others) in
     let reported : first ++ more ≡ with_commas (first ∷ names) =
-    ap (λ (bytes : List (List ℕ)). first ++ concat bytes) (sym (map_map behind_comma (λ (label : Bor (List ℕ)). label.now) others)) ∙ sym (commas_more first names) in
+    ap (λ (bytes : List (List ℕ)). first ++ concat bytes) (sym (map_map behind_comma (λ (label : Bor (List ℕ)). label.now)
+    others)) ∙ sym (commas_more first names) in
     let written : c.push_more.new.text.items ≡ text ++ (codes " (" ++ with_commas (first ∷ names)) =
     c.in_ok-push_more-in-Some.ensures
     ∙ ap (λ (bytes : List ℕ). bytes ++ more)
@@ -28,4 +29,5 @@ returns-in_ok-push-in-Some c =
     c.in_ok-push-in-Some.ensures.items
     ∙ ap (λ (bytes : List ℕ). bytes ++ codes ")") written
     ∙ append_assoc text (codes " (" ++ with_commas (first ∷ names)) (codes ")")
-    ∙ ap (λ (labels : List (Bor (List ℕ))). text ++ in_brackets (map (λ (label : Bor (List ℕ)). label.now) labels)) (sym c.in-Some.ensures.cases.0)
+    ∙ ap (λ (labels : List (Bor (List ℕ))). text ++ in_brackets (map (λ (label : Bor (List ℕ)). label.now) labels))
+    (sym c.in-Some.ensures.cases.0)

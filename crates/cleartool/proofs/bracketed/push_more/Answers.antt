@@ -20,12 +20,14 @@ loop-word-preserved c =
     ∙ ap (λ (bytes : List ℕ). text ++ (codes ", " ++ bytes)) c.as_bytes.ensures)
     ∙ append_assoc text (behind_comma word.now) rest
     ∙ ap (λ (one : Bor (List ℕ)). text ++ (behind_comma one.now ++ rest)) c.word-item.is
-    ∙ sym (at_drop_more (λ (left : List (Bor (List ℕ))). text ++ concat (map (λ (one : Bor (List ℕ)). behind_comma one.now) left)) words i word c.loop-word-test.true)
+    ∙ sym (at_drop_more (λ (left : List (Bor (List ℕ))). text ++ concat (map (λ (one : Bor (List ℕ)). behind_comma one.now) left))
+    words i word c.loop-word-test.true)
     ∙ c.loop-word.invariant
 
 pub returns : goal.returns
 returns c =
     let text = c.loop-word.text.items in
     sym (append-nil text)
-    ∙ sym (at_drop_all (λ (left : List (Bor (List ℕ))). text ++ concat (map (λ (one : Bor (List ℕ)). behind_comma one.now) left)) c.args.words.now c.loop-word.word-index c.loop-word-test.false)
+    ∙ sym (at_drop_all (λ (left : List (Bor (List ℕ))). text ++ concat (map (λ (one : Bor (List ℕ)). behind_comma one.now) left))
+    c.args.words.now c.loop-word.word-index c.loop-word-test.false)
     ∙ c.loop-word.invariant

@@ -1,4 +1,4 @@
--- What is told of the element that was found is told of the path.
+-- What is known of the element that was found is told of the path.
 use Rattle.std.proofs.Common.{arith}
 use Rattle.std.proofs.lemmas.Grind.{common_steps}
 use Rattle.legal_history.specs.Queries.ElementTexts.{describe_text}
@@ -8,4 +8,9 @@ use Rattle.cleartool.proofs.descriptions.describe.Goals as goal
 
 pub returns-in_err-element : goal.returns-in_err-element
 returns-in_err-element c =
-    grind (arith, common_steps, refused c.in_err-element.field-0.0 (answers_of c.args.rows.now c.args.view.now c.args.path.now) (describe_text c.args.rows.now c.args.view.now) (c.in_err-element.ensures))
+    grind (
+      arith,
+      common_steps,
+      refused c.in_err-element.field-0.0 (answers_of c.args.rows.now c.args.view.now c.args.path.now)
+          (describe_text c.args.rows.now c.args.view.now) (c.in_err-element.ensures),
+    )

@@ -14,15 +14,18 @@ loop-label-preserved c =
     let text = c.loop-label.text.items in
     let label = c.label-item.result in
     let rest = concat (map (λ (one : Bor (List ℕ)). label_line one.now) (drop (i + 1) labels)) in
-    ap (λ (bytes : List ℕ). bytes ++ rest) (c.in_ok-push_line.ensures ∙ ap (λ (name : List ℕ). text ++ line (codes "label " ++ name)) c.as_bytes.ensures)
+    ap (λ (bytes : List ℕ). bytes ++ rest) (c.in_ok-push_line.ensures ∙ ap
+    (λ (name : List ℕ). text ++ line (codes "label " ++ name)) c.as_bytes.ensures)
     ∙ append_assoc text (label_line label.now) rest
     ∙ ap (λ (one : Bor (List ℕ)). text ++ (label_line one.now ++ rest)) c.label-item.is
-    ∙ sym (at_drop_more (λ (left : List (Bor (List ℕ))). text ++ concat (map (λ (one : Bor (List ℕ)). label_line one.now) left)) labels i label c.loop-label-test.true)
+    ∙ sym (at_drop_more (λ (left : List (Bor (List ℕ))). text ++ concat (map (λ (one : Bor (List ℕ)). label_line one.now) left))
+    labels i label c.loop-label-test.true)
     ∙ c.loop-label.invariant
 
 pub returns : goal.returns
 returns c =
     let text = c.loop-label.text.items in
     sym (append-nil text)
-    ∙ sym (at_drop_all (λ (left : List (Bor (List ℕ))). text ++ concat (map (λ (one : Bor (List ℕ)). label_line one.now) left)) c.args.labels.now c.loop-label.label-index c.loop-label-test.false)
+    ∙ sym (at_drop_all (λ (left : List (Bor (List ℕ))). text ++ concat (map (λ (one : Bor (List ℕ)). label_line one.now) left))
+    c.args.labels.now c.loop-label.label-index c.loop-label-test.false)
     ∙ c.loop-label.invariant

@@ -6,4 +6,5 @@ use Rattle.cleartool.proofs.descriptions.push_labels.Given as goal
 -- what is written, and then the lines of the labels that are left
 abbrev pub invariant-loop-label : goal.invariant-loop-label
 invariant-loop-label l =
-    l.text.items ++ concat (map (λ label. label_line label.now) (drop l.label-index l.labels)) ≡ l.initial.text.items ++ concat (map (λ label. label_line label.now) l.labels)
+    l.text.items ++ concat (map (λ label. label_line label.now) (drop l.label-index l.labels)) ≡ l.initial.text.items
+    ++ concat (map (λ label. label_line label.now) l.labels)

@@ -17,10 +17,13 @@ returns-in_ok-push_labels c =
     let own = c.deref.result.now in
     let first = line (codes "version " ++ version_name b picked.row) in
     let names : map (λ (label : Bor (List ℕ)). label.now) own ≡ labels_on b e picked.row =
-    ap (map (λ (label : Bor (List ℕ)). label.now)) c.deref.ensures.value ∙ c.in_ok-own.ensures ∙ c.in_ok-labels.ensures picked.row in
+    ap (map (λ (label : Bor (List ℕ)). label.now)) c.deref.ensures.value ∙ c.in_ok-own.ensures
+    ∙ c.in_ok-labels.ensures picked.row in
     c.in_ok-push_labels.ensures
     ∙ ap₂ (λ (bytes more : List ℕ). bytes ++ more)
-    (c.in_ok-push_line.ensures ∙ ap (λ (name : List ℕ). text ++ line (codes "version " ++ name)) (c.as_bytes-else-picked.ensures ∙ c.in_ok-name-2.ensures))
-    (ap concat (sym (map_map label_line (λ (label : Bor (List ℕ)). label.now) own)) ∙ ap (λ (labels : List (List ℕ)). concat (map label_line labels)) names)
+    (c.in_ok-push_line.ensures ∙ ap (λ (name : List ℕ). text ++ line (codes "version " ++ name)) (c.as_bytes-else-picked.ensures
+    ∙ c.in_ok-name-2.ensures))
+    (ap concat (sym (map_map label_line (λ (label : Bor (List ℕ)). label.now) own))
+    ∙ ap (λ (labels : List (List ℕ)). concat (map label_line labels)) names)
     ∙ append_assoc text first (concat (map label_line (labels_on b e picked.row)))
     ∙ ap (λ (out : Bool). text ++ selected_lines b v e picked out) (sym c.if-picked.false)

@@ -1,4 +1,4 @@
--- What is told of the directory that was found is told of the path.
+-- What is known of the directory that was found is told of the path.
 use Rattle.std.proofs.Common.{Ok, List, ℕ, ap, sym, ◌∙◌, arith}
 use Rattle.std.proofs.lemmas.Grind.{common_steps}
 use Rattle.legal_history.specs.Commands.Decisions.{Answers}
@@ -8,7 +8,12 @@ use Rattle.cleartool.proofs.directory_texts.ls_at.Goals as goal
 
 pub returns-in_err-element : goal.returns-in_err-element
 returns-in_err-element c =
-    grind (arith, common_steps, no_directory c.args.rows.now c.args.view.now c.args.path.now c.in_err-element.field-0.0 (ls_text c.args.rows.now c.args.view.now c.args.path.now) (c.in_err-element.ensures))
+    grind (
+      arith,
+      common_steps,
+      no_directory c.args.rows.now c.args.view.now c.args.path.now c.in_err-element.field-0.0
+          (ls_text c.args.rows.now c.args.view.now c.args.path.now) (c.in_err-element.ensures),
+    )
 
 pub returns : goal.returns
 returns c =

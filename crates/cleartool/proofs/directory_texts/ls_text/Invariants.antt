@@ -1,7 +1,7 @@
 use Rattle.std.proofs.Common.{◌≡◌, ◌++◌, map}
 use Rattle.std.specs.List.{concat}
 use Rattle.legal_history.specs.Queries.DirectoryTexts.{names_in}
-use Rattle.cleartool.specs.Listed.{SeesDirectory, line_of}
+use Rattle.cleartool.specs.Listed.{SeesDirectory, seen_line}
 use Rattle.cleartool.proofs.ByKeys.{text_of_key}
 use Rattle.cleartool.proofs.directory_texts.ls_text.Given as goal
 
@@ -9,5 +9,7 @@ use Rattle.cleartool.proofs.directory_texts.ls_text.Given as goal
 abbrev pub invariant-loop-name : goal.invariant-loop-name
 invariant-loop-name l =
     SeesDirectory l.rows l.view l.directory l.element →
-    l.text.items ++ concat (map (text_of_key (line_of l.rows l.view l.directory) (names_in l.rows l.view l.directory)) l.name-iterator)
-    ≡ concat (map (text_of_key (line_of l.rows l.view l.directory) (names_in l.rows l.view l.directory)) l.initial.name-iterator)
+    l.text.items ++ concat (map (text_of_key (seen_line l.rows l.view l.directory) (names_in l.rows l.view l.directory))
+    l.name-iterator)
+    ≡ concat (map (text_of_key (seen_line l.rows l.view l.directory) (names_in l.rows l.view l.directory))
+    l.initial.name-iterator)

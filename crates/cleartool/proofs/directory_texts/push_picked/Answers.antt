@@ -21,8 +21,10 @@ returns-in_ok-push_rule c =
     ∙ ap (λ (bytes : List ℕ). bytes ++ line rule)
     (c.in_ok-extend_from_slice-3.ensures.items
     ∙ ap (λ (bytes : List ℕ). bytes ++ c.as_bytes.result.now)
-    (c.in_ok-extend_from_slice-2.ensures.items ∙ ap (λ (bytes : List ℕ). bytes ++ codes " checkedout from ") c.in_ok-extend_from_slice.ensures.items)
-    ∙ ap (λ (bytes : List ℕ). ((text ++ name) ++ codes " checkedout from ") ++ bytes) (c.as_bytes.ensures ∙ c.in_ok-origin.ensures))
+    (c.in_ok-extend_from_slice-2.ensures.items ∙ ap (λ (bytes : List ℕ). bytes ++ codes " checkedout from ")
+    c.in_ok-extend_from_slice.ensures.items)
+    ∙ ap (λ (bytes : List ℕ). ((text ++ name) ++ codes " checkedout from ") ++ bytes) (c.as_bytes.ensures
+    ∙ c.in_ok-origin.ensures))
     ∙ sym (append_assoc prefix rule (10 ∷ []))
     ∙ five_behind text name (codes " checkedout from ") origin rule (10 ∷ [])
     ∙ ap (λ (own : Bool). text ++ line (picked_line b v name e c.args.picked own)) (sym c.if-picked.true)

@@ -16,5 +16,7 @@ decreases-add_named l = 2 * l.depth + 1
 -- what is found with what lies below the names that are left
 abbrev pub invariant-add_elements-loop-name : goal.invariant-add_elements-loop-name
 invariant-add_elements-loop-name l =
-    (q : List ℕ) → seen_where (list_any (lies_named l.rows l.view (l.depth - 1) l.path q) l.name-iterator) l.rows l.view q (get (slice_cmp nat_cmp) l.found q)
-    ≡ seen_where (list_any (lies_named l.rows l.view (l.depth - 1) l.path q) l.initial.name-iterator) l.rows l.view q (get (slice_cmp nat_cmp) l.initial.found q)
+    (q : List ℕ) → seen_where (list_any (lies_named l.rows l.view (l.depth - 1) l.path q) l.name-iterator) l.rows l.view q
+    (get (slice_cmp nat_cmp) l.found q)
+    ≡ seen_where (list_any (lies_named l.rows l.view (l.depth - 1) l.path q) l.initial.name-iterator) l.rows l.view q
+    (get (slice_cmp nat_cmp) l.initial.found q)

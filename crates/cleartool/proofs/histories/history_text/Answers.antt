@@ -1,7 +1,7 @@
 -- The rows of the element's history tell what was done to it.
 use Rattle.std.proofs.Common.{ℕ, List, ◌++◌, map, ap₂, ◌∙◌}
 use Rattle.std.specs.List.{concat}
-use Rattle.cleartool.specs.Histories.{row_lines}
+use Rattle.cleartool.specs.Histories.{history_row_lines}
 use Rattle.cleartool.proofs.HistoryRows.{by_history}
 use Rattle.cleartool.proofs.histories.history_text.Goals as goal
 
@@ -11,5 +11,6 @@ returns c =
     let e = c.args.element in
     c.of.ensures
     ∙ c.in_ok-push_rows.ensures
-    ∙ ap₂ (λ (text numbers : List ℕ). text ++ concat (map (row_lines b e) numbers)) c.new-text.ensures.items (c.deref.ensures.value ∙ c.in_ok-numbers.ensures)
+    ∙ ap₂ (λ (text numbers : List ℕ). text ++ concat (map (history_row_lines b e) numbers)) c.new-text.ensures.items
+    (c.deref.ensures.value ∙ c.in_ok-numbers.ensures)
     ∙ by_history b e

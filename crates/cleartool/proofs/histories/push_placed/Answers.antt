@@ -17,10 +17,12 @@ loop-one-preserved c =
     let one : Placed = get_or placed i (record { element = 0; version = 0 }) in
     let text = c.loop-one.text.items in
     let rest = placed_lines b e moment label (drop (i + 1) placed) in
-    ap (λ (bytes : List ℕ). bytes ++ rest) c.in_ok-push_line.ensures
+    ap (λ (bytes : List ℕ). bytes ++ rest) c.in_ok-push_history_line.ensures
     ∙ append_assoc text (line_where (one.element == e) (dated_line moment (codes "label " ++ c.deref.result.now))) rest
-    ∙ ap (λ (name : List ℕ). text ++ (line_where (one.element == e) (dated_line moment (codes "label " ++ name)) ++ rest)) (c.deref.ensures.value ∙ c.in_ok-name.ensures)
-    ∙ sym (at_drop_more (λ (left : List Placed). text ++ placed_lines b e moment label left) placed i (record { element = 0; version = 0 }) c.loop-one-test.true)
+    ∙ ap (λ (name : List ℕ). text ++ (line_where (one.element == e) (dated_line moment (codes "label " ++ name)) ++ rest))
+    (c.deref.ensures.value ∙ c.in_ok-name.ensures)
+    ∙ sym (at_drop_more (λ (left : List Placed). text ++ placed_lines b e moment label left) placed i
+    (record { element = 0; version = 0 }) c.loop-one-test.true)
     ∙ c.loop-one.invariant
 
 pub returns : goal.returns
@@ -31,5 +33,6 @@ returns c =
     let label = c.args.label.now in
     let text = c.loop-one.text.items in
     sym (append-nil text)
-    ∙ sym (at_drop_all (λ (left : List Placed). text ++ placed_lines b e moment label left) c.args.placed.now c.loop-one.one-index c.loop-one-test.false)
+    ∙ sym (at_drop_all (λ (left : List Placed). text ++ placed_lines b e moment label left) c.args.placed.now c.loop-one.one-index
+    c.loop-one-test.false)
     ∙ c.loop-one.invariant

@@ -2,12 +2,12 @@
 use Rattle.std.proofs.Common.{ℕ, ◌+◌, List, ◌++◌, drop, map, get_or, append-nil, append_assoc, ap, sym, ◌∙◌}
 use Rattle.std.proofs.lemmas.List.{at_drop_all, at_drop_more}
 use Rattle.std.specs.List.{concat}
-use Rattle.cleartool.specs.Histories.{row_lines}
+use Rattle.cleartool.specs.Histories.{history_row_lines}
 use Rattle.cleartool.proofs.histories.push_rows.Goals as goal
 
 pub loop-number-preserved : goal.loop-number-preserved
 loop-number-preserved c =
-    let lines = row_lines c.args.rows.now c.args.element in
+    let lines = history_row_lines c.args.rows.now c.args.element in
     let numbers = c.args.numbers.now in
     let i = c.loop-number.number-index in
     let text = c.loop-number.text.items in
@@ -19,8 +19,9 @@ loop-number-preserved c =
 
 pub returns : goal.returns
 returns c =
-    let lines = row_lines c.args.rows.now c.args.element in
+    let lines = history_row_lines c.args.rows.now c.args.element in
     let text = c.loop-number.text.items in
     sym (append-nil text)
-    ∙ sym (at_drop_all (λ (left : List ℕ). text ++ concat (map lines left)) c.args.numbers.now c.loop-number.number-index c.loop-number-test.false)
+    ∙ sym (at_drop_all (λ (left : List ℕ). text ++ concat (map lines left)) c.args.numbers.now c.loop-number.number-index
+    c.loop-number-test.false)
     ∙ c.loop-number.invariant

@@ -8,6 +8,7 @@ returns c =
     let path = c.args.path.now in
     let version = c.args.version.now in
     c.in_ok-extend_from_slice-3.ensures.items
-    ∙ ap (λ (bytes : List ℕ). bytes ++ version) (c.in_ok-extend_from_slice-2.ensures.items ∙ ap (λ (bytes : List ℕ). bytes ++ 64 ∷ 64 ∷ []) c.in_ok-extend_from_slice.ensures.items)
+    ∙ ap (λ (bytes : List ℕ). bytes ++ version) (c.in_ok-extend_from_slice-2.ensures.items
+    ∙ ap (λ (bytes : List ℕ). bytes ++ 64 ∷ 64 ∷ []) c.in_ok-extend_from_slice.ensures.items)
     ∙ append_assoc (text ++ path) (64 ∷ 64 ∷ []) version
     ∙ append_assoc text path (64 ∷ 64 ∷ version)

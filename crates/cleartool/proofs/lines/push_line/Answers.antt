@@ -8,5 +8,6 @@ returns c =
     let words = c.args.words.now in
     let name = c.args.name.now in
     c.in_ok-push.ensures.items
-    ∙ ap (λ (bytes : List ℕ). bytes ++ 10 ∷ []) (c.in_ok-extend_from_slice-2.ensures.items ∙ ap (λ (bytes : List ℕ). bytes ++ name) c.in_ok-extend_from_slice.ensures.items ∙ append_assoc text words name)
+    ∙ ap (λ (bytes : List ℕ). bytes ++ 10 ∷ []) (c.in_ok-extend_from_slice-2.ensures.items
+    ∙ ap (λ (bytes : List ℕ). bytes ++ name) c.in_ok-extend_from_slice.ensures.items ∙ append_assoc text words name)
     ∙ append_assoc text (words ++ name) (10 ∷ [])

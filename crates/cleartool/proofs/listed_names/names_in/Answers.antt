@@ -1,7 +1,7 @@
 -- The names of one path after the other are added.
 use Rattle.std.proofs.Common.{◌≡◌, ℕ, Bool, true, false, ◌||◌, List, refl, ap, ap₂, sym, ◌∙◌, bytes_eq}
 use Rattle.std.proofs.lemmas.Slice.Eq.{bytes_eq-Decides}
-use Rattle.base_model.specs.Closures.{is_among}
+use Rattle.base_model.specs.Closures.{is_path_among}
 use Rattle.cleartool.specs.Listed.{lies_in}
 use Rattle.cleartool.proofs.listed_names.names_in.Goals as goal
 
@@ -26,17 +26,20 @@ loop-path-preserved c =
     let one = c.in-Some.path.now in
     let rest = c.next.new.self in
     record {
-      given = λ name was. c.in_ok-add_inside.ensures name ∙ or_second (lies_in within name one) (is_among name old) (c.loop-path.invariant.given name was);
+      given = λ name was. c.in_ok-add_inside.ensures name ∙ or_second (lies_in within name one) (is_path_among name old)
+          (c.loop-path.invariant.given name was);
       own = λ path name among none lies.
-          elim (bytes_eq path one) as (λ t. bytes_eq path one ≡ t → is_among name c.add_inside.new.names.keys ≡ true) [
+          elim (bytes_eq path one) as (λ t. bytes_eq path one ≡ t → is_path_among name c.add_inside.new.names.keys ≡ true) [
             | true ↦ λ same.
                 c.in_ok-add_inside.ensures name
-                ∙ or_first (lies_in within name one) (is_among name old)
-                (ap₂ (λ (directory place : List ℕ). lies_in directory name place) c.as_bytes-within.ensures.bytes (sym ((bytes_eq-Decides path one).0 same)) ∙ lies)
+                ∙ or_first (lies_in within name one) (is_path_among name old)
+                (ap₂ (λ (directory place : List ℕ). lies_in directory name place) c.as_bytes-within.ensures.bytes
+                (sym ((bytes_eq-Decides path one).0 same)) ∙ lies)
             | false ↦ λ other.
                 c.in_ok-add_inside.ensures name
-                ∙ or_second (lies_in within name one) (is_among name old)
-                (c.loop-path.invariant.own path name among (ap (is_among path) c.in-Some.ensures.steps ∙ ap (λ t. t || is_among path rest) other ∙ none) lies)
+                ∙ or_second (lies_in within name one) (is_path_among name old)
+                (c.loop-path.invariant.own path name among (ap (is_path_among path) c.in-Some.ensures.steps
+                ∙ ap (λ t. t || is_path_among path rest) other ∙ none) lies)
           ] refl;
     }
 
@@ -45,7 +48,7 @@ returns-clause-names c = record {
   given = c.loop-path.invariant.given;
   own = λ path name given lies.
       c.loop-path.invariant.own path name
-      (ap (is_among path) c.into_iter-path-iterator.ensures.into_iter_gives.0 ∙ c.in_ok-paths.ensures.found path ∙ given)
-      (ap (is_among path) c.in-None.ensures.steps.0) lies;
+      (ap (is_path_among path) c.into_iter-path-iterator.ensures.into_iter_gives.0 ∙ c.in_ok-paths.ensures.found path ∙ given)
+      (ap (is_path_among path) c.in-None.ensures.steps.0) lies;
   below = c.in_ok-paths.ensures.below;
 }

@@ -7,7 +7,12 @@ use Rattle.cleartool.proofs.merges.findmerge.Goals as goal
 
 pub returns-in_err-find_selected : goal.returns-in_err-find_selected
 returns-in_err-find_selected c =
-    grind (arith, common_steps, unselected c.args.rows.now c.args.view.now c.args.path.now c.args.branch.now c.in_err-find_selected.field-0.0 (c.in_err-find_selected.ensures))
+    grind (
+      arith,
+      common_steps,
+      unselected c.args.rows.now c.args.view.now c.args.path.now c.args.branch.now
+          c.in_err-find_selected.field-0.0 (c.in_err-find_selected.ensures),
+    )
 
 pub returns-in_err-needs_branch : goal.returns-in_err-needs_branch
 returns-in_err-needs_branch c =
@@ -16,7 +21,8 @@ returns-in_err-needs_branch c =
     grind (
       arith,
       common_steps,
-      no_branch c.args.rows.now c.args.view.now c.args.path.now name c.in_ok-find_selected.field-0 refusal (c.in_ok-find_selected.ensures) c.in_err-needs_branch.ensures,
+      no_branch c.args.rows.now c.args.view.now c.args.path.now name c.in_ok-find_selected.field-0 refusal
+          (c.in_ok-find_selected.ensures) c.in_err-needs_branch.ensures,
     )
 
 pub returns : goal.returns
@@ -24,5 +30,6 @@ returns c =
     let v = c.args.view.now in
     let path = c.args.path.now in
     let name = c.args.branch.now in
-    answered c.args.rows.now v path name c.in_ok-find_selected.field-0 (c.in_ok-find_selected.ensures) c.in_ok-needs_branch.ensures
+    answered c.args.rows.now v path name c.in_ok-find_selected.field-0 (c.in_ok-find_selected.ensures)
+    c.in_ok-needs_branch.ensures
     ∙ ap (λ (text : List ℕ). Ok (Answers text)) (sym c.in_ok-findmerge_text.ensures)

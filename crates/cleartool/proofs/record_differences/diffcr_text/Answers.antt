@@ -12,11 +12,14 @@ returns c =
     let first = c.record_of-first.result in
     let second = c.record_of-second.result in
     let keys = c.in_ok-paths.paths.keys in
-    differences_written b c.args.one c.args.two first.targets.now second.targets.now first.script.now second.script.now first.entries.now second.entries.now c.are_same_paths-same_targets.result c.eq-same_script.result keys c.of.result
-    c.record_of-first.ensures.targets c.record_of-second.ensures.targets c.record_of-first.ensures.script c.record_of-second.ensures.script c.record_of-first.ensures.entries c.record_of-second.ensures.entries
+    differences_written b c.args.one c.args.two first.targets.now second.targets.now first.script.now second.script.now
+    first.entries.now second.entries.now c.are_same_paths-same_targets.result c.eq-same_script.result keys c.of.result
+    c.record_of-first.ensures.targets c.record_of-second.ensures.targets c.record_of-first.ensures.script
+    c.record_of-second.ensures.script c.record_of-first.ensures.entries c.record_of-second.ensures.entries
     c.are_same_paths-same_targets.ensures c.eq-same_script.ensures c.in_ok-push_listed.ensures.ordered c.in_ok-paths.ensures
     (c.of.ensures ∙ c.in_ok-push_listed.ensures.reported
     ∙ ap (λ (bytes : List ℕ). bytes ++ concat (map (path_lines b first.entries.now second.entries.now) keys))
     (c.in_ok-push_unless-2.ensures
     ∙ ap (λ (bytes : List ℕ). bytes ++ unless_same c.eq-same_script.result (codes "script differs\n"))
-    (c.in_ok-push_unless.ensures ∙ ap (λ (bytes : List ℕ). bytes ++ unless_same c.are_same_paths-same_targets.result (codes "targets differ\n")) c.new-text.ensures.items)))
+    (c.in_ok-push_unless.ensures ∙ ap (λ (bytes : List ℕ). bytes ++ unless_same c.are_same_paths-same_targets.result
+    (codes "targets differ\n")) c.new-text.ensures.items)))

@@ -14,15 +14,18 @@ loop-target-preserved c =
     let text = c.loop-target.text.items in
     let target = c.target-item.result in
     let rest = concat (map target_line (drop (i + 1) targets)) in
-    ap (λ (bytes : List ℕ). bytes ++ rest) (c.in_ok-push_line.ensures ∙ ap (λ (name : List ℕ). text ++ line (codes "target " ++ name)) c.as_bytes.ensures.bytes)
+    ap (λ (bytes : List ℕ). bytes ++ rest) (c.in_ok-push_line.ensures ∙ ap
+    (λ (name : List ℕ). text ++ line (codes "target " ++ name)) c.as_bytes.ensures.bytes)
     ∙ append_assoc text (target_line target) rest
     ∙ ap (λ (one : List ℕ). text ++ (target_line one ++ rest)) c.target-item.is
-    ∙ sym (at_drop_more (λ (left : List (List ℕ)). text ++ concat (map target_line left)) targets i target c.loop-target-test.true)
+    ∙ sym (at_drop_more (λ (left : List (List ℕ)). text ++ concat (map target_line left)) targets i target
+    c.loop-target-test.true)
     ∙ c.loop-target.invariant
 
 pub returns : goal.returns
 returns c =
     let text = c.loop-target.text.items in
     sym (append-nil text)
-    ∙ sym (at_drop_all (λ (left : List (List ℕ)). text ++ concat (map target_line left)) c.args.targets.now c.loop-target.target-index c.loop-target-test.false)
+    ∙ sym (at_drop_all (λ (left : List (List ℕ)). text ++ concat (map target_line left)) c.args.targets.now
+    c.loop-target.target-index c.loop-target-test.false)
     ∙ c.loop-target.invariant

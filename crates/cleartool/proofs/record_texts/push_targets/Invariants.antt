@@ -5,4 +5,5 @@ use Rattle.cleartool.proofs.record_texts.push_targets.Given as goal
 
 -- what is written, and then the lines of the targets that are left
 abbrev pub invariant-loop-target : goal.invariant-loop-target
-invariant-loop-target l = l.text.items ++ concat (map target_line (drop l.target-index l.targets)) ≡ l.initial.text.items ++ concat (map target_line l.targets)
+invariant-loop-target l = l.text.items ++ concat (map target_line (drop l.target-index l.targets)) ≡ l.initial.text.items
+    ++ concat (map target_line l.targets)

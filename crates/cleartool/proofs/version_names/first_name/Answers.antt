@@ -13,10 +13,14 @@ returns c =
     let changes = tree c.args.rows.now in
     let above = branch_of_version changes c.args.origin in
     let path = behind_slashes (codes "main" ∷ names_above changes above) in
-    let branch : c.in_ok-branch.branch.items ≡ path = c.in_ok-branch.ensures ∙ ap (λ o. behind_slashes (codes "main" ∷ names_above changes o)) c.branch_of_version.ensures in
+    let branch : c.in_ok-branch.branch.items ≡ path = c.in_ok-branch.ensures
+    ∙ ap (λ o. behind_slashes (codes "main" ∷ names_above changes o)) c.branch_of_version.ensures in
     let written : c.extend_from_slice.new.self.items ≡ path ++ 47 ∷ c.args.name.now =
-    c.in_ok-extend_from_slice.ensures.items ∙ ap (λ (bytes : List ℕ). bytes ++ c.as_bytes.result.now) (c.in_ok-push.ensures.items ∙ ap (λ (bytes : List ℕ). bytes ++ 47 ∷ []) branch)
+    c.in_ok-extend_from_slice.ensures.items ∙ ap (λ (bytes : List ℕ). bytes ++ c.as_bytes.result.now) (c.in_ok-push.ensures.items
+    ∙ ap (λ (bytes : List ℕ). bytes ++ 47 ∷ []) branch)
     ∙ append_assoc path (47 ∷ []) c.as_bytes.result.now ∙ ap (λ (bytes : List ℕ). path ++ 47 ∷ bytes) c.as_bytes.ensures.bytes in
-    let named : path ++ 47 ∷ c.args.name.now ≡ behind_slashes (codes "main" ∷ (names_above changes above ++ c.args.name.now ∷ [])) =
+    let named : path ++ 47 ∷ c.args.name.now ≡ behind_slashes (codes "main"
+    ∷ (names_above changes above ++ c.args.name.now ∷ [])) =
     sym (slashes_more (codes "main" ∷ names_above changes above) c.args.name.now) in
-    subst (λ (bytes : List ℕ). IfOk c.version_of_number.result (λ text. text ≡ bytes ++ 47 ∷ decimal 0)) (written ∙ named) c.version_of_number.ensures
+    subst (λ (bytes : List ℕ). IfOk c.version_of_number.result (λ text. text ≡ bytes ++ 47 ∷ decimal 0)) (written
+    ∙ named) c.version_of_number.ensures

@@ -18,4 +18,5 @@ returns-in-Some-clause-below c = (branch_leaves c.args.rows.now c.args.branch c.
 pub returns-in-Some-clause-leaves : goal.returns-in-Some-clause-leaves
 returns-in-Some-clause-leaves c =
     (branch_leaves c.args.rows.now c.args.branch c.in-Some.name.now (sym c.in-Some.ensures)).names
-    ∙ ap₂ (λ (above : Option ℕ) (name : List ℕ). names_above (tree (first_rows c.args.branch c.args.rows.now)) above ++ name ∷ []) (sym c.branch_above.ensures) (sym c.as_bytes.ensures.bytes)
+    ∙ ap₂ (λ (above : Option ℕ) (name : List ℕ). names_above (tree (first_rows c.args.branch c.args.rows.now)) above ++ name ∷ [])
+    (sym c.branch_above.ensures) (sym c.as_bytes.ensures.bytes)

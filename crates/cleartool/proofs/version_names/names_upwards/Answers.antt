@@ -1,5 +1,6 @@
 -- Each branch on the way up leaves the next one, among fewer rows.
-use Rattle.std.proofs.Common.{◌≡◌, ℕ, zero, suc, ◌<◌, ◌≤◌, List, [], ◌∷◌, ◌++◌, Option, length, map, reverse, append-nil, append_assoc, ap, ap₂, sym, subst, ◌∙◌, arith, Bor}
+use Rattle.std.proofs.Common.{◌≡◌, ℕ, zero, suc, ◌<◌, ◌≤◌, List, [], ◌∷◌, ◌++◌, Option, length, map, reverse, append-nil}
+use Rattle.std.proofs.Common.{append_assoc, ap, ap₂, sym, subst, ◌∙◌, arith, Bor}
 use Rattle.cleartool.specs.Naming.{names_above}
 use Rattle.base_model.specs.Changes.{tree}
 use Rattle.base_model.specs.Rows.{Base, first_rows, size}
@@ -21,8 +22,10 @@ fewer b (suc n) behind below =
 pub loop-next-init : goal.loop-next-init
 loop-next-init c =
     let rows = c.args.rows.now in
-    let all : c.first_rows-older.result ≡ rows = c.first_rows-older.ensures ∙ ap (λ n. first_rows n rows) c.size.ensures.size ∙ all_rows rows (size rows) (at_most_itself (size rows)) in
-    ap₂ (λ (b : Base) (items : List (Bor (List ℕ))). names_above (tree b) c.args.branch ++ reverse (map (λ (name : Bor (List ℕ)). name.now) items)) all c.new-names.ensures.items
+    let all : c.first_rows-older.result ≡ rows = c.first_rows-older.ensures ∙ ap (λ n. first_rows n rows) c.size.ensures.size
+    ∙ all_rows rows (size rows) (at_most_itself (size rows)) in
+    ap₂ (λ (b : Base) (items : List (Bor (List ℕ))). names_above (tree b) c.args.branch
+    ++ reverse (map (λ (name : Bor (List ℕ)). name.now) items)) all c.new-names.ensures.items
     ∙ append-nil (names_above (tree rows) c.args.branch)
 
 pub returns-in-None : goal.returns-in-None
@@ -33,7 +36,8 @@ returns-in-None c =
 pub returns-in-None-leaving : goal.returns-in-None-leaving
 returns-in-None-leaving c =
     let found = reverse (map (λ (name : Bor (List ℕ)). name.now) c.loop-next.names.items) in
-    sym (ap (λ (next : Option ℕ). names_above (tree c.loop-next.older) next ++ found) c.in-Some.is ∙ ap (λ (names : List (List ℕ)). names ++ found) c.in-None-leaving.ensures.main)
+    sym (ap (λ (next : Option ℕ). names_above (tree c.loop-next.older) next ++ found) c.in-Some.is
+    ∙ ap (λ (names : List (List ℕ)). names ++ found) c.in-None-leaving.ensures.main)
     ∙ c.loop-next.invariant
 
 pub loop-next-smaller : goal.loop-next-smaller
@@ -47,7 +51,9 @@ loop-next-preserved c =
     let branch = c.in-Some.branch in
     let found = reverse (map (λ (name : Bor (List ℕ)). name.now) c.loop-next.names.items) in
     let above = names_above (tree (first_rows branch older)) c.in-Some-leaving.above in
-    ap₂ (λ (b : Base) (items : List (Bor (List ℕ))). names_above (tree b) c.in-Some-leaving.above ++ reverse (map (λ (name : Bor (List ℕ)). name.now) items)) c.first_rows-older-in-Some-leaving.ensures c.in_ok-push-in-Some-leaving.ensures.items
+    ap₂ (λ (b : Base) (items : List (Bor (List ℕ))). names_above (tree b) c.in-Some-leaving.above
+    ++ reverse (map (λ (name : Bor (List ℕ)). name.now) items)) c.first_rows-older-in-Some-leaving.ensures
+    c.in_ok-push-in-Some-leaving.ensures.items
     ∙ ap (λ (names : List (List ℕ)). above ++ names) (one_more c.loop-next.names.items c.in-Some-leaving.name)
     ∙ sym (append_assoc above (c.in-Some-leaving.name.now ∷ []) found)
     ∙ ap (λ (names : List (List ℕ)). names ++ found) (sym c.in-Some-leaving.ensures.leaves)

@@ -12,6 +12,9 @@ use Rattle.cleartool.proofs.version_names.replied_name.Goals as goal
 pub returns-in_ok-first_name-in-Branch : goal.returns-in_ok-first_name-in-Branch
 returns-in_ok-first_name-in-Branch c = λ row is.
     let b = c.args.rows.now in
-    let deed : row.deed ≡ deeds.Branch c.in-Branch.view c.in-Branch.element c.in-Branch.origin c.in-Branch.name c.in-Branch.out = is ∙ c.in-Branch.is in
-    let made : tree (row ∷ b) ≡ BranchMade (size b) row.moment c.in-Branch.element c.in-Branch.origin c.in-Branch.name ∷ tree b = ap (λ (d : Deed). tree_after b row.moment d (tree b)) deed in
-    ap Some (c.in_ok-first_name-in-Branch.ensures ∙ sym (version_first row b row.moment c.in-Branch.element c.in-Branch.origin c.in-Branch.name made)) ∙ ap (replied_name (row ∷ b)) (sym c.in-Branch.is)
+    let deed : row.deed ≡ deeds.Branch c.in-Branch.view c.in-Branch.element c.in-Branch.origin c.in-Branch.name c.in-Branch.out =
+    is ∙ c.in-Branch.is in
+    let made : tree (row ∷ b) ≡ BranchMade (size b) row.moment c.in-Branch.element c.in-Branch.origin c.in-Branch.name ∷ tree b =
+    ap (λ (d : Deed). tree_after b row.moment d (tree b)) deed in
+    ap Some (c.in_ok-first_name-in-Branch.ensures ∙ sym (version_first row b row.moment c.in-Branch.element c.in-Branch.origin
+    c.in-Branch.name made)) ∙ ap (replied_name (row ∷ b)) (sym c.in-Branch.is)

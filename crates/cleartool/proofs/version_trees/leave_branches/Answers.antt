@@ -23,6 +23,8 @@ returns c =
     let branches = c.deref-branch-items.result.now in
     let left = c.loop-branch.left.items in
     sym (append-nil left)
-    ∙ sym (at_drop_all (λ (more : List ℕ). left ++ map (Branch depth) more) branches c.loop-branch.branch-index c.loop-branch-test.false)
+    ∙ sym (at_drop_all (λ (more : List ℕ). left ++ map (Branch depth) more) branches c.loop-branch.branch-index
+    c.loop-branch-test.false)
     ∙ c.loop-branch.invariant
-    ∙ ap (λ (more : List ℕ). c.args.left.now.items ++ map (Branch depth) more) (c.deref-branch-items.ensures.value ∙ c.in_ok-branches.ensures)
+    ∙ ap (λ (more : List ℕ). c.args.left.now.items ++ map (Branch depth) more) (c.deref-branch-items.ensures.value
+    ∙ c.in_ok-branches.ensures)

@@ -16,7 +16,8 @@ returns-clause-reported c = λ e.
     let written : c.push.new.self.items ≡ text ++ line (at_version path name) =
     c.in_ok-push.ensures.items
     ∙ ap (λ (bytes : List ℕ). bytes ++ 10 ∷ [])
-    (c.in_ok-push_at_version.ensures ∙ ap₂ (λ (one two : List ℕ). text ++ at_version one two) c.as_bytes.ensures.bytes (c.deref.ensures.value ∙ c.in_ok-name.ensures))
+    (c.in_ok-push_at_version.ensures ∙ ap₂ (λ (one two : List ℕ). text ++ at_version one two) c.as_bytes.ensures.bytes
+    (c.deref.ensures.value ∙ c.in_ok-name.ensures))
     ∙ append_assoc text (at_version path name) (10 ∷ []) in
     ap₂ (λ (bytes : List ℕ) (parts : List Part). bytes ++ left_lines b path e parts) written c.in_ok-push-2.ensures.items
     ∙ branch_is_written b path e text c.args.left.now.items c.args.depth c.args.branch c.if-depth-eq0.false
@@ -25,5 +26,6 @@ pub returns-clause-fewer : goal.returns-clause-fewer
 returns-clause-fewer c =
     let b = c.args.rows.now in
     let left = c.args.left.now.items in
-    subst (λ (parts : List Part). steps_left b parts < steps_of b (Branch c.args.depth c.args.branch) + steps_left b left) (sym c.in_ok-push-2.ensures.items)
+    subst (λ (parts : List Part). steps_left b parts < steps_of b (Branch c.args.depth c.args.branch) + steps_left b left)
+    (sym c.in_ok-push-2.ensures.items)
     (branch_fewer b left c.args.depth c.args.branch c.if-depth-eq0.false)

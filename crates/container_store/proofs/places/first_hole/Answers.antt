@@ -24,7 +24,8 @@ returns-then-length-hole c =
     let within : at < length xs = c.loop-at-test.true in
     let is = itself xs at (extent_at 0 0) within in
     let inv = c.loop-at.invariant in
-    walk_found xs at e c.loop-at.from c.loop-at.longest within is inv.0 inv.1 c.args.length c.requires.in_place inv.2 c.if-length-hole.true
+    walk_found xs at e c.loop-at.from c.loop-at.longest within is inv.0 inv.1 c.args.length c.requires.in_place inv.2
+    c.if-length-hole.true
 
 pub overflow_add-from : goal.overflow_add-from
 overflow_add-from c =

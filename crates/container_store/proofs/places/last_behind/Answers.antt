@@ -1,4 +1,4 @@
--- The extent in front of the index is the last of them.
+-- The extent before the index is the last of them.
 use Rattle.std.proofs.Common.{◌≡◌, ℕ, ◌+◌, ◌-◌, ◌<◌, length, get_or, take, subst, arith}
 use Rattle.container_store.specs.Extents.{extent_at}
 use Rattle.container_store.specs.Places.{last_behind}
@@ -19,4 +19,5 @@ returns c =
     let within : at < length xs = omega arith in
     let e = get_or xs at (extent_at 0 0) in
     let count : at + 1 ≡ c.args.count = omega arith in
-    subst (λ (n : ℕ). e.place + e.length ≡ last_behind 0 (take n xs)) count (last_more xs at e within (itself xs at (extent_at 0 0) within))
+    subst (λ (n : ℕ). e.place + e.length ≡ last_behind 0 (take n xs)) count
+    (last_more xs at e within (itself xs at (extent_at 0 0) within))

@@ -8,7 +8,8 @@ overflow_mul-value c =
 
 pub overflow_add-value : goal.overflow_add-value
 overflow_add-value c =
-    let small = few_value c.args.digits.now c.loop-digit.digit-index c.requires.digits c.requires.few in omega (arith, c.type_inv.digits c.loop-digit.digit-index)
+    let small = few_value c.args.digits.now c.loop-digit.digit-index c.requires.digits c.requires.few in
+    omega (arith, c.type_inv.digits c.loop-digit.digit-index)
 
 pub returns-clause-bound : goal.returns-clause-bound
 returns-clause-bound c =

@@ -18,7 +18,8 @@ version_at-requires c =
     let names = c.self.inside.labels.keys in
     let entries = c.self.inside.moves.entries in
     let place : IsPlaceOf c.args.label.now c.args.element (all_held names entries) c.in_ok-place.place = search rules in
-    rw c.deref.ensures.value (fall_at names entries c.self.invariant c.in_ok-place.place c.index.result.now c.index.ensures place.within)
+    rw c.deref.ensures.value (fall_at names entries c.self.invariant c.in_ok-place.place c.index.result.now c.index.ensures
+    place.within)
 
 -- it is held where its own changes say
 pub returns : goal.returns

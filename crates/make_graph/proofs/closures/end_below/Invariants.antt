@@ -1,9 +1,9 @@
 use Rattle.std.proofs.Common.{◌≤◌, take}
-use Rattle.make_graph.specs.Marks.{IsEnd}
+use Rattle.make_graph.specs.Marks.{IsEndBelow}
 use Rattle.make_graph.proofs.closures.end_below.Given as goal
 
 abbrev pub invariant-loop-number : goal.invariant-loop-number
 invariant-loop-number l = record {
   within : l.end ≤ l.below;
-  all : IsEnd l.below (take l.number-index l.numbers) l.end;
+  all : IsEndBelow l.below (take l.number-index l.numbers) l.end;
 }

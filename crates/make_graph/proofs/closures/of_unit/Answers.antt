@@ -1,6 +1,6 @@
 -- The walk down the units marks those that are needed.
 use Rattle.std.proofs.Common.{◌≡◌, ◌-◌, suc, true, false, ℕ, List, sym, subst, ◌∙◌, arith}
-use Rattle.make_graph.specs.Marks.{AddsMarks, IsEnd}
+use Rattle.make_graph.specs.Marks.{AddsMarks, IsEndBelow}
 use Rattle.make_graph.specs.Waits.{makers_of, prerequisites_at, is_marked}
 use Rattle.make_graph.proofs.MarkLemmas.{HasMarks, first_marks, marks_more, marks_same}
 use Rattle.make_graph.proofs.closures.of_unit.Goals as goal
@@ -20,7 +20,8 @@ loop-number-init c =
     record {
       room = omega (arith, c.mark_all.ensures.length, c.in_ok-marks.ensures.room);
       below = c.end_below-number.ensures.within;
-      marks = first_marks units unit end clear marks c.in_ok-marks.ensures.none c.end_below-number.ensures.within (subst (λ (numbers : List ℕ). IsEnd unit numbers end) is c.end_below-number.ensures.all) adds;
+      marks = first_marks units unit end clear marks c.in_ok-marks.ensures.none c.end_below-number.ensures.within
+          (subst (λ (numbers : List ℕ). IsEndBelow unit numbers end) is c.end_below-number.ensures.all) adds;
     }
 
 pub loop-number-preserved-then-has : goal.loop-number-preserved-then-has
@@ -36,7 +37,8 @@ loop-number-preserved-then-has c =
       room = omega (arith, c.mark_all-then-has.ensures.length, c.loop-number.invariant.room);
       below = omega (arith, c.loop-number.invariant.below);
       marks = marks_more units unit k marks c.mark_all-then-has.new.marks before marked
-          (subst (λ (numbers : List ℕ). AddsMarks k numbers marks c.mark_all-then-has.new.marks) c.makers.ensures c.mark_all-then-has.ensures.marks);
+          (subst (λ (numbers : List ℕ). AddsMarks k numbers marks c.mark_all-then-has.new.marks) c.makers.ensures
+          c.mark_all-then-has.ensures.marks);
     }
 
 pub loop-number-preserved : goal.loop-number-preserved

@@ -20,7 +20,8 @@ loop-index-preserved c =
     let read = read_at words i c.index_mut.result.now room c.index_mut.ensures.value in
     record {
       length = length-set words i (bit_or c.index_mut.result.now (get_or other i 0)) ∙ c.loop-index.invariant.length;
-      words = subst (λ w. Joined c.args.words.now.items (take (i + 1) other) (set words i (bit_or w (get_or other i 0)))) (sym read)
+      words = subst (λ w. Joined c.args.words.now.items (take (i + 1) other) (set words i (bit_or w (get_or other i 0))))
+          (sym read)
           (one_joined c.args.words.now.items other words i within room c.loop-index.invariant.words);
     }
 
@@ -29,4 +30,5 @@ returns-clause-numbers c n =
     let other = c.args.other.now in
     let past : length other ≤ c.loop-index.index = omega arith in
     numbers_joined c.args.words.now.items other c.loop-index.words.items
-    (subst (λ (l : List ℕ). Joined c.args.words.now.items l c.loop-index.words.items) (take_all c.loop-index.index other past) c.loop-index.invariant.words) n
+    (subst (λ (l : List ℕ). Joined c.args.words.now.items l c.loop-index.words.items) (take_all c.loop-index.index other past)
+    c.loop-index.invariant.words) n

@@ -16,10 +16,13 @@ invariant_of-result c =
       knows = search rules;
       made_by =
           c.in_ok-makers.ensures
-          ∙ (ap (λ (units : List Unit). map (λ (unit : Unit). filter_map found unit.prerequisites) units) c.as_slice-2.ensures.value
-          ∙ found_makers c.args.units.items found (λ path. c.in_ok-numbers.ensures path ∙ ap (λ (units : List Unit). unit_of units path) c.as_slice.ensures.value));
+          ∙ (ap (λ (units : List Unit). map (λ (unit : Unit). filter_map found unit.prerequisites) units)
+          c.as_slice-2.ensures.value
+          ∙ found_makers c.args.units.items found (λ path. c.in_ok-numbers.ensures path
+          ∙ ap (λ (units : List Unit). unit_of units path) c.as_slice.ensures.value));
       wait =
           c.in_ok-dependants.ensures
           ∙ ap (λ (units : List Unit). map (dependants_of units) (range_with_len 0 (length units))) c.as_slice-3.ensures.value;
-      stand = subst (λ (units : List Unit). AreClosures units c.in_ok-closures.closures.items) c.as_slice-5.ensures.value c.in_ok-closures.ensures;
+      stand = subst (λ (units : List Unit). AreClosures units c.in_ok-closures.closures.items) c.as_slice-5.ensures.value
+          c.in_ok-closures.ensures;
     }

@@ -1,6 +1,6 @@
 use Rattle.std.proofs.Common.{◌≡◌, ◌+◌, ◌*◌, Ok, drop, length}
 use Rattle.make_grammar.specs.LogicalLines.{logical_lines}
-use Rattle.make_text.specs.Readers.{Keeps}
+use Rattle.make_text.specs.Readers.{KeepsScripted}
 use Rattle.make_grammar.specs.Statements.{reading_of_include, include_line, include_paths, read_lines}
 use Rattle.make_text.proofs.including.+files.Given as goal
 
@@ -23,9 +23,11 @@ abbrev pub invariant-include_line-loop-path : goal.invariant-include_line-loop-p
 invariant-include_line-loop-path g l =
     record {
       reads :
-          include_paths (reading_of_include (g.X.Texts.texts l.texts) l.left l.file.value l.line) (drop l.path-index l.path-items) (Ok l.reader.reading)
-          ≡ include_line (reading_of_include (g.X.Texts.texts l.texts) l.left l.file.value l.line) l.file.value l.line l.behind l.fn.reader.reading;
-      kept : Keeps l.reader.scripted.keys l.reader.reading.rules;
+          include_paths (reading_of_include (g.X.Texts.texts l.texts) l.left l.file.value l.line) (drop l.path-index l.path-items)
+          (Ok l.reader.reading)
+          ≡ include_line (reading_of_include (g.X.Texts.texts l.texts) l.left l.file.value l.line) l.file.value l.line l.behind
+          l.fn.reader.reading;
+      kept : KeepsScripted l.reader.scripted.keys l.reader.reading.rules;
     }
 
 abbrev pub invariant-read_lines-lines : goal.invariant-read_lines-lines
@@ -33,8 +35,9 @@ invariant-read_lines-lines g l =
     record {
       reads :
           read_lines (reading_of_include (g.X.Texts.texts l.texts) l.left l.file.value) l.file.value l.lines l.reader.reading
-          ≡ read_lines (reading_of_include (g.X.Texts.texts l.texts) l.left l.file.value) l.file.value (logical_lines l.text) l.fn.reader.reading;
-      kept : Keeps l.reader.scripted.keys l.reader.reading.rules;
+          ≡ read_lines (reading_of_include (g.X.Texts.texts l.texts) l.left l.file.value) l.file.value (logical_lines l.text)
+          l.fn.reader.reading;
+      kept : KeepsScripted l.reader.scripted.keys l.reader.reading.rules;
     }
 
 abbrev pub decreases-read_lines-lines : goal.decreases-read_lines-lines

@@ -8,7 +8,8 @@ returns-in-Some c =
     let path = c.args.target.now in
     let k = c.in-Some.number in
     let counted : k ≡ 0 + k = omega arith in
-    c.line_at.ensures ∙ found_number made_together 0 k path c.args.lines.now (sym (c.requires path) ∙ (sym c.in-Some.ensures ∙ ap Some counted))
+    c.line_at.ensures ∙ found_number made_together 0 k path c.args.lines.now (sym (c.requires path)
+    ∙ (sym c.in-Some.ensures ∙ ap Some counted))
 
 pub returns-in-None : goal.returns-in-None
 returns-in-None c =

@@ -9,7 +9,8 @@ pub returns-in-Some : goal.returns-in-Some
 returns-in-Some c =
     let text = c.args.text.now in
     let rest = take_rest text (c.in-Some.end + 1) in (
-      split_at is_newline text c.in-Some.end (sym c.in-Some.ensures.place) ∙ ap (λ v. take c.in-Some.end text ∷ slice_split is_newline v) (sym rest),
+      split_at is_newline text c.in-Some.end (sym c.in-Some.ensures.place)
+          ∙ ap (λ v. take c.in-Some.end text ∷ slice_split is_newline v) (sym rest),
       rw rest (omega (arith, length-drop (c.in-Some.end + 1) text, c.in-Some.ensures.within)),
     )
 

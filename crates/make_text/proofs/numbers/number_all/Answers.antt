@@ -11,5 +11,7 @@ loop-index-preserved g c = λ path.
     let items = c.args.items.now in
     let targets = g.X.Makes.targets in
     let had = get bytes_eq c.loop-index.numbers path in
-    ap (number_or targets (i + 1) path (drop (i + 1) items)) (c.in_ok-put.ensures path ∙ ap (λ ps. with_numbers i ps path had) c.targets.ensures)
-    ∙ numbered_more targets i path c.index-items-index.result items had _ c.loop-index-test.true (sym c.index-items-index.is) (c.loop-index.invariant path)
+    ap (number_or targets (i + 1) path (drop (i + 1) items)) (c.in_ok-number_paths.ensures path
+    ∙ ap (λ ps. with_numbers i ps path had) c.targets.ensures)
+    ∙ numbered_more targets i path c.index-items-index.result items had _ c.loop-index-test.true (sym c.index-items-index.is)
+    (c.loop-index.invariant path)

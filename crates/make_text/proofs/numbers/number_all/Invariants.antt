@@ -7,4 +7,5 @@ use Rattle.make_text.proofs.numbers.number_all.Given as goal
 
 abbrev pub invariant-loop-index : goal.invariant-loop-index
 invariant-loop-index g l =
-    (path : List ℕ) → number_or g.X.Makes.targets l.index path (drop l.index l.items) (get bytes_eq l.numbers path) ≡ number_from g.X.Makes.targets 0 path l.items
+    (path : List ℕ) → number_or g.X.Makes.targets l.index path (drop l.index l.items) (get bytes_eq l.numbers path)
+    ≡ number_from g.X.Makes.targets 0 path l.items

@@ -18,4 +18,7 @@ returns-in-Some c =
     }
 
 pub returns-in-None : goal.returns-in-None
-returns-in-None c = record { pieces = name_open c.args.close c.args.text.now (sym c.in-None.ensures.place); shorter = omega arith }
+returns-in-None c = record {
+  pieces = name_open c.args.close c.args.text.now (sym c.in-None.ensures.place);
+  shorter = omega arith;
+}

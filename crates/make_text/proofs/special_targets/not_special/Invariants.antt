@@ -4,4 +4,5 @@ use Rattle.make_text.proofs.special_targets.not_special.Given as goal
 
 abbrev pub invariant-loop-target : goal.invariant-loop-target
 invariant-loop-target l =
-    l.plain.items ++ filter (λ target. not (is_special target)) (drop l.target-index l.targets) ≡ filter (λ target. not (is_special target)) l.targets
+    l.plain.items ++ filter (λ target. not (is_special target)) (drop l.target-index l.targets)
+    ≡ filter (λ target. not (is_special target)) l.targets

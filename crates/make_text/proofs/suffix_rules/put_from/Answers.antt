@@ -10,8 +10,10 @@ returns-then-is_empty c =
     let empty : c.in_ok-begun.begun.items ≡ [] = nil_from_length c.in_ok-begun.begun.items (grind arith) in
     let none : filter (begins_from c.args.from.now) c.args.rules.now ≡ [] = sym (rw empty at c.in_ok-begun.ensures) in
     sym (append-nil c.args.made.now.items)
-    ∙ ap (λ (l : List SuffixRule). c.args.made.now.items ++ l) (sym (none_begin c.args.suffixes.now c.args.from.now c.args.rules.now none))
+    ∙ ap (λ (l : List SuffixRule). c.args.made.now.items ++ l) (sym (none_begin c.args.suffixes.now c.args.from.now
+    c.args.rules.now none))
 
 pub returns : goal.returns
 returns c =
-    rw (c.as_slice.ensures.value, c.in_ok-begun.ensures, all_begin c.args.suffixes.now c.args.from.now c.args.rules.now) at c.put_pairs.ensures
+    rw (c.as_slice.ensures.value, c.in_ok-begun.ensures, all_begin c.args.suffixes.now c.args.from.now c.args.rules.now) at
+    c.put_pairs.ensures

@@ -20,7 +20,8 @@ returns-in_ok-keep-in-Some-clause-is_true c =
     let deed = c.in-Some.row.now.deed in
     let is : deed_at b id ≡ Some deed = ap deed_of (sym c.in-Some.ensures) in
     let same = same_rerun b id needed values c.requires.closed c.requires.keeps c.requires.is_needed deed c.are_base.ensures is in
-    checked_true b id deed (run_of_deed (texts_kept b values) deed) c.in_ok-checked-in-Some.checked same is c.in_ok-checked-in-Some.ensures
+    checked_true b id deed (run_of_deed (texts_kept b values) deed) c.in_ok-checked-in-Some.checked same is
+    c.in_ok-checked-in-Some.ensures
 
 pub returns-in_ok-keep-in-Some-clause-keeps : goal.returns-in_ok-keep-in-Some-clause-keeps
 returns-in_ok-keep-in-Some-clause-keeps c =
@@ -33,4 +34,5 @@ returns-in_ok-keep-in-Some-clause-keeps c =
     let same = same_rerun b id needed values c.requires.closed c.requires.keeps c.requires.is_needed deed c.are_base.ensures is in
     let checked = c.in_ok-checked-in-Some.checked in
     kept_next id needed b values (get nat_eq c.keep.new.values) checked.value c.requires.keeps c.requires.is_needed
-    (checked_kept b id deed (run_of_deed (texts_kept b values) deed) checked same is c.in_ok-checked-in-Some.ensures) c.in_ok-keep-in-Some.ensures
+    (checked_kept b id deed (run_of_deed (texts_kept b values) deed) checked same is c.in_ok-checked-in-Some.ensures)
+    c.in_ok-keep-in-Some.ensures

@@ -29,9 +29,11 @@ returns-in_ok-ended-in-Publish c =
     let outs = outputs_of_result ran.result in
     let has = list_all (λ path. is_some (rows path)) ran.reads in
     let stored = c.as_slice-in-Publish.ensures in
-    subst (λ (deed : Deed). IsChecked (run_of_deed (texts_kept b values) deed) (Some deed) c.compare.result) (sym p.is ∙ c.deed.ensures.deed)
+    subst (λ (deed : Deed). IsChecked (run_of_deed (texts_kept b values) deed) (Some deed) c.compare.result) (sym p.is
+    ∙ c.deed.ensures.deed)
     (publish_checked b values p.view p.targets p.script p.entries p.outputs rows ran c.compare.result
     (λ path. c.in_ok-entries-in-Publish.ensures path ∙ ap (λ (entries : List ReadOf). row_in entries path) c.as_slice.ensures)
-    (c.in_ok-ended-in-Publish.ensures ∙ ap (λ (targets : List (List ℕ)). run p.script targets (texts (stands_kept b values rows))) c.as_slice-targets.ensures)
+    (c.in_ok-ended-in-Publish.ensures ∙ ap (λ (targets : List (List ℕ)). run p.script targets (texts (stands_kept b values rows)))
+    c.as_slice-targets.ensures)
     (c.compare.ensures.is_true ∙ ap (λ (outputs : List (List ℕ)). are_stored outputs outs && has) stored)
     (c.compare.ensures.value ∙ ap (λ (outputs : List (List ℕ)). only_where (not (are_stored outputs outs)) (Some outs)) stored))

@@ -10,10 +10,11 @@ use Rattle.object_check.proofs.needs.needed.Goals as goal
 
 pub loop-id-init : goal.loop-id-init
 loop-id-init c =
-    needs_none c.args.rows.now c.size-id.result (contains nat_cmp c.new-needed.result) (omega (arith, c.size-id.ensures.size)) (λ id. ap (list_any (is_at (nat_cmp id))) c.new-needed.ensures.empty)
+    needs_none c.args.rows.now c.size-id.result (contains nat_cmp c.new-needed.result) (omega (arith, c.size-id.ensures.size))
+    (λ id. ap (list_any (is_at (nat_cmp id))) c.new-needed.ensures.empty)
 
-pub take-requires : goal.take-requires
-take-requires c =
+pub take_row-requires : goal.take_row-requires
+take_row-requires c =
     let next : c.loop-id.id ≡ suc (c.loop-id.id - 1) = omega (arith, c.loop-id-test.true) in
     subst (λ n. NeedsFrom c.args.rows.now n (contains nat_cmp c.loop-id.needed)) next c.loop-id.invariant
 

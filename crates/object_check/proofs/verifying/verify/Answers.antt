@@ -15,7 +15,8 @@ loop-id-init c =
     record {
       low = omega arith;
       sound = sound_at_first b;
-      keeps = keeps_none (contains nat_cmp c.in_ok-needed.needed) b (get nat_eq c.new-values.result) (λ id. ap (lookup (nat_eq id)) c.new-values.ensures.empty);
+      keeps = keeps_none (contains nat_cmp c.in_ok-needed.needed) b (get nat_eq c.new-values.result)
+          (λ id. ap (lookup (nat_eq id)) c.new-values.ensures.empty);
     }
 
 pub loop-id-preserved : goal.loop-id-preserved
@@ -27,16 +28,21 @@ loop-id-preserved c =
     record {
       low = omega (arith, c.loop-id.invariant.low, few);
       sound = subst (λ n. SoundBefore b n (c.loop-id.count + c.in-Some.more)) next
-          (found_more b id c.loop-id.count c.in-Some.more c.in_ok-found.found (omega (arith, c.loop-id.invariant.low)) (omega (arith, c.loop-id-test.true, c.size-id-end.ensures.size)) c.loop-id.invariant.sound c.in_ok-found.ensures.found c.in-Some.ensures.count);
-      keeps = subst (λ n. KeepsBelow n (contains nat_cmp c.in_ok-needed.needed) b (get nat_eq c.find.new.values)) next c.in_ok-found.ensures.keeps;
+          (found_more b id c.loop-id.count c.in-Some.more c.in_ok-found.found (omega (arith, c.loop-id.invariant.low))
+          (omega (arith, c.loop-id-test.true, c.size-id-end.ensures.size)) c.loop-id.invariant.sound
+          c.in_ok-found.ensures.found c.in-Some.ensures.count);
+      keeps = subst (λ n. KeepsBelow n (contains nat_cmp c.in_ok-needed.needed) b (get nat_eq c.find.new.values)) next
+          c.in_ok-found.ensures.keeps;
     }
 
 pub returns-in_default : goal.returns-in_default
 returns-in_default c =
     let b = c.args.rows.now in
     let id = c.loop-id.id in
-    found_none b id c.loop-id.count c.in_ok-found.found (omega (arith, c.loop-id.invariant.low)) (omega (arith, c.loop-id-test.true, c.size-id-end.ensures.size)) c.loop-id.invariant.sound c.in_ok-found.ensures.found
+    found_none b id c.loop-id.count c.in_ok-found.found (omega (arith, c.loop-id.invariant.low))
+    (omega (arith, c.loop-id-test.true, c.size-id-end.ensures.size)) c.loop-id.invariant.sound c.in_ok-found.ensures.found
     (sym c.in_default.is ∙ c.live_objects.ensures.count)
 
 pub returns : goal.returns
-returns c = sound_at_last c.args.rows.now c.loop-id.id c.loop-id.count (omega (arith, c.loop-id-test.false, c.size-id-end.ensures.size)) c.loop-id.invariant.sound
+returns c = sound_at_last c.args.rows.now c.loop-id.id c.loop-id.count
+    (omega (arith, c.loop-id-test.false, c.size-id-end.ensures.size)) c.loop-id.invariant.sound

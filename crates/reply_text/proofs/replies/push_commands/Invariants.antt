@@ -4,7 +4,8 @@ use Rattle.reply_text.proofs.replies.push_commands.Given as goal
 
 abbrev pub invariant-loop-word : goal.invariant-loop-word
 invariant-loop-word l = record {
-  lines : l.initial.text.items ++ lines_from l.phase 1 l.words l.replies ≡ l.text.items ++ lines_from l.phase l.number l.left l.answers;
+  lines : l.initial.text.items ++ lines_from l.phase 1 l.words l.replies ≡ l.text.items
+      ++ lines_from l.phase l.number l.left l.answers;
   within : l.number + length l.left ≤ length l.words + 1;
 }
 

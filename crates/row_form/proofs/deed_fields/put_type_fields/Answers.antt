@@ -8,4 +8,5 @@ pub returns-in_ok-put_pair-in-Arrow : goal.returns-in_ok-put_pair-in-Arrow
 returns-in_ok-put_pair-in-Arrow c =
     let s = c.in-Arrow in
     subst (λ d. OnOk c.put_long.result (c.put_long.new.out.items ≡ c.args.out.now.items ++ type_fields d)) (sym s.is)
-    (then_three c.put_long.result c.args.out.now.items (long s.element) (long s.tail) (long s.head) _ _ c.in_ok-put_pair-in-Arrow.ensures c.put_long.ensures)
+    (then_three c.put_long.result c.args.out.now.items (long s.element) (long s.tail) (long s.head) _ _
+    c.in_ok-put_pair-in-Arrow.ensures c.put_long.ensures)

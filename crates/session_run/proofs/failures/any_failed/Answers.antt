@@ -10,16 +10,21 @@ use Rattle.session_run.proofs.failures.any_failed.Goals as goal
 pub loop-index-preserved : goal.loop-index-preserved
 loop-index-preserved g c =
     let story = c.args.core.now.story in
-    let none : list_any is_failure (replies_of story (c.loop-index.index + 1)) ≡ false = ap (list_any is_failure) (sym c.replies.ensures) ∙ sym c.has_failure.ensures ∙ c.if-has_failure.false in
-    c.loop-index.invariant ∙ first_fails (state_of story).phase.lanes (replies_of story) c.loop-index.index false (omega (arith, c.lanes-lanes.ensures)) none
+    let none : list_any is_failure (replies_of story (c.loop-index.index + 1)) ≡ false =
+    ap (list_any is_failure) (sym c.replies.ensures) ∙ sym c.has_failure.ensures ∙ c.if-has_failure.false in
+    c.loop-index.invariant ∙ first_fails (state_of story).phase.lanes (replies_of story) c.loop-index.index false
+    (omega (arith, c.lanes-lanes.ensures)) none
 
 pub returns-then-has_failure : goal.returns-then-has_failure
 returns-then-has_failure g c =
     let story = c.args.core.now.story in
-    let one : list_any is_failure (replies_of story (c.loop-index.index + 1)) ≡ true = ap (list_any is_failure) (sym c.replies.ensures) ∙ sym c.has_failure.ensures ∙ c.if-has_failure.true in
-    sym (c.loop-index.invariant ∙ first_fails (state_of story).phase.lanes (replies_of story) c.loop-index.index true (omega (arith, c.lanes-lanes.ensures)) one)
+    let one : list_any is_failure (replies_of story (c.loop-index.index + 1)) ≡ true =
+    ap (list_any is_failure) (sym c.replies.ensures) ∙ sym c.has_failure.ensures ∙ c.if-has_failure.true in
+    sym (c.loop-index.invariant ∙ first_fails (state_of story).phase.lanes (replies_of story) c.loop-index.index true
+    (omega (arith, c.lanes-lanes.ensures)) one)
 
 pub returns : goal.returns
 returns g c =
     let story = c.args.core.now.story in
-    sym (c.loop-index.invariant ∙ at_drop_all (λ v. lanes_fail (c.loop-index.index + 1) v (replies_of story)) (state_of story).phase.lanes c.loop-index.index (omega (arith, c.lanes-lanes.ensures)))
+    sym (c.loop-index.invariant ∙ at_drop_all (λ v. lanes_fail (c.loop-index.index + 1) v (replies_of story))
+    (state_of story).phase.lanes c.loop-index.index (omega (arith, c.lanes-lanes.ensures)))

@@ -6,7 +6,8 @@ pub returns-clause-reused : goal.returns-clause-reused
 returns-clause-reused c = reused_so c.a_taken_record_is_seen.ensures.kept c.a_taken_record_is_seen.ensures.winked
 
 pub returns-clause-sought : goal.returns-clause-sought
-returns-clause-sought c = sought_so c.nothing_is_passed_over.ensures.start c.nothing_is_passed_over.ensures.publish c.nothing_is_passed_over.ensures.matched
+returns-clause-sought c = sought_so c.nothing_is_passed_over.ensures.start c.nothing_is_passed_over.ensures.publish
+    c.nothing_is_passed_over.ensures.matched
 
 pub returns-clause-recorded : goal.returns-clause-recorded
 returns-clause-recorded c = recorded_so c.a_published_record_is_what_was_read.ensures

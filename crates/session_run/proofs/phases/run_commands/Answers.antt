@@ -10,12 +10,14 @@ run_on_threads-requires-clause-few g c κs within =
 
 pub returns-in-Ok-clause-ok : goal.returns-in-Ok-clause-ok
 returns-in-Ok-clause-ok g c =
-    runs_by c.run_on_threads.result.1 c.args.core.story c.begin_phase.new.self.story c.run_on_threads.result.0.story c.args.phase c.args.moment c.in-Ok.ensures.ok
+    runs_by c.run_on_threads.result.1 c.args.core.story c.begin_phase.new.self.story c.run_on_threads.result.0.story c.args.phase
+    c.args.moment c.in-Ok.ensures.ok
     c.run_on_threads.ensures.since.goes c.run_on_threads.ensures.finished
 
 pub returns-in-Ok-clause-err : goal.returns-in-Ok-clause-err
 returns-in-Ok-clause-err g c =
-    leaves_by c.run_on_threads.result.1 c.args.core.story c.begin_phase.new.self.story c.run_on_threads.result.0.story c.args.phase c.args.moment c.in-Ok.ensures.ok
+    leaves_by c.run_on_threads.result.1 c.args.core.story c.begin_phase.new.self.story c.run_on_threads.result.0.story
+    c.args.phase c.args.moment c.in-Ok.ensures.ok
     c.run_on_threads.ensures.since.goes
 
 pub returns-in-Ok-clause-first : goal.returns-in-Ok-clause-first
@@ -25,4 +27,5 @@ returns-in-Ok-clause-first g c =
 
 pub returns-in-Ok-clause-counted : goal.returns-in-Ok-clause-counted
 returns-in-Ok-clause-counted g c =
-    keeps_further c.args.core c.begin_phase.new.self c.run_on_threads.result.0 c.begin_phase.ensures.counted c.run_on_threads.ensures.since.counted
+    keeps_further c.args.core c.begin_phase.new.self c.run_on_threads.result.0 c.begin_phase.ensures.counted
+    c.run_on_threads.ensures.since.counted

@@ -1,4 +1,5 @@
-use Rattle.std.proofs.Common.{◌≡◌, ◌+◌, ◌≤◌, ℕ, List, Option, refl, ap, subst, sym, ◌∙◌, arith, length, append_assoc, length-append, ◌∷◌, []}
+use Rattle.std.proofs.Common.{◌≡◌, ◌+◌, ◌≤◌, ℕ, List, Option, refl, ap, subst, sym, ◌∙◌, arith, length, append_assoc}
+use Rattle.std.proofs.Common.{length-append, ◌∷◌, []}
 use Rattle.std.specs.Prelude.{IfSome, min, Result, Ok, Err, OnOk, OnErr}
 use Rattle.std.specs.List.{AllByRecursion}
 use Rattle.std.specs.Vec.Iter.{into_iter_items}
@@ -12,8 +13,11 @@ use Rattle.session_run.proofs.Running.Runs.{run_goes_on, run_leaves, run_is_cut,
 use Rattle.session_run.proofs.phases.run_phases.Goals as goal
 
 -- what a clock tells that still tells the same
-modeled_still : (now first : Option (List ℕ)) (moment reading : ℕ) → now ≡ first → IfSome now (λ modeled. moment ≡ min (moment_at modeled reading) last_moment) → IfSome first (λ modeled. moment ≡ min (moment_at modeled reading) last_moment)
-modeled_still now first moment reading e h = subst (λ clock. IfSome clock (λ modeled. moment ≡ min (moment_at modeled reading) last_moment)) e h
+modeled_still : (now first : Option (List ℕ)) (moment reading : ℕ) → now ≡ first
+    → IfSome now (λ modeled. moment ≡ min (moment_at modeled reading) last_moment)
+    → IfSome first (λ modeled. moment ≡ min (moment_at modeled reading) last_moment)
+modeled_still now first moment reading e h = subst (λ clock. IfSome clock
+    (λ modeled. moment ≡ min (moment_at modeled reading) last_moment)) e h
 
 -- what is promised where a call succeeds, and where it fails
 on_ok : {A E : Type 0} (result : Result A E) (a : A) (P : Type 0) → result ≡ Ok a → OnOk result P → P
@@ -26,7 +30,8 @@ pub loop-phase-init : goal.loop-phase-init
 loop-phase-init g c =
     let items = sym c.into_iter-phase-iterator.ensures.into_iter_gives.0 in
     record {
-      run = run_starts c.args.core.story (g.K.Sink.ghost_state c.args.sink.now).held (g.C.Clock.ghost_state c.args.clock.now).modeled (g.C.Clock.ghost_state c.args.clock.now).readings c.requires.opened;
+      run = run_starts c.args.core.story (g.K.Sink.ghost_state c.args.sink.now).held
+          (g.C.Clock.ghost_state c.args.clock.now).modeled (g.C.Clock.ghost_state c.args.clock.now).readings c.requires.opened;
       first = refl;
       rest = refl;
       ready = subst (AllByRecursion IsReadyPhase) items c.requires.runnable.ready;
@@ -40,55 +45,95 @@ loop-phase-init g c =
 pub returns-in-Err-clause-err : goal.returns-in-Err-clause-err
 returns-in-Err-clause-err g c =
     let at = c.loop-phase in
-    let outside : Outside = record { held = (g.K.Sink.ghost_state c.args.sink.now).held; holds = (g.K.Sink.ghost_state at.sink).held; moments = (g.C.Clock.ghost_state c.args.clock.now).modeled; first = (g.C.Clock.ghost_state c.args.clock.now).readings; reading = (g.C.Clock.ghost_state at.clock).readings } in
-    run_leaves at.yielded (into_iter_items c.next.new.self) c.args.phases.items c.in-Some.phase at.core.story c.run_commands-next.result.0.story outside
+    let outside : Outside = record {
+      held = (g.K.Sink.ghost_state c.args.sink.now).held;
+      holds = (g.K.Sink.ghost_state at.sink).held;
+      moments = (g.C.Clock.ghost_state c.args.clock.now).modeled;
+      first =
+          (g.C.Clock.ghost_state c.args.clock.now).readings;
+      reading = (g.C.Clock.ghost_state at.clock).readings;
+    } in
+    run_leaves at.yielded (into_iter_items c.next.new.self) c.args.phases.items c.in-Some.phase at.core.story
+    c.run_commands-next.result.0.story outside
     c.moment_of-moment.result (g.C.Clock.ghost_state c.moment_of-moment.new.clock).readings at.failed at.invariant.run
-    (on_err c.run_commands-next.result.1 _ (LeavesPhase c.in-Some.phase c.moment_of-moment.result at.core.story c.run_commands-next.result.0.story) c.in-Err.is c.run_commands-next.ensures.err)
-    (modeled_still (g.C.Clock.ghost_state at.clock).modeled (g.C.Clock.ghost_state c.args.clock.now).modeled c.moment_of-moment.result (g.C.Clock.ghost_state at.clock).readings at.invariant.clock c.moment_of-moment.ensures.moment)
-    (in_hand at.yielded (into_iter_items at.phase-iterator) (into_iter_items c.next.new.self) _ c.args.phases.items c.in-Some.phase at.invariant.rest c.in-Some.ensures.steps.0 c.into_iter-phase-iterator.ensures.into_iter_gives.0)
+    (on_err c.run_commands-next.result.1 _ (LeavesPhase c.in-Some.phase c.moment_of-moment.result at.core.story
+    c.run_commands-next.result.0.story) c.in-Err.is c.run_commands-next.ensures.err)
+    (modeled_still (g.C.Clock.ghost_state at.clock).modeled (g.C.Clock.ghost_state c.args.clock.now).modeled
+    c.moment_of-moment.result (g.C.Clock.ghost_state at.clock).readings at.invariant.clock c.moment_of-moment.ensures.moment)
+    (in_hand at.yielded (into_iter_items at.phase-iterator) (into_iter_items c.next.new.self) _ c.args.phases.items
+    c.in-Some.phase at.invariant.rest c.in-Some.ensures.steps.0 c.into_iter-phase-iterator.ensures.into_iter_gives.0)
     c.moment_of-moment.ensures.counted
 
 pub loop-phase-preserved : goal.loop-phase-preserved
 loop-phase-preserved g c =
     let at = c.loop-phase in
-    let outside : Outside = record { held = (g.K.Sink.ghost_state c.args.sink.now).held; holds = (g.K.Sink.ghost_state at.sink).held; moments = (g.C.Clock.ghost_state c.args.clock.now).modeled; first = (g.C.Clock.ghost_state c.args.clock.now).readings; reading = (g.C.Clock.ghost_state at.clock).readings } in
-    let ready : AllByRecursion IsReadyPhase (c.in-Some.phase ∷ into_iter_items c.next.new.self) = subst (AllByRecursion IsReadyPhase) c.in-Some.ensures.steps.0 at.invariant.ready in
+    let outside : Outside = record {
+      held = (g.K.Sink.ghost_state c.args.sink.now).held;
+      holds = (g.K.Sink.ghost_state at.sink).held;
+      moments = (g.C.Clock.ghost_state c.args.clock.now).modeled;
+      first =
+          (g.C.Clock.ghost_state c.args.clock.now).readings;
+      reading = (g.C.Clock.ghost_state at.clock).readings;
+    } in
+    let ready : AllByRecursion IsReadyPhase (c.in-Some.phase ∷ into_iter_items c.next.new.self) =
+    subst (AllByRecursion IsReadyPhase) c.in-Some.ensures.steps.0 at.invariant.ready in
     record {
       run =
           run_goes_on at.yielded c.in-Some.phase at.core.story c.run_commands-next.result.0.story outside
-          (g.K.Sink.ghost_state c.write_transcript.new.sink).held (g.C.Clock.ghost_state c.moment_of-moment.new.clock).readings c.moment_of-moment.result (at.number + 1) at.failed c.any_failed-failed.result
+          (g.K.Sink.ghost_state c.write_transcript.new.sink).held (g.C.Clock.ghost_state c.moment_of-moment.new.clock).readings
+          c.moment_of-moment.result (at.number + 1) at.failed c.any_failed-failed.result
           at.invariant.run
-          (on_ok c.run_commands-next.result.1 _ (RunsPhase c.in-Some.phase c.moment_of-moment.result at.core.story c.run_commands-next.result.0.story) c.in_default.is c.run_commands-next.ensures.ok)
+          (on_ok c.run_commands-next.result.1 _ (RunsPhase c.in-Some.phase c.moment_of-moment.result at.core.story
+          c.run_commands-next.result.0.story) c.in_default.is c.run_commands-next.ensures.ok)
           c.any_failed-failed.ensures
-          (modeled_still (g.C.Clock.ghost_state at.clock).modeled (g.C.Clock.ghost_state c.args.clock.now).modeled c.moment_of-moment.result (g.C.Clock.ghost_state at.clock).readings at.invariant.clock c.moment_of-moment.ensures.moment)
+          (modeled_still (g.C.Clock.ghost_state at.clock).modeled (g.C.Clock.ghost_state c.args.clock.now).modeled
+          c.moment_of-moment.result (g.C.Clock.ghost_state at.clock).readings at.invariant.clock
+          c.moment_of-moment.ensures.moment)
           c.moment_of-moment.ensures.counted (ap (λ n. n + 1) at.invariant.number) c.in_default-write_transcript.ensures.ok;
       first = c.run_commands-next.ensures.first ∙ at.invariant.first;
-      rest = append_assoc at.yielded (c.in-Some.phase ∷ []) (into_iter_items c.next.new.self) ∙ in_hand at.yielded (into_iter_items at.phase-iterator) (into_iter_items c.next.new.self) _ _ c.in-Some.phase at.invariant.rest c.in-Some.ensures.steps.0 refl;
+      rest = append_assoc at.yielded (c.in-Some.phase ∷ []) (into_iter_items c.next.new.self)
+          ∙ in_hand at.yielded (into_iter_items at.phase-iterator) (into_iter_items c.next.new.self) _ _ c.in-Some.phase
+          at.invariant.rest c.in-Some.ensures.steps.0 refl;
       ready = ready.1;
       few = at.invariant.few;
       number = omega (arith, at.invariant.number, length-append at.yielded (c.in-Some.phase ∷ []));
       faults = omega (arith, at.invariant.faults, c.in_default-write_transcript.ensures.kept);
-      counted = keeps_further c.args.core at.core c.run_commands-next.result.0 at.invariant.counted c.run_commands-next.ensures.counted;
+      counted = keeps_further c.args.core at.core c.run_commands-next.result.0 at.invariant.counted
+          c.run_commands-next.ensures.counted;
       clock = c.moment_of-moment.ensures.list ∙ at.invariant.clock;
     }
 
 pub returns-in-Err-write_transcript-clause-err : goal.returns-in-Err-write_transcript-clause-err
 returns-in-Err-write_transcript-clause-err g c =
     let at = c.loop-phase in
-    let outside : Outside = record { held = (g.K.Sink.ghost_state c.args.sink.now).held; holds = (g.K.Sink.ghost_state at.sink).held; moments = (g.C.Clock.ghost_state c.args.clock.now).modeled; first = (g.C.Clock.ghost_state c.args.clock.now).readings; reading = (g.C.Clock.ghost_state at.clock).readings } in
-    run_is_cut c.in-Err-write_transcript.error at.yielded (into_iter_items c.next.new.self) c.args.phases.items c.in-Some.phase at.core.story c.run_commands-next.result.0.story outside
-    (g.K.Sink.ghost_state c.write_transcript.new.sink).held c.moment_of-moment.result (g.C.Clock.ghost_state c.moment_of-moment.new.clock).readings (at.number + 1) at.failed
+    let outside : Outside = record {
+      held = (g.K.Sink.ghost_state c.args.sink.now).held;
+      holds = (g.K.Sink.ghost_state at.sink).held;
+      moments = (g.C.Clock.ghost_state c.args.clock.now).modeled;
+      first =
+          (g.C.Clock.ghost_state c.args.clock.now).readings;
+      reading = (g.C.Clock.ghost_state at.clock).readings;
+    } in
+    run_is_cut c.in-Err-write_transcript.error at.yielded (into_iter_items c.next.new.self) c.args.phases.items c.in-Some.phase
+    at.core.story c.run_commands-next.result.0.story outside
+    (g.K.Sink.ghost_state c.write_transcript.new.sink).held c.moment_of-moment.result
+    (g.C.Clock.ghost_state c.moment_of-moment.new.clock).readings (at.number + 1) at.failed
     at.invariant.run
-    (on_ok c.run_commands-next.result.1 _ (RunsPhase c.in-Some.phase c.moment_of-moment.result at.core.story c.run_commands-next.result.0.story) c.in_default.is c.run_commands-next.ensures.ok)
-    (modeled_still (g.C.Clock.ghost_state at.clock).modeled (g.C.Clock.ghost_state c.args.clock.now).modeled c.moment_of-moment.result (g.C.Clock.ghost_state at.clock).readings at.invariant.clock c.moment_of-moment.ensures.moment)
+    (on_ok c.run_commands-next.result.1 _ (RunsPhase c.in-Some.phase c.moment_of-moment.result at.core.story
+    c.run_commands-next.result.0.story) c.in_default.is c.run_commands-next.ensures.ok)
+    (modeled_still (g.C.Clock.ghost_state at.clock).modeled (g.C.Clock.ghost_state c.args.clock.now).modeled
+    c.moment_of-moment.result (g.C.Clock.ghost_state at.clock).readings at.invariant.clock c.moment_of-moment.ensures.moment)
     (ap (λ n. n + 1) at.invariant.number)
-    (in_hand at.yielded (into_iter_items at.phase-iterator) (into_iter_items c.next.new.self) _ c.args.phases.items c.in-Some.phase at.invariant.rest c.in-Some.ensures.steps.0 c.into_iter-phase-iterator.ensures.into_iter_gives.0)
+    (in_hand at.yielded (into_iter_items at.phase-iterator) (into_iter_items c.next.new.self) _ c.args.phases.items
+    c.in-Some.phase at.invariant.rest c.in-Some.ensures.steps.0 c.into_iter-phase-iterator.ensures.into_iter_gives.0)
     c.in-Err-write_transcript.ensures.err c.moment_of-moment.ensures.counted
 
 pub returns-in-Err-clause-counted : goal.returns-in-Err-clause-counted
 returns-in-Err-clause-counted g c =
-    keeps_further c.args.core c.loop-phase.core c.run_commands-next.result.0 c.loop-phase.invariant.counted c.run_commands-next.ensures.counted
+    keeps_further c.args.core c.loop-phase.core c.run_commands-next.result.0 c.loop-phase.invariant.counted
+    c.run_commands-next.ensures.counted
 
 pub returns-in-Err-write_transcript-clause-counted : goal.returns-in-Err-write_transcript-clause-counted
 returns-in-Err-write_transcript-clause-counted g c =
-    keeps_further c.args.core c.loop-phase.core c.run_commands-next.result.0 c.loop-phase.invariant.counted c.run_commands-next.ensures.counted
+    keeps_further c.args.core c.loop-phase.core c.run_commands-next.result.0 c.loop-phase.invariant.counted
+    c.run_commands-next.ensures.counted

@@ -9,7 +9,14 @@ use Rattle.session_run.proofs.phases.run_phases.Given as goal
 
 abbrev pub invariant-loop-phase : goal.invariant-loop-phase
 invariant-loop-phase g l = record {
-  run : HasRunPhases l.yielded l.core.story (record { held = (g.K.Sink.ghost_state l.initial.sink).held; holds = (g.K.Sink.ghost_state l.sink).held; moments = (g.C.Clock.ghost_state l.initial.clock).modeled; first = (g.C.Clock.ghost_state l.initial.clock).readings; reading = (g.C.Clock.ghost_state l.clock).readings }) l.failed;
+  run : HasRunPhases l.yielded l.core.story (record {
+    held = (g.K.Sink.ghost_state l.initial.sink).held;
+    holds = (g.K.Sink.ghost_state l.sink).held;
+    moments = (g.C.Clock.ghost_state l.initial.clock).modeled;
+    first =
+        (g.C.Clock.ghost_state l.initial.clock).readings;
+    reading = (g.C.Clock.ghost_state l.clock).readings;
+  }) l.failed;
   first : first_step l.core.story ≡ first_step l.fn.core.story;
   rest : l.yielded ++ into_iter_items l.phase-iterator ≡ into_iter_items l.initial.phase-iterator;
   ready : AllByRecursion IsReadyPhase (into_iter_items l.phase-iterator);

@@ -15,10 +15,22 @@ pub returns-in-Ok : goal.returns-in-Ok
 returns-in-Ok g c =
     let core = c.in-Ok.core in
     let ended = c.run_opened.result in
-    let outside : Outside = record { held = (g.K.Sink.ghost_state c.args.sink.now).held; holds = (g.K.Sink.ghost_state c.run_opened.new.sink).held; moments = (g.C.Clock.ghost_state c.args.clock.now).modeled; first = (g.C.Clock.ghost_state c.args.clock.now).readings; reading = (g.C.Clock.ghost_state c.run_opened.new.clock).readings } in
-    let faults : Change _ = record { before = (g.K.Sink.ghost_state c.args.sink.now).faults; after = (g.K.Sink.ghost_state c.run_opened.new.sink).faults } in
+    let outside : Outside = record {
+      held = (g.K.Sink.ghost_state c.args.sink.now).held;
+      holds = (g.K.Sink.ghost_state c.run_opened.new.sink).held;
+      moments =
+          (g.C.Clock.ghost_state c.args.clock.now).modeled;
+      first = (g.C.Clock.ghost_state c.args.clock.now).readings;
+      reading =
+          (g.C.Clock.ghost_state c.run_opened.new.clock).readings;
+    } in
+    let faults : Change _ = record {
+      before = (g.K.Sink.ghost_state c.args.sink.now).faults;
+      after = (g.K.Sink.ghost_state c.run_opened.new.sink).faults;
+    } in
     inl (record {
-      begins = begins_on (g.D.Disk.ghost_state c.args.disk) core.ghost_state core.story ended.history (first_step core.story) c.in-Ok.ensures.ok refl c.run_opened.ensures.first_is;
+      begins = begins_on (g.D.Disk.ghost_state c.args.disk) core.ghost_state core.story ended.history (first_step core.story)
+          c.in-Ok.ensures.ok refl c.run_opened.ensures.first_is;
       first = first_step core.story;
       opened = core.ghost_state;
       sound = c.in-Ok.ensures.ok.sound;
@@ -26,7 +38,8 @@ returns-in-Ok g c =
       adds = c.in-Ok.ensures.ok.adds;
       files = c.in-Ok.ensures.ok.files;
       runs =
-          subst (λ n. RunsOpened c.args.phases.items ended.status (first_step core.story) ended.history n (record { before = core.ghost_state; after = g.D.Disk.ghost_state ended.disk }) outside faults)
+          subst (λ n. RunsOpened c.args.phases.items ended.status (first_step core.story) ended.history n
+          (record { before = core.ghost_state; after = g.D.Disk.ghost_state ended.disk }) outside faults)
           c.counts-before.ensures.faults c.run_opened.ensures;
     })
 
@@ -34,11 +47,16 @@ pub returns-in-Err : goal.returns-in-Err
 returns-in-Err g c =
     let cause = c.in-Err.field-0.cause in
     let rose = c.has_risen.ensures ∙ ap₂ rises c.counts-before.ensures.faults c.counts.ensures.faults in
-    let faults : Change _ = record { before = (g.K.Sink.ghost_state c.args.sink.now).faults; after = (g.K.Sink.ghost_state c.write_unstarted.new.sink).faults } in
+    let faults : Change _ = record {
+      before = (g.K.Sink.ghost_state c.args.sink.now).faults;
+      after = (g.K.Sink.ghost_state c.write_unstarted.new.sink).faults;
+    } in
     inr (record {
       because = cause;
       fails = c.in-Err.ensures.err;
       empty = c.empty.ensures;
       unread = refl;
-      wrote = subst (λ unstarted. WritesUnstarted unstarted c.write_unstarted.result (g.K.Sink.ghost_state c.args.sink.now).held (g.K.Sink.ghost_state c.write_unstarted.new.sink).held faults) (c.of_unopened-unstarted.ensures ∙ ap (of_unopened cause) rose) c.write_unstarted.ensures;
+      wrote = subst (λ unstarted. WritesUnstarted unstarted c.write_unstarted.result (g.K.Sink.ghost_state c.args.sink.now).held
+          (g.K.Sink.ghost_state c.write_unstarted.new.sink).held faults) (c.of_unopened-unstarted.ensures
+          ∙ ap (of_unopened cause) rose) c.write_unstarted.ensures;
     })

@@ -12,15 +12,109 @@ run_session-requires-clause-stable g c κs within = journal_stable (g.D.Disk.gho
 
 pub returns-in-Ok : goal.returns-in-Ok
 returns-in-Ok g c =
-    let all = promised_run c.in-Ok.phases.items c.run_session.result.status c.run_session.result.history _ _ _ _ (c.a_disk_is_counted.ensures c.args.disk) (c.a_disk_is_counted.ensures c.run_session.result.disk) c.in-Ok.ensures.gives c.run_session.ensures in
-    record { session = all.session; history = all.history; commanded = c.builds_are_as_from_nothing.ensures.commanded _ all.history.legal; built = c.builds_are_as_from_nothing.ensures.built _ all.history.legal; outcomes = c.builds_are_as_from_nothing.ensures.outcomes _ all.history.legal; reused = c.objects_are_reused_well.ensures.reused _ all.history.legal; sought = c.objects_are_reused_well.ensures.sought _ all.history.legal; recorded = c.objects_are_reused_well.ensures.recorded _ all.history.legal; sound = c.objects_are_reused_well.ensures.sound _ all.history.legal; scrubs = c.objects_are_scrubbed_well.ensures.scrubs _ all.history.legal; held = c.objects_are_scrubbed_well.ensures.held _ all.history.legal; printed = all.printed; stopped = all.stopped; cause = all.cause; accounted = all.accounted; files = all.files; damaged = finds_damage _ _ _ _ _ all.cause; untouched = record { unless_asked = inl (asked _ c.in-Ok.phases.items c.in-Ok.ensures.gives) }; taken = c.session_given.ensures.taken }
+    let all = promised_run c.in-Ok.phases.items c.run_session.result.status c.run_session.result.history _ _ _ _
+    (c.a_disk_is_counted.ensures c.args.disk) (c.a_disk_is_counted.ensures c.run_session.result.disk) c.in-Ok.ensures.gives
+    c.run_session.ensures in
+    record {
+      session = all.session;
+      history = all.history;
+      commanded = c.builds_are_as_from_nothing.ensures.commanded _
+          all.history.legal;
+      built = c.builds_are_as_from_nothing.ensures.built _ all.history.legal;
+      outcomes =
+          c.builds_are_as_from_nothing.ensures.outcomes _ all.history.legal;
+      reused =
+          c.objects_are_reused_well.ensures.reused _ all.history.legal;
+      sought =
+          c.objects_are_reused_well.ensures.sought _ all.history.legal;
+      recorded =
+          c.objects_are_reused_well.ensures.recorded _ all.history.legal;
+      sound =
+          c.objects_are_reused_well.ensures.sound _ all.history.legal;
+      scrubs =
+          c.objects_are_scrubbed_well.ensures.scrubs _ all.history.legal;
+      held =
+          c.objects_are_scrubbed_well.ensures.held _ all.history.legal;
+      printed = all.printed;
+      stopped = all.stopped;
+      cause =
+          all.cause;
+      accounted = all.accounted;
+      files = all.files;
+      damaged = finds_damage _ _ _ _ _ all.cause;
+      untouched =
+          record { unless_asked = inl (asked _ c.in-Ok.phases.items c.in-Ok.ensures.gives) };
+      taken =
+          c.session_given.ensures.taken;
+    }
 
 pub returns-in-Err : goal.returns-in-Err
 returns-in-Err g c =
-    let intake : Intake = record { words = c.args.words.now; text = record { before = (g.S.Source.ghost_state c.args.source.now).left; after = (g.S.Source.ghost_state c.session_given.new.source).left }; given = record { before = (g.S.Source.ghost_state c.args.source.now).given; after = (g.S.Source.ghost_state c.session_given.new.source).given }; faults = record { before = (g.S.Source.ghost_state c.args.source.now).faults; after = (g.S.Source.ghost_state c.session_given.new.source).faults } } in
-    let outside : Outside = record { held = (g.K.Sink.ghost_state c.args.sink.now).held; holds = (g.K.Sink.ghost_state c.write_unstarted.new.sink).held; moments = (g.C.Clock.ghost_state c.args.clock.now).modeled; first = (g.C.Clock.ghost_state c.args.clock.now).readings; reading = (g.C.Clock.ghost_state c.args.clock.now).readings } in
-    let faults : Change _ = record { before = (g.K.Sink.ghost_state c.args.sink.now).faults; after = (g.K.Sink.ghost_state c.write_unstarted.new.sink).faults } in
+    let intake : Intake = record {
+      words = c.args.words.now;
+      text = record {
+        before = (g.S.Source.ghost_state c.args.source.now).left;
+        after = (g.S.Source.ghost_state
+            c.session_given.new.source).left;
+      };
+      given = record {
+        before = (g.S.Source.ghost_state c.args.source.now).given;
+        after = (g.S.Source.ghost_state c.session_given.new.source).given;
+      };
+      faults = record {
+        before = (g.S.Source.ghost_state c.args.source.now).faults;
+        after = (g.S.Source.ghost_state c.session_given.new.source).faults;
+      };
+    } in
+    let outside : Outside = record {
+      held = (g.K.Sink.ghost_state c.args.sink.now).held;
+      holds = (g.K.Sink.ghost_state c.write_unstarted.new.sink).held;
+      moments =
+          (g.C.Clock.ghost_state c.args.clock.now).modeled;
+      first = (g.C.Clock.ghost_state c.args.clock.now).readings;
+      reading =
+          (g.C.Clock.ghost_state c.args.clock.now).readings;
+    } in
+    let faults : Change _ = record {
+      before = (g.K.Sink.ghost_state c.args.sink.now).faults;
+      after = (g.K.Sink.ghost_state c.write_unstarted.new.sink).faults;
+    } in
     let disk = g.D.Disk.ghost_state c.args.disk in
-    let all = subst (λ story. Promised c.write_unstarted.result story intake outside faults (record { before = disk; after = disk })) (sym c.empty.ensures)
-    (promised_unstarted c.in-Err.unstarted c.write_unstarted.result intake outside faults disk refl (c.a_disk_is_counted.ensures c.args.disk) c.requires c.in-Err.ensures.why c.write_unstarted.ensures) in
-    record { session = all.session; history = all.history; commanded = c.builds_are_as_from_nothing.ensures.commanded _ all.history.legal; built = c.builds_are_as_from_nothing.ensures.built _ all.history.legal; outcomes = c.builds_are_as_from_nothing.ensures.outcomes _ all.history.legal; reused = c.objects_are_reused_well.ensures.reused _ all.history.legal; sought = c.objects_are_reused_well.ensures.sought _ all.history.legal; recorded = c.objects_are_reused_well.ensures.recorded _ all.history.legal; sound = c.objects_are_reused_well.ensures.sound _ all.history.legal; scrubs = c.objects_are_scrubbed_well.ensures.scrubs _ all.history.legal; held = c.objects_are_scrubbed_well.ensures.held _ all.history.legal; printed = all.printed; stopped = all.stopped; cause = all.cause; accounted = all.accounted; files = all.files; damaged = finds_damage _ _ _ _ _ all.cause; untouched = record { unless_asked = inr (subst (λ (story : List StoryStep). IsUntouched (record { before = disk; after = disk }) story) (sym c.empty.ensures) (untouched disk)) }; taken = c.session_given.ensures.taken }
+    let all = subst (λ story. Promised c.write_unstarted.result story intake outside faults
+    (record { before = disk; after = disk })) (sym c.empty.ensures)
+    (promised_unstarted c.in-Err.unstarted c.write_unstarted.result intake outside faults disk refl
+    (c.a_disk_is_counted.ensures c.args.disk) c.requires c.in-Err.ensures.why c.write_unstarted.ensures) in
+    record {
+      session = all.session;
+      history = all.history;
+      commanded = c.builds_are_as_from_nothing.ensures.commanded _
+          all.history.legal;
+      built = c.builds_are_as_from_nothing.ensures.built _ all.history.legal;
+      outcomes =
+          c.builds_are_as_from_nothing.ensures.outcomes _ all.history.legal;
+      reused =
+          c.objects_are_reused_well.ensures.reused _ all.history.legal;
+      sought =
+          c.objects_are_reused_well.ensures.sought _ all.history.legal;
+      recorded =
+          c.objects_are_reused_well.ensures.recorded _ all.history.legal;
+      sound =
+          c.objects_are_reused_well.ensures.sound _ all.history.legal;
+      scrubs =
+          c.objects_are_scrubbed_well.ensures.scrubs _ all.history.legal;
+      held =
+          c.objects_are_scrubbed_well.ensures.held _ all.history.legal;
+      printed = all.printed;
+      stopped = all.stopped;
+      cause =
+          all.cause;
+      accounted = all.accounted;
+      files = all.files;
+      damaged = finds_damage _ _ _ _ _ all.cause;
+      untouched =
+          record {
+            unless_asked = inr (subst (λ (story : List StoryStep). IsUntouched (record { before = disk; after = disk })
+                story) (sym c.empty.ensures) (untouched disk));
+          };
+      taken = c.session_given.ensures.taken;
+    }

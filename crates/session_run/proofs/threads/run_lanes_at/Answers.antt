@@ -6,4 +6,5 @@ use Rattle.session_run.proofs.threads.run_lanes_at.Goals as goal
 
 pub returns-clause-finished : goal.returns-clause-finished
 returns-clause-finished g c =
-    subst (λ (shown : Shown). OnOk c.run_phase-service.result.1 (AreLanesDone shown.story 1 c.args.lanes _)) (sym c.service.view_is) c.run_phase-service.ensures.finished
+    subst (λ (shown : Shown). OnOk c.run_phase-service.result.1 (AreLanesDone shown.story 1 c.args.lanes _))
+    (sym c.service.view_is) c.run_phase-service.ensures.finished

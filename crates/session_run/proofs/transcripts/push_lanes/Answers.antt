@@ -1,6 +1,6 @@
 use Rattle.std.proofs.Common.{◌≡◌, ◌∙◌, ◌++◌, List, length, sym, ap, arith}
 use Rattle.std.specs.Prelude.{map}
-use Rattle.cc_names.specs.CommandWords.{lane_words, words_of}
+use Rattle.cc_names.specs.CommandWords.{lane_words, words_of_command}
 use Rattle.cc_names.specs.declared.commands.LaneWords.{LaneWords}
 use Rattle.cc_names.specs.declared.commands.PhaseWords.{PhaseWords}
 use Rattle.legal_history.specs.Stories.Steps.{state_of}
@@ -13,9 +13,11 @@ loop-behind-init g c =
     let phase = (state_of c.args.core.now.story).phase in
     let replies = replies_of c.args.core.now.story in
     let words : List LaneWords = map lane_words phase.lanes in
-    let rest : c.as_slice-rest.result.now ≡ words = c.as_slice-rest.ensures ∙ ap (λ (v : PhaseWords). v.lanes) (c.in_ok-phase.ensures ∙ ap words_of c.phase.ensures) in
+    let rest : c.as_slice-rest.result.now ≡ words = c.as_slice-rest.ensures
+    ∙ ap (λ (v : PhaseWords). v.lanes) (c.in_ok-phase.ensures ∙ ap words_of_command c.phase.ensures) in
     record {
-      lines = ap (λ v. c.args.text.now.items ++ v) (modeled_by_words phase 1 phase.lanes replies ∙ ap (λ v. lanes_modeled (words_of phase) 1 v replies) (sym rest));
+      lines = ap (λ v. c.args.text.now.items ++ v) (modeled_by_words phase 1 phase.lanes replies
+          ∙ ap (λ v. lanes_modeled (words_of_command phase) 1 v replies) (sym rest));
       from = omega arith;
       within = omega (arith, ap (λ (v : List LaneWords). length v) rest, as_many phase.lanes);
     }

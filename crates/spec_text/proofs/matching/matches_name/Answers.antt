@@ -10,5 +10,7 @@ search-preserved-then-card-eq42 c =
 
 pub search-preserved-then-fits_byte : goal.search-preserved-then-fits_byte
 search-preserved-then-fits_byte c =
-    stands _ _ _ _ _ c.search.cards.now c.in-Some.card.now c.in-Some.behind.now c.search.left.now c.in-Some-split_first.byte.now c.in-Some-split_first.rest.now (held_by c.search.again)
-    c.in-Some.ensures.cases.0 c.in-Some-split_first.ensures.cases.0 (ne_eqb _ _ c.if-card-eq42.false) (sym c.fits_byte.ensures ∙ c.if-fits_byte.true) c.search.invariant
+    stands _ _ _ _ _ c.search.cards.now c.in-Some.card.now c.in-Some.behind.now c.search.left.now c.in-Some-split_first.byte.now
+    c.in-Some-split_first.rest.now (held_by c.search.again)
+    c.in-Some.ensures.cases.0 c.in-Some-split_first.ensures.cases.0 (ne_eqb _ _ c.if-card-eq42.false) (sym c.fits_byte.ensures
+    ∙ c.if-fits_byte.true) c.search.invariant

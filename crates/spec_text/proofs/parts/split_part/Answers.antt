@@ -5,7 +5,8 @@ use Rattle.spec_text.proofs.parts.split_part.Goals as goal
 pub returns-in-Some-end_of_part : goal.returns-in-Some-end_of_part
 returns-in-Some-end_of_part c =
     let found = sym c.end_of_part.ensures.place ∙ c.in-Some-end_of_part.is in
-    rw (c.in-Some.is, c.behind.ensures) (slice_split-at (λ (b : ℕ). b == c.args.at) 0 c.in-Some.bytes.now c.in-Some-end_of_part.end found)
+    rw (c.in-Some.is, c.behind.ensures) (slice_split-at (λ (b : ℕ). b == c.args.at) 0 c.in-Some.bytes.now
+    c.in-Some-end_of_part.end found)
 
 pub returns-in-None : goal.returns-in-None
 returns-in-None c =

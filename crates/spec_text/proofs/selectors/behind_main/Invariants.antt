@@ -7,7 +7,8 @@ use Rattle.spec_text.proofs.selectors.behind_main.Given as goal
 -- the names so far are those that stand before what is left
 abbrev pub invariant-parts : goal.invariant-parts
 invariant-parts l =
-    behind_main (parts_left 47 (option_copied l.initial.left)) [] ≡ behind_main (parts_left 47 (option_copied l.left)) l.names.items
+    behind_main (parts_left 47 (option_copied l.initial.left)) [] ≡ behind_main (parts_left 47 (option_copied l.left))
+    l.names.items
 
 abbrev pub decreases-parts : goal.decreases-parts
 decreases-parts l = length (parts_left 47 (option_copied l.left))

@@ -13,10 +13,12 @@ loop-bytes-init c = (
 pub returns-in-Err : goal.returns-in-Err
 returns-in-Err c =
     rw (c.at_line.ensures, c.loop-bytes.invariant.0, c.in-Some.ensures)
-    (ends_at_fault c.in-Err.fault c.in-Some.bytes.now c.next.new.self (c.loop-bytes.number + 1) c.loop-bytes.reader c.in-Err.ensures)
+    (ends_at_fault c.in-Err.fault c.in-Some.bytes.now c.next.new.self (c.loop-bytes.number + 1) c.loop-bytes.reader
+    c.in-Err.ensures)
 
 pub loop-bytes-preserved : goal.loop-bytes-preserved
 loop-bytes-preserved c = (
-  c.loop-bytes.invariant.0 ∙ rw c.in-Some.ensures (goes_on c.in-Some.bytes.now c.next.new.self (c.loop-bytes.number + 1) c.loop-bytes.reader c.in-Ok.reader c.in-Ok.ensures),
+  c.loop-bytes.invariant.0 ∙ rw c.in-Some.ensures (goes_on c.in-Some.bytes.now c.next.new.self (c.loop-bytes.number + 1)
+      c.loop-bytes.reader c.in-Ok.reader c.in-Ok.ensures),
   let lines = ap length c.in-Some.ensures in omega (arith, lines, c.loop-bytes.invariant.1),
 )

@@ -1,5 +1,6 @@
 -- one more row was read
-use Rattle.std.proofs.Common.{◌≡◌, ◌<◌, ◌&&◌, ◌∷◌, Bool, true, false, Some, Result, Ok, Err, length, nat_lt, refl, ap, sym, subst, ◌∙◌, arith}
+use Rattle.std.proofs.Common.{◌≡◌, ◌<◌, ◌&&◌, ◌∷◌, Bool, true, false, Some, Result, Ok, Err, length, nat_lt, refl, ap, sym}
+use Rattle.std.proofs.Common.{subst, ◌∙◌, arith}
 use Rattle.std.proofs.lemmas.Bool.{ltb-true}
 use Rattle.std.specs.Prelude.{is_err, OnOk}
 use Rattle.cc_names.specs.declared.rows.Deed.{Deed}
@@ -25,7 +26,9 @@ below_limit b deed fit = by (nat_lt (size b) row_limit) refl fit
 pub frames-smaller : goal.frames-smaller
 frames-smaller g c =
     let ghost_state = g.D.Disk.ghost_state in
-    let found : ReadsOn ghost_state c.all.result (Some c.in-Ok-Some.row) c.read_row.new.journal = subst (λ f. ReadsOn ghost_state c.all.result f c.read_row.new.journal) c.in-Ok-Some.field-0-is c.in-Ok-Some.ensures.ok in
+    let found : ReadsOn ghost_state c.all.result (Some c.in-Ok-Some.row) c.read_next_row.new.journal =
+    subst (λ f. ReadsOn ghost_state c.all.result f c.read_next_row.new.journal) c.in-Ok-Some.field-0-is
+    c.in-Ok-Some.ensures.ok in
     let count = ap length (of_ok c.add_row.result (sym c.is_err.ensures.value ∙ c.if-is_err.false) c.add_row.ensures) in
     let all = ap length c.all.ensures in
     let below = below_limit c.all.result c.in-Ok-Some.row.deed (row_fits c.all.result c.in-Ok-Some.row found.good) in
@@ -34,29 +37,40 @@ frames-smaller g c =
 pub frames-preserved : goal.frames-preserved
 frames-preserved g c =
     let ghost_state = g.D.Disk.ghost_state in
-    let found : ReadsOn ghost_state c.all.result (Some c.in-Ok-Some.row) c.read_row.new.journal = subst (λ f. ReadsOn ghost_state c.all.result f c.read_row.new.journal) c.in-Ok-Some.field-0-is c.in-Ok-Some.ensures.ok in
-    let grown : c.add_row.new.rows.base ≡ c.in-Ok-Some.row ∷ c.all.result = of_ok c.add_row.result (sym c.is_err.ensures.value ∙ c.if-is_err.false) c.add_row.ensures ∙ ap (λ (before : Base). c.in-Ok-Some.row ∷ before) (sym c.all.ensures) in
+    let found : ReadsOn ghost_state c.all.result (Some c.in-Ok-Some.row) c.read_next_row.new.journal =
+    subst (λ f. ReadsOn ghost_state c.all.result f c.read_next_row.new.journal) c.in-Ok-Some.field-0-is
+    c.in-Ok-Some.ensures.ok in
+    let grown : c.add_row.new.rows.base ≡ c.in-Ok-Some.row ∷ c.all.result =
+    of_ok c.add_row.result (sym c.is_err.ensures.value ∙ c.if-is_err.false) c.add_row.ensures
+    ∙ ap (λ (before : Base). c.in-Ok-Some.row ∷ before) (sym c.all.ensures) in
     record {
-      reads = reads_then ghost_state c.args.journal.now c.frames.journal c.read_row.new.journal c.frames.invariant.reads c.in-Ok-Some.ensures.reads;
-      so_far = subst (λ (b : Base). IsReadSoFar ghost_state b c.read_row.new.journal) (sym grown) found;
+      reads = reads_then ghost_state c.args.journal.now c.frames.journal c.read_next_row.new.journal c.frames.invariant.reads
+          c.in-Ok-Some.ensures.reads;
+      so_far = subst (λ (b : Base). IsReadSoFar ghost_state b c.read_next_row.new.journal) (sym grown) found;
       sound = c.in-Ok-Some.ensures.sound ∙ c.frames.invariant.sound;
     }
 
 pub returns-then-is_err-clause-reads : goal.returns-then-is_err-clause-reads
-returns-then-is_err-clause-reads g c = reads_then g.D.Disk.ghost_state c.args.journal.now c.frames.journal c.read_row.new.journal c.frames.invariant.reads c.in-Ok-Some.ensures.reads
+returns-then-is_err-clause-reads g c = reads_then g.D.Disk.ghost_state c.args.journal.now c.frames.journal
+    c.read_next_row.new.journal c.frames.invariant.reads c.in-Ok-Some.ensures.reads
 
 pub add_row-requires : goal.add_row-requires
 add_row-requires g c =
     let ghost_state = g.D.Disk.ghost_state in
-    let found : ReadsOn ghost_state c.all.result (Some c.in-Ok-Some.row) c.read_row.new.journal = subst (λ f. ReadsOn ghost_state c.all.result f c.read_row.new.journal) c.in-Ok-Some.field-0-is c.in-Ok-Some.ensures.ok in
+    let found : ReadsOn ghost_state c.all.result (Some c.in-Ok-Some.row) c.read_next_row.new.journal =
+    subst (λ f. ReadsOn ghost_state c.all.result f c.read_next_row.new.journal) c.in-Ok-Some.field-0-is
+    c.in-Ok-Some.ensures.ok in
     subst (λ b. fits b c.in-Ok-Some.row.deed ≡ _) c.all.ensures (row_fits c.all.result c.in-Ok-Some.row found.good)
 
 pub returns-in-Ok-None-clause-reads : goal.returns-in-Ok-None-clause-reads
-returns-in-Ok-None-clause-reads g c = reads_then g.D.Disk.ghost_state c.args.journal.now c.frames.journal c.read_row.new.journal c.frames.invariant.reads c.in-Ok-None.ensures.reads
+returns-in-Ok-None-clause-reads g c = reads_then g.D.Disk.ghost_state c.args.journal.now c.frames.journal
+    c.read_next_row.new.journal c.frames.invariant.reads c.in-Ok-None.ensures.reads
 
 pub returns-in-Err-clause-reads : goal.returns-in-Err-clause-reads
-returns-in-Err-clause-reads g c = reads_then g.D.Disk.ghost_state c.args.journal.now c.frames.journal c.read_row.new.journal c.frames.invariant.reads c.in-Err.ensures.reads
+returns-in-Err-clause-reads g c = reads_then g.D.Disk.ghost_state c.args.journal.now c.frames.journal c.read_next_row.new.journal
+    c.frames.invariant.reads c.in-Err.ensures.reads
 
 pub returns-in-Err-clause-err : goal.returns-in-Err-clause-err
 returns-in-Err-clause-err g c =
-    stops_behind g.D.Disk.ghost_state c.in-Err.cause c.args.journal.now c.frames.journal _ c.frames.invariant.reads c.frames.invariant.sound c.in-Err.ensures.err
+    stops_behind g.D.Disk.ghost_state c.in-Err.cause c.args.journal.now c.frames.journal _ c.frames.invariant.reads
+    c.frames.invariant.sound c.in-Err.ensures.err

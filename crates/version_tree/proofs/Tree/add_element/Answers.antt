@@ -16,8 +16,14 @@ invariant_of-self c =
     let branches = c.self.inside.branches.items in
     let m : Made = record { change = ElementMade c.args.row c.args.moment c.args.kind } in
     let b : Branch = record { row = c.args.row; moment = c.args.moment; later = c.new-later.result } in
-    let above : IsAbove c.args.row (map row_of_made (reverse made)) = rw (rows_of_made (reverse made)) at (rw (← c.self.view_is) at c.requires.above) in
-    rw (c.push_reserved.ensures.items, c.push_reserved-2.ensures.items, reverse-append made (m ∷ []), reverse-append branches (b ∷ []))
+    let above : IsAbove c.args.row (map row_of_made (reverse made)) = rw (rows_of_made (reverse made)) at
+    (rw (← c.self.view_is) at c.requires.above) in
+    rw (
+      c.push_reserved.ensures.items,
+      c.push_reserved-2.ensures.items,
+      reverse-append made (m ∷ []),
+      reverse-append branches (b ∷ []),
+    )
     (branch_added m b (reverse made) (reverse branches) c.self.invariant refl refl refl c.new-later.ensures.items above)
 
 -- branches that have room keep it

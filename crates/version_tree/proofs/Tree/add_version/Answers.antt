@@ -1,4 +1,5 @@
-use Rattle.std.proofs.Common.{◌≡◌, ◌<◌, eqb, ltb, [], ◌∷◌, length, get_or, map, reverse, slice_get, true, None, vec_len, vec_capacity, refl, sym, ap, ◌∙◌, arith, rules}
+use Rattle.std.proofs.Common.{◌≡◌, ◌<◌, eqb, ltb, [], ◌∷◌, length, get_or, map, reverse, slice_get, true, None, vec_len}
+use Rattle.std.proofs.Common.{vec_capacity, refl, sym, ap, ◌∙◌, arith, rules}
 use Rattle.std.specs.Prelude.{find}
 use Rattle.std.specs.List.{list_any}
 use Rattle.std.proofs.lemmas.List.{reverse-append, get_or_default}
@@ -22,7 +23,8 @@ push_reserved-requires-in-Some c =
     let within : place < length items = search rules in
     let there : get_or items place on ≡ on = search rules in
     let room : ltb (vec_len (get_or items place on).later) (vec_capacity (get_or items place on).later) ≡ true =
-    has_room items c.args.branch place c.self.invariant.branches_fall within found on (rw (← c.self.view_is) at c.requires.ready) in
+    has_room items c.args.branch place c.self.invariant.branches_fall within found on (rw (← c.self.view_is) at c.requires.ready)
+    in
     let here : ltb (vec_len on.later) (vec_capacity on.later) ≡ true = rw there at room in
     grind (arith, nat_tests)
 
@@ -39,10 +41,13 @@ invariant_of-self c =
     let within : place < length items = search rules in
     let there : get_or items place on ≡ on = search rules in
     let at : (d : Branch) → get_or items place d ≡ on = λ d. get_or_default items place d on within ∙ there in
-    let above : IsAbove c.args.row (map row_of_made (reverse made)) = rw (rows_of_made (reverse made)) at (rw (← c.self.view_is) at c.requires.above) in
-    let same_row : on.row ≡ c.args.branch = rw (at on) at (row_there items c.args.branch place c.self.invariant.branches_fall within found on) in
+    let above : IsAbove c.args.row (map row_of_made (reverse made)) = rw (rows_of_made (reverse made)) at
+    (rw (← c.self.view_is) at c.requires.above) in
+    let same_row : on.row ≡ c.args.branch = rw (at on) at (row_there items c.args.branch place c.self.invariant.branches_fall
+    within found on) in
     rw (c.push_reserved.ensures.items, reverse-append made (m ∷ []))
-    (version_added m (reverse made) items place b c.args.row c.args.moment c.args.branch c.self.invariant refl above within found same_row
+    (version_added m (reverse made) items place b c.args.row c.args.moment c.args.branch c.self.invariant refl above within found
+    same_row
     (λ d. ap (λ (x : Branch). x.moment) (sym (at d)))
     (λ d. rw (at d) c.push_reserved-in-Some.ensures.items))
 

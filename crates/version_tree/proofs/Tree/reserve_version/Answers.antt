@@ -1,4 +1,5 @@
-use Rattle.std.proofs.Common.{◌≡◌, ◌<◌, eqb, ltb, length, get_or, reverse, slice_get, true, None, vec_len, vec_capacity, sym, ap, ◌∙◌, arith, rules}
+use Rattle.std.proofs.Common.{◌≡◌, ◌<◌, eqb, ltb, length, get_or, reverse, slice_get, true, None, vec_len, vec_capacity, sym, ap}
+use Rattle.std.proofs.Common.{◌∙◌, arith, rules}
 use mathlib.Core.Bool.{false≢true}
 use Rattle.std.specs.Prelude.{find}
 use Rattle.std.proofs.lemmas.List.{get_or_default}
@@ -21,7 +22,8 @@ invariant_of-self c =
     let within : place < length items = search rules in
     let there : get_or items place on ≡ on = search rules in
     let at : (d : Branch) → get_or items place d ≡ on = λ d. get_or_default items place d on within ∙ there in
-    let same_row : on.row ≡ c.args.branch = rw (at on) at (row_there items c.args.branch place c.self.invariant.branches_fall within found on) in
+    let same_row : on.row ≡ c.args.branch = rw (at on) at (row_there items c.args.branch place c.self.invariant.branches_fall
+    within found on) in
     room_made (reverse c.self.inside.made.items) items place b c.args.branch c.self.invariant within found same_row
     (λ d. ap (λ (x : Branch). x.moment) (sym (at d))) (λ d. rw (at d) c.reserve.ensures.items)
 
@@ -35,7 +37,8 @@ invariant_of-self-in_err-reserve c =
     let within : place < length items = search rules in
     let there : get_or items place on ≡ on = search rules in
     let at : (d : Branch) → get_or items place d ≡ on = λ d. get_or_default items place d on within ∙ there in
-    let same_row : on.row ≡ c.args.branch = rw (at on) at (row_there items c.args.branch place c.self.invariant.branches_fall within found on) in
+    let same_row : on.row ≡ c.args.branch = rw (at on) at (row_there items c.args.branch place c.self.invariant.branches_fall
+    within found on) in
     room_made (reverse c.self.inside.made.items) items place b c.args.branch c.self.invariant within found same_row
     (λ d. ap (λ (x : Branch). x.moment) (sym (at d))) (λ d. rw (at d) c.reserve.ensures.items)
 
@@ -79,8 +82,10 @@ returns-in_ok-reserve-clause-ready c =
     let within : place < length items = search rules in
     let there : get_or items place on ≡ on = search rules in
     let at : (d : Branch) → get_or items place d ≡ on = λ d. get_or_default items place d on within ∙ there in
-    let same_row : on.row ≡ c.args.branch = rw (at on) at (row_there items c.args.branch place c.self.invariant.branches_fall within found on) in
-    let room : ltb (vec_len c.reserve.new.self) (vec_capacity c.reserve.new.self) ≡ true = grind (arith, nat_tests, common_steps, c.reserve.ensures.ok, c.in_ok-reserve.was) in
+    let same_row : on.row ≡ c.args.branch = rw (at on) at (row_there items c.args.branch place c.self.invariant.branches_fall
+    within found on) in
+    let room : ltb (vec_len c.reserve.new.self) (vec_capacity c.reserve.new.self) ≡ true =
+    grind (arith, nat_tests, common_steps, c.reserve.ensures.ok, c.in_ok-reserve.was) in
     λ there_is. set_ready items place b c.args.branch within same_row room
 
 -- there is no such branch
@@ -88,5 +93,6 @@ pub returns-in_default-clause-ready : goal.returns-in_default-clause-ready
 returns-in_default-clause-ready c =
     let items = c.self.inside.branches.items in
     let missed : find (λ b. eqb b.row c.args.branch) items ≡ None = search rules in
-    let nowhere : latest c.args.self.now.changes c.args.branch None ≡ None = rw (← c.self.view_is) (latest_nowhere (reverse c.self.inside.made.items) items c.args.branch c.self.invariant missed) in
+    let nowhere : latest c.args.self.now.changes c.args.branch None ≡ None =
+    rw (← c.self.view_is) (latest_nowhere (reverse c.self.inside.made.items) items c.args.branch c.self.invariant missed) in
     λ there_is. absurd (false≢true (rw nowhere at there_is))

@@ -15,7 +15,8 @@ entry_by-requires c =
     let d = c.args.directory in
     let name = c.args.name.now in
     last_by_newest (entry_effect v d name) b
-    ∙ ap left_by (newest_of_two (entry_effect v d name) (begun_effect v d) (changed_effect v d name) (λ older deed. refl) b ∙ sym (ap₂ later c.newest-begun.ensures c.newest-changed.ensures) ∙ sym c.later.ensures)
+    ∙ ap left_by (newest_of_two (entry_effect v d name) (begun_effect v d) (changed_effect v d name) (λ older deed. refl) b
+    ∙ sym (ap₂ later c.newest-begun.ensures c.newest-changed.ensures) ∙ sym c.later.ensures)
     ∙ sym c.left_by.ensures
     ∙ c.in-Some.is
 
@@ -28,6 +29,7 @@ returns-in-None c =
     entry_by_row v d name b
     ∙ ap (entry_by b v d name)
     (last_by_newest (entry_effect v d name) b
-    ∙ ap left_by (newest_of_two (entry_effect v d name) (begun_effect v d) (changed_effect v d name) (λ older deed. refl) b ∙ sym (ap₂ later c.newest-begun.ensures c.newest-changed.ensures) ∙ sym c.later.ensures)
+    ∙ ap left_by (newest_of_two (entry_effect v d name) (begun_effect v d) (changed_effect v d name) (λ older deed. refl) b
+    ∙ sym (ap₂ later c.newest-begun.ensures c.newest-changed.ensures) ∙ sym c.later.ensures)
     ∙ sym c.left_by.ensures
     ∙ c.in-None.is)

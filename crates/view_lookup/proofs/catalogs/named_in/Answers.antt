@@ -12,13 +12,15 @@ at_most_itself n = omega arith
 pub loop-found-init : goal.loop-found-init
 loop-found-init c =
     ap (λ (b : Base). element_named c.args.name.now (catalog_in b c.args.catalog))
-    (c.first_rows-rows.ensures ∙ ap (λ n. first_rows n c.args.rows.now) c.size.ensures.size ∙ all_rows c.args.rows.now (size c.args.rows.now) (at_most_itself (size c.args.rows.now)))
+    (c.first_rows-rows.ensures ∙ ap (λ n. first_rows n c.args.rows.now) c.size.ensures.size
+    ∙ all_rows c.args.rows.now (size c.args.rows.now) (at_most_itself (size c.args.rows.now)))
 
 pub returns-in-Is : goal.returns-in-Is
 returns-in-Is c = sym c.in-Is.ensures ∙ c.loop-found.invariant
 
 pub loop-found-smaller : goal.loop-found-smaller
-loop-found-smaller c = subst (λ (b : Base). length b < length c.loop-found.rows) (sym c.first_rows-rows-in-As.ensures) c.in-As.ensures.0
+loop-found-smaller c = subst (λ (b : Base). length b < length c.loop-found.rows) (sym c.first_rows-rows-in-As.ensures)
+    c.in-As.ensures.0
 
 pub loop-found-preserved : goal.loop-found-preserved
 loop-found-preserved c =

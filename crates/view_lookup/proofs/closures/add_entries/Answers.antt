@@ -1,4 +1,4 @@
--- One entry after the other is taken in.
+-- One entry after the other is added.
 use Rattle.std.proofs.Common.{◌+◌, drop}
 use Rattle.std.specs.Option.{option_copied}
 use Rattle.view_lookup.specs.LeastInputs.{above, least_of_all, least_of_entries, lesser}
@@ -14,8 +14,11 @@ loop-entry-preserved g c =
     let entry = c.entry-item.result in
     let old = lesser (option_copied c.loop-entry.found) (least_of_all b passes c.loop-entry.left.keys) in
     let new = lesser (option_copied c.in_ok-found.found) (least_of_all b passes c.add_entry.new.left.keys) in
-    let all = lesser (least_of_entries b passes entries) (lesser (option_copied c.args.least) (least_of_all b passes c.args.left.now.keys)) in
+    let all = lesser (least_of_entries b passes entries) (lesser (option_copied c.args.least)
+    (least_of_all b passes c.args.left.now.keys)) in
     record {
-      least = entry_taken b passes entry (drop (i + 1) entries) old new all c.in_ok-found.ensures.least (entries_left b passes entries i entry old all c.loop-entry-test.true c.entry-item.is c.loop-entry.invariant.least);
-      above = entries_above entries i entry (above c.loop-entry.left.keys) (above c.add_entry.new.left.keys) _ c.loop-entry-test.true c.entry-item.is c.in_ok-found.ensures.above c.loop-entry.invariant.above;
+      least = entry_taken b passes entry (drop (i + 1) entries) old new all c.in_ok-found.ensures.least
+          (entries_left b passes entries i entry old all c.loop-entry-test.true c.entry-item.is c.loop-entry.invariant.least);
+      above = entries_above entries i entry (above c.loop-entry.left.keys) (above c.add_entry.new.left.keys) _
+          c.loop-entry-test.true c.entry-item.is c.in_ok-found.ensures.above c.loop-entry.invariant.above;
     }

@@ -8,7 +8,10 @@ abbrev pub invariant-loop-entry : goal.invariant-loop-entry
 invariant-loop-entry g l =
     let passes = g.T.InputTest.passes l.test in
     record {
-      least : lesser (least_of_entries l.rows passes (drop l.entry-index l.entries)) (lesser (option_copied l.found) (least_of_all l.rows passes l.left.keys))
-          ≡ lesser (least_of_entries l.rows passes l.entries) (lesser (option_copied l.least) (least_of_all l.rows passes l.initial.left.keys));
-      above : max (above_entries (drop l.entry-index l.entries)) (above l.left.keys) ≤ max (above_entries l.entries) (above l.initial.left.keys);
+      least : lesser (least_of_entries l.rows passes (drop l.entry-index l.entries))
+          (lesser (option_copied l.found) (least_of_all l.rows passes l.left.keys))
+          ≡ lesser (least_of_entries l.rows passes l.entries) (lesser (option_copied l.least)
+          (least_of_all l.rows passes l.initial.left.keys));
+      above : max (above_entries (drop l.entry-index l.entries)) (above l.left.keys)
+          ≤ max (above_entries l.entries) (above l.initial.left.keys);
     }

@@ -7,7 +7,8 @@ use Rattle.view_lookup.proofs.closures.add_entry.Goals as goal
 
 pub returns-then-is_publish-clause-least : goal.returns-then-is_publish-clause-least
 returns-then-is_publish-clause-least g c =
-    entry_object c.args.rows.now (g.T.InputTest.passes c.args.test.now) (option_copied c.args.least) c.args.entry.now c.args.left.now.keys c.insert.new.self.keys (sym c.is_publish.ensures ∙ c.if-is_publish.true) c.in_ok-insert.ensures.keys
+    entry_object c.args.rows.now (g.T.InputTest.passes c.args.test.now) (option_copied c.args.least) c.args.entry.now
+    c.args.left.now.keys c.insert.new.self.keys (sym c.is_publish.ensures ∙ c.if-is_publish.true) c.in_ok-insert.ensures.keys
 
 pub returns-then-is_publish-clause-above : goal.returns-then-is_publish-clause-above
 returns-then-is_publish-clause-above g c =
@@ -20,5 +21,6 @@ returns-clause-least g c =
     let b = c.args.rows.now in
     let passes = g.T.InputTest.passes c.args.test.now in
     let entry = c.args.entry.now in
-    entry_passed b passes entry (option_copied c.args.least) (option_copied c.lesser.result) (least_of_all b passes c.args.left.now.keys) (sym c.is_publish.ensures ∙ c.if-is_publish.false)
+    entry_passed b passes entry (option_copied c.args.least) (option_copied c.lesser.result)
+    (least_of_all b passes c.args.left.now.keys) (sym c.is_publish.ensures ∙ c.if-is_publish.false)
     (sym c.passes.ensures ∙ c.if-not-passes.false) c.lesser.ensures

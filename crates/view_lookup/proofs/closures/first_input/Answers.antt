@@ -13,13 +13,15 @@ pub loop-least-init : goal.loop-least-init
 loop-least-init g c =
     let b = c.args.rows.now in
     let passes = g.T.InputTest.passes c.args.test.now in
-    ap (least_of_all b passes) (c.in_ok-insert.ensures.keys ∙ ap (λ (ids : List ℕ). insert_key nat_cmp ids c.args.object) c.new-left.ensures.empty)
+    ap (least_of_all b passes) (c.in_ok-insert.ensures.keys ∙ ap (λ (ids : List ℕ). insert_key nat_cmp ids c.args.object)
+    c.new-left.ensures.empty)
     ∙ lesser_none (least_of b passes c.args.object)
     ∙ sym (first_least b passes c.args.object c.size.ensures.base)
 
 pub loop-least-smaller : goal.loop-least-smaller
 loop-least-smaller g c =
-    walk_falls c.args.rows.now c.in-Some.next c.loop-least.left.keys c.pop_last.new.self.keys c.add_entries.new.left.keys c.record_of-record.result.now c.size.ensures.base c.in-Some.ensures.removal c.in-Some.ensures.all_below
+    walk_falls c.args.rows.now c.in-Some.next c.loop-least.left.keys c.pop_last.new.self.keys c.add_entries.new.left.keys
+    c.record_of-record.result.now c.size.ensures.base c.in-Some.ensures.removal c.in-Some.ensures.all_below
     c.record_of-record.ensures c.in_ok-least-in-Some.ensures.above
 
 pub loop-least-preserved : goal.loop-least-preserved
@@ -28,5 +30,7 @@ loop-least-preserved g c =
     let passes = g.T.InputTest.passes c.args.test.now in
     let least = option_copied c.loop-least.least in
     let found = option_copied c.in_ok-least-in-Some.least in
-    object_taken b passes c.in-Some.next c.loop-least.left.keys c.pop_last.new.self.keys c.add_entries.new.left.keys c.record_of-record.result.now least found (first_input b passes c.args.object) c.size.ensures.base c.in-Some.ensures.removal
+    object_taken b passes c.in-Some.next c.loop-least.left.keys c.pop_last.new.self.keys c.add_entries.new.left.keys
+    c.record_of-record.result.now least found (first_input b passes c.args.object) c.size.ensures.base
+    c.in-Some.ensures.removal
     c.record_of-record.ensures c.in_ok-least-in-Some.ensures.least c.loop-least.invariant

@@ -6,4 +6,5 @@ use Rattle.view_lookup.proofs.leaving.branches_leaving.Goals as goal
 
 pub returns : goal.returns
 returns c =
-    subst (λ (branches : List ℕ). IfOk c.updating_rows.result (λ numbers. numbers.items ≡ branches)) (leaving_rows c.args.version c.args.rows.now) c.updating_rows.ensures
+    subst (λ (branches : List ℕ). IfOk c.updating_rows.result (λ numbers. numbers.items ≡ branches))
+    (leaving_rows c.args.version c.args.rows.now) c.updating_rows.ensures

@@ -11,7 +11,8 @@ returns-then-is_held_by_maker c =
     let b = c.args.rows.now in
     let id = c.args.object in
     c.if-is_held_by_maker.true
-    ∙ sym (ap (λ made. made || is_some (last_of (winked_effect b id) b)) (sym c.is_held_by_maker.ensures ∙ c.if-is_held_by_maker.true))
+    ∙ sym (ap (λ made. made || is_some (last_of (winked_effect b id) b)) (sym c.is_held_by_maker.ensures
+    ∙ c.if-is_held_by_maker.true))
     ∙ held_somewhere b id
 
 pub returns-else-is_held_by_maker : goal.returns-else-is_held_by_maker
@@ -20,5 +21,6 @@ returns-else-is_held_by_maker c =
     let id = c.args.object in
     c.is_some.ensures
     ∙ ap is_some c.last.ensures
-    ∙ sym (ap (λ made. made || is_some (last_of (winked_effect b id) b)) (sym c.is_held_by_maker.ensures ∙ c.if-is_held_by_maker.false))
+    ∙ sym (ap (λ made. made || is_some (last_of (winked_effect b id) b)) (sym c.is_held_by_maker.ensures
+    ∙ c.if-is_held_by_maker.false))
     ∙ held_somewhere b id

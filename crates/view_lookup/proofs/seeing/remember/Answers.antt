@@ -11,5 +11,7 @@ see_ahead-seen-requires c =
     let base : Base = c.args.base.now.base in
     let v = c.args.view.now in
     let kept = c.take_seen-kept.result in
-    let first : c.first_rows.result ≡ first_rows c.args.count base = c.first_rows.ensures ∙ ap (λ (b : Base). first_rows c.args.count b) c.all-2.ensures in
-    subst (λ (rows : Base). IfSome kept (IsSeenIn rows v)) (sym first) (seen_in_each base c.args.count v kept c.take_seen-kept.ensures.kept)
+    let first : c.first_rows.result ≡ first_rows c.args.count base = c.first_rows.ensures
+    ∙ ap (λ (b : Base). first_rows c.args.count b) c.all-2.ensures in
+    subst (λ (rows : Base). IfSome kept (IsSeenIn rows v)) (sym first)
+    (seen_in_each base c.args.count v kept c.take_seen-kept.ensures.kept)

@@ -1,5 +1,6 @@
 -- From the root on, what stands at the path of the first names is what stands below that of the names before.
-use Rattle.std.proofs.Common.{◌≡◌, ℕ, ◌+◌, ◌-◌, ◌≤◌, false, List, [], ◌∷◌, ◌++◌, length, take, drop, reverse, sym, ap, subst, ◌∙◌, arith, add-one}
+use Rattle.std.proofs.Common.{◌≡◌, ℕ, ◌+◌, ◌-◌, ◌≤◌, false, List, [], ◌∷◌, ◌++◌, length, take, drop, reverse, sym, ap, subst}
+use Rattle.std.proofs.Common.{◌∙◌, arith, add-one}
 use Rattle.std.specs.List.{position}
 use Rattle.std.proofs.lemmas.List.{length-drop, reverse-append, reverse-reverse, take_rest}
 use Rattle.cc_names.proofs.PathParts.{names_of-below}
@@ -8,29 +9,37 @@ use Rattle.cc_names.specs.Paths.{is_root, is_slash, names_of, IsPath}
 use Rattle.cc_names.specs.declared.selection.Seen.{Seen}
 use Rattle.base_model.specs.Rows.{Base}
 use Rattle.base_model.specs.Seen.{at, at_names, below, entries_of}
-use Rattle.view_lookup.proofs.PathPrefixes.{BeginsName, FirstSlash, IsUncut, begins_behind, first_slash, names_before, names_of_prefix, split_prefix, split_whole}
+use Rattle.view_lookup.proofs.PathPrefixes.{BeginsName, FirstSlash, IsUncut, begins_behind, first_slash, names_before}
+use Rattle.view_lookup.proofs.PathPrefixes.{names_of_prefix, split_prefix, split_whole}
 use Rattle.view_lookup.proofs.seen.at.Goals as goal
 
-at_more : (b : Base) (v : List ℕ) (above : List (List ℕ)) (name : List ℕ) → at_names b v (reverse (above ++ (name ∷ []))) ≡ below b v (above ++ (name ∷ [])) name (entries_of b v (at_names b v (reverse above)))
+at_more : (b : Base) (v : List ℕ) (above : List (List ℕ)) (name : List ℕ)
+    → at_names b v (reverse (above ++ (name ∷ []))) ≡ below b v (above ++ (name ∷ [])) name
+    (entries_of b v (at_names b v (reverse above)))
 at_more b v above name =
     let turned : reverse (above ++ (name ∷ [])) ≡ name ∷ reverse above = reverse-append above (name ∷ []) in
     ap (at_names b v) turned
-    ∙ ap (λ names. below b v names name (entries_of b v (at_names b v (reverse above)))) (ap reverse (sym turned) ∙ reverse-reverse (above ++ (name ∷ [])))
+    ∙ ap (λ names. below b v names name (entries_of b v (at_names b v (reverse above)))) (ap reverse (sym turned)
+    ∙ reverse-reverse (above ++ (name ∷ [])))
 
 -- what stands at the path that ends before a slash
-to_slash : (b : Base) (v path : List ℕ) (start len : ℕ) (seen : Seen) → IsPath path → is_root path ≡ false → start ≤ length path → BeginsName path start → FirstSlash (drop start path) len → seen ≡ at_names b v (reverse (names_before path start)) →
-    below b v (names_of (take (start + len) path)) (take len (drop start path)) (entries_of b v seen) ≡ at_names b v (reverse (names_before path (start + len + 1)))
+to_slash : (b : Base) (v path : List ℕ) (start len : ℕ) (seen : Seen) → IsPath path → is_root path ≡ false → start ≤ length path
+    → BeginsName path start → FirstSlash (drop start path) len → seen ≡ at_names b v (reverse (names_before path start)) →
+    below b v (names_of (take (start + len) path)) (take len (drop start path)) (entries_of b v seen)
+    ≡ at_names b v (reverse (names_before path (start + len + 1)))
 to_slash b v path start len seen is_path below_root inside begins slash seen_is =
     let name = take len (drop start path) in
     let before = names_before path start in
     let split = split_prefix path start len begins slash.uncut in
-    ap (λ names. below b v names name (entries_of b v seen)) (names_of_prefix path start len is_path below_root inside slash ∙ split)
+    ap (λ names. below b v names name (entries_of b v seen)) (names_of_prefix path start len is_path below_root inside slash
+    ∙ split)
     ∙ ap (λ s. below b v (before ++ (name ∷ [])) name (entries_of b v s)) seen_is
     ∙ sym (at_more b v before name)
     ∙ ap (λ names. at_names b v (reverse names)) (sym split ∙ ap (names_before path) (sym (add-one (start + len))))
 
 -- what stands at the whole path
-to_end : (b : Base) (v path : List ℕ) (start : ℕ) (seen : Seen) → is_root path ≡ false → BeginsName path start → IsUncut (drop start path) → seen ≡ at_names b v (reverse (names_before path start)) →
+to_end : (b : Base) (v path : List ℕ) (start : ℕ) (seen : Seen) → is_root path ≡ false → BeginsName path start
+    → IsUncut (drop start path) → seen ≡ at_names b v (reverse (names_before path start)) →
     below b v (names_of path) (drop start path) (entries_of b v seen) ≡ at b v path
 to_end b v path start seen below_root begins uncut seen_is =
     let name = drop start path in

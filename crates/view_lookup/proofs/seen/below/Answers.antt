@@ -7,14 +7,16 @@ use Rattle.cc_names.proofs.PathParts.{path_of_names-names_of}
 use Rattle.cc_names.specs.declared.selection.Seen.TheVariants.{Nothing}
 use Rattle.base_model.specs.Catalogs.{Catalog, element_named}
 use Rattle.base_model.specs.Rows.{Base}
-use Rattle.base_model.specs.Seen.{below, element_at, path_limit, private_or, unless_long}
+use Rattle.base_model.specs.Seen.{below, element_at, path_limit, private_or, unless_too_long}
 use Rattle.base_model.specs.Views.{private}
 use Rattle.view_lookup.proofs.seen.below.Goals as goal
 
-below_short : (b : Base) (v path name : List ℕ) (entries : Catalog) → length path ≤ path_limit → below b v (names_of path) name (Some entries) ≡ private_or (private b v path) (element_at b v (names_of path) (element_named name entries))
+below_short : (b : Base) (v path name : List ℕ) (entries : Catalog) → length path ≤ path_limit
+    → below b v (names_of path) name (Some entries) ≡ private_or (private b v path)
+    (element_at b v (names_of path) (element_named name entries))
 below_short b v path name entries short =
     let seen = element_at b v (names_of path) (element_named name entries) in
-    ap (λ whole. unless_long whole (private_or (private b v whole) seen)) (path_of_names-names_of path)
+    ap (λ whole. unless_too_long whole (private_or (private b v whole) seen)) (path_of_names-names_of path)
     ∙ ap (λ is. if is then private_or (private b v path) seen else Nothing) (le-leb (length path) path_limit short)
 
 pub returns-in-Some : goal.returns-in-Some

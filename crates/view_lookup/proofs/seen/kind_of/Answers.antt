@@ -11,14 +11,16 @@ use Rattle.view_lookup.proofs.seen.kind_of.Goals as goal
 pub returns-then-element-eq0 : goal.returns-then-element-eq0
 returns-then-element-eq0 c =
     let root : (c.args.element == 0) ≡ true = grind (arith, nat_tests) in
-    sym (kind_by_its_row c.args.rows.now c.args.element ∙ ap (λ is. cond is (Some Directory) (kind_at c.args.rows.now c.args.element)) root)
+    sym (kind_by_its_row c.args.rows.now c.args.element ∙ ap (λ is. cond is (Some Directory)
+    (kind_at c.args.rows.now c.args.element)) root)
 
 pub returns-in_err-row : goal.returns-in_err-row
 returns-in_err-row c =
     let below : (c.args.element == 0) ≡ false = grind (arith, nat_tests) in
     c.from_residual.ensures
     ∙ ap (λ row. option_and_then kind_made (deed_of row)) c.in_err-row.ensures
-    ∙ sym (kind_by_its_row c.args.rows.now c.args.element ∙ ap (λ is. cond is (Some Directory) (kind_at c.args.rows.now c.args.element)) below)
+    ∙ sym (kind_by_its_row c.args.rows.now c.args.element ∙ ap (λ is. cond is (Some Directory)
+    (kind_at c.args.rows.now c.args.element)) below)
 
 pub returns : goal.returns
 returns c =
@@ -26,4 +28,5 @@ returns c =
     c.kind_made.ensures
     ∙ ap kind_made c.deed.ensures.deed
     ∙ ap (λ row. option_and_then kind_made (deed_of row)) c.in_ok-row.ensures
-    ∙ sym (kind_by_its_row c.args.rows.now c.args.element ∙ ap (λ is. cond is (Some Directory) (kind_at c.args.rows.now c.args.element)) below)
+    ∙ sym (kind_by_its_row c.args.rows.now c.args.element ∙ ap (λ is. cond is (Some Directory)
+    (kind_at c.args.rows.now c.args.element)) below)

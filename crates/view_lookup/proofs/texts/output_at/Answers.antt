@@ -6,5 +6,6 @@ use Rattle.view_lookup.proofs.texts.output_at.Goals as goal
 pub loop-index-preserved : goal.loop-index-preserved
 loop-index-preserved c =
     c.loop-index.invariant
-    ∙ output_later c.args.path.now c.args.targets.now c.args.outputs.now c.loop-index.index c.index-targets-index.result c.loop-index-test.true c.index-targets-index.is
+    ∙ output_later c.args.path.now c.args.targets.now c.args.outputs.now c.loop-index.index c.index-targets-index.result
+    c.loop-index-test.true c.index-targets-index.is
     (ap₂ bytes_eq (sym c.as_bytes.ensures.bytes) (sym c.as_bytes-in-loop-index.ensures.bytes) ∙ sym c.eq.ensures ∙ c.if-eq.false)

@@ -11,7 +11,8 @@ use Rattle.view_lookup.proofs.texts.text_of.Goals as goal
 pub loop-found-init : goal.loop-found-init
 loop-found-init c =
     let b = c.args.rows.now in
-    ap (λ (rows : Base). text rows c.args.row c.args.path.now) (c.first_rows-older.ensures ∙ ap (λ n. first_rows n b) c.size.ensures.size ∙ all_rows b (size b) (omega arith))
+    ap (λ (rows : Base). text rows c.args.row c.args.path.now) (c.first_rows-older.ensures
+    ∙ ap (λ n. first_rows n b) c.size.ensures.size ∙ all_rows b (size b) (omega arith))
 
 pub returns-in-Bytes : goal.returns-in-Bytes
 returns-in-Bytes c =

@@ -10,7 +10,8 @@ returns-in-Err-clause-rests g c = both_map Idles Rests _ _ idle_rests c.in-Err.e
 
 pub returns-in-Ok-tail_of-clause-rests : goal.returns-in-Ok-tail_of-clause-rests
 returns-in-Ok-tail_of-clause-rests g c =
-    modeled_rest_on _ _ _ (both_map (Measures 0) Rests _ _ measured_rests c.in-Ok.ensures.modeled) (modeled_rest_on _ _ _ c.in-Ok-tail_of.ensures.rests c.foreign_at.ensures.rests)
+    modeled_rest_on _ _ _ (both_map (Measures 0) Rests _ _ measured_rests c.in-Ok.ensures.modeled)
+    (modeled_rest_on _ _ _ c.in-Ok-tail_of.ensures.rests c.foreign_at.ensures.rests)
 
 pub returns-in-Err-tail_of-clause-rests : goal.returns-in-Err-tail_of-clause-rests
 returns-in-Err-tail_of-clause-rests g c =

@@ -1,7 +1,7 @@
 use Rattle.std.proofs.Common.{◌≡◌, ◌≤◌, ◌+◌, Some, None, length, drop, sym, ◌∙◌, subst, arith}
-use Rattle.disk_model.specs.Devices.{bytes_of}
+use Rattle.disk_model.specs.Devices.{bytes_now}
 use Rattle.disk_model.specs.DiskStates.{IfModeled}
-use Rattle.vob_journal.specs.Found.{Finds, IsWithin, ShowsOn}
+use Rattle.vob_journal.specs.Found.{FindsAtHead, IsFrameWithin, ShowsOn}
 use Rattle.vob_journal.specs.Frames.{head, is_shut}
 use Rattle.vob_journal.proofs.Leaving.{modeled_further, modeled_behind}
 use Rattle.vob_journal.proofs.Staying.{modeled_rest_on}
@@ -16,10 +16,11 @@ frames-preserved g c =
     let tail = c.frames.tail in
     let kept = c.frames.invariant in
     let answer = c.in-Ok-Payload.ensures in
-    let is_payload : IfModeled old (λ d. head (drop tail (bytes_of 0 d)) ≡ Some c.in-Ok-Payload.payload) =
-    subst (λ f. IfModeled old (λ d. Finds f (drop tail (bytes_of 0 d)))) c.in-Ok-Payload.field-0-is answer.found in
-    let found = subst (λ p. IfModeled old (λ d. head (drop tail (bytes_of 0 d)) ≡ Some p)) (sym c.as_bytes.ensures) is_payload in
-    let is_within : tail + (5 + length c.in-Ok-Payload.payload) ≤ c.args.size = subst (IsWithin tail c.args.size) c.in-Ok-Payload.field-0-is answer.within in
+    let is_payload : IfModeled old (λ d. head (drop tail (bytes_now 0 d)) ≡ Some c.in-Ok-Payload.payload) =
+    subst (λ f. IfModeled old (λ d. FindsAtHead f (drop tail (bytes_now 0 d)))) c.in-Ok-Payload.field-0-is answer.found in
+    let found = subst (λ p. IfModeled old (λ d. head (drop tail (bytes_now 0 d)) ≡ Some p)) (sym c.as_bytes.ensures) is_payload in
+    let is_within : tail + (5 + length c.in-Ok-Payload.payload) ≤ c.args.size =
+    subst (IsFrameWithin tail c.args.size) c.in-Ok-Payload.field-0-is answer.within in
     record {
       within = subst (λ p. tail + (5 + length p) ≤ c.args.size) (sym c.as_bytes.ensures) is_within;
       shows = subst (ShowsOn new) c.in-Ok-Payload.field-0-is answer.shows;
@@ -39,8 +40,11 @@ pub returns-in-Ok-End-clause-behind : goal.returns-in-Ok-End-clause-behind
 returns-in-Ok-End-clause-behind g c =
     let old = (g.D.Disk.ghost_state c.frames.disk).modeled in
     let tail = c.frames.tail in
-    let found : IfModeled old (λ d. (head (drop tail (bytes_of 0 d)) ≡ None) × (c.in-Ok-End.field-0-0 ≡ is_shut (drop tail (bytes_of 0 d)))) =
-    subst (λ f. IfModeled old (λ d. Finds f (drop tail (bytes_of 0 d)))) c.in-Ok-End.field-0-is c.in-Ok-End.ensures.found in
+    let found : IfModeled old (λ d. (head (drop tail (bytes_now 0 d)) ≡ None)
+    × (c.in-Ok-End.field-0-0 ≡ is_shut (drop tail (bytes_now 0 d)))) =
+    subst (λ f. IfModeled old (λ d. FindsAtHead f (drop tail (bytes_now 0 d)))) c.in-Ok-End.field-0-is c.in-Ok-End.ensures.found
+    in
     modeled_behind tail _ old c.frames.invariant.rests
-    (modeled_map (λ d. (head (drop tail (bytes_of 0 d)) ≡ None) × (c.in-Ok-End.field-0-0 ≡ is_shut (drop tail (bytes_of 0 d)))) (λ d. head (drop tail (bytes_of 0 d)) ≡ None) old (λ d h. h.0) found)
+    (modeled_map (λ d. (head (drop tail (bytes_now 0 d)) ≡ None) × (c.in-Ok-End.field-0-0 ≡ is_shut (drop tail (bytes_now 0 d))))
+    (λ d. head (drop tail (bytes_now 0 d)) ≡ None) old (λ d h. h.0) found)
     c.frames.invariant.so_far

@@ -1,5 +1,5 @@
 use Rattle.std.proofs.Common.{◌≡◌, ◌≤◌, ◌-◌, drop}
-use Rattle.disk_model.specs.Devices.{bytes_of}
+use Rattle.disk_model.specs.Devices.{bytes_now}
 use Rattle.disk_model.specs.DiskStates.{IfModeled, Both}
 use Rattle.vob_journal.specs.Foreign.{behind}
 use Rattle.vob_journal.specs.Reads.{Rests}
@@ -11,7 +11,8 @@ invariant-frames g l = record {
   within : l.tail ≤ l.size;
   shows : IfShows l.window (g.D.Disk.ghost_state l.disk).modeled;
   rests : Both Rests (g.D.Disk.ghost_state l.fn.disk).modeled (g.D.Disk.ghost_state l.disk).modeled;
-  so_far : IfModeled (g.D.Disk.ghost_state l.fn.disk).modeled (λ d. behind (bytes_of 0 d) ≡ behind (drop l.tail (bytes_of 0 d)));
+  so_far : IfModeled (g.D.Disk.ghost_state l.fn.disk).modeled (λ d. behind (bytes_now 0 d)
+      ≡ behind (drop l.tail (bytes_now 0 d)));
   ticks : (g.D.Disk.ghost_state l.fn.disk).ticks ≤ (g.D.Disk.ghost_state l.disk).ticks;
   faults : (g.D.Disk.ghost_state l.disk).faults ≡ (g.D.Disk.ghost_state l.fn.disk).faults;
 }

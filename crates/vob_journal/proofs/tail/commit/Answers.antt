@@ -11,14 +11,16 @@ returns-in-Err-clause-modeled g c =
     let settled = c.args.settled in
     let tail = c.args.tail in
     let payload = c.args.frame.now in
-    both_map (LeavesLeftover settled tail) (FailsToAppend settled tail payload Earlier) _ _ (fails_settling settled tail payload) c.in-Err.ensures.modeled
+    both_map (LeavesLeftover settled tail) (FailsToAppend settled tail payload Earlier) _ _ (fails_settling settled tail payload)
+    c.in-Err.ensures.modeled
 
 pub returns-in-Err-stage-clause-modeled : goal.returns-in-Err-stage-clause-modeled
 returns-in-Err-stage-clause-modeled g c =
     let settled = c.args.settled in
     let tail = c.args.tail in
     let payload = c.args.frame.now in
-    both_then (Settles settled tail) (KeepsFrames true true tail) (FailsToAppend settled tail payload Nothing) _ _ _ (λ d e f s k. fails_staging settled tail payload d e s f k)
+    both_then (Settles settled tail) (KeepsFrames true true tail) (FailsToAppend settled tail payload Nothing) _ _ _
+    (λ d e f s k. fails_staging settled tail payload d e s f k)
     c.in_default.ensures.modeled c.in-Err-stage.ensures.modeled
 
 pub returns-in-Err-open_gate-clause-modeled : goal.returns-in-Err-open_gate-clause-modeled
@@ -26,7 +28,8 @@ returns-in-Err-open_gate-clause-modeled g c =
     let settled = c.args.settled in
     let tail = c.args.tail in
     let payload = c.args.frame.now in
-    both_three (Settles settled tail) (Stages tail payload) (MayOpen tail payload) (FailsToAppend settled tail payload InFlight) _ _ _ _
+    both_three (Settles settled tail) (Stages tail payload) (MayOpen tail payload) (FailsToAppend settled tail payload InFlight) _
+    _ _ _
     (λ d e f h s t o. fails_opening settled tail payload d e s f h t o)
     c.in_default.ensures.modeled c.in_default-stage.ensures.modeled c.in-Err-open_gate.ensures.modeled
 

@@ -13,14 +13,18 @@ returns-then-settled-clause-modeled g c =
     let modeled = (g.D.Disk.ghost_state c.args.disk.now).modeled in
     let tail = c.args.tail in
     subst (λ b. Both (Settles b tail) modeled modeled) (sym c.if-settled.true)
-    (both_same (IsTail true tail) (Settles true tail) modeled (settles_none tail) (subst (λ b. IfModeled modeled (IsTail b tail)) c.if-settled.true c.requires))
+    (both_same (IsTail true tail) (Settles true tail) modeled (settles_none tail)
+    (subst (λ b. IfModeled modeled (IsTail b tail)) c.if-settled.true c.requires))
 
 pub returns-clause-modeled : goal.returns-clause-modeled
 returns-clause-modeled g c =
     let modeled = (g.D.Disk.ghost_state c.args.disk.now).modeled in
     let tail = c.args.tail in
     let leftover = subst (λ b. IfModeled modeled (IsTail b tail)) c.if-settled.false c.requires in
-    let settles = λ (d e : Device). subst (λ b. IsTail false tail d → PutsDown tail (0 ∷ []) d e → Settles b tail d e) (sym c.if-settled.false) (settles_put tail d e) in
-    let stays = λ (d e : Device). subst (λ b. IsTail false tail d → FailsToPut tail 1 d e → LeavesLeftover b tail d e) (sym c.if-settled.false) (settling_failed tail d e) in
-    answer_from c.put_down.result (IsTail false tail) (PutsDown tail (0 ∷ [])) (Settles c.args.settled tail) (FailsToPut tail 1) (LeavesLeftover c.args.settled tail) _ _
+    let settles = λ (d e : Device). subst (λ b. IsTail false tail d → PutsDown tail (0 ∷ []) d e
+    → Settles b tail d e) (sym c.if-settled.false) (settles_put tail d e) in
+    let stays = λ (d e : Device). subst (λ b. IsTail false tail d → FailsToPut tail 1 d e
+    → LeavesLeftover b tail d e) (sym c.if-settled.false) (settling_failed tail d e) in
+    answer_from c.put_down.result (IsTail false tail) (PutsDown tail (0 ∷ [])) (Settles c.args.settled tail) (FailsToPut tail 1)
+    (LeavesLeftover c.args.settled tail) _ _
     settles stays leftover c.put_down.ensures.modeled

@@ -11,5 +11,7 @@ returns-clause-modeled g c =
     let tail = c.args.tail in
     let payload = c.args.frame.now in
     let piece = c.as_bytes.result.now in
-    answer_from c.put_down.result (IsTail true tail) (PutsDown (tail + 1) piece) (Stages tail payload) (FailsToPut (tail + 1) (length piece)) (KeepsFrames true true tail) _ _
-    (stages_piece tail payload piece c.as_bytes.ensures.bytes) (staging_failed tail (length piece)) c.requires.shut c.put_down.ensures.modeled
+    answer_from c.put_down.result (IsTail true tail) (PutsDown (tail + 1) piece) (Stages tail payload)
+    (FailsToPut (tail + 1) (length piece)) (KeepsFrames true true tail) _ _
+    (stages_piece tail payload piece c.as_bytes.ensures.bytes) (staging_failed tail (length piece)) c.requires.shut
+    c.put_down.ensures.modeled

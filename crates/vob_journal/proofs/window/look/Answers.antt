@@ -8,4 +8,5 @@ pub returns-in-Err-clause-rests : goal.returns-in-Err-clause-rests
 returns-in-Err-clause-rests g c = both_map Idles Rests _ _ idle_rests c.in-Err.ensures.modeled
 
 pub returns-clause-rests : goal.returns-clause-rests
-returns-clause-rests g c = both_map (Fetches 0 c.args.place _) Rests _ _ (fetched_rests c.args.place _) c.in_default-read_at.ensures.modeled
+returns-clause-rests g c = both_map (Fetches 0 c.args.place _) Rests _ _ (fetched_rests c.args.place _)
+    c.in_default-read_at.ensures.modeled

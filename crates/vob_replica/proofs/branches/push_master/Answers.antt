@@ -1,22 +1,24 @@
 use Rattle.std.proofs.Common.{◌≡◌, true, false, rules}
-use Rattle.vob_replica.specs.Branches.{place_in, is_at, with_master}
+use Rattle.vob_replica.specs.Branches.{branch_place_in, is_branch_at, with_master}
 use Rattle.vob_replica.specs.Trees.{Tree}
 use Rattle.vob_replica.proofs.BranchLaws.{changed-there, kept-missing}
 use Rattle.vob_replica.proofs.branches.push_master.Goals as goal
 
 -- the branch is there
-pub returns-then-is_at-clause-ok : goal.returns-then-is_at-clause-ok
-returns-then-is_at-clause-ok c =
+pub returns-then-is_branch_at-clause-ok : goal.returns-then-is_branch_at-clause-ok
+returns-then-is_branch_at-clause-ok c =
     let trees = c.args.trees.now.items in
-    let at : c.place_of-place.result ≡ place_in c.args.branch.now trees = search rules in
-    let there : is_at trees c.place_of-place.result c.args.branch.now ≡ true = search rules in
-    changed-there c.push_master_at.result c.args.branch.now (λ (tree : Tree). with_master tree c.args.operation) trees c.push_master_at.new.trees.items c.place_of-place.result c.requires
+    let at : c.branch_place-place.result ≡ branch_place_in c.args.branch.now trees = search rules in
+    let there : is_branch_at trees c.branch_place-place.result c.args.branch.now ≡ true = search rules in
+    changed-there c.push_master_at.result c.args.branch.now (λ (tree : Tree). with_master tree c.args.operation) trees
+    c.push_master_at.new.trees.items c.branch_place-place.result c.requires
     c.push_master_at.ensures.ok at there
 
 -- it is not
 pub returns-clause-ok : goal.returns-clause-ok
 returns-clause-ok c =
     let trees = c.args.trees.now.items in
-    let at : c.place_of-place.result ≡ place_in c.args.branch.now trees = search rules in
-    let none : is_at trees c.place_of-place.result c.args.branch.now ≡ false = search rules in
-    kept-missing c.args.branch.now (λ (tree : Tree). with_master tree c.args.operation) trees c.place_of-place.result c.requires at none
+    let at : c.branch_place-place.result ≡ branch_place_in c.args.branch.now trees = search rules in
+    let none : is_branch_at trees c.branch_place-place.result c.args.branch.now ≡ false = search rules in
+    kept-missing c.args.branch.now (λ (tree : Tree). with_master tree c.args.operation) trees c.branch_place-place.result
+    c.requires at none

@@ -6,4 +6,5 @@ use Rattle.vob_replica.proofs.logs.news_of.Given as goal
 
 abbrev pub invariant-loop-operation : goal.invariant-loop-operation
 invariant-loop-operation l =
-    (known : List Operation) → IsTableOf l.initial.table known → IsOn known l.table l.news.items (drop l.operation-index l.operations) l.operations
+    (known : List Operation) → IsTableOf l.initial.table known → IsOn known l.table l.news.items
+    (drop l.operation-index l.operations) l.operations

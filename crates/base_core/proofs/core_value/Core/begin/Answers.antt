@@ -6,7 +6,12 @@ use Rattle.base_core.proofs.Building.OpenSteps.{refused_finishes}
 use Rattle.base_core.proofs.core_value.Core.begin.Goals as goal
 
 pub overflow_cast-result : goal.overflow_cast-result
-overflow_cast-result g c = omega (arith, (c.find_build.ensures.kept c.in-Some.build.now (sym c.in-Some.ensures.active)).formed.few, ap length c.units.ensures)
+overflow_cast-result g c = omega (
+  arith,
+  (c.find_build.ensures.kept c.in-Some.build.now
+      (sym c.in-Some.ensures.active)).formed.few,
+  ap length c.units.ensures,
+)
 
 pub returns-in-Some-clause-ok : goal.returns-in-Some-clause-ok
 returns-in-Some-clause-ok g c = (
@@ -15,7 +20,11 @@ returns-in-Some-clause-ok g c = (
     build = c.in-Some.build.now;
     active = sym c.in-Some.ensures.active;
     of_units = ap length (sym c.units.ensures);
-    few = omega (arith, (c.find_build.ensures.kept c.in-Some.build.now (sym c.in-Some.ensures.active)).formed.few, ap length c.units.ensures);
+    few = omega (
+      arith,
+      (c.find_build.ensures.kept c.in-Some.build.now (sym c.in-Some.ensures.active)).formed.few,
+      ap length c.units.ensures,
+    );
   },
 )
 

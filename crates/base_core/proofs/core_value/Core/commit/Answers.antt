@@ -28,40 +28,58 @@ use Rattle.base_core.proofs.Story.Counts.{shown_of}
 use Rattle.base_core.proofs.core_value.Core.commit.Goals as goal
 
 -- what is kept, whatever became of the row
-preserved_append : (log new : Logged) (lanes : List LaneState) (now : ℕ) (story : List StoryStep) (row : Plain) (lane : ℕ) (name : Option (List ℕ)) (count : Option ℕ) (appended : Appended) → log.story ≡ story → lane ≡ row.tag.lane → CoreInvariant log lanes now → IsRowToCommit (state_of story) row
-    → replied_name (row ∷ log.base) row.deed ≡ name → replied_count row.deed ≡ count → Appends log new row None appended → CoreInvariant new (with_reply lanes lane (append_reply appended name count)) now
+preserved_append : (log new : Logged) (lanes : List LaneState) (now : ℕ) (story : List StoryStep) (row : Plain) (lane : ℕ)
+    (name : Option (List ℕ)) (count : Option ℕ) (appended : Appended) → log.story ≡ story → lane ≡ row.tag.lane
+    → CoreInvariant log lanes now → IsRowToCommit (state_of story) row
+    → replied_name (row ∷ log.base) row.deed ≡ name → replied_count row.deed ≡ count → Appends log new row None appended
+    → CoreInvariant new (with_reply lanes lane (append_reply appended name count)) now
 preserved_append log new lanes now story row lane name count appends.Committed same at_lane h next named counted became =
     let done : IsCommitted log new row = became in
     subst (λ own. CoreInvariant own (with_reply lanes lane (row_reply name count)) now) (sym done.grows)
-    (preserved_next_row log lanes now story row lane done.tick done.ghost_state done.ticked same at_lane h next done.formed (row_reply name count) (next.finishes.reply (row ∷ log.base) ∙ ap Some (ap₂ row_reply named counted)))
+    (preserved_next_row log lanes now story row lane done.tick done.ghost_state done.ticked same at_lane h next done.formed
+    (row_reply name count) (next.finishes.reply (row ∷ log.base) ∙ ap Some (ap₂ row_reply named counted)))
 preserved_append log new lanes now story row lane name count appends.Faulted same at_lane h next named counted became =
     let done : IsFaulted log new row None = became in
     subst (λ own. CoreInvariant own (with_reply lanes lane replies.DiskFault) now) (sym done.grows)
-    (preserved_next_fault log lanes now story row lane done.left done.before done.faults done.tick done.ghost_state done.rose done.later done.leaves done.ticked same at_lane h next done.formed)
+    (preserved_next_fault log lanes now story row lane done.left done.before done.faults done.tick done.ghost_state done.rose
+    done.later done.leaves done.ticked same at_lane h next done.formed)
 
 -- the story went on by a step of that kind
-acts_so : (log new : Logged) (story : List StoryStep) (row : Plain) (appended : Appended) → log.story ≡ story → IsRowToCommit (state_of story) row → Appends log new row None appended → Acts story new.story row.tag.lane (append_done appended)
+acts_so : (log new : Logged) (story : List StoryStep) (row : Plain) (appended : Appended) → log.story ≡ story
+    → IsRowToCommit (state_of story) row → Appends log new row None appended
+    → Acts story new.story row.tag.lane (append_done appended)
 acts_so log new story row appends.Committed same next became =
     let done : IsCommitted log new row = became in
     record {
       step = story_steps.Commit row done.tick;
       grows = ap (λ (l : Logged). l.story) done.grows ∙ ap (λ t. t ++ story_steps.Commit row done.tick ∷ []) same;
-      is = (next.of_next.next, next.at_moment, subst (λ t. decision_for (state_of story) t ≡ Some (Ok (Makes row.deed))) next.of_next.next next.made);
+      is = (
+        next.of_next.next,
+        next.at_moment,
+        subst (λ t. decision_for (state_of story) t ≡ Some (Ok (Makes row.deed)))
+            next.of_next.next next.made,
+      );
     }
 acts_so log new story row appends.Faulted same next became =
     let done : IsFaulted log new row None = became in
     next_faults story new.story row done.left done.before done.faults done.tick
-    (ap (λ (l : Logged). l.story) done.grows ∙ ap (λ t. t ++ story_steps.Other (steps.Fault row.tag done.left done.before done.faults done.tick) ∷ []) same) next
+    (ap (λ (l : Logged). l.story) done.grows ∙ ap (λ t. t ++ story_steps.Other
+    (steps.Fault row.tag done.left done.before done.faults done.tick) ∷ []) same) next
 
 -- and that step says what became of the disk's counts
-counts_so : (log new : Logged) (old : Shown) (row : Plain) (appended : Appended) → shown_of log ≡ old → Appends log new row None appended → KeepsCount old (shown_of new)
+counts_so : (log new : Logged) (old : Shown) (row : Plain) (appended : Appended) → shown_of log ≡ old
+    → Appends log new row None appended → KeepsCount old (shown_of new)
 counts_so log new old row appends.Committed view became =
     let done : IsCommitted log new row = became in
     subst (λ (shown : Shown). KeepsCount shown (shown_of new)) view
     (record {
       steps = story_steps.Commit row done.tick ∷ [];
       grows = ap (λ (l : Logged). l.story) done.grows;
-      counts = (done.ghost_state, (done.at, done.spent, done.faults, done.fit, done.writes, done.calls), ap (λ (l : Logged). l.ghost_state) done.grows);
+      counts = (
+        done.ghost_state,
+        (done.at, done.spent, done.faults, done.fit, done.writes, done.calls),
+        ap (λ (l : Logged). l.ghost_state) done.grows,
+      );
     })
 counts_so log new old row appends.Faulted view became =
     let done : IsFaulted log new row None = became in
@@ -69,32 +87,45 @@ counts_so log new old row appends.Faulted view became =
     (record {
       steps = story_steps.Other (steps.Fault row.tag done.left done.before done.faults done.tick) ∷ [];
       grows = ap (λ (l : Logged). l.story) done.grows;
-      counts = (done.ghost_state, (done.counted, done.modeled, done.one, done.at, done.spent, done.fit, done.writes), ap (λ (l : Logged). l.ghost_state) done.grows);
+      counts = (
+        done.ghost_state,
+        (done.counted, done.modeled, done.one, done.at, done.spent, done.fit, done.writes),
+        ap (λ (l : Logged). l.ghost_state) done.grows,
+      );
     })
 
 pub append-requires-clause-fits : goal.append-requires-clause-fits
 append-requires-clause-fits g c =
-    subst (λ b. fits b c.args.row.deed ≡ true) (ap (λ v. (state_of v.story).base) (sym c.self.view_is) ∙ c.self.invariant.story.base) c.requires.fits
+    subst (λ b. fits b c.args.row.deed ≡ true) (ap (λ v. (state_of v.story).base) (sym c.self.view_is)
+    ∙ c.self.invariant.story.base) c.requires.fits
 
 pub reply-requires-clause-room : goal.reply-requires-clause-room
-reply-requires-clause-room g c = (row_has_room c.self.inside.log c.self.inside.lanes c.self.inside.moment c.args.self.now.story c.args.row c.tag-lane.result.lane (ap (λ v. v.story) c.self.view_is) c.self.invariant (ap (λ t. t.lane) c.tag-lane.ensures) c.requires).room
+reply-requires-clause-room g c = (row_has_room c.self.inside.log c.self.inside.lanes c.self.inside.moment c.args.self.now.story
+    c.args.row c.tag-lane.result.lane (ap (λ v. v.story) c.self.view_is) c.self.invariant (ap (λ t. t.lane) c.tag-lane.ensures)
+    c.requires).room
 
 pub invariant_of-self-2 : goal.invariant_of-self-2
 invariant_of-self-2 g c =
     let name = c.in_ok-name.name in
     let named : replied_name (c.args.row ∷ c.self.inside.log.base) c.args.row.deed ≡ name =
-    ap₂ (λ b deed. replied_name (c.args.row ∷ b) deed) (sym c.rows.ensures) (sym c.deed.ensures.deed) ∙ sym (c.in_ok-name.ensures c.args.row (sym c.deed.ensures.deed)) in
+    ap₂ (λ b deed. replied_name (c.args.row ∷ b) deed) (sym c.rows.ensures) (sym c.deed.ensures.deed)
+    ∙ sym (c.in_ok-name.ensures c.args.row (sym c.deed.ensures.deed)) in
     let count = c.replied_count-count.result in
-    let counted : replied_count c.args.row.deed ≡ count = ap replied_count (sym c.deed-2.ensures.deed) ∙ sym c.replied_count-count.ensures in
+    let counted : replied_count c.args.row.deed ≡ count = ap replied_count (sym c.deed-2.ensures.deed)
+    ∙ sym c.replied_count-count.ensures in
     subst (λ lanes. CoreInvariant c.append.new.self lanes c.self.inside.moment)
     (sym (c.reply.ensures ∙ ap (λ reply. with_reply c.self.inside.lanes c.tag-lane.result.lane reply) c.append_reply.ensures))
-    (preserved_append c.self.inside.log c.append.new.self c.self.inside.lanes c.self.inside.moment c.args.self.now.story c.args.row c.tag-lane.result.lane name count c.in_ok-appended.appended
-    (ap (λ v. v.story) c.self.view_is) (ap (λ t. t.lane) c.tag-lane.ensures) c.self.invariant c.requires named counted c.in_ok-appended.ensures.ok)
+    (preserved_append c.self.inside.log c.append.new.self c.self.inside.lanes c.self.inside.moment c.args.self.now.story
+    c.args.row c.tag-lane.result.lane name count c.in_ok-appended.appended
+    (ap (λ v. v.story) c.self.view_is) (ap (λ t. t.lane) c.tag-lane.ensures) c.self.invariant c.requires named counted
+    c.in_ok-appended.ensures.ok)
 
 pub returns-clause-ok : goal.returns-clause-ok
 returns-clause-ok g c =
     subst (Acts c.args.self.now.story c.append.new.self.story c.args.row.tag.lane) (sym c.append_done.ensures)
-    (acts_so c.self.inside.log c.append.new.self c.args.self.now.story c.args.row c.in_ok-appended.appended (ap (λ v. v.story) c.self.view_is) c.requires c.in_ok-appended.ensures.ok)
+    (acts_so c.self.inside.log c.append.new.self c.args.self.now.story c.args.row c.in_ok-appended.appended
+    (ap (λ v. v.story) c.self.view_is) c.requires c.in_ok-appended.ensures.ok)
 
 pub returns-clause-counted : goal.returns-clause-counted
-returns-clause-counted g c = counts_so c.self.inside.log c.append.new.self c.args.self.now c.args.row c.in_ok-appended.appended c.self.view_is c.in_ok-appended.ensures.ok
+returns-clause-counted g c = counts_so c.self.inside.log c.append.new.self c.args.self.now c.args.row c.in_ok-appended.appended
+    c.self.view_is c.in_ok-appended.ensures.ok

@@ -7,4 +7,5 @@ use Rattle.base_core.proofs.core_value.Core.finish.Goals as goal
 pub invariant_of-self : goal.invariant_of-self
 invariant_of-self g c =
     subst (λ log. CoreInvariant log c.self.inside.lanes c.self.inside.moment) (sym c.settle.ensures.same)
-    (preserved_ghost_state c.self.inside.log c.self.inside.lanes c.self.inside.moment c.settle.new.self.ghost_state c.self.invariant)
+    (preserved_ghost_state c.self.inside.log c.self.inside.lanes c.self.inside.moment c.settle.new.self.ghost_state
+    c.self.invariant)

@@ -6,4 +6,6 @@ use Rattle.base_core.proofs.Building.FoundBuilds.{has_run}
 use Rattle.base_core.proofs.core_value.Core.finish_unit.Goals as goal
 
 pub finish_run-requires : goal.finish_run-requires
-finish_run-requires g c = has_run (state_of c.args.self.now.story) c.args.lane c.args.unit (ran_of c.args.ended) c.build_at.result.now c.requires c.build_at.ensures.active c.build_at.ensures.kept (sym c.has_outcome.ensures ∙ c.if-has_outcome.false)
+finish_run-requires g c = has_run (state_of c.args.self.now.story) c.args.lane c.args.unit (ran_of c.args.ended)
+    c.build_at.result.now c.requires c.build_at.ensures.active c.build_at.ensures.kept (sym c.has_outcome.ensures
+    ∙ c.if-has_outcome.false)

@@ -12,27 +12,38 @@ use Rattle.base_core.proofs.Story.Counts.{log_stays}
 use Rattle.base_core.proofs.core_value.Core.note_step.Goals as goal
 
 pub note-requires-clause-from : goal.note-requires-clause-from
-note-requires-clause-from g c = (lane_slot c.self.inside.log c.self.inside.lanes c.self.inside.moment c.args.lane c.requires.build c.self.invariant (ap (λ v. build_of (state_of v.story).active c.args.lane) c.self.view_is ∙ c.requires.active)).from
+note-requires-clause-from g c = (lane_slot c.self.inside.log c.self.inside.lanes c.self.inside.moment c.args.lane c.requires.build
+    c.self.invariant (ap (λ v. build_of (state_of v.story).active c.args.lane) c.self.view_is ∙ c.requires.active)).from
 
 pub note-requires-clause-upto : goal.note-requires-clause-upto
-note-requires-clause-upto g c = (lane_slot c.self.inside.log c.self.inside.lanes c.self.inside.moment c.args.lane c.requires.build c.self.invariant (ap (λ v. build_of (state_of v.story).active c.args.lane) c.self.view_is ∙ c.requires.active)).upto
+note-requires-clause-upto g c = (lane_slot c.self.inside.log c.self.inside.lanes c.self.inside.moment c.args.lane c.requires.build
+    c.self.invariant (ap (λ v. build_of (state_of v.story).active c.args.lane) c.self.view_is ∙ c.requires.active)).upto
 
 pub note-requires-clause-build : goal.note-requires-clause-build
-note-requires-clause-build g c = slot_there c.self.inside.lanes c.args.lane c.requires.build (lane_slot c.self.inside.log c.self.inside.lanes c.self.inside.moment c.args.lane c.requires.build c.self.invariant (ap (λ v. build_of (state_of v.story).active c.args.lane) c.self.view_is ∙ c.requires.active))
+note-requires-clause-build g c = slot_there c.self.inside.lanes c.args.lane c.requires.build
+    (lane_slot c.self.inside.log c.self.inside.lanes c.self.inside.moment c.args.lane c.requires.build c.self.invariant
+    (ap (λ v. build_of (state_of v.story).active c.args.lane) c.self.view_is ∙ c.requires.active))
 
 pub note-requires-clause-unit : goal.note-requires-clause-unit
-note-requires-clause-unit g c = λ build e. subst (λ b. c.args.unit < length b.units) (some_same c.requires.build build (sym (lane_slot c.self.inside.log c.self.inside.lanes c.self.inside.moment c.args.lane c.requires.build c.self.invariant (ap (λ v. build_of (state_of v.story).active c.args.lane) c.self.view_is ∙ c.requires.active)).held ∙ e)) c.requires.within
+note-requires-clause-unit g c = λ build e. subst (λ b. c.args.unit < length b.units)
+    (some_same c.requires.build build (sym (lane_slot c.self.inside.log c.self.inside.lanes c.self.inside.moment c.args.lane
+    c.requires.build c.self.invariant (ap (λ v. build_of (state_of v.story).active c.args.lane) c.self.view_is
+    ∙ c.requires.active)).held ∙ e)) c.requires.within
 
 pub invariant_of-self-2 : goal.invariant_of-self-2
 invariant_of-self-2 g c =
     subst (λ log. CoreInvariant log c.note.new.self c.self.inside.moment) (sym c.in_ok-tell.ensures.ok)
-    (preserved_noted c.self.inside.log c.self.inside.lanes c.note.new.self c.self.inside.moment c.args.self.now.story c.args.lane c.args.unit c.args.step (came_of c.args.came)
+    (preserved_noted c.self.inside.log c.self.inside.lanes c.note.new.self c.self.inside.moment c.args.self.now.story c.args.lane
+    c.args.unit c.args.step (came_of c.args.came)
     (ap (λ v. v.story) c.self.view_is) c.self.invariant c.requires (λ build e. c.note.ensures build e))
 
 pub returns-clause-ok : goal.returns-clause-ok
 returns-clause-ok g c =
-    subst (λ log. Noted c.args.self.now.story log.story c.args.lane c.args.unit (came_of c.args.came)) (sym c.in_ok-tell.ensures.ok)
-    (noted_so c.self.inside.log c.args.self.now.story c.args.lane c.args.unit c.args.step (came_of c.args.came) (ap (λ v. v.story) c.self.view_is) c.requires)
+    subst (λ log. Noted c.args.self.now.story log.story c.args.lane c.args.unit (came_of c.args.came))
+    (sym c.in_ok-tell.ensures.ok)
+    (noted_so c.self.inside.log c.args.self.now.story c.args.lane c.args.unit c.args.step (came_of c.args.came)
+    (ap (λ v. v.story) c.self.view_is) c.requires)
 
 pub returns-in_err-tell-clause-counted : goal.returns-in_err-tell-clause-counted
-returns-in_err-tell-clause-counted g c = log_stays c.self.inside.log c.tell.new.self c.args.self.now c.self.view_is c.in_err-tell.ensures.err
+returns-in_err-tell-clause-counted g c = log_stays c.self.inside.log c.tell.new.self c.args.self.now c.self.view_is
+    c.in_err-tell.ensures.err

@@ -8,11 +8,14 @@ use Rattle.base_core.proofs.Building.UnitCalls.{builds_waits}
 use Rattle.base_core.proofs.core_value.Core.plan.Goals as goal
 
 pub occasion-occasion-requires : goal.occasion-occasion-requires
-occasion-occasion-requires g c = builds_waits (state_of c.args.self.now.story) c.args.lane (next_tag (state_of c.args.self.now.story) c.args.lane) c.requires.builds
+occasion-occasion-requires g c = builds_waits (state_of c.args.self.now.story) c.args.lane
+    (next_tag (state_of c.args.self.now.story) c.args.lane) c.requires.builds
 
 pub returns : goal.returns
 returns g c =
-    plans_so (state_of c.args.self.now.story) c.args.lane c.occasion-occasion.result.taken c.occasion-occasion.result.tag c.in_ok-asked_build.asked c.in_ok-asked_build.asked.view c.rows.result c.occasion-occasion.result.busy c.plan_build.result
+    plans_so (state_of c.args.self.now.story) c.args.lane c.occasion-occasion.result.taken c.occasion-occasion.result.tag
+    c.in_ok-asked_build.asked c.in_ok-asked_build.asked.view c.rows.result c.occasion-occasion.result.busy c.plan_build.result
     c.requires.builds c.requires.free c.in_ok-asked_build.ensures.next c.occasion-occasion.ensures.tag c.rows.ensures
     (c.occasion-occasion.ensures.busy ∙ ap (building (state_of c.args.self.now.story).active) c.as_bytes.ensures.bytes)
-    c.occasion-occasion.ensures.taken (λ scene meets. c.plan_build.ensures.planned scene meets) c.plan_build.ensures.formed c.plan_build.ensures.room
+    c.occasion-occasion.ensures.taken (λ scene meets. c.plan_build.ensures.planned scene meets) c.plan_build.ensures.formed
+    c.plan_build.ensures.room

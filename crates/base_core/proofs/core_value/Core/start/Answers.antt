@@ -5,4 +5,5 @@ use Rattle.base_core.proofs.Building.UnitCalls.{builds_waits}
 use Rattle.base_core.proofs.core_value.Core.start.Goals as goal
 
 pub tag-tag-requires : goal.tag-tag-requires
-tag-tag-requires g c = builds_waits (state_of c.args.self.now.story) c.args.lane (next_tag (state_of c.args.self.now.story) c.args.lane) c.requires.kept.waits
+tag-tag-requires g c = builds_waits (state_of c.args.self.now.story) c.args.lane
+    (next_tag (state_of c.args.self.now.story) c.args.lane) c.requires.kept.waits

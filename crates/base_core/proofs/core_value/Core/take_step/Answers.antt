@@ -13,4 +13,5 @@ returns-in_ok-start-in-Start-clause-ok g c =
 
 pub returns-in_ok-wink-in-Wink-clause-ok : goal.returns-in_ok-wink-in-Wink-clause-ok
 returns-in_ok-wink-in-Wink-clause-ok g c =
-    carried_tries c.args.self.now.story c.wink.new.self.story c.args.lane c.args.unit c.in_ok-wink-in-Wink.field-0 c.in_ok-wink-in-Wink.ensures.ok
+    carried_tries c.args.self.now.story c.wink.new.self.story c.args.lane c.args.unit c.in_ok-wink-in-Wink.field-0
+    c.in_ok-wink-in-Wink.ensures.ok

@@ -9,11 +9,14 @@ use Rattle.base_core.proofs.core_value.Core.try_unit.Goals as goal
 
 pub take_step-requires : goal.take_step-requires
 take_step-requires g c =
-    subst (λ (shown : Shown). (count : ℕ) × IsBuilding (state_of shown.story) c.args.lane count × (c.args.unit < count)) (sym c.look_ahead.ensures) c.requires
+    subst (λ (shown : Shown). (count : ℕ) × IsBuilding (state_of shown.story) c.args.lane count
+    × (c.args.unit < count)) (sym c.look_ahead.ensures) c.requires
 
 pub returns-clause-ok : goal.returns-clause-ok
 returns-clause-ok g c =
-    subst (λ (shown : Shown). IfOk c.take_step.result (λ turn. Tries shown.story c.take_step.new.self.story c.args.lane c.args.unit turn)) c.look_ahead.ensures c.take_step.ensures.ok
+    subst (λ (shown : Shown). IfOk c.take_step.result (λ turn. Tries shown.story c.take_step.new.self.story c.args.lane
+    c.args.unit turn)) c.look_ahead.ensures c.take_step.ensures.ok
 
 pub returns-clause-counted : goal.returns-clause-counted
-returns-clause-counted g c = subst (λ (shown : Shown). KeepsCount shown c.take_step.new.self) c.look_ahead.ensures c.take_step.ensures.counted
+returns-clause-counted g c = subst (λ (shown : Shown). KeepsCount shown c.take_step.new.self) c.look_ahead.ensures
+    c.take_step.ensures.counted

@@ -15,8 +15,10 @@ returns c = λ l e.
     let count = c.self.inside.count in
     let all : Base = reverse c.base.inside.rows.items in
     let kept = c.base.inside.labels.changes in
-    let first : first_rows (suc count) all ≡ c.args.self.now = ap (λ (shown : Shown). first_rows (suc count) shown.base) c.base.view_is ∙ c.self.view_is in
-    let rows : size c.args.self.now ≡ suc count = ap (λ (b : Base). size b) (sym c.self.view_is) ∙ size_of_first c.self.inside.base.now.base count c.self.invariant.within in
+    let first : first_rows (suc count) all ≡ c.args.self.now = ap (λ (shown : Shown). first_rows (suc count) shown.base)
+    c.base.view_is ∙ c.self.view_is in
+    let rows : size c.args.self.now ≡ suc count = ap (λ (b : Base). size b) (sym c.self.view_is)
+    ∙ size_of_first c.self.inside.base.now.base count c.self.invariant.within in
     ap (λ n. holder (labels_of_first_rows n kept) l e) rows
     ∙ holder_stored (suc count) kept (labels all) c.base.invariant.labelled l e
     ∙ ap (λ (changes : List LabelChange). holder changes l e) (labels_of_first all (suc count) ∙ ap labels first)

@@ -1,5 +1,6 @@
 -- The links of the key lead from one of its rows to the next older one.
-use Rattle.std.proofs.Common.{◌≡◌, ℕ, suc, ◌<◌, ◌≤◌, nat_eq, List, length, get_or, take, reverse, Option, Some, None, IfSome, sym, ap, subst, ◌∙◌, arith, rules}
+use Rattle.std.proofs.Common.{◌≡◌, ℕ, suc, ◌<◌, ◌≤◌, nat_eq, List, length, get_or, take, reverse, Option, Some, None, IfSome}
+use Rattle.std.proofs.Common.{sym, ap, subst, ◌∙◌, arith, rules}
 use Rattle.std.specs.HashMap.{get}
 use Rattle.std.specs.Option.{option_or}
 use Rattle.std.proofs.lemmas.List.{length-take-le}
@@ -23,14 +24,16 @@ record IsStart (inside : Inside) (links : List Link) (head : Option ℕ) (subjec
   rows : rows_from (reverse links) head ≡ marked_rows inside.hashing (key inside.hashing subject) (reverse inside.rows.items)
   sinks : Sink (rows_from (reverse links) head)
 
-starts : (inside : Inside) (links : List Link) (head : Option ℕ) (subject : Subject) (k : ℕ) → IsIndexed inside → links ≡ inside.links.items → head ≡ get nat_eq inside.newest k → k ≡ key inside.hashing subject
+starts : (inside : Inside) (links : List Link) (head : Option ℕ) (subject : Subject) (k : ℕ) → IsIndexed inside
+    → links ≡ inside.links.items → head ≡ get nat_eq inside.newest k → k ≡ key inside.hashing subject
     → IsStart inside links head subject
 starts inside links head subject k indexed same found at_key =
     let all : Base = reverse inside.rows.items in
     let heads : ℕ → Option ℕ = get nat_eq inside.newest in
     let next : head ≡ heads (key inside.hashing subject) = found ∙ ap heads at_key in
     let rows : rows_from (reverse links) head ≡ marked_rows inside.hashing (key inside.hashing subject) all =
-    ap (λ (ls : List Link). rows_from (reverse ls) head) same ∙ ap (rows_from (reverse inside.links.items)) next ∙ indexed.marks.rows (key inside.hashing subject) in
+    ap (λ (ls : List Link). rows_from (reverse ls) head) same ∙ ap (rows_from (reverse inside.links.items)) next
+    ∙ indexed.marks.rows (key inside.hashing subject) in
     record {
       linked = rw same indexed.marks.chained.linked;
       within = rw (next, same) (indexed.marks.chained.within (key inside.hashing subject));
@@ -40,7 +43,8 @@ starts inside links head subject k indexed same found at_key =
 
 pub first_below-next-requires : goal.first_below-next-requires
 first_below-next-requires g c =
-    let start = starts c.base.inside c.as_slice-links.result.now c.copied-start.result (g.L.LookUp.about c.args.look.now) c.key.result c.base.invariant c.as_slice-links.ensures.value (search rules)
+    let start = starts c.base.inside c.as_slice-links.result.now c.copied-start.result (g.L.LookUp.about c.args.look.now)
+    c.key.result c.base.invariant c.as_slice-links.ensures.value (search rules)
     (c.key.ensures ∙ ap (key c.base.inside.hashing) c.subject.ensures) in
     record { linked = start.linked; there = start.within; sinks = start.sinks }
 
@@ -53,25 +57,32 @@ loop-next-init g c =
     let all : Base = reverse c.base.inside.rows.items in
     let links = c.as_slice-links.result.now in
     let b = c.args.self.now in
-    let start = starts c.base.inside links c.copied-start.result subject c.key.result c.base.invariant c.as_slice-links.ensures.value (search rules)
+    let start = starts c.base.inside links c.copied-start.result subject c.key.result c.base.invariant
+    c.as_slice-links.ensures.value (search rules)
     (c.key.ensures ∙ ap (key c.base.inside.hashing) c.subject.ensures) in
-    let first : first_rows (suc count) all ≡ b = ap (λ (shown : Shown). first_rows (suc count) shown.base) c.base.view_is ∙ c.self.view_is in
-    let update_by_row : first_update (update_at effect b) (marked_rows c.base.inside.hashing (key c.base.inside.hashing subject) all) ≡ newest effect b =
-    subst (λ (rows : Base). first_update (update_at effect rows) (marked_rows c.base.inside.hashing (key c.base.inside.hashing subject) all) ≡ newest effect rows) first
+    let first : first_rows (suc count) all ≡ b = ap (λ (shown : Shown). first_rows (suc count) shown.base) c.base.view_is
+    ∙ c.self.view_is in
+    let update_by_row : first_update (update_at effect b) (marked_rows c.base.inside.hashing (key c.base.inside.hashing subject)
+    all) ≡ newest effect b =
+    subst (λ (rows : Base). first_update (update_at effect rows) (marked_rows c.base.inside.hashing
+    (key c.base.inside.hashing subject) all) ≡ newest effect rows) first
     (marks_of_first c.base.inside.hashing subject effect (g.met.L.LookUp.affects c.args.look.now) (suc count) all) in
-    let none : (n : ℕ) → c.size.result ≤ n → update_at effect b n ≡ None = λ n behind. no_update effect b n (subst (λ bound. bound ≤ n) c.size.ensures.size behind) in
+    let none : (n : ℕ) → c.size.result ≤ n → update_at effect b n ≡ None =
+    λ n behind. no_update effect b n (subst (λ bound. bound ≤ n) c.size.ensures.size behind) in
     record {
       within = c.first_below-next.ensures.there;
       shorter = omega arith;
       linked = start.linked;
-      left = updating_rows_below (update_at effect b) c.size.result none (rows_from (reverse links) c.first_below-next.result) (rows_from (reverse links) c.copied-start.result) c.first_below-next.ensures.below
+      left = updating_rows_below (update_at effect b) c.size.result none (rows_from (reverse links) c.first_below-next.result)
+          (rows_from (reverse links) c.copied-start.result) c.first_below-next.ensures.below
           ∙ ap (first_update (update_at effect b)) start.rows
           ∙ update_by_row;
     }
 
 pub offset_bounds-links-place : goal.offset_bounds-links-place
 offset_bounds-links-place g c =
-    let within : c.in-Some.place < length c.loop-next.links.now = subst (λ n. IfSome n (λ p. p < length c.loop-next.links.now)) c.in-Some.is c.loop-next.invariant.within in
+    let within : c.in-Some.place < length c.loop-next.links.now = subst (λ n. IfSome n (λ p. p < length c.loop-next.links.now))
+    c.in-Some.is c.loop-next.invariant.within in
     let in_range : c.in-Some.place < length c.as_slice-links.result.now = omega (arith, c.loop-next.invariant.shorter) in
     search rules
 

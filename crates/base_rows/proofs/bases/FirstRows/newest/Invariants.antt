@@ -9,7 +9,8 @@ invariant-loop-next g l = record {
   within : IfSome l.next (λ place. place < length l.links);
   shorter : length l.links ≤ length l.initial.links;
   linked : AreLinked (reverse l.links);
-  left : first_update (update_at (g.L.LookUp.effect l.look) l.self) (rows_from (reverse l.links) l.next) ≡ newest (g.L.LookUp.effect l.look) l.self;
+  left : first_update (update_at (g.L.LookUp.effect l.look) l.self) (rows_from (reverse l.links) l.next)
+      ≡ newest (g.L.LookUp.effect l.look) l.self;
 }
 
 abbrev pub decreases-loop-next : goal.decreases-loop-next

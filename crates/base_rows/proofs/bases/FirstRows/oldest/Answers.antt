@@ -1,5 +1,6 @@
 -- The links of the key lead from one of its rows to the next older one.
-use Rattle.std.proofs.Common.{◌≡◌, ℕ, suc, ◌<◌, nat_eq, List, length, get_or, take, reverse, Option, None, IfSome, sym, ap, subst, ◌∙◌, arith, rules}
+use Rattle.std.proofs.Common.{◌≡◌, ℕ, suc, ◌<◌, nat_eq, List, length, get_or, take, reverse, Option, None, IfSome, sym, ap}
+use Rattle.std.proofs.Common.{subst, ◌∙◌, arith, rules}
 use Rattle.std.specs.HashMap.{get}
 use Rattle.std.specs.Option.{option_or}
 use Rattle.std.proofs.lemmas.List.{length-take-le}
@@ -23,25 +24,33 @@ loop-next-init g c =
     let links = c.base.inside.links.items in
     let heads : ℕ → Option ℕ = get nat_eq c.base.inside.newest in
     let found : c.copied-next.result ≡ heads c.key.result = search rules in
-    let at_key : c.key.result ≡ key c.base.inside.hashing subject = c.key.ensures ∙ ap (key c.base.inside.hashing) c.subject.ensures in
+    let at_key : c.key.result ≡ key c.base.inside.hashing subject = c.key.ensures
+    ∙ ap (key c.base.inside.hashing) c.subject.ensures in
     let next : c.copied-next.result ≡ heads (key c.base.inside.hashing subject) = found ∙ ap heads at_key in
     let same : c.as_slice-links.result.now ≡ links = c.as_slice-links.ensures.value in
-    let first : first_rows (suc count) all ≡ c.args.self.now = ap (λ (shown : Shown). first_rows (suc count) shown.base) c.base.view_is ∙ c.self.view_is in
-    let update_by_row : last_set (set_at effect c.args.self.now) (marked_rows c.base.inside.hashing (key c.base.inside.hashing subject) all) ≡ oldest effect c.args.self.now =
-    subst (λ (b : Base). last_set (set_at effect b) (marked_rows c.base.inside.hashing (key c.base.inside.hashing subject) all) ≡ oldest effect b) first
+    let first : first_rows (suc count) all ≡ c.args.self.now = ap (λ (shown : Shown). first_rows (suc count) shown.base)
+    c.base.view_is ∙ c.self.view_is in
+    let update_by_row : last_set (set_at effect c.args.self.now) (marked_rows c.base.inside.hashing
+    (key c.base.inside.hashing subject) all) ≡ oldest effect c.args.self.now =
+    subst (λ (b : Base). last_set (set_at effect b) (marked_rows c.base.inside.hashing (key c.base.inside.hashing subject) all)
+    ≡ oldest effect b) first
     (oldest_of_first c.base.inside.hashing subject effect (g.met.L.LookUp.affects c.args.look.now) (suc count) all) in
-    let from : rows_from (reverse c.as_slice-links.result.now) c.copied-next.result ≡ marked_rows c.base.inside.hashing (key c.base.inside.hashing subject) all =
-    ap (λ (ls : List Link). rows_from (reverse ls) c.copied-next.result) same ∙ ap (rows_from (reverse links)) next ∙ c.base.invariant.marks.rows (key c.base.inside.hashing subject) in
+    let from : rows_from (reverse c.as_slice-links.result.now) c.copied-next.result
+    ≡ marked_rows c.base.inside.hashing (key c.base.inside.hashing subject) all =
+    ap (λ (ls : List Link). rows_from (reverse ls) c.copied-next.result) same ∙ ap (rows_from (reverse links)) next
+    ∙ c.base.invariant.marks.rows (key c.base.inside.hashing subject) in
     record {
       within = rw (next, same) (c.base.invariant.marks.chained.within (key c.base.inside.hashing subject));
       shorter = omega arith;
       linked = rw same c.base.invariant.marks.chained.linked;
-      left = or_none (last_set (set_at effect c.args.self.now) (rows_from (reverse c.as_slice-links.result.now) c.copied-next.result)) ∙ ap (last_set (set_at effect c.args.self.now)) from ∙ update_by_row;
+      left = or_none (last_set (set_at effect c.args.self.now) (rows_from (reverse c.as_slice-links.result.now)
+          c.copied-next.result)) ∙ ap (last_set (set_at effect c.args.self.now)) from ∙ update_by_row;
     }
 
 pub offset_bounds-links-place : goal.offset_bounds-links-place
 offset_bounds-links-place g c =
-    let within : c.in-Some.place < length c.loop-next.links.now = subst (λ n. IfSome n (λ p. p < length c.loop-next.links.now)) c.in-Some.is c.loop-next.invariant.within in
+    let within : c.in-Some.place < length c.loop-next.links.now = subst (λ n. IfSome n (λ p. p < length c.loop-next.links.now))
+    c.in-Some.is c.loop-next.invariant.within in
     let in_range : c.in-Some.place < length c.as_slice-links.result.now = omega (arith, c.loop-next.invariant.shorter) in
     search rules
 
@@ -62,7 +71,8 @@ loop-next-preserved g c =
       linked = along.linked c.loop-next.invariant.linked;
       left = ap (option_or (last_set at rest)) c.set_at-oldest.ensures
           ∙ sym (or_of_three (last_set at rest) (at link.row) c.loop-next.oldest)
-          ∙ ap (λ rows. option_or (last_set at rows) c.loop-next.oldest) (sym (ap (rows_from (reverse links)) c.in-Some.is ∙ along.rows))
+          ∙ ap (λ rows. option_or (last_set at rows) c.loop-next.oldest) (sym (ap (rows_from (reverse links)) c.in-Some.is
+          ∙ along.rows))
           ∙ c.loop-next.invariant.left;
     }
 
@@ -71,5 +81,6 @@ pub returns : goal.returns
 returns g c =
     let at = set_at (g.L.LookUp.effect c.args.look.now) c.args.self.now in
     let none : c.loop-next.next ≡ None = search rules in
-    ap (λ rows. option_or (last_set at rows) c.loop-next.oldest) (sym (ap (rows_from (reverse c.loop-next.links.now)) none ∙ none_from (reverse c.loop-next.links.now)))
+    ap (λ rows. option_or (last_set at rows) c.loop-next.oldest) (sym (ap (rows_from (reverse c.loop-next.links.now)) none
+    ∙ none_from (reverse c.loop-next.links.now)))
     ∙ c.loop-next.invariant.left

@@ -10,7 +10,8 @@ invariant-loop-next g l = record {
   within : IfSome l.next (λ place. place < length l.links);
   shorter : length l.links ≤ length l.initial.links;
   linked : AreLinked (reverse l.links);
-  left : option_or (last_set (set_at (g.L.LookUp.effect l.look) l.self) (rows_from (reverse l.links) l.next)) l.oldest ≡ oldest (g.L.LookUp.effect l.look) l.self;
+  left : option_or (last_set (set_at (g.L.LookUp.effect l.look) l.self) (rows_from (reverse l.links) l.next)) l.oldest
+      ≡ oldest (g.L.LookUp.effect l.look) l.self;
 }
 
 abbrev pub decreases-loop-next : goal.decreases-loop-next

@@ -19,7 +19,8 @@ returns-then-size-row c =
 pub spec_of-requires : goal.spec_of-requires
 spec_of-requires c =
     let all : Base = reverse c.base.inside.rows.items in
-    let kept : reverse c.as_slice.result.now ≡ specs_set all = ap (λ (specs : List Parsed). reverse specs) c.as_slice.ensures.value ∙ c.base.invariant.specs in
+    let kept : reverse c.as_slice.result.now ≡ specs_set all = ap (λ (specs : List Parsed). reverse specs)
+    c.as_slice.ensures.value ∙ c.base.invariant.specs in
     record { falling = subst (λ (specs : List Parsed). Falls (map row_of_parsed specs)) (sym kept) (specs_fall all) }
 
 pub returns : goal.returns
@@ -27,9 +28,12 @@ returns c =
     let row = c.args.row in
     let count = c.self.inside.count in
     let all : Base = reverse c.base.inside.rows.items in
-    let kept : reverse c.as_slice.result.now ≡ specs_set all = ap (λ (specs : List Parsed). reverse specs) c.as_slice.ensures.value ∙ c.base.invariant.specs in
-    let first : first_rows (suc count) all ≡ c.args.self.now = ap (λ (shown : Shown). first_rows (suc count) shown.base) c.base.view_is ∙ c.self.view_is in
-    let rows : size c.args.self.now ≡ suc count = ap (λ (b : Base). size b) (sym c.self.view_is) ∙ size_of_first c.self.inside.base.now.base count c.self.invariant.within in
+    let kept : reverse c.as_slice.result.now ≡ specs_set all = ap (λ (specs : List Parsed). reverse specs)
+    c.as_slice.ensures.value ∙ c.base.invariant.specs in
+    let first : first_rows (suc count) all ≡ c.args.self.now = ap (λ (shown : Shown). first_rows (suc count) shown.base)
+    c.base.view_is ∙ c.self.view_is in
+    let rows : size c.args.self.now ≡ suc count = ap (λ (b : Base). size b) (sym c.self.view_is)
+    ∙ size_of_first c.self.inside.base.now.base count c.self.invariant.within in
     let within : row < suc count = omega (arith, c.size.ensures.size) in
     c.spec_of.ensures
     ∙ ap (rules_at row) kept

@@ -12,8 +12,10 @@ pub returns : goal.returns
 returns c =
     let count = c.self.inside.count in
     let all : Base = reverse c.base.inside.rows.items in
-    let first : first_rows (suc count) all ≡ c.args.self.now = ap (λ (shown : Shown). first_rows (suc count) shown.base) c.base.view_is ∙ c.self.view_is in
-    let rows : size c.args.self.now ≡ suc count = ap (λ (b : Base). size b) (sym c.self.view_is) ∙ size_of_first c.self.inside.base.now.base count c.self.invariant.within in
+    let first : first_rows (suc count) all ≡ c.args.self.now = ap (λ (shown : Shown). first_rows (suc count) shown.base)
+    c.base.view_is ∙ c.self.view_is in
+    let rows : size c.args.self.now ≡ suc count = ap (λ (b : Base). size b) (sym c.self.view_is)
+    ∙ size_of_first c.self.inside.base.now.base count c.self.invariant.within in
     ap (λ n. of_first_rows n c.base.inside.tree.changes) rows
     ∙ ap (of_first_rows (suc count)) c.base.invariant.trees
     ∙ tree_of_first_rows all (suc count) (omega arith)

@@ -1,5 +1,6 @@
 -- The links of the key lead from one of its rows to the next older one, and each that does something is told.
-use Rattle.std.proofs.Common.{◌≡◌, ℕ, suc, ◌<◌, ◌++◌, nat_eq, List, append-nil, length, get_or, min, take, reverse, Option, None, IfSome, sym, ap, ap₂, subst, ◌∙◌, arith, rules}
+use Rattle.std.proofs.Common.{◌≡◌, ℕ, suc, ◌<◌, ◌++◌, nat_eq, List, append-nil, length, get_or, min, take, reverse, Option, None}
+use Rattle.std.proofs.Common.{IfSome, sym, ap, ap₂, subst, ◌∙◌, arith, rules}
 use Rattle.std.specs.HashMap.{get}
 use Rattle.std.proofs.lemmas.List.{length-take-le}
 use Rattle.base_model.specs.Rows.{Base, first_rows, size}
@@ -23,27 +24,35 @@ loop-next-init g c =
     let links = c.base.inside.links.items in
     let heads : ℕ → Option ℕ = get nat_eq c.base.inside.newest in
     let found : c.copied-next.result ≡ heads c.key.result = search rules in
-    let at_key : c.key.result ≡ key c.base.inside.hashing subject = c.key.ensures ∙ ap (key c.base.inside.hashing) c.subject.ensures in
+    let at_key : c.key.result ≡ key c.base.inside.hashing subject = c.key.ensures
+    ∙ ap (key c.base.inside.hashing) c.subject.ensures in
     let next : c.copied-next.result ≡ heads (key c.base.inside.hashing subject) = found ∙ ap heads at_key in
     let same : c.as_slice-links.result.now ≡ links = c.as_slice-links.ensures.value in
-    let first : first_rows (suc count) all ≡ c.args.self.now = ap (λ (shown : Shown). first_rows (suc count) shown.base) c.base.view_is ∙ c.self.view_is in
-    let update_by_row : updating_rows_below (update_at effect c.args.self.now) (size c.args.self.now) (marked_rows c.base.inside.hashing (key c.base.inside.hashing subject) all) ≡ updating_rows effect c.args.self.now =
-    subst (λ (b : Base). updating_rows_below (update_at effect b) (size b) (marked_rows c.base.inside.hashing (key c.base.inside.hashing subject) all) ≡ updating_rows effect b) first
+    let first : first_rows (suc count) all ≡ c.args.self.now = ap (λ (shown : Shown). first_rows (suc count) shown.base)
+    c.base.view_is ∙ c.self.view_is in
+    let update_by_row : updating_rows_below (update_at effect c.args.self.now) (size c.args.self.now)
+    (marked_rows c.base.inside.hashing (key c.base.inside.hashing subject) all) ≡ updating_rows effect c.args.self.now =
+    subst (λ (b : Base). updating_rows_below (update_at effect b) (size b)
+    (marked_rows c.base.inside.hashing (key c.base.inside.hashing subject) all) ≡ updating_rows effect b) first
     (walk_of_first c.base.inside.hashing subject effect (g.met.L.LookUp.affects c.args.look.now) (suc count) all) in
-    let from : rows_from (reverse c.as_slice-links.result.now) c.copied-next.result ≡ marked_rows c.base.inside.hashing (key c.base.inside.hashing subject) all =
-    ap (λ (ls : List Link). rows_from (reverse ls) c.copied-next.result) same ∙ ap (rows_from (reverse links)) next ∙ c.base.invariant.marks.rows (key c.base.inside.hashing subject) in
+    let from : rows_from (reverse c.as_slice-links.result.now) c.copied-next.result
+    ≡ marked_rows c.base.inside.hashing (key c.base.inside.hashing subject) all =
+    ap (λ (ls : List Link). rows_from (reverse ls) c.copied-next.result) same ∙ ap (rows_from (reverse links)) next
+    ∙ c.base.invariant.marks.rows (key c.base.inside.hashing subject) in
     record {
       within = rw (next, same) (c.base.invariant.marks.chained.within (key c.base.inside.hashing subject));
       shorter = omega arith;
       linked = rw same c.base.invariant.marks.chained.linked;
-      left = ap (λ (items : List ℕ). items ++ updating_rows_below (update_at effect c.args.self.now) c.size-bound.result (rows_from (reverse c.as_slice-links.result.now) c.copied-next.result)) c.new-numbers.ensures.items
+      left = ap (λ (items : List ℕ). items ++ updating_rows_below (update_at effect c.args.self.now) c.size-bound.result
+          (rows_from (reverse c.as_slice-links.result.now) c.copied-next.result)) c.new-numbers.ensures.items
           ∙ ap₂ (updating_rows_below (update_at effect c.args.self.now)) c.size-bound.ensures.size from
           ∙ update_by_row;
     }
 
 pub offset_bounds-links-place : goal.offset_bounds-links-place
 offset_bounds-links-place g c =
-    let within : c.in-Some.place < length c.loop-next.links.now = subst (λ n. IfSome n (λ p. p < length c.loop-next.links.now)) c.in-Some.is c.loop-next.invariant.within in
+    let within : c.in-Some.place < length c.loop-next.links.now = subst (λ n. IfSome n (λ p. p < length c.loop-next.links.now))
+    c.in-Some.is c.loop-next.invariant.within in
     let in_range : c.in-Some.place < length c.as_slice-links.result.now = omega (arith, c.loop-next.invariant.shorter) in
     search rules
 
@@ -65,7 +74,8 @@ loop-next-preserved g c =
       linked = along.linked c.loop-next.invariant.linked;
       left = ap (λ n. c.add_updating_row.new.numbers.items ++ updating_rows_below at n rest) c.min-bound.ensures
           ∙ c.in_ok-add_updating_row.ensures (updating_rows_below at (min bound link.row) rest)
-          ∙ ap (λ rows. c.loop-next.numbers.items ++ updating_rows_below at bound rows) (sym (ap (rows_from (reverse links)) c.in-Some.is ∙ along.rows))
+          ∙ ap (λ rows. c.loop-next.numbers.items ++ updating_rows_below at bound rows)
+          (sym (ap (rows_from (reverse links)) c.in-Some.is ∙ along.rows))
           ∙ c.loop-next.invariant.left;
     }
 
@@ -75,5 +85,6 @@ returns g c =
     let at = update_at (g.L.LookUp.effect c.args.look.now) c.args.self.now in
     let none : c.loop-next.next ≡ None = search rules in
     sym (append-nil c.loop-next.numbers.items)
-    ∙ ap (λ rows. c.loop-next.numbers.items ++ updating_rows_below at c.loop-next.bound rows) (sym (ap (rows_from (reverse c.loop-next.links.now)) none ∙ none_from (reverse c.loop-next.links.now)))
+    ∙ ap (λ rows. c.loop-next.numbers.items ++ updating_rows_below at c.loop-next.bound rows)
+    (sym (ap (rows_from (reverse c.loop-next.links.now)) none ∙ none_from (reverse c.loop-next.links.now)))
     ∙ c.loop-next.invariant.left

@@ -10,7 +10,8 @@ invariant-loop-next g l = record {
   within : IfSome l.next (λ place. place < length l.links);
   shorter : length l.links ≤ length l.initial.links;
   linked : AreLinked (reverse l.links);
-  left : l.numbers.items ++ updating_rows_below (update_at (g.L.LookUp.effect l.look) l.self) l.bound (rows_from (reverse l.links) l.next) ≡ updating_rows (g.L.LookUp.effect l.look) l.self;
+  left : l.numbers.items ++ updating_rows_below (update_at (g.L.LookUp.effect l.look) l.self) l.bound
+      (rows_from (reverse l.links) l.next) ≡ updating_rows (g.L.LookUp.effect l.look) l.self;
 }
 
 abbrev pub decreases-loop-next : goal.decreases-loop-next

@@ -19,8 +19,10 @@ returns c =
     let version = c.args.version in
     let count = c.self.inside.count in
     let all : Base = reverse c.base.inside.rows.items in
-    let first : first_rows (suc count) all ≡ c.args.self.now = ap (λ (shown : Shown). first_rows (suc count) shown.base) c.base.view_is ∙ c.self.view_is in
-    let rows : size c.args.self.now ≡ suc count = ap (λ (b : Base). size b) (sym c.self.view_is) ∙ size_of_first c.self.inside.base.now.base count c.self.invariant.within in
+    let first : first_rows (suc count) all ≡ c.args.self.now = ap (λ (shown : Shown). first_rows (suc count) shown.base)
+    c.base.view_is ∙ c.self.view_is in
+    let rows : size c.args.self.now ≡ suc count = ap (λ (b : Base). size b) (sym c.self.view_is)
+    ∙ size_of_first c.self.inside.base.now.base count c.self.invariant.within in
     let within : version < suc count = omega (arith, c.size.ensures.size) in
     c.version_id.ensures
     ∙ ap (λ changes. version_id changes version) c.base.invariant.trees

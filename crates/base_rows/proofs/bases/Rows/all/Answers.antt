@@ -11,13 +11,18 @@ use Rattle.base_rows.proofs.bases.Rows.all.Goals as goal
 
 pub invariant_of-result : goal.invariant_of-result
 invariant_of-result c =
-    let fitting : is_base c.args.self.now.base ≡ true = subst (λ (shown : Shown). is_base shown.base ≡ true) c.self.view_is c.self.invariant.fitting in
-    let items : length (reverse c.self.inside.rows.items) ≡ length c.args.self.now.base = ap (λ (shown : Shown). length shown.base) c.self.view_is in
-    let count : c.len.result ≡ length c.args.self.now.base = grind (arith, common_steps, length-reverse c.self.inside.rows.items) in
+    let fitting : is_base c.args.self.now.base ≡ true = subst (λ (shown : Shown). is_base shown.base ≡ true) c.self.view_is
+    c.self.invariant.fitting in
+    let items : length (reverse c.self.inside.rows.items) ≡ length c.args.self.now.base =
+    ap (λ (shown : Shown). length shown.base) c.self.view_is in
+    let count : c.len.result ≡ length c.args.self.now.base = grind (arith, common_steps, length-reverse c.self.inside.rows.items)
+    in
     subst (λ n. IsBasePrefix n c.args.self.now.base) (sym count) (all_prefix c.args.self.now.base fitting)
 
 pub returns : goal.returns
 returns c =
-    let items : length (reverse c.self.inside.rows.items) ≡ length c.args.self.now.base = ap (λ (shown : Shown). length shown.base) c.self.view_is in
-    let count : c.len.result ≡ length c.args.self.now.base = grind (arith, common_steps, length-reverse c.self.inside.rows.items) in
+    let items : length (reverse c.self.inside.rows.items) ≡ length c.args.self.now.base =
+    ap (λ (shown : Shown). length shown.base) c.self.view_is in
+    let count : c.len.result ≡ length c.args.self.now.base = grind (arith, common_steps, length-reverse c.self.inside.rows.items)
+    in
     all_rows c.args.self.now.base (suc c.len.result) (omega arith)

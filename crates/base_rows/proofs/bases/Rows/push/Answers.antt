@@ -1,5 +1,6 @@
 -- The row's marks, its changes of the trees and of the labels, its config spec and what its record lists are those of the row.
-use Rattle.std.proofs.Common.{◌≡◌, ℕ, ◌+◌, ◌≤◌, ◌&&◌, true, Option, List, [], ◌∷◌, length, map, reverse, nat_eq, nat_lt, sym, ap, ap₂, subst, ◌∙◌, arith}
+use Rattle.std.proofs.Common.{◌≡◌, ℕ, ◌+◌, ◌≤◌, ◌&&◌, true, Option, List, [], ◌∷◌, length, map, reverse, nat_eq, nat_lt, sym, ap}
+use Rattle.std.proofs.Common.{ap₂, subst, ◌∙◌, arith}
 use Rattle.std.proofs.lemmas.Grind.{common_steps}
 use Rattle.std.proofs.lemmas.List.{length-reverse, reverse-append}
 use Rattle.std.specs.HashMap.{get}
@@ -15,7 +16,7 @@ use Rattle.base_model.specs.Fits.{deed_fits, fits, is_base, row_limit}
 use Rattle.base_model.specs.Rows.{Base, size}
 use Rattle.base_rows.specs.Growing.{HasPlace, change_of, tree_change, with_change}
 use Rattle.base_rows.specs.Labelling.{AreLabels, HasLabelRoom}
-use Rattle.base_rows.specs.Listings.{AreListings, HasListing, Versions, listing_made, version_in, versions_of, with_listing}
+use Rattle.base_rows.specs.Listings.{AreListings, HasListing, Versions, listing_made, version_in, versions_of_map, with_listing}
 use Rattle.base_rows.specs.Marked.{IsMarked, rows_by, with_marks}
 use Rattle.base_rows.specs.Preparing.{IsPrepared}
 use Rattle.base_rows.specs.SeenFiles.{AreSeenByViews}
@@ -36,10 +37,12 @@ grow-requires-clause-above c =
     let len : c.len.result ≡ length older = grind (arith, common_steps, length-reverse c.self.inside.rows.items) in
     let number : c.len.result + 1 ≡ size older = omega arith in
     subst (λ n. IsAbove n (map row_of_change c.self.inside.tree.changes)) (sym number)
-    (subst (λ (changes : List TreeChange). IsAbove (size older) (map row_of_change changes)) (sym c.self.invariant.trees) (above_tree older))
+    (subst (λ (changes : List TreeChange). IsAbove (size older) (map row_of_change changes)) (sym c.self.invariant.trees)
+    (above_tree older))
 
 pub grow-requires-clause-place : goal.grow-requires-clause-place
-grow-requires-clause-place c = subst (λ (shown : Shown). HasPlace shown.trees c.args.prepared.growth) (sym c.self.view_is) c.requires.room.place
+grow-requires-clause-place c = subst (λ (shown : Shown). HasPlace shown.trees c.args.prepared.growth) (sym c.self.view_is)
+    c.requires.room.place
 
 pub relabel-requires-clause-above : goal.relabel-requires-clause-above
 relabel-requires-clause-above c = λ l e.
@@ -77,13 +80,16 @@ invariant_of-self c =
     let base_is : older ≡ c.args.self.now.base = ap (λ (shown : Shown). shown.base) c.self.view_is in
     let len : c.len.result ≡ length older = grind (arith, common_steps, length-reverse c.self.inside.rows.items) in
     let number : c.len.result + 1 ≡ size older = omega arith in
-    let back : reverse c.push_reserved.new.self.items ≡ row ∷ older = ap reverse c.push_reserved.ensures.items ∙ reverse-append c.self.inside.rows.items (row ∷ []) in
+    let back : reverse c.push_reserved.new.self.items ≡ row ∷ older = ap reverse c.push_reserved.ensures.items
+    ∙ reverse-append c.self.inside.rows.items (row ∷ []) in
     let fitting : fits older row.deed ≡ true = subst (λ (b : Base). fits b row.deed ≡ true) (sym base_is) c.requires.fits in
     let based : is_base (row ∷ older) ≡ true = ap₂ (λ one two. one && two) fitting c.self.invariant.fitting in
     let ready : IsPrepared c.args.prepared hashing older row.deed =
-    subst (λ (shown : Shown). IsPrepared c.args.prepared shown.hashing shown.base row.deed) (sym c.self.view_is) c.requires.room.ready in
+    subst (λ (shown : Shown). IsPrepared c.args.prepared shown.hashing shown.base row.deed) (sym c.self.view_is)
+    c.requires.room.ready in
     let change : change_of (c.len.result + 1) moment growth ≡ tree_change older row.moment row.deed =
-    ap (λ n. change_of n moment growth) number ∙ ready.change moment ∙ ap (λ at. tree_change older at row.deed) c.moment.ensures in
+    ap (λ n. change_of n moment growth) number ∙ ready.change moment ∙ ap (λ at. tree_change older at row.deed) c.moment.ensures
+    in
     let keys : c.as_slice.result.now ≡ keys_of hashing older row.deed = c.as_slice.ensures.value ∙ ready.keys in
     let marks : IsMarked hashing c.mark_keys.new.links.items (get nat_eq c.mark_keys.new.newest) (row ∷ older) = record {
       chained = c.mark_keys.ensures.marks.chained c.self.invariant.marks.chained;
@@ -96,27 +102,32 @@ invariant_of-self c =
     let at_number : labels_after (c.len.result + 1) c.deed.result.now (labels older) ≡ labels (row ∷ older) =
     ap₂ (λ n deed. labels_after n deed (labels older)) number c.deed.ensures.deed in
     let labelled : AreLabels c.relabel.new.book.changes (labels_after (c.len.result + 1) c.deed.result.now (labels older)) =
-    same_twice c.relabel.new.book.changes (labels_after (c.len.result + 1) c.deed.result.now kept) (labels_after (c.len.result + 1) c.deed.result.now (labels older))
+    same_twice c.relabel.new.book.changes (labels_after (c.len.result + 1) c.deed.result.now kept)
+    (labels_after (c.len.result + 1) c.deed.result.now (labels older))
     c.relabel.ensures (after_same (c.len.result + 1) c.deed.result.now kept (labels older) c.self.invariant.labelled) in
     let given : c.args.prepared.rules ≡ rules_set row.deed = ready.rules ∙ set_short row.deed c.deed.ensures.formed.deed in
-    let made = versions_of c.args.prepared.listing in
-    let listings : ℕ → Option Versions = λ id. versions_of (get nat_eq c.self.inside.listings id) in
+    let made = versions_of_map c.args.prepared.listing in
+    let listings : ℕ → Option Versions = λ id. versions_of_map (get nat_eq c.self.inside.listings id) in
     let own : HasListing made (listing_made older row.deed) = ready.listing in
     record {
       fitting = ap is_base back ∙ based;
-      marks = subst (λ (b : Base). IsMarked hashing c.mark_keys.new.links.items (get nat_eq c.mark_keys.new.newest) b) (sym back) marks;
+      marks = subst (λ (b : Base). IsMarked hashing c.mark_keys.new.links.items (get nat_eq c.mark_keys.new.newest) b) (sym back)
+          marks;
       trees = c.grow.ensures
           ∙ ap (λ added. with_change added c.self.inside.tree.changes) change
           ∙ ap (with_change (tree_change older row.moment row.deed)) c.self.invariant.trees
           ∙ sym (tree_by_change row older)
           ∙ ap tree (sym back);
-      labelled = subst (λ (changes : List LabelChange). AreLabels c.relabel.new.book.changes changes) (at_number ∙ ap labels (sym back)) labelled;
+      labelled = subst (λ (changes : List LabelChange). AreLabels c.relabel.new.book.changes changes) (at_number
+          ∙ ap labels (sym back)) labelled;
       specs = c.keep_spec.ensures
           ∙ ap₂ (λ n rules. with_spec n rules (reverse c.self.inside.specs.items)) number given
           ∙ ap (with_spec (size older) (rules_set row.deed)) c.self.invariant.specs
           ∙ ap specs_set (sym back);
-      listed = subst (AreListings (λ id. versions_of (get nat_eq c.keep_listing.new.listings id))) (sym back)
+      listed = subst (AreListings (λ id. versions_of_map (get nat_eq c.keep_listing.new.listings id))) (sym back)
           (λ id e. ap (version_in e) (c.keep_listing.ensures id ∙ ap (λ n. with_listing n made listings id) number)
-          ∙ listings_more listings made row older c.self.invariant.fitting (and_second (nat_lt (size older) row_limit) (deed_fits older row.deed) fitting) c.self.invariant.listed own id e);
-      seen = subst (λ (b : Base). AreSeenByViews b c.self.inside.seen) (sym back) (seen_more row older c.self.inside.seen c.self.invariant.seen);
+          ∙ listings_more listings made row older c.self.invariant.fitting
+          (and_second (nat_lt (size older) row_limit) (deed_fits older row.deed) fitting) c.self.invariant.listed own id e);
+      seen = subst (λ (b : Base). AreSeenByViews b c.self.inside.seen) (sym back)
+          (seen_more row older c.self.inside.seen c.self.invariant.seen);
     }

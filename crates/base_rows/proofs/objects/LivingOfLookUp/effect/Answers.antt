@@ -9,5 +9,6 @@ pub returns-in-Scrub : goal.returns-in-Scrub
 returns-in-Scrub c =
     let id = c.args.self.now.object in
     c.only_if-in-Scrub.ensures
-    ∙ ap (λ is. only_if is Ends) (c.is_among.ensures ∙ ap (λ (objects : List ℕ). list_any (λ object. object == id) objects) c.as_slice.ensures)
+    ∙ ap (λ is. only_if is Ends) (c.is_among.ensures ∙ ap (λ (objects : List ℕ). list_any (λ object. object == id) objects)
+    c.as_slice.ensures)
     ∙ sym (ap (living_effect id c.args.older.now) c.in-Scrub.is)

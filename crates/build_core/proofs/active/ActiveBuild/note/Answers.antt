@@ -9,5 +9,11 @@ pub returns : goal.returns
 returns c =
     let inside = c.self.inside in
     let slots : length inside.comes.items ≡ length inside.graph = c.self.invariant.each in
-    let within : c.args.unit < length inside.comes.items = omega (arith, slots, c.requires, ap (λ (build : Build). length build.units) c.self.view_is) in
-    with_comes _ _ _ c.args.unit (came_of c.args.came) (noted_in_slot inside.comes.items c.args.unit c.args.came within) c.self.view_is
+    let within : c.args.unit < length inside.comes.items = omega (
+      arith,
+      slots,
+      c.requires,
+      ap (λ (build : Build). length build.units) c.self.view_is,
+    ) in
+    with_comes _ _ _ c.args.unit (came_of c.args.came) (noted_in_slot inside.comes.items c.args.unit c.args.came within)
+    c.self.view_is

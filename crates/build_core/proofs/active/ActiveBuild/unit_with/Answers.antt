@@ -9,13 +9,15 @@ use Rattle.build_core.proofs.active.ActiveBuild.unit_with.Goals as goal
 pub returns-clause-number : goal.returns-clause-number
 returns-clause-number c =
     c.unit_of.ensures
-    ∙ (ap (λ (build : Build). number_of made_by_unit 0 c.args.path.now build.units) c.self.view_is ∙ sym (same_number 0 c.args.path.now c.args.self.now.units))
+    ∙ (ap (λ (build : Build). number_of made_by_unit 0 c.args.path.now build.units) c.self.view_is
+    ∙ sym (same_number 0 c.args.path.now c.args.self.now.units))
 
 pub returns-clause-within : goal.returns-clause-within
 returns-clause-within c =
     let units = c.args.self.now.units in
     let found : c.unit_of.result ≡ unit_with c.args.self.now c.args.path.now =
     c.unit_of.ensures
-    ∙ (ap (λ (build : Build). number_of made_by_unit 0 c.args.path.now build.units) c.self.view_is ∙ sym (same_number 0 c.args.path.now units))
+    ∙ (ap (λ (build : Build). number_of made_by_unit 0 c.args.path.now build.units) c.self.view_is
+    ∙ sym (same_number 0 c.args.path.now units))
     in
     subst (λ o. IfSome o (λ n. n < length units)) (sym found) (within c.args.path.now units)

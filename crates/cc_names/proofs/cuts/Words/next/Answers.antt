@@ -14,5 +14,6 @@ returns c =
     ] in
     let cut = words-next rest c.first_blank.result first c.first_blank.ensures.place in
     let view : words_of c.self.inside.rest.now ≡ c.args.self.now = c.self.view_is in
-    sym view ∙ sym c.past_blanks-rest.ensures.words ∙ cut ∙ ap (λ v. v ∷ words_of (behind rest c.first_blank.result)) (sym c.cut_at.ensures.0)
+    sym view ∙ sym c.past_blanks-rest.ensures.words ∙ cut ∙ ap (λ v. v ∷ words_of (behind rest c.first_blank.result))
+    (sym c.cut_at.ensures.0)
     ∙ ap (λ v. c.cut_at.result.0.now ∷ words_of v) (sym c.cut_at.ensures.1)

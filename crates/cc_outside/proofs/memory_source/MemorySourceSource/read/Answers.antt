@@ -9,9 +9,11 @@ left_of feed = feed.left
 
 pub returns-clause-bytes : goal.returns-clause-bytes
 returns-clause-bytes c =
-    let rest : take (length c.deref-2.result.now - c.self.inside.place) (drop c.self.inside.place c.deref-2.result.now) ≡ drop c.self.inside.place c.self.inside.bytes.items =
+    let rest : take (length c.deref-2.result.now - c.self.inside.place) (drop c.self.inside.place c.deref-2.result.now)
+    ≡ drop c.self.inside.place c.self.inside.bytes.items =
     take_rest c.deref-2.result.now c.self.inside.place ∙ ap (λ v. drop c.self.inside.place v) c.deref-2.ensures.value in
     let count = rw rest at c.min-count.ensures in
     let piece = rw rest at c.copy_from_slice.ensures.after in
-    let taken = takes_prefix c.self.inside.bytes.items c.args.into.now c.copy_from_slice.new.self c.self.inside.place c.min-count.result count piece in
+    let taken = takes_prefix c.self.inside.bytes.items c.args.into.now c.copy_from_slice.new.self c.self.inside.place
+    c.min-count.result count piece in
     rw (ap left_of (sym c.self.view_is)) taken

@@ -1,4 +1,4 @@
--- The tail of one arrow after the other is taken in.
+-- The tail of one arrow after the other is added.
 use Rattle.std.proofs.Common.{ℕ, ◌+◌, Bool, false, ◌||◌, List, drop, get_or, ap, sym, ◌∙◌, refl}
 use Rattle.std.proofs.lemmas.List.{at_drop_all, at_drop_more}
 use Rattle.std.specs.List.{list_any}
@@ -31,6 +31,8 @@ returns c =
     let walk = c.loop-arrow.self in
     let tails : List ℕ → ℕ → Bool = λ rows n. list_any (λ row. is_number n (arrow_source_at b row)) rows in
     alike (tails arrows) (λ n. is_arrow_between b n c.args.version) c.args.self.now walk
-    (λ n. ap (λ (rows : List ℕ). tails rows n) (c.deref-arrow-items.ensures.value ∙ c.in_ok-arrows.ensures) ∙ tails_found b n c.args.version b (λ m low. refl))
+    (λ n. ap (λ (rows : List ℕ). tails rows n) (c.deref-arrow-items.ensures.value ∙ c.in_ok-arrows.ensures)
+    ∙ tails_found b n c.args.version b (λ m low. refl))
     (c.loop-arrow.invariant walk
-    (alike (λ n. false) (tails (drop i arrows)) walk walk (λ n. sym (at_drop_all (λ (left : List ℕ). tails left n) arrows i c.loop-arrow-test.false)) (none_taken walk)))
+    (alike (λ n. false) (tails (drop i arrows)) walk walk (λ n. sym (at_drop_all (λ (left : List ℕ). tails left n) arrows i
+    c.loop-arrow-test.false)) (none_taken walk)))

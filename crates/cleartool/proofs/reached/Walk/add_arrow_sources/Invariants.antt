@@ -5,7 +5,9 @@ use Rattle.cleartool.specs.Reached.{AddsVersions, arrow_source_at}
 use Rattle.cleartool.specs.declared.reached.Walk.{Walk}
 use Rattle.cleartool.proofs.reached.Walk.add_arrow_sources.Given as goal
 
--- what takes in the tails that are left takes in all
+-- what adds the tails that are left adds all
 abbrev pub invariant-loop-arrow : goal.invariant-loop-arrow
 invariant-loop-arrow l =
-    (next : Walk) → AddsVersions (λ n. list_any (λ row. is_number n (arrow_source_at l.rows row)) (drop l.arrow-index l.arrow-items)) l.self next → AddsVersions (λ n. list_any (λ row. is_number n (arrow_source_at l.rows row)) l.arrow-items) l.initial.self next
+    (next : Walk) → AddsVersions (λ n. list_any (λ row. is_number n (arrow_source_at l.rows row))
+    (drop l.arrow-index l.arrow-items)) l.self next → AddsVersions
+    (λ n. list_any (λ row. is_number n (arrow_source_at l.rows row)) l.arrow-items) l.initial.self next

@@ -14,7 +14,8 @@ returns c =
     let origin : ℕ → Bool = λ n. is_number n c.origin_of.result in
     let tails : ℕ → Bool = λ n. is_arrow_between b n version in
     alike (λ n. (before n || origin n) || tails n) (λ n. follows b n version) c.args.self.now c.add_arrow_sources.new.self
-    (λ n. ap₂ (λ (one two : Bool). (one || two) || tails n) (ap (is_number n) c.predecessor.ensures ∙ sym (successor_by b n version)) (ap (is_number n) c.origin_of.ensures ∙ sym (branch_by b n version)))
+    (λ n. ap₂ (λ (one two : Bool). (one || two) || tails n) (ap (is_number n) c.predecessor.ensures
+    ∙ sym (successor_by b n version)) (ap (is_number n) c.origin_of.ensures ∙ sym (branch_by b n version)))
     (both_taken (λ n. before n || origin n) tails c.args.self.now c.take-2.new.self c.add_arrow_sources.new.self
     (both_taken before origin c.args.self.now c.take.new.self c.take-2.new.self c.in_ok-take.ensures c.in_ok-take-2.ensures)
     c.in_ok-add_arrow_sources.ensures)

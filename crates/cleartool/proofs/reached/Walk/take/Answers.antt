@@ -1,4 +1,4 @@
--- One version more is taken in.
+-- One version more is added.
 use Rattle.std.proofs.Common.{◌≡◌, ℕ, ◌+◌, Bool, true, false, not, Option, length, refl, ap, sym, subst, ◌∙◌}
 use Rattle.std.specs.Prelude.{if◌then◌else◌}
 use Rattle.cc_names.specs.Versions.{is_number}

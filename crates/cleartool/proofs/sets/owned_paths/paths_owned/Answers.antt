@@ -3,7 +3,7 @@ use Rattle.std.proofs.Common.{◌≡◌, ℕ, ◌+◌, true, false, ◌||◌, Li
 use Rattle.std.proofs.lemmas.List.{at_drop_all, at_drop_more}
 use Rattle.std.specs.List.{list_any}
 use Rattle.cc_names.specs.Formed.{IsBelowRoot}
-use Rattle.base_model.specs.Closures.{is_among}
+use Rattle.base_model.specs.Closures.{is_path_among}
 use Rattle.cleartool.specs.Owned.{is_given_by}
 use Rattle.cleartool.proofs.GivenRows.{paths_found}
 use Rattle.cleartool.proofs.PathSets.{moved_over}
@@ -19,15 +19,19 @@ loop-number-preserved c =
     record {
       found = λ q.
           let more = list_any (is_given_by b q) (drop (i + 1) numbers) in
-          ap (λ among. more || among) (c.in_ok-add_row.ensures.found q)
-          ∙ moved_over more (is_given_by b q n) (is_among q old.keys)
-          ∙ sym (at_drop_more (λ (left : List ℕ). list_any (is_given_by b q) left || is_among q old.keys) numbers i 0 c.loop-number-test.true)
+          ap (λ among. more || among) (c.in_ok-add_paths_of_row.ensures.found q)
+          ∙ moved_over more (is_given_by b q n) (is_path_among q old.keys)
+          ∙ sym (at_drop_more (λ (left : List ℕ). list_any (is_given_by b q) left || is_path_among q old.keys) numbers i 0
+          c.loop-number-test.true)
           ∙ c.loop-number.invariant.found q;
       below = λ q among none.
-          let left : list_any (is_given_by b q) (drop i numbers) ≡ (is_given_by b q n || list_any (is_given_by b q) (drop (i + 1) numbers)) = at_drop_more (list_any (is_given_by b q)) numbers i 0 c.loop-number-test.true in
+          let left : list_any (is_given_by b q) (drop i numbers) ≡ (is_given_by b q n
+          || list_any (is_given_by b q) (drop (i + 1) numbers)) = at_drop_more (list_any (is_given_by b q)) numbers i 0
+          c.loop-number-test.true in
           elim (is_given_by b q n) as (λ t. is_given_by b q n ≡ t → IsBelowRoot q) [
-            | true ↦ λ e. c.in_ok-add_row.ensures.below q e
-            | false ↦ λ e. c.loop-number.invariant.below q among (left ∙ ap (λ t. t || list_any (is_given_by b q) (drop (i + 1) numbers)) e ∙ none)
+            | true ↦ λ e. c.in_ok-add_paths_of_row.ensures.below q e
+            | false ↦ λ e. c.loop-number.invariant.below q among (left
+                ∙ ap (λ t. t || list_any (is_given_by b q) (drop (i + 1) numbers)) e ∙ none)
           ] refl;
     }
 
@@ -39,7 +43,8 @@ returns c =
     let same = c.deref-number-items.ensures.value ∙ c.in_ok-numbers.ensures in
     record {
       found = λ q.
-          sym (at_drop_all (λ (left : List ℕ). list_any (is_given_by b q) left || is_among q c.loop-number.found.keys) numbers c.loop-number.number-index c.loop-number-test.false)
+          sym (at_drop_all (λ (left : List ℕ). list_any (is_given_by b q) left || is_path_among q c.loop-number.found.keys)
+          numbers c.loop-number.number-index c.loop-number-test.false)
           ∙ c.loop-number.invariant.found q
           ∙ ap (list_any (is_given_by b q)) same
           ∙ paths_found b v q b (λ n low. refl);

@@ -11,10 +11,12 @@ loop-number-preserved c = λ version.
     let numbers = c.args.numbers.now in
     let i = c.loop-number.number-index in
     ap (labels_among b e version (drop (i + 1) numbers)) (c.in_ok-add_label.ensures version)
-    ∙ sym (at_drop_more (λ (left : List ℕ). labels_among b e version left (labels_at c.loop-number.labels version)) numbers i 0 c.loop-number-test.true)
+    ∙ sym (at_drop_more (λ (left : List ℕ). labels_among b e version left (labels_at c.loop-number.labels version)) numbers i 0
+    c.loop-number-test.true)
     ∙ c.loop-number.invariant version
 
 pub returns : goal.returns
 returns c = λ version.
-    sym (at_drop_all (λ (left : List ℕ). labels_among c.args.rows.now c.args.element version left (labels_at c.loop-number.labels version)) c.args.numbers.now c.loop-number.number-index c.loop-number-test.false)
+    sym (at_drop_all (λ (left : List ℕ). labels_among c.args.rows.now c.args.element version left
+    (labels_at c.loop-number.labels version)) c.args.numbers.now c.loop-number.number-index c.loop-number-test.false)
     ∙ c.loop-number.invariant version

@@ -14,31 +14,37 @@ use Rattle.container_store.proofs.store.Store.free.Goals as goal
 pub hole_before-requires-clause-in_place : goal.hole_before-requires-clause-in_place
 hole_before-requires-clause-in_place c =
     let xs = c.self.inside.taken.items in
-    let at = c.count_below-at.result in
+    let at = c.count_extents_below-at.result in
     let e = c.args.extent in
     let taken : Contains xs e = subst (λ (s : Space). Contains s.taken e) (sym c.self.view_is) c.requires in
-    let found = found_in c.as_slice.result.now xs at e c.as_slice.ensures.value c.self.invariant.in_place c.count_below-at.ensures.below taken in
-    subst (IsInPlace 0) (sym (c.as_slice-2.ensures.value ∙ c.remove.ensures.items)) (out_in_place xs at c.self.inside.longest c.self.invariant e found.0 found.1)
+    let found = found_in c.as_slice.result.now xs at e c.as_slice.ensures.value c.self.invariant.in_place
+    c.count_extents_below-at.ensures.below taken in
+    subst (IsInPlace 0) (sym (c.as_slice-2.ensures.value ∙ c.remove.ensures.items))
+    (out_in_place xs at c.self.inside.longest c.self.invariant e found.0 found.1)
 
 pub hole_before-requires-clause-fits : goal.hole_before-requires-clause-fits
 hole_before-requires-clause-fits c =
     let xs = c.self.inside.taken.items in
-    let at = c.count_below-at.result in
+    let at = c.count_extents_below-at.result in
     let e = c.args.extent in
     let taken : Contains xs e = subst (λ (s : Space). Contains s.taken e) (sym c.self.view_is) c.requires in
-    let found = found_in c.as_slice.result.now xs at e c.as_slice.ensures.value c.self.invariant.in_place c.count_below-at.ensures.below taken in
-    subst (λ (ys : List Extent). end_of ys < 2 ^ 64) (sym (c.as_slice-2.ensures.value ∙ c.remove.ensures.items)) (out_end xs at c.self.inside.longest c.self.invariant e found.0 found.1)
+    let found = found_in c.as_slice.result.now xs at e c.as_slice.ensures.value c.self.invariant.in_place
+    c.count_extents_below-at.ensures.below taken in
+    subst (λ (ys : List Extent). end_of ys < 2 ^ 64) (sym (c.as_slice-2.ensures.value ∙ c.remove.ensures.items))
+    (out_end xs at c.self.inside.longest c.self.invariant e found.0 found.1)
 
 pub invariant_of-self : goal.invariant_of-self
 invariant_of-self c =
     let xs = c.self.inside.taken.items in
-    let at = c.count_below-at.result in
+    let at = c.count_extents_below-at.result in
     let e = c.args.extent in
     let taken : Contains xs e = subst (λ (s : Space). Contains s.taken e) (sym c.self.view_is) c.requires in
-    let found = found_in c.as_slice.result.now xs at e c.as_slice.ensures.value c.self.invariant.in_place c.count_below-at.ensures.below taken in
+    let found = found_in c.as_slice.result.now xs at e c.as_slice.ensures.value c.self.invariant.in_place
+    c.count_extents_below-at.ensures.below taken in
     let hole = c.hole_before.result in
     let is_hole : hole ≡ hole_before (last_behind 0 (take at (remove xs at))) (drop at (remove xs at)) =
-    subst (λ (ys : List Extent). hole ≡ hole_before (last_behind 0 (take at ys)) (drop at ys)) (c.as_slice-2.ensures.value ∙ c.remove.ensures.items) c.hole_before.ensures in
+    subst (λ (ys : List Extent). hole ≡ hole_before (last_behind 0 (take at ys)) (drop at ys)) (c.as_slice-2.ensures.value
+    ∙ c.remove.ensures.items) c.hole_before.ensures in
     subst (λ (ys : List Extent). IsKept ys c.max-self-inside.result) (sym c.remove.ensures.items)
     (subst (λ (m : ℕ). IsKept (remove xs at) m) (sym c.max-self-inside.ensures)
     (out_kept xs at c.self.inside.longest c.self.invariant e found.0 found.1 hole is_hole))
@@ -46,10 +52,11 @@ invariant_of-self c =
 pub returns : goal.returns
 returns c =
     let xs = c.self.inside.taken.items in
-    let at = c.count_below-at.result in
+    let at = c.count_extents_below-at.result in
     let e = c.args.extent in
     let taken : Contains xs e = subst (λ (s : Space). Contains s.taken e) (sym c.self.view_is) c.requires in
-    let found = found_in c.as_slice.result.now xs at e c.as_slice.ensures.value c.self.invariant.in_place c.count_below-at.ensures.below taken in
+    let found = found_in c.as_slice.result.now xs at e c.as_slice.ensures.value c.self.invariant.in_place
+    c.count_extents_below-at.ensures.below taken in
     let old = c.self.inside.taken in
     let new = c.remove.new.self in
     let ok = old.ok in

@@ -16,16 +16,20 @@ hole_before-requires-clause-in_place c =
     let at = c.args.at in
     let e = c.args.extent in
     let fits : FitsAt xs at e = subst (λ (s : Space). FitsAt s.taken at e) (sym c.self.view_is) c.requires.fits in
-    let is : c.insert.new.self.items ≡ insert xs at e = on_ok c.insert.result c.unwrap.result c.insert.new.self.items (insert xs at e) xs c.insert.ensures.items c.unwrap.ensures in
-    subst (IsInPlace 0) (sym (c.as_slice.ensures.value ∙ is)) (put_in_place xs at c.self.inside.longest c.self.invariant e c.requires.some fits)
+    let is : c.insert.new.self.items ≡ insert xs at e = on_ok c.insert.result c.unwrap.result c.insert.new.self.items
+    (insert xs at e) xs c.insert.ensures.items c.unwrap.ensures in
+    subst (IsInPlace 0) (sym (c.as_slice.ensures.value ∙ is)) (put_in_place xs at c.self.inside.longest c.self.invariant e
+    c.requires.some fits)
 
 pub hole_before-requires-clause-fits : goal.hole_before-requires-clause-fits
 hole_before-requires-clause-fits c =
     let xs = c.self.inside.taken.items in
     let at = c.args.at in
     let e = c.args.extent in
-    let is : c.insert.new.self.items ≡ insert xs at e = on_ok c.insert.result c.unwrap.result c.insert.new.self.items (insert xs at e) xs c.insert.ensures.items c.unwrap.ensures in
-    subst (λ (ys : List Extent). end_of ys < 2 ^ 64) (sym (c.as_slice.ensures.value ∙ is)) (put_end xs at c.self.inside.longest c.self.invariant e c.requires.small)
+    let is : c.insert.new.self.items ≡ insert xs at e = on_ok c.insert.result c.unwrap.result c.insert.new.self.items
+    (insert xs at e) xs c.insert.ensures.items c.unwrap.ensures in
+    subst (λ (ys : List Extent). end_of ys < 2 ^ 64) (sym (c.as_slice.ensures.value ∙ is))
+    (put_end xs at c.self.inside.longest c.self.invariant e c.requires.small)
 
 pub invariant_of-self : goal.invariant_of-self
 invariant_of-self c =
@@ -33,10 +37,12 @@ invariant_of-self c =
     let at = c.args.at in
     let e = c.args.extent in
     let fits : FitsAt xs at e = subst (λ (s : Space). FitsAt s.taken at e) (sym c.self.view_is) c.requires.fits in
-    let is : c.insert.new.self.items ≡ insert xs at e = on_ok c.insert.result c.unwrap.result c.insert.new.self.items (insert xs at e) xs c.insert.ensures.items c.unwrap.ensures in
+    let is : c.insert.new.self.items ≡ insert xs at e = on_ok c.insert.result c.unwrap.result c.insert.new.self.items
+    (insert xs at e) xs c.insert.ensures.items c.unwrap.ensures in
     let hole = c.hole_before.result in
     let is_hole : hole ≡ hole_before (last_behind 0 (take at (insert xs at e))) (drop at (insert xs at e)) =
-    subst (λ (ys : List Extent). hole ≡ hole_before (last_behind 0 (take at ys)) (drop at ys)) (c.as_slice.ensures.value ∙ is) c.hole_before.ensures in
+    subst (λ (ys : List Extent). hole ≡ hole_before (last_behind 0 (take at ys)) (drop at ys)) (c.as_slice.ensures.value
+    ∙ is) c.hole_before.ensures in
     subst (λ (ys : List Extent). IsKept ys c.max-self-inside.result) (sym is)
     (subst (λ (m : ℕ). IsKept (insert xs at e) m) (sym c.max-self-inside.ensures)
     (put_kept xs at c.self.inside.longest c.self.invariant e hole c.requires.some c.requires.small fits is_hole))
@@ -46,11 +52,13 @@ returns c =
     let xs = c.self.inside.taken.items in
     let at = c.args.at in
     let e = c.args.extent in
-    let is : c.insert.new.self.items ≡ insert xs at e = on_ok c.insert.result c.unwrap.result c.insert.new.self.items (insert xs at e) xs c.insert.ensures.items c.unwrap.ensures in
+    let is : c.insert.new.self.items ≡ insert xs at e = on_ok c.insert.result c.unwrap.result c.insert.new.self.items
+    (insert xs at e) xs c.insert.ensures.items c.unwrap.ensures in
     let old = c.self.inside.taken in
     let new = c.insert.new.self in
     let room : 0 < vec_capacity old - vec_len old = subst (λ (s : Space). 0 < s.room) (sym c.self.view_is) c.requires.room in
-    let long : vec_len new ≡ vec_len old + 1 = on_ok c.insert.result c.unwrap.result (vec_len new) (vec_len old + 1) (vec_len old) c.insert.ensures.len c.unwrap.ensures in
+    let long : vec_len new ≡ vec_len old + 1 = on_ok c.insert.result c.unwrap.result (vec_len new) (vec_len old + 1) (vec_len old)
+    c.insert.ensures.len c.unwrap.ensures in
     let block = c.insert.ensures.in_place (omega arith) in
     let same : vec_capacity new ≡ vec_capacity old = block.1.0 in
     record {

@@ -9,9 +9,17 @@ pub overflow_add-self-then-self-lt18446744073709551615 :
     goal.overflow_add-self-then-self-lt18446744073709551615
 overflow_add-self-then-self-lt18446744073709551615 c =
     let disk = c.args.self.now in
-    omega (arith, disk.replayed.a_tick_each, length_failing disk.failed (fold with_traced_calls (new_device disk.first.journal.items disk.first.objects.items) disk.trace.items))
+    omega (
+      arith,
+      disk.replayed.a_tick_each,
+      length_failing disk.failed
+          (fold with_traced_calls (new_device disk.first.journal.items disk.first.objects.items) disk.trace.items),
+    )
 
 pub invariant_of-self : goal.invariant_of-self
 invariant_of-self c =
     let disk = c.args.self.now in
-    record { replayed = missed_replayed disk.first.journal.items disk.first.objects.items disk.trace.items disk.failed _ _ disk.ticks disk.faults _ disk.replayed c.one_more-self.ensures c.if-self-lt18446744073709551615.true }
+    record {
+      replayed = missed_replayed disk.first.journal.items disk.first.objects.items disk.trace.items disk.failed _ _
+          disk.ticks disk.faults _ disk.replayed c.one_more-self.ensures c.if-self-lt18446744073709551615.true;
+    }

@@ -5,8 +5,10 @@ use Rattle.legal_history.proofs.Stories.Started.{same_run, same_selection}
 
 pub returns-clause-run : goal.returns-clause-run
 returns-clause-run c story x lane old new n unit legal e is later of_n came =
-    same_run (state_of story).base (after (state_of story) x).base old new n unit (goes_on_so story x lane old new n unit legal e is later of_n came)
+    same_run (state_of story).base (after (state_of story) x).base old new n unit
+    (goes_on_so story x lane old new n unit legal e is later of_n came)
 
 pub returns-clause-seen : goal.returns-clause-seen
 returns-clause-seen c story x lane old new n unit path legal e is later of_n came =
-    same_selection (state_of story).base (after (state_of story) x).base old new n unit path (goes_on_so story x lane old new n unit legal e is later of_n came)
+    same_selection (state_of story).base (after (state_of story) x).base old new n unit path
+    (goes_on_so story x lane old new n unit legal e is later of_n came)

@@ -5,4 +5,5 @@ use Rattle.legal_history.proofs.Reuse.AgreedStories.{story_agrees_so_far}
 
 pub returns : goal.returns
 returns c = λ story opening x lane build n unit legal opened sound is left well of_n.
-    left_outcome (state_of story) x lane build n unit (story_agrees_so_far story opening lane build legal opened sound is) left well of_n
+    left_outcome (state_of story) x lane build n unit (story_agrees_so_far story opening lane build legal opened sound is) left
+    well of_n

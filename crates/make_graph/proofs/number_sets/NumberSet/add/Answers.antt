@@ -18,4 +18,5 @@ pub returns-clause-marks : goal.returns-clause-marks
 returns-clause-marks c n =
     marked c.put_number.new.words.items n
     ∙ (c.put_number.ensures.numbers n
-    ∙ ap (λ t. t || (n == c.args.number)) (sym (marked c.self.inside.words.items n) ∙ ap (λ (marks : List Bool). is_marked marks n) c.self.view_is))
+    ∙ ap (λ t. t || (n == c.args.number)) (sym (marked c.self.inside.words.items n)
+    ∙ ap (λ (marks : List Bool). is_marked marks n) c.self.view_is))

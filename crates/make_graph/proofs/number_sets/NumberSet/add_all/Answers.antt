@@ -21,7 +21,8 @@ pub returns-clause-marks : goal.returns-clause-marks
 returns-clause-marks c n =
     marked c.put_numbers.new.words.items n
     ∙ (c.put_numbers.ensures.numbers n
-    ∙ (ap (λ t. t || has_number c.as_slice.result.now n) (sym (marked c.self.inside.words.items n) ∙ ap (λ (marks : List Bool). is_marked marks n) c.self.view_is)
+    ∙ (ap (λ t. t || has_number c.as_slice.result.now n) (sym (marked c.self.inside.words.items n)
+    ∙ ap (λ (marks : List Bool). is_marked marks n) c.self.view_is)
     ∙ ap (λ t. is_marked c.args.self.now n || t)
     (ap (λ (words : List ℕ). has_number words n) c.as_slice.ensures.value
     ∙ (sym (marked c.other.inside.words.items n) ∙ ap (λ (marks : List Bool). is_marked marks n) c.other.view_is))))

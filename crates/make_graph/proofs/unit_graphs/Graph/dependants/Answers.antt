@@ -8,14 +8,21 @@ use Rattle.make_graph.proofs.unit_graphs.Graph.dependants.Goals as goal
 pub index-requires : goal.index-requires
 index-requires c =
     let units = c.self.inside.units.items in
-    omega (arith, c.requires, ap length c.self.view_is, ap length c.self.invariant.wait, length-map-range_with_len (dependants_of units) 0 (length units))
+    omega (
+      arith,
+      c.requires,
+      ap length c.self.view_is,
+      ap length c.self.invariant.wait,
+      length-map-range_with_len (dependants_of units) 0 (length units),
+    )
 
 pub returns : goal.returns
 returns c =
     let units = c.self.inside.units.items in
     let lists = c.self.inside.dependants.items in
     let within : c.args.unit < length units = omega (arith, c.requires, ap length c.self.view_is) in
-    let held : length lists ≡ length units = ap length c.self.invariant.wait ∙ length-map-range_with_len (dependants_of units) 0 (length units) in
+    let held : length lists ≡ length units = ap length c.self.invariant.wait
+    ∙ length-map-range_with_len (dependants_of units) 0 (length units) in
     c.as_slice.ensures
     ∙ (c.index.ensures
     ∙ (get_or_default lists c.args.unit c.index.result.now [] (omega (arith, held, within))

@@ -9,6 +9,6 @@ pub returns : goal.returns
 returns c =
     let units = c.args.self.now in
     let done = c.args.done.now in
-    c.are_done.ensures
+    c.are_units_done.ensures
     ∙ ap (λ (numbers : List ℕ). list_all (λ (number : ℕ). is_done done (Some number)) numbers) c.makers.ensures
     ∙ makers_done units done (prerequisites_at units c.args.unit)

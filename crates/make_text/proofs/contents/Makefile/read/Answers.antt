@@ -11,9 +11,10 @@ returns-in-Ok g c =
     let overrides = c.args.overrides.now in
     let path = c.in_ok-file.ensures.ok ∙ c.in_ok-copy.ensures.copy in
     let lines =
-    ap (λ (text : List ℕ). lines_read files file text overrides) (sym c.text_at-text.ensures)
-    ∙ (ap (λ (p : List ℕ). lines_read files p c.text_at-text.result.now overrides) (sym path) ∙ c.in-Ok.ensures) in
-    subst (Gives c.checked_contents.result) (sym (makefile_is files file overrides (files file) ∙ ap checked_contents lines)) c.checked_contents.ensures
+    ap (λ (text : List ℕ). lines_read files file text overrides) (sym c.text_or_empty-text.ensures)
+    ∙ (ap (λ (p : List ℕ). lines_read files p c.text_or_empty-text.result.now overrides) (sym path) ∙ c.in-Ok.ensures) in
+    subst (Gives c.checked_contents.result) (sym (makefile_is files file overrides (files file) ∙ ap checked_contents lines))
+    c.checked_contents.ensures
 
 pub returns : goal.returns
 returns g c =
@@ -22,7 +23,7 @@ returns g c =
     let overrides = c.args.overrides.now in
     let path = c.in_ok-file.ensures.ok ∙ c.in_ok-copy.ensures.copy in
     let lines =
-    ap (λ (text : List ℕ). lines_read files file text overrides) (sym c.text_at-text.ensures)
-    ∙ ap (λ (p : List ℕ). lines_read files p c.text_at-text.result.now overrides) (sym path) in
+    ap (λ (text : List ℕ). lines_read files file text overrides) (sym c.text_or_empty-text.ensures)
+    ∙ ap (λ (p : List ℕ). lines_read files p c.text_or_empty-text.result.now overrides) (sym path) in
     subst (FaultIs c.in-Err.fault) (sym (makefile_is files file overrides (files file)))
     (subst (λ r. FaultIs c.in-Err.fault (checked_contents r)) (sym lines) (checked_fault c.in-Err.fault _ c.in-Err.ensures))

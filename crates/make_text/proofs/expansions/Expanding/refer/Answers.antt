@@ -29,4 +29,5 @@ returns-in_ok-set-in-Untouched c =
     let found = rw c.in-Some.is at c.in_ok-index.ensures in
     Begins c.in-Some.index _ found
     (sym c.get.ensures ∙ c.in-Untouched.is)
-    refl refl (c.len.ensures ∙ c.args.self.now.written.ok.0) c.value-self.ensures c.in_ok-push-in-Untouched.ensures.items c.in_ok-set-in-Untouched.ensures refl
+    refl refl (c.len.ensures ∙ c.args.self.now.written.ok.0) c.value-self.ensures c.in_ok-push-in-Untouched.ensures.items
+    c.in_ok-set-in-Untouched.ensures refl

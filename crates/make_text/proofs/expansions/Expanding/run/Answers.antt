@@ -1,6 +1,6 @@
 use Rattle.std.proofs.Common.{ap, ◌∙◌, sym, true, false, ◌-◌, ◌<◌, length, arith}
 use Rattle.make_grammar.specs.Statements.{macros_of}
-use Rattle.make_text.specs.Steps.{automatic_of, opened_of}
+use Rattle.make_text.specs.Steps.{automatic_of, macros_opened}
 use Rattle.make_text.proofs.CheckLemmas.{part_of_whole, part_too_long, looped_end, at_end}
 use Rattle.make_text.proofs.RunLemmas.{runs_longer}
 use Rattle.make_text.proofs.expansions.Expanding.run.Goals as goal
@@ -32,14 +32,24 @@ returns-then-written_behind-gt-EXPANSION_LIMIT c total h written part len is =
     let automatic = automatic_of c.args.automatic.now in
     let went = rw c.in-Goes.is at (c.in_ok-step.ensures.went total (c.steps.invariant.goes total h)) in
     let new = c.step.new.self in
-    let longer = runs_longer macros automatic total new.rest.now new.written.items (opened_of macros new.opened.items) new.states went.runs in
-    let long : 65536 < length new.written.items - length written = omega (arith, c.written_behind-in-steps.ensures, len, c.if-written_behind-gt-EXPANSION_LIMIT.true) in
+    let longer = runs_longer macros automatic total new.rest.now new.written.items (macros_opened macros new.opened.items)
+    new.states went.runs in
+    let long : 65536 < length new.written.items - length written = omega (
+      arith,
+      c.written_behind-in-steps.ensures,
+      len,
+      c.if-written_behind-gt-EXPANSION_LIMIT.true,
+    ) in
     (part_too_long written new.written.items total part is longer long, tt)
 
 pub steps-preserved : goal.steps-preserved
 steps-preserved c =
     record {
       apart = c.steps.invariant.apart;
-      runs = (c.steps.invariant.runs.0, rw c.in-Goes.is at (c.in_ok-step.ensures.went c.steps.invariant.runs.0 c.steps.invariant.runs.1));
+      runs = (
+        c.steps.invariant.runs.0,
+        rw c.in-Goes.is at (c.in_ok-step.ensures.went c.steps.invariant.runs.0
+            c.steps.invariant.runs.1),
+      );
       goes = λ total h. rw c.in-Goes.is at (c.in_ok-step.ensures.went total (c.steps.invariant.goes total h));
     }

@@ -18,7 +18,8 @@ returns-clause-known c =
     let long : k ≡ length rules = c.len-number.ensures ∙ c.args.self.now.rules.ok.0 in
     let counted : k ≡ 0 + length rules = omega (arith, long) in
     let rule : JoinedRule = record { targets = targets; lines = c.push.new.self } in
-    c.in_ok-put.ensures path
+    c.in_ok-number_paths.ensures path
     ∙ (ap (λ (ts : List (List ℕ)). with_numbers k ts path had) c.as_slice.ensures
     ∙ (ap (with_numbers k targets path) (c.requires path)
-    ∙ (numbered_new joined_targets k 0 path rule rules counted ∙ ap (number_from joined_targets 0 path) (sym c.in_ok-push-2.ensures.items))))
+    ∙ (numbered_new joined_targets k 0 path rule rules counted ∙ ap (number_from joined_targets 0 path)
+    (sym c.in_ok-push-2.ensures.items))))

@@ -10,5 +10,6 @@ returns-then-keeps c = kept (definition_in (c.args.name, c.args.defined)) c.args
 pub returns : goal.returns
 returns c =
     ap definitions_in c.in_ok-insert.ensures.entries
-    ∙ added c.self.inside.defined.entries c.args.name c.args.defined (ap (λ m. not c.args.defined.is_fixed && has_fixed m c.args.name) c.self.view_is ∙ sym c.if-keeps.ensures)
+    ∙ added c.self.inside.defined.entries c.args.name c.args.defined (ap
+    (λ m. not c.args.defined.is_fixed && has_fixed m c.args.name) c.self.view_is ∙ sym c.if-keeps.ensures)
     ∙ ap (with_definition (definition_in (c.args.name, c.args.defined))) c.self.view_is

@@ -15,7 +15,8 @@ returns-in-Err-clause-read c include =
     let old = c.args.self.now.reading in
     let read = ap (include_by_words include c.args.file.now c.args.line old) c.in-Ok.ensures.paths in
     let ended = c.end_rule.ensures ∙ ap ended_rule c.in-Ok.ensures.same in
-    let fault = subst (λ (r : Reading). FaultIs c.in-Err.fault (within_limits c.args.file.now c.args.line r)) ended c.in-Err.ensures in
+    let fault = subst (λ (r : Reading). FaultIs c.in-Err.fault (within_limits c.args.file.now c.args.line r)) ended
+    c.in-Err.ensures in
     subst (FaultIs c.in-Err.fault) (sym read)
     (paths_fault include c.in-Ok.paths c.in-Err.fault (within_limits c.args.file.now c.args.line (ended_rule old)) fault)
 
@@ -24,4 +25,4 @@ returns-in-Err-Is-clause-read c include =
     let old = c.args.self.now.reading in
     let fault = rw c.in-Err-Is.field-0-is at c.in-Err-Is.ensures.paths in
     let read = ap (include_by_words include c.args.file.now c.args.line old) fault in
-    subst (FaultIs c.fault_at.result) (sym read) c.fault_at.ensures
+    subst (FaultIs c.reading_fault.result) (sym read) c.reading_fault.ensures

@@ -5,4 +5,5 @@ use Rattle.make_text.proofs.readings.Reading.include_words.Goals as goal
 
 pub returns-clause-paths : goal.returns-clause-paths
 returns-clause-paths c =
-    subst (λ (r : Reading). Gives c.read_include_line.result (include_words (macros_of r.macros) c.args.behind.now)) c.self.view_is c.read_include_line.ensures.paths
+    subst (λ (r : Reading). Gives c.read_include_line.result (include_words (macros_of r.macros) c.args.behind.now))
+    c.self.view_is c.read_include_line.ensures.paths

@@ -1,19 +1,25 @@
 -- a phase is told behind the story
 use Rattle.std.proofs.Common.{◌≡◌, ◌+◌, ◌∷◌, [], ◌++◌, length, ap, ◌∙◌, arith}
 use Rattle.story_log.specs.Logging.Logs.{with_phase}
-use Rattle.story_log.specs.Story.Handed.{handed_in}
+use Rattle.story_log.specs.Story.Handed.{handed_disk}
 use Rattle.story_log.proofs.Logging.Logged.{logged_phase}
 use Rattle.story_log.proofs.Logging.LogSteps.{shown_phase}
 use Rattle.story_log.proofs.logs.Log.begin_phase.Goals as goal
 
 pub invariant_of-self-2 : goal.invariant_of-self-2
 invariant_of-self-2 g c =
-    let phases : c.push_reserved.new.self.items ≡ c.self.inside.phases.items ++ c.args.phase ∷ [] = c.push_reserved.ensures.items ∙ ap (λ xs. xs ++ c.args.phase ∷ []) c.reserve.ensures.items in
-    logged_phase (handed_in c.self.inside.handed g.D.Disk.tells) c.self.inside.steps.items _ c.self.inside.rows.base c.self.inside.phases.items _ (c.len.result + 1) c.args.moment c.args.phase _ _ _ _ _ _ c.self.invariant c.in_ok-push_step.ensures.ok phases
+    let phases : c.push_reserved.new.self.items ≡ c.self.inside.phases.items ++ c.args.phase ∷ [] = c.push_reserved.ensures.items
+    ∙ ap (λ xs. xs ++ c.args.phase ∷ []) c.reserve.ensures.items in
+    logged_phase (handed_disk c.self.inside.handed g.D.Disk.tells) c.self.inside.steps.items _ c.self.inside.rows.base
+    c.self.inside.phases.items _ (c.len.result + 1) c.args.moment c.args.phase _ _ _ _ _ _ c.self.invariant
+    c.in_ok-push_step.ensures.ok phases
     (omega (arith, ap length c.reserve.ensures.items))
 
 pub returns-clause-ok : goal.returns-clause-ok
 returns-clause-ok g c =
-    let phases : c.push_reserved.new.self.items ≡ c.self.inside.phases.items ++ c.args.phase ∷ [] = c.push_reserved.ensures.items ∙ ap (λ xs. xs ++ c.args.phase ∷ []) c.reserve.ensures.items in
-    shown_phase (handed_in c.self.inside.handed g.D.Disk.tells) c.self.inside.steps.items _ c.self.inside.rows.base c.self.inside.phases.items _ (c.len.result + 1) c.args.moment c.args.phase _ c.self.invariant.modeled c.in_ok-push_step.ensures.ok phases
+    let phases : c.push_reserved.new.self.items ≡ c.self.inside.phases.items ++ c.args.phase ∷ [] = c.push_reserved.ensures.items
+    ∙ ap (λ xs. xs ++ c.args.phase ∷ []) c.reserve.ensures.items in
+    shown_phase (handed_disk c.self.inside.handed g.D.Disk.tells) c.self.inside.steps.items _ c.self.inside.rows.base
+    c.self.inside.phases.items _ (c.len.result + 1) c.args.moment c.args.phase _ c.self.invariant.modeled
+    c.in_ok-push_step.ensures.ok phases
     ∙ ap (λ log. with_phase log c.args.phase c.args.moment) c.self.view_is

@@ -7,4 +7,6 @@ use Rattle.story_log.proofs.logs.Log.into_parts.Goals as goal
 
 pub returns-clause-backed : goal.returns-clause-backed
 returns-clause-backed g c = subst (λ log. IsAccounted (state_of log.story) log.ghost_state) c.self.view_is
-    (accounted _ (g.D.Disk.ghost_state c.self.inside.journal.disk) c.self.inside.journal.list c.self.inside.journal.leftover c.self.inside.journal.ended c.self.inside.journal.left c.self.inside.journal.settled c.self.invariant.backed (g.met.D.Disk.counted c.self.inside.journal.disk))
+    (accounted _ (g.D.Disk.ghost_state c.self.inside.journal.disk) c.self.inside.journal.list c.self.inside.journal.leftover
+    c.self.inside.journal.ended c.self.inside.journal.left c.self.inside.journal.settled c.self.invariant.backed
+    (g.met.D.Disk.counted c.self.inside.journal.disk))

@@ -1,15 +1,18 @@
 -- a step is told behind the story
 use Rattle.std.proofs.Common.{ap, ◌∙◌}
 use Rattle.story_log.specs.Logging.Logs.{with_step}
-use Rattle.story_log.specs.Story.Handed.{handed_in}
+use Rattle.story_log.specs.Story.Handed.{handed_disk}
 use Rattle.story_log.proofs.Logging.Logged.{logged_step}
 use Rattle.story_log.proofs.Logging.LogSteps.{shown_step}
 use Rattle.story_log.proofs.logs.Log.tell.Goals as goal
 
 pub invariant_of-self-2 : goal.invariant_of-self-2
-invariant_of-self-2 g c = logged_step (handed_in c.self.inside.handed g.D.Disk.tells) c.self.inside.steps.items _ c.self.inside.rows.base c.self.inside.phases.items c.args.step _ _ _ _ _ _ c.self.invariant c.requires.alone c.requires.sound c.in_ok-push_step.ensures.ok
+invariant_of-self-2 g c = logged_step (handed_disk c.self.inside.handed g.D.Disk.tells) c.self.inside.steps.items _
+    c.self.inside.rows.base c.self.inside.phases.items c.args.step _ _ _ _ _ _ c.self.invariant c.requires.alone c.requires.sound
+    c.in_ok-push_step.ensures.ok
 
 pub returns-clause-ok : goal.returns-clause-ok
 returns-clause-ok g c =
-    shown_step (handed_in c.self.inside.handed g.D.Disk.tells) c.self.inside.steps.items _ c.self.inside.rows.base c.self.inside.phases.items c.args.step _ c.self.invariant.modeled c.requires.alone c.in_ok-push_step.ensures.ok
+    shown_step (handed_disk c.self.inside.handed g.D.Disk.tells) c.self.inside.steps.items _ c.self.inside.rows.base
+    c.self.inside.phases.items c.args.step _ c.self.invariant.modeled c.requires.alone c.in_ok-push_step.ensures.ok
     ∙ ap (λ log. with_step log c.args.step) c.self.view_is

@@ -23,7 +23,8 @@ returns-in-None c =
     let missed : find (λ l. eqb (row_of_later l) c.args.row) branch.later.items ≡ None =
     grind (arith, common_steps, c.place_of.ensures.found, c.in-None.is, c.deref.ensures.value) in
     let same : eqb branch.row c.args.row ≡ true = grind (arith, nat_tests, c.if-self-row.true) in
-    sym (number_missed branch.row branch.moment branch.later.items c.args.row c.requires missed ∙ ap (λ t. cond t (Some 0) None) same)
+    sym (number_missed branch.row branch.moment branch.later.items c.args.row c.requires missed
+    ∙ ap (λ t. cond t (Some 0) None) same)
 
 -- no version of this branch
 pub returns-in-None-2 : goal.returns-in-None-2
@@ -32,4 +33,5 @@ returns-in-None-2 c =
     let missed : find (λ l. eqb (row_of_later l) c.args.row) branch.later.items ≡ None =
     grind (arith, common_steps, c.place_of.ensures.found, c.in-None.is, c.deref.ensures.value) in
     let differs : eqb branch.row c.args.row ≡ false = grind (arith, nat_tests, c.if-self-row.false) in
-    sym (number_missed branch.row branch.moment branch.later.items c.args.row c.requires missed ∙ ap (λ t. cond t (Some 0) None) differs)
+    sym (number_missed branch.row branch.moment branch.later.items c.args.row c.requires missed
+    ∙ ap (λ t. cond t (Some 0) None) differs)

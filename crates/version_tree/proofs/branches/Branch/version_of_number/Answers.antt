@@ -9,4 +9,5 @@ pub returns : goal.returns
 returns c =
     let branch = c.args.self.now in
     let kept = numbered_stored branch.row branch.moment (reverse branch.later.items) c.args.rows c.args.number in
-    c.within.ensures ∙ ap (row_within c.args.rows) c.row_numbered.ensures ∙ sym (rw (reverse-reverse branch.later.items) at kept)
+    c.among_first_rows.ensures ∙ ap (row_within c.args.rows) c.row_numbered.ensures
+    ∙ sym (rw (reverse-reverse branch.later.items) at kept)

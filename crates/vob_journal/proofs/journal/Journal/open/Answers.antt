@@ -4,8 +4,13 @@ use Rattle.vob_journal.proofs.Staying.{modeled_measured, modeled_idle}
 use Rattle.vob_journal.proofs.journal.Journal.open.Goals as goal
 
 pub invariant_of-result : goal.invariant_of-result
-invariant_of-result g c =
-    (omega arith, c.in-Ok.ensures.most, tt, opened_reading c.in-Ok.size _ _ c.requires c.in-Ok.ensures.length c.in-Ok.ensures.modeled)
+invariant_of-result g c = (
+  omega arith,
+  c.in-Ok.ensures.most,
+  tt,
+  opened_reading c.in-Ok.size _ _ c.requires c.in-Ok.ensures.length
+      c.in-Ok.ensures.modeled,
+)
 
 pub returns-in-Ok-clause-list : goal.returns-in-Ok-clause-list
 returns-in-Ok-clause-list g c = opened_list _ _ c.in-Ok.ensures.modeled

@@ -1,7 +1,0 @@
-use Rattle.std.proofs.Common.{◌≡◌, map, drop}
-use Rattle.make_grammar.specs.WordPaths.{paths_of}
-use Rattle.make_text.proofs.RuleLemmas.{paths_onto}
-use Rattle.make_text.proofs.word_paths.read_paths.Given as goal
-
-abbrev pub invariant-loop-word : goal.invariant-loop-word
-invariant-loop-word l = paths_onto l.paths.items (paths_of (map (λ word. word.now) (drop l.word-index l.words))) ≡ paths_of (map (λ word. word.now) l.words)

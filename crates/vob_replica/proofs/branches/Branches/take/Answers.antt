@@ -1,7 +1,0 @@
-use Rattle.vob_replica.proofs.BranchLaws.{order-after}
-use Rattle.vob_replica.proofs.branches.Branches.take.Goals as goal
-
--- the branches stay in order
-pub invariant_of-self : goal.invariant_of-self
-invariant_of-self c =
-    order-after c.take.result c.self.inside.trees.items c.take.new.trees.items c.args.operation.now c.self.invariant c.take.ensures.ok c.take.ensures.err

@@ -1,6 +1,0 @@
-use Rattle.std.proofs.Common.{◌≡◌, drop}
-use Rattle.vob_replica.specs.Trees.{named_tree}
-use Rattle.vob_replica.proofs.branches.named_in.Given as goal
-
-abbrev pub invariant-loop-tree : goal.invariant-loop-tree
-invariant-loop-tree l = named_tree (drop l.tree-index l.trees) l.element l.name ≡ named_tree l.trees l.element l.name

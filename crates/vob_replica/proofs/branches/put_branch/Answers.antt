@@ -1,0 +1,20 @@
+use Rattle.std.proofs.Common.{◌≡◌, true, false, refl}
+use Rattle.vob_replica.specs.Branches.{branch_place_in, is_branch_at}
+use Rattle.vob_replica.proofs.BranchLaws.{put-there, put-new}
+use Rattle.vob_replica.proofs.branches.put_branch.Goals as goal
+
+-- a branch of the same identity is there
+pub returns-then-is_branch_at-clause-ok : goal.returns-then-is_branch_at-clause-ok
+returns-then-is_branch_at-clause-ok c =
+    let trees = c.args.trees.now.items in
+    let at : c.branch_place-place.result ≡ branch_place_in c.args.tree.identity trees = cc in
+    let there : is_branch_at trees c.branch_place-place.result c.args.tree.identity ≡ true = cc in
+    put-there trees _ c.branch_place-place.result c.args.tree refl at there
+
+-- none is
+pub returns-clause-ok : goal.returns-clause-ok
+returns-clause-ok c =
+    let trees = c.args.trees.now.items in
+    let at : c.branch_place-place.result ≡ branch_place_in c.args.tree.identity trees = cc in
+    let none : is_branch_at trees c.branch_place-place.result c.args.tree.identity ≡ false = cc in
+    put-new trees c.insert.new.self.items c.branch_place-place.result c.args.tree c.in_ok-insert.ensures.items at none
