@@ -39,7 +39,7 @@ impl Store {
         objects.write_at(extent.place, bytes)
     }
 
-    /// Reads the bytes of an extent that lies in the file, in one device call. Takes time linear in them.
+    /// Reads the bytes of an extent that lies in the file, taken or not, in one device call. Takes time linear in them.
     pub fn get<O: Objects>(
         &self,
         alloc: Global,
@@ -52,6 +52,7 @@ impl Store {
             (λ text.
             IfModeled (O.ghost_state objects.old).modeled
             (λ d. text ≡ take extent.now.length (drop extent.now.place (bytes_now 1 d)))) }
+        ensures long { IfOk result (λ text. length text ≡ extent.now.length) }
         ensures modeled { Gets extent.now result (O.ghost_state objects.old) (O.ghost_state objects.new) }
         ensures keeps { O.keeps objects.old objects.new }
     {

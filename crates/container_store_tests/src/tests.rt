@@ -1,4 +1,6 @@
-//! Where extents go, what giving one back joins, and many of them at random.
+//! Where extents go, what giving one back joins, many of them at random, and their bytes.
+
+mod bytes;
 
 ghost use Rattle.std.specs.Prelude.{◌≤◌, ◌<◌, All, IfOk};
 

@@ -1,3 +1,4 @@
+pub mod AtExtents
 pub mod Distinct
 pub mod Exact
 pub mod ExactDeeds

@@ -1,6 +1,5 @@
 -- The spellings of rows of each deed, worked out by computation: the bytes are written by hand from the format. The rows are
--- those
--- of phase 1, lane 2 and command 3 at the last moment that a row may have, the end of the year 9999.
+-- those of phase 1, lane 2 and command 3 at the last moment that a row may have, the end of the year 9999.
 use Rattle.std.proofs.Common.{◌≡◌, ℕ, ◌-◌, ◌^◌, true, false, List, [], ◌∷◌, refl}
 use Rattle.std.specs.Prelude.{codes}
 use Rattle.cc_names.specs.Formed.{Plain}

@@ -91,6 +91,10 @@ first_byte (deeds.Publish view targets script entries outputs) = form_of targets
 first_byte (deeds.PublishAt view targets script entries outputs) = form_of targets
 first_byte _ = 1
 
+-- what a row has before its deed's code: the first byte; phase, lane and command; the moment
+abbrev pub head_of : Plain → List ℕ
+head_of row = first_byte row.deed ∷ (word row.tag.phase ++ (word row.tag.lane ++ (word row.tag.command ++ long row.moment)))
+
 -- The spelling of a row: the first byte; phase, lane and command; the moment; the deed's code; the deed's fields.
 abbrev pub spelling_of : Plain → List ℕ
 spelling_of row =

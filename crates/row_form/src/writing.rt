@@ -4,8 +4,9 @@
 ghost use Rattle.std.specs.Prelude.{◌≡◌, ◌<◌, ◌^◌, ◌∷◌, [], ◌++◌, List, ℕ, length, IfOk, OnOk};
 ghost use Rattle.std.specs.List.{flat_map, AllByRecursion};
 ghost use Rattle.cc_names.specs.Formed.{IsText, IsStored};
+ghost use Rattle.cc_names.specs.declared.rows.Stored.TheVariants.{Here, There};
 ghost use Rattle.row_form.specs.Fields.{word, long, text, list_bytes, flag, kind, type_kind, out_byte, entry, place_of, stored_bytes};
-ghost use Rattle.row_form.specs.Spelled.{spelling_of, code_of, first_byte, form_of};
+ghost use Rattle.row_form.specs.Spelled.{spelling_of, head_of, code_of, first_byte, form_of};
 
 use crate::deed_fields::put_fields;
 use cc_names::memory::NoMemory;
@@ -20,16 +21,23 @@ pub fn spell(alloc: Global, row: &Row) -> Result<Text, NoMemory>
     ensures { IfOk result (λ bytes. bytes ≡ spelling_of row.now) }
 {
     let deed = row.deed();
-    let tag = row.tag();
     let mut out = Vec::new(alloc);
-    out.push(first_byte(deed))?;
-    put_word(&mut out, tag.phase)?;
-    put_word(&mut out, tag.lane)?;
-    put_word(&mut out, tag.command)?;
-    put_long(&mut out, row.moment())?;
+    put_head(&mut out, row)?;
     out.push(code_of(deed))?;
     put_fields(&mut out, deed)?;
     Ok(Text::of(out))
+}
+
+/// What a row has before its deed's code: the first byte, the tag and the moment.
+pub(crate) fn put_head(out: &mut Vec<u8>, row: &Row) -> Result<(), NoMemory>
+    ensures { OnOk result (out.new.items ≡ out.old.items ++ head_of row.now) }
+{
+    let tag = row.tag();
+    out.push(first_byte(row.deed()))?;
+    put_word(out, tag.phase)?;
+    put_word(out, tag.lane)?;
+    put_word(out, tag.command)?;
+    put_long(out, row.moment())
 }
 
 /// The first byte of a publish with these targets.
@@ -94,7 +102,7 @@ fn code_of(deed: &Deed) -> u8
     }
 }
 
-fn put_word(out: &mut Vec<u8>, number: u32) -> Result<(), NoMemory>
+pub(crate) fn put_word(out: &mut Vec<u8>, number: u32) -> Result<(), NoMemory>
     ensures { OnOk result (out.new.items ≡ out.old.items ++ word number) }
 {
     out.extend_from_slice(&number.to_le_bytes())?;
@@ -250,10 +258,20 @@ pub(crate) fn put_pair(out: &mut Vec<u8>, first: u64, second: u64) -> Result<(),
     put_long(out, second)
 }
 
-fn put_extent(out: &mut Vec<u8>, extent: Extent) -> Result<(), NoMemory>
-    ensures { OnOk result
-        (out.new.items ≡ out.old.items ++ (long extent.place ++ long extent.length)) }
+/// An output that is in the row itself.
+pub(crate) fn put_here(out: &mut Vec<u8>, output: &Text) -> Result<(), NoMemory>
+    requires { IsText output.now }
+    ensures { OnOk result (out.new.items ≡ out.old.items ++ stored_bytes (Here output.now)) }
 {
+    put_byte(out, 0)?;
+    put_body(out, output)
+}
+
+/// An output that has this extent.
+pub(crate) fn put_there(out: &mut Vec<u8>, extent: Extent) -> Result<(), NoMemory>
+    ensures { OnOk result (out.new.items ≡ out.old.items ++ stored_bytes (There extent)) }
+{
+    put_byte(out, 1)?;
     put_pair(out, extent.place, extent.length)
 }
 
@@ -264,14 +282,8 @@ impl Put for Stored {
 
     fn put(&self, out: &mut Vec<u8>) -> Result<(), NoMemory> {
         match self {
-            Stored::Here(bytes) => {
-                put_byte(out, 0)?;
-                put_text(out, bytes.as_bytes())
-            }
-            Stored::There(extent) => {
-                put_byte(out, 1)?;
-                put_extent(out, *extent)
-            }
+            Stored::Here(output) => put_here(out, output),
+            Stored::There(extent) => put_there(out, *extent),
         }
     }
 }
@@ -279,7 +291,7 @@ impl Put for Stored {
 pub(crate) fn put_list<M: Put>(out: &mut Vec<u8>, members: &[M]) -> Result<(), NoMemory>
     requires short { length members.now < 2 ^ 32 }
     requires fit { AllByRecursion M.fits members.now }
-    ensures { OnOk result (out.new.items ≡ out.old.items ++ list_bytes M.spelled members.now) }
+    ensures { OnOk result (out.new.items ≡ out.old.items ++ list_bytes M.spelling_of members.now) }
 {
     put_word(out, members.len() as u32)?;
     for member in members {

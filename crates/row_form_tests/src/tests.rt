@@ -1,12 +1,14 @@
 //! Rows that are spelled by hand, each read and spelled again and cut at each of its bytes, and bytes with a field that is wrong.
 
+mod extents;
 mod faults;
 mod rows;
 
 use cc_names::memory::{NoMemory, Or};
 use cc_names::texts::Text;
+use extents::EXTENTS;
 use faults::FAULTS;
-use row_form::{NotARow, Row, read, spell};
+use row_form::{Extent, NotARow, Row, plain_row, read, spell, spell_at};
 use rows::ROWS;
 use std::alloc::Global;
 use std::hash::RandomState;
@@ -41,14 +43,32 @@ fn put_names(bytes: &mut Vec<u8>) -> Result<(), Fail> {
     Ok(())
 }
 
-// The bytes that digits stand for, two for each; `P` stands for a path's 511 names. Blanks count for nothing.
+// So many letters `a`.
+fn put_letters(bytes: &mut Vec<u8>, count: u32) -> Result<(), Fail> {
+    for _ in 0..count {
+        bytes.push(b'a')?;
+    }
+    Ok(())
+}
+
+// The bytes that a sign other than a digit stands for: none for a blank.
+fn put_sign(bytes: &mut Vec<u8>, sign: u8) -> Result<(), Fail> {
+    match sign {
+        b'P' => put_names(bytes),
+        b'S' => put_letters(bytes, 4_095),
+        b'L' => put_letters(bytes, 4_096),
+        b'M' => put_letters(bytes, 1_048_576),
+        _ => Ok(()),
+    }
+}
+
+// The bytes that digits stand for, two for each; `P` stands for a path's 511 names, `S`, `L` and `M` for letters.
 fn bytes_of(alloc: Global, digits: &str) -> Result<Vec<u8>, Fail> {
     let mut bytes = Vec::new(alloc);
     let mut high = None;
     for sign in digits.as_bytes() {
         match (high, value_of(*sign)) {
-            (_, None) if *sign == b'P' => put_names(&mut bytes)?,
-            (_, None) => {}
+            (_, None) => put_sign(&mut bytes, *sign)?,
             (None, Some(first)) => high = Some(first),
             (Some(first), Some(second)) => {
                 bytes.push(first.wrapping_mul(16).wrapping_add(second))?;
@@ -133,6 +153,87 @@ fn is_fault(alloc: Global, hashing: RandomState, line: &str) -> Result<bool, Fai
     }
 }
 
+// The extents of a text: the place and the length of each.
+fn extents_of(alloc: Global, text: &str) -> Result<Vec<Extent>, Fail> {
+    let mut extents = Vec::new(alloc);
+    for word in text.split(' ') {
+        if let Some((place, length)) = word.split_once('+') {
+            extents.push(Extent {
+                place: place.parse::<u64>().unwrap_or(0),
+                length: length.parse::<u64>().unwrap_or(0),
+            })?;
+        }
+    }
+    Ok(extents)
+}
+
+// The spelling of the row that bytes spell, with its large outputs at extents.
+fn respelled_at(
+    alloc: Global,
+    hashing: RandomState,
+    bytes: &[u8],
+    extents: &[Extent],
+) -> Result<Text, Or<NotARow>> {
+    let row = read(alloc, hashing, bytes)?;
+    Ok(spell_at(alloc, &row, extents)?)
+}
+
+// The spelling of the row of the base that the row of these bytes gives.
+fn plainly_spelled(alloc: Global, hashing: RandomState, bytes: &[u8]) -> Result<Text, Or<NotARow>> {
+    let row = plain_row(alloc, read(alloc, hashing, bytes)?)?;
+    Ok(spelled(alloc, row)?)
+}
+
+// Whether a text was made, and it has the bytes of these digits.
+fn is_text_of(alloc: Global, text: &Result<Text, Or<NotARow>>, line: &str) -> Result<bool, Fail> {
+    let digits = digits_of(alloc, line)?;
+    let bytes = bytes_of(alloc, digits.as_str())?;
+    match text {
+        Ok(text) => Ok(text.as_bytes() == bytes.as_slice()),
+        Err(_) => Ok(false),
+    }
+}
+
+// Whether a row has this frame where its large outputs are at these extents.
+fn is_frame(
+    alloc: Global,
+    hashing: RandomState,
+    row: &str,
+    extents: &str,
+    frame: &str,
+) -> Result<bool, Fail> {
+    let digits = digits_of(alloc, row)?;
+    let bytes = bytes_of(alloc, digits.as_str())?;
+    let extents = extents_of(alloc, extents)?;
+    let text = respelled_at(alloc, hashing, bytes.as_slice(), extents.as_slice());
+    is_text_of(alloc, &text, frame)
+}
+
+// Whether a frame gives this row of the base.
+fn is_base_row(alloc: Global, hashing: RandomState, frame: &str, row: &str) -> Result<bool, Fail> {
+    let digits = digits_of(alloc, frame)?;
+    let bytes = bytes_of(alloc, digits.as_str())?;
+    let text = plainly_spelled(alloc, hashing, bytes.as_slice());
+    is_text_of(alloc, &text, row)
+}
+
+// The four parts of a line of `EXTENTS`.
+fn parts_of(line: &str) -> Option<(&str, &str, &str, &str)> {
+    let (row, rest) = line.split_once("=>")?;
+    let (extents, rest) = rest.split_once("=>")?;
+    let (frame, base) = rest.split_once("=>")?;
+    Some((row.trim(), extents.trim(), frame.trim(), base.trim()))
+}
+
+// Whether a row with large outputs is spelled and read as its line says.
+fn is_at_extents(alloc: Global, hashing: RandomState, line: &str) -> Result<bool, Fail> {
+    let Some((row, extents, frame, base)) = parts_of(line) else {
+        return Ok(false);
+    };
+    let is_spelled = is_frame(alloc, hashing, row, extents, frame)?;
+    Ok(is_spelled && is_base_row(alloc, hashing, frame, base)?)
+}
+
 #[test]
 fn each_row_is_spelled_as_it_was_read(rt: HostRuntime) -> Result<(), Fail> {
     for line in ROWS.lines() {
@@ -146,6 +247,17 @@ fn a_wrong_field_is_named_by_its_place(rt: HostRuntime) -> Result<(), Fail> {
     for line in FAULTS.lines() {
         assert!(rt;
             is_fault(rt.alloc(), RandomState::new(&rt)?, line)?,
+            "{line}"
+        );
+    }
+    Ok(())
+}
+
+#[test]
+fn large_outputs_are_at_extents(rt: HostRuntime) -> Result<(), Fail> {
+    for line in EXTENTS.lines() {
+        assert!(rt;
+            is_at_extents(rt.alloc(), RandomState::new(&rt)?, line)?,
             "{line}"
         );
     }

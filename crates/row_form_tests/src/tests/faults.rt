@@ -1,6 +1,5 @@
 //! Bytes that spell no row: each field of each deed is wrong in turn, each list breaks its rule, and each list has a count that
-//! is
-//! far too high. They end with the field that cannot be read.
+//! is far too high. They end with the field that cannot be read.
 
 /// The place of the fault, and the bytes as those of `ROWS`.
 pub(crate) const FAULTS: &str = "\
