@@ -36,7 +36,7 @@ then-is Greater p = refl
 cmp-is : (x y : Identity) → base_cmp x y ≡ identity_cmp x y
 cmp-is x y = then-is (slice_cmp nat_cmp x.site y.site) (nat_cmp x.number y.number)
 
-total : IsTotalOrder identity_cmp
+pub total : IsTotalOrder identity_cmp
 total = record {
   antisymm = λ x y. sym (cmp-is x y) ∙ base.antisymm x y ∙ ap ordering_reverse (cmp-is y x);
   trans = λ x y z p q. sym (cmp-is x z) ∙ base.trans x y z (cmp-is x y ∙ p) (cmp-is y z ∙ q);
@@ -44,7 +44,7 @@ total = record {
 }
 
 -- the order, turned round
-turned : (x y : Identity) (o : Ordering) → identity_cmp x y ≡ o → identity_cmp y x ≡ ordering_reverse o
+pub turned : (x y : Identity) (o : Ordering) → identity_cmp x y ≡ o → identity_cmp y x ≡ ordering_reverse o
 turned x y o is = total.antisymm y x ∙ ap ordering_reverse is
 
 same-number : (m n : ℕ) → is_eq (nat_cmp m n) ≡ eqb m n
@@ -60,13 +60,13 @@ same-order : (x y : Identity) → is_same_identity x y ≡ is_eq (identity_cmp x
 same-order x y = sym (same-by (slice_cmp nat_cmp x.site y.site) (bytes_eq x.site y.site) x.number y.number
     (is_eq-slice_cmp x.site y.site))
 
-is-same : (x y : Identity) → identity_cmp x y ≡ Equal → is_same_identity x y ≡ true
+pub is-same : (x y : Identity) → identity_cmp x y ≡ Equal → is_same_identity x y ≡ true
 is-same x y is = same-order x y ∙ ap is_eq is
 
-differs-below : (x y : Identity) → identity_cmp x y ≡ Less → is_same_identity x y ≡ false
+pub differs-below : (x y : Identity) → identity_cmp x y ≡ Less → is_same_identity x y ≡ false
 differs-below x y is = same-order x y ∙ ap is_eq is
 
-differs-above : (x y : Identity) → identity_cmp x y ≡ Greater → is_same_identity x y ≡ false
+pub differs-above : (x y : Identity) → identity_cmp x y ≡ Greater → is_same_identity x y ≡ false
 differs-above x y is = same-order x y ∙ ap is_eq is
 
 -- what stands before an identity stands before what that stands before
@@ -88,7 +88,7 @@ IsBeforeBranches-same x y (tree ∷ trees) eq before = (
 )
 
 -- a branch put among others, by how it stands to the first one
-abbrev put_by : Ordering → Tree → Tree → List Tree → List Tree
+abbrev pub put_by : Ordering → Tree → Tree → List Tree → List Tree
 put_by o tree other others = match_ordering o (tree ∷ other ∷ others) (tree ∷ others) (other ∷ with_tree tree others)
 
 IsBeforeBranches-put_by : (o : Ordering) (x : Identity) (tree other : Tree) (others : List Tree)
@@ -133,7 +133,7 @@ IsInOrder-with_tree tree (other ∷ others) order =
 abbrev pub KeepsIdentity : (Tree → Tree) → Type 0
 KeepsIdentity change = (tree : Tree) → (change tree).identity ≡ tree.identity
 
-changed-identity : (b : Bool) (change : Tree → Tree) (tree : Tree) → KeepsIdentity change
+pub changed-identity : (b : Bool) (change : Tree → Tree) (tree : Tree) → KeepsIdentity change
     → (cond b (change tree) tree).identity ≡ tree.identity
 changed-identity true change tree keeps = keeps tree
 changed-identity false change tree keeps = refl
@@ -158,7 +158,7 @@ IsInOrder-with_branch_changed branch change (tree ∷ trees) keeps order = (
   IsInOrder-with_branch_changed branch change trees keeps order.1,
 )
 
-IsInOrder-after_deed : (trees : List Tree) (operation : Operation) (deed : SiteDeed) → IsInOrder trees
+pub IsInOrder-after_deed : (trees : List Tree) (operation : Operation) (deed : SiteDeed) → IsInOrder trees
     → IsInOrder (after_deed trees operation deed)
 IsInOrder-after_deed trees operation deeds.Element order = IsInOrder-with_tree _ trees order
 IsInOrder-after_deed trees operation (deeds.Branch branch number name) order = IsInOrder-with_tree _ trees order
@@ -220,7 +220,7 @@ with_tree-present tree (other ∷ others) there =
     present-by (identity_cmp other.identity tree.identity) tree other others refl there (with_tree-present tree others)
 
 -- a change of a branch
-abbrev changed : (Tree → Tree) → Bool → Tree → Tree
+abbrev pub changed : (Tree → Tree) → Bool → Tree → Tree
 changed change b tree = cond b (change tree) tree
 
 with_branch_changed-none : (branch : Identity) (change : Tree → Tree) (trees : List Tree) → IsBeforeBranches branch trees
@@ -335,7 +335,7 @@ is_lt-Less Less is = refl
 is_lt-Less Equal is = cc is
 is_lt-Less Greater is = cc is
 
-IsBeforeBranches-at : (x : Identity) (trees : List Tree) (i : ℕ) (d : Tree) → IsBeforeBranches x trees → i < length trees
+pub IsBeforeBranches-at : (x : Identity) (trees : List Tree) (i : ℕ) (d : Tree) → IsBeforeBranches x trees → i < length trees
     → identity_cmp x (get_or trees i d).identity ≡ Less
 IsBeforeBranches-at x [] i d before within = absurd (omega arith)
 IsBeforeBranches-at x (tree ∷ trees) zero d before within = before.0

@@ -64,7 +64,7 @@ with_operation-by_order Greater entry others i site is ascends later =
     (find (λ (e : Identity). bytes_eq e.site site) (with_operation others i)) later
 
 -- one operation more lowers no number
-number_in-with_operation : (table : List Identity) (i : Identity) (site : List ℕ) → Ascends table
+pub number_in-with_operation : (table : List Identity) (i : Identity) (site : List ℕ) → Ascends table
     → number_in table site ≤ number_in (with_operation table i) site
 number_in-with_operation [] i site ascends = omega arith
 number_in-with_operation (entry ∷ others) i site ascends =
@@ -76,7 +76,7 @@ Ascends-raised_by table [] ascends = ascends
 Ascends-raised_by table (other ∷ others) ascends = Ascends-raised_by (with_operation table other) others
     (Ascends-with_operation table other ascends)
 
-ascends_of : (known : List Operation) → Ascends (table_of known)
+pub ascends_of : (known : List Operation) → Ascends (table_of known)
 ascends_of known = Ascends-raised_by [] (map identity_of known) tt
 
 -- one operation more that is known
@@ -87,7 +87,7 @@ known-push known operation site =
     (number_in-with_operation (table_of known) operation.identity site (ascends_of known))
 
 -- the operations of a packet
-taken-rises : (known operations after : List Operation) (site : List ℕ) → operations_after_import known operations ≡ Ok after
+pub taken-rises : (known operations after : List Operation) (site : List ℕ) → operations_after_import known operations ≡ Ok after
     → number_in (table_of known) site ≤ number_in (table_of after) site
 taken-rises known [] after site is = let same : known ≡ after = cc is in
     subst (λ (l : List Operation). number_in (table_of known) site ≤ number_in (table_of l) site) same (omega arith)
@@ -115,12 +115,12 @@ taken-rises known (operation ∷ operations) after site is =
 -- the sites with one changed
 other-first : (b : Bool) (first site : Site) (sites : List Site) (other : List ℕ) → bytes_eq first.name site.name ≡ b
     → bytes_eq site.name other ≡ false
-    → site_in (with_site site sites) other ≡ site_in sites other → site_in (cond b site first ∷ with_site site sites) other
-    ≡ site_in (first ∷ sites) other
+    → site_in (with_site site sites) other ≡ site_in sites other → site_in (cond b (site ∷ sites) (first ∷ with_site site sites))
+    other ≡ site_in (first ∷ sites) other
 other-first true first site sites other same differs later =
     let name : first.name ≡ site.name = (bytes_eq-Decides first.name site.name).0 same in
     let first_differs : bytes_eq first.name other ≡ false = ap (λ (n : List ℕ). bytes_eq n other) name ∙ differs in
-    ap (λ (b : Bool). cond b (Some site) (site_in (with_site site sites) other)) differs ∙ later
+    ap (λ (b : Bool). cond b (Some site) (site_in sites other)) differs
     ∙ sym (ap (λ (b : Bool). cond b (Some first) (site_in sites other)) first_differs)
 other-first false first site sites other same differs later = ap (λ (found : Option Site). cond (bytes_eq first.name other)
     (Some first) found) later
@@ -134,9 +134,8 @@ site_in-other site (first ∷ sites) other differs =
 own-first : (b : Bool) (first site old : Site) (sites : List Site) (name : List ℕ) → bytes_eq first.name site.name ≡ b
     → bytes_eq site.name name ≡ true → site_in (first ∷ sites) name ≡ Some old
     → (site_in sites name ≡ Some old → site_in (with_site site sites) name ≡ Some site)
-    → site_in (cond b site first ∷ with_site site sites) name ≡ Some site
-own-first true first site old sites name same own found later = ap (λ (b : Bool). cond b (Some site)
-    (site_in (with_site site sites) name)) own
+    → site_in (cond b (site ∷ sites) (first ∷ with_site site sites)) name ≡ Some site
+own-first true first site old sites name same own found later = ap (λ (b : Bool). cond b (Some site) (site_in sites name)) own
 own-first false first site old sites name same own found later =
     let name_is : site.name ≡ name = (bytes_eq-Decides site.name name).0 own in
     let differs : bytes_eq first.name name ≡ false = ap (bytes_eq first.name) (sym name_is) ∙ same in
@@ -157,7 +156,8 @@ found-first true first site rest name same found later = let is : first ≡ site
     subst (λ (s : Site). bytes_eq s.name name ≡ true) is same
 found-first false first site rest name same found later = later found
 
-found-name : (sites : List Site) (name : List ℕ) (site : Site) → site_in sites name ≡ Some site → bytes_eq site.name name ≡ true
+pub found-name : (sites : List Site) (name : List ℕ) (site : Site) → site_in sites name ≡ Some site
+    → bytes_eq site.name name ≡ true
 found-name [] name site found = cc found
 found-name (first ∷ sites) name site found = found-first (bytes_eq first.name name) first site (site_in sites name) name refl
     found (found-name sites name site)

@@ -1,6 +1,17 @@
 pub mod BranchLaws
+pub mod Commuting
 pub mod EstimateLaws
+pub mod GrowthLaws
+pub mod HistoryLaws
+pub mod HoldLaws
 pub mod ImportLaws
+pub mod KnowLaws
 pub mod LogLaws
+pub mod MakeLaws
+pub mod MasterLaws
+pub mod ReplicaLaws
+pub mod SiteLaws
+pub mod SoundLaws
+pub mod StepLaws
 pub mod TableLaws
 pub mod WorkedReplicas

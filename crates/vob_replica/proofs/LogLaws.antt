@@ -36,7 +36,7 @@ abbrev found_in : List Identity → List ℕ → Option Identity
 found_in table site = find (λ (entry : Identity). bytes_eq entry.site site) table
 
 -- a number, or another that is higher, at the site of an operation
-abbrev at_most : Bool → ℕ → ℕ → ℕ
+abbrev pub at_most : Bool → ℕ → ℕ → ℕ
 at_most same number other = cond same (max number other) number
 
 first-alone : (b : Bool) (i : Identity) (rest : Option Identity) → number_found (cond b (Some i) rest)
@@ -73,7 +73,7 @@ most-by_order Greater entry others i site is later =
     (found_in others site) later
 
 -- an operation raises the number of its site alone, and that to its own at most
-number_in-most : (table : List Identity) (i : Identity) (site : List ℕ)
+pub number_in-most : (table : List Identity) (i : Identity) (site : List ℕ)
     → number_in (with_operation table i) site ≤ at_most (bytes_eq i.site site) (number_in table site) i.number
 number_in-most [] i site = first-alone (bytes_eq i.site site) i None
 number_in-most (entry ∷ others) i site = most-by_order (order i.site entry.site) entry others i site refl

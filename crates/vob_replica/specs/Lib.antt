@@ -4,7 +4,9 @@ pub mod Laws
 pub mod Logs
 pub mod Reading
 pub mod Replicas
+pub mod Runs
 pub mod Showing
+pub mod Sites
 pub mod Tables
 pub mod Trees
 pub mod Words

@@ -1,7 +1,10 @@
 -- A site: the operations that it knows, and what it thinks that others know.
-use Rattle.std.specs.Prelude.{ℕ, ◌+◌, not, Option, Some, None, Result, Ok, Err, List, [], ◌∷◌, ◌++◌, filter, if◌then◌else◌}
+use Rattle.std.specs.Prelude.{◌≡◌, ℕ, ◌+◌, ◌-◌, ◌≤◌, not, Option, Some, None, Result, Ok, Err, List, [], ◌∷◌, ◌++◌, filter}
+use Rattle.std.specs.Prelude.{length, take, if◌then◌else◌}
 use Rattle.std.specs.Option.{option_map, option_map_or}
 use Rattle.std.specs.Str.{bytes_eq}
+use Rattle.cc_names.specs.declared.memory.Or.{Or}
+use Rattle.cc_names.specs.declared.memory.Or.TheVariants.{NoMemory, Is}
 use Rattle.vob_replica.specs.declared.estimates.Estimate.{Estimate}
 use Rattle.vob_replica.specs.declared.events.Identity.{Identity}
 use Rattle.vob_replica.specs.declared.operations.Change.{Change}
@@ -10,13 +13,12 @@ use Rattle.vob_replica.specs.declared.operations.Operation.{Operation}
 use Rattle.vob_replica.specs.declared.operations.SiteDeed.{SiteDeed}
 use Rattle.vob_replica.specs.declared.operations.SiteDeed.TheVariants as deeds
 use Rattle.vob_replica.specs.declared.operations.SiteFault.{SiteFault}
-use Rattle.vob_replica.specs.declared.operations.SiteFault.TheVariants.{NoBranch, NotMaster, NoVersion, BranchExists}
+use Rattle.vob_replica.specs.declared.operations.SiteFault.TheVariants.{NoBranch, NotMaster, NoVersion, BranchExists, Gap}
 use Rattle.vob_replica.specs.Tables.{holds, number_in, raised_by, table_of, first_gap}
 use Rattle.vob_replica.specs.Trees.{Tree, trees_of, tree_at, named_tree, master_of, next_number, has_version}
 
 -- a site: its name, the operations that it knows in the order in which it came to know them, and an estimated table for each
--- site,
--- where not all is zero
+-- site, where not all is zero
 pub record Site : Type 0 where
   pub name : List ℕ
   pub known : List Operation
@@ -84,13 +86,17 @@ site_deed_of trees (changes.Version branch word) =
     deeds.Version branch (option_map_or next_number (tree_at trees branch) 0) word
 site_deed_of trees (changes.Master branch to) = deeds.Master branch to
 
+-- the operation by which the site of a name, which knows these operations and branches, makes a change
+abbrev pub operation_of : List ℕ → List Operation → List Tree → Change → Operation
+operation_of name known trees change = record {
+  identity = record { site = name; number = number_in (table_of known) name + 1 };
+  needs = table_of known;
+  deed = site_deed_of trees change;
+}
+
 -- the operation by which a site makes a change
 abbrev pub operation_by : Site → Change → Operation
-operation_by site change = record {
-  identity = record { site = site.name; number = number_in (table_of site.known) site.name + 1 };
-  needs = table_of site.known;
-  deed = site_deed_of (trees_of site.known) change;
-}
+operation_by site change = operation_of site.name site.known (trees_of site.known) change
 
 -- a site that made a change
 abbrev pub site_made : Site → Change → Site
@@ -130,3 +136,35 @@ abbrev pub site_with : Site → Packet → List Operation → Site
 site_with site packet known =
     thinking (record site { known = known }) packet.sender
     (raised_by (estimate_in site.estimates packet.sender) packet.table)
+
+-- what a site comes to answer, and the site then, where it makes a change
+abbrev pub made_unless : Option SiteFault → Site → Change → Result Identity SiteFault × Site
+made_unless (Some fault) site change = (Err fault, site)
+made_unless None site change = (Ok (operation_by site change).identity, site_made site change)
+
+abbrev pub made : Site → Change → Result Identity SiteFault × Site
+made site change = made_unless (change_fault site.name (trees_of site.known) change) site change
+
+-- the same where it takes a packet in: it answers how many operations were new
+abbrev pub imported_with : Result (List Operation) Identity → Site → Packet → Result ℕ SiteFault × Site
+imported_with (Ok known) site packet = (Ok (length known - length site.known), site_with site packet known)
+imported_with (Err missing) site packet = (Err (Gap missing), site)
+
+abbrev pub imported : Site → Packet → Result ℕ SiteFault × Site
+imported site packet = imported_with (operations_after_import site.known packet.operations) site packet
+
+-- branches are those of the first operations that a site knows
+pub record AreBranchesOf (trees : List Tree) (taken : ℕ) (known : List Operation) : Type 0 where
+  pub within : taken ≤ length known
+  pub same : trees ≡ trees_of (take taken known)
+
+-- unless memory ran out, a call answered this and left this
+abbrev pub Comes : {X S : Type 0} → Result X (Or SiteFault) → S → Result X SiteFault × S → Type 0
+Comes (Ok x) after expected = expected ≡ (Ok x, after)
+Comes (Err NoMemory) after expected = Unit {0}
+Comes (Err (Is fault)) after expected = expected ≡ (Err fault, after)
+
+-- the fault of a packet that was not added
+abbrev pub gap_fault : Or Identity → Or SiteFault
+gap_fault NoMemory = NoMemory
+gap_fault (Is missing) = Is (Gap missing)

@@ -44,18 +44,35 @@ known_lines table trees = flat_map epoch_line table ++ flat_map tree_lines trees
 abbrev pub show_text : Site → List ℕ
 show_text site = known_lines (table_of site.known) (trees_of site.known)
 
--- a fault, with its number and what it carries
+-- the number and the name of a fault
+abbrev pub fault_name : SiteFault → List ℕ
+fault_name (faults.SiteExists site) = codes "V1 SiteExists "
+fault_name faults.TooManySites = codes "V2 TooManySites"
+fault_name (faults.NoSite site) = codes "V3 NoSite "
+fault_name (faults.NoBranch branch) = codes "V4 NoBranch "
+fault_name (faults.NotMaster site) = codes "V5 NotMaster "
+fault_name (faults.NoVersion number) = codes "V6 NoVersion "
+fault_name (faults.BranchExists branch) = codes "V7 BranchExists "
+fault_name (faults.PacketExists packet) = codes "V8 PacketExists "
+fault_name (faults.NoPacket packet) = codes "V9 NoPacket "
+fault_name (faults.Gap missing) = codes "V10 Gap "
+
+-- what a fault carries
+abbrev pub fault_argument : SiteFault → List ℕ
+fault_argument (faults.SiteExists site) = site
+fault_argument faults.TooManySites = []
+fault_argument (faults.NoSite site) = site
+fault_argument (faults.NoBranch branch) = identity_text branch
+fault_argument (faults.NotMaster site) = site
+fault_argument (faults.NoVersion number) = decimal number
+fault_argument (faults.BranchExists branch) = identity_text branch
+fault_argument (faults.PacketExists packet) = packet
+fault_argument (faults.NoPacket packet) = packet
+fault_argument (faults.Gap missing) = identity_text missing
+
+-- a fault, with its number, its name and what it carries
 abbrev pub fault_text : SiteFault → List ℕ
-fault_text (faults.SiteExists site) = codes "V1 SiteExists " ++ site
-fault_text faults.TooManySites = codes "V2 TooManySites"
-fault_text (faults.NoSite site) = codes "V3 NoSite " ++ site
-fault_text (faults.NoBranch branch) = codes "V4 NoBranch " ++ identity_text branch
-fault_text (faults.NotMaster site) = codes "V5 NotMaster " ++ site
-fault_text (faults.NoVersion number) = codes "V6 NoVersion " ++ decimal number
-fault_text (faults.BranchExists branch) = codes "V7 BranchExists " ++ identity_text branch
-fault_text (faults.PacketExists packet) = codes "V8 PacketExists " ++ packet
-fault_text (faults.NoPacket packet) = codes "V9 NoPacket " ++ packet
-fault_text (faults.Gap missing) = codes "V10 Gap " ++ identity_text missing
+fault_text fault = fault_name fault ++ fault_argument fault
 
 -- the word of an event
 abbrev pub event_word : Event → List ℕ

@@ -1,5 +1,5 @@
 -- The world of the sites: what each event comes to, and the replies.
-use Rattle.std.specs.Prelude.{ℕ, ◌+◌, ◌-◌, nat_lt, Option, Some, None, Result, Ok, Err, List, [], ◌∷◌, ◌++◌, length, map}
+use Rattle.std.specs.Prelude.{ℕ, ◌+◌, ◌-◌, nat_lt, Option, Some, None, Result, Ok, Err, List, [], ◌∷◌, ◌++◌, length}
 use Rattle.std.specs.Prelude.{if◌then◌else◌}
 use Rattle.std.specs.Option.{option_map_or}
 use Rattle.std.specs.Str.{bytes_eq}
@@ -52,7 +52,8 @@ packet_in (sent ∷ others) name = if bytes_eq sent.name name then Some sent.pac
 
 -- the sites with one of them changed
 abbrev pub with_site : Site → List Site → List Site
-with_site site sites = map (λ other. if bytes_eq other.name site.name then site else other) sites
+with_site site [] = []
+with_site site (other ∷ others) = if bytes_eq other.name site.name then site ∷ others else other ∷ with_site site others
 
 abbrev pub with_sites : World → List Site → World
 with_sites world sites = record world { sites = sites }
@@ -114,19 +115,30 @@ import_step world name packet =
     (packet_in world.packets packet)
     (refused_step world (NoPacket packet)))
 
+-- `chmaster S ID T`
+abbrev pub chmaster_step : World → List ℕ → Identity → List ℕ → Stepped
+chmaster_step world name branch to =
+    at_site world name (λ _. at_site world to (λ _. makes world name (changes.Master branch to)))
+
+-- `recover S T`
+abbrev pub recover_step : World → List ℕ → List ℕ → Stepped
+recover_step world name to = at_site world name (λ from. at_site world to (λ _. done_step world (thinking from to []) []))
+
+-- `show S`
+abbrev pub show_step : World → List ℕ → Stepped
+show_step world name = at_site world name (λ from. record { world = world; answer = Done (show_text from) })
+
 -- what an event comes to
 abbrev pub step : World → Event → Stepped
 step world (events.Site site) = site_step world site
 step world (events.Mkelem site) = makes world site changes.Element
 step world (events.Mkbranch site branch number name) = makes world site (changes.Branch branch number name)
 step world (events.Checkin site branch word) = makes world site (changes.Version branch word)
-step world (events.Chmaster site branch to) =
-    at_site world site (λ _. at_site world to (λ _. makes world site (changes.Master branch to)))
+step world (events.Chmaster site branch to) = chmaster_step world site branch to
 step world (events.Export site to packet) = export_step world site to packet
 step world (events.Import site packet) = import_step world site packet
-step world (events.Recover site to) = at_site world site (λ from. at_site world to
-    (λ _. done_step world (thinking from to []) []))
-step world (events.Show site) = at_site world site (λ from. done_step world from (show_text from))
+step world (events.Recover site to) = recover_step world site to
+step world (events.Show site) = show_step world site
 
 -- the world behind events
 abbrev pub world_behind : World → List Event → World

@@ -45,7 +45,7 @@ fn push_shared(
     ensures next { OnOk result (HasNextNumber operation) }
     ensures pushed { OnOk result
         (operations.new.items ≡ operations.old.items ++ operation ∷ []) }
-    ensures with_operation { OnOk result (table.new ≡ with_operation table.old operation.identity) }
+    ensures raised { OnOk result (table.new ≡ with_operation table.old operation.identity) }
     ensures kept { OnErr result (operations.new.items ≡ operations.old.items) }
     ensures same { OnErr result (table.new ≡ table.old) }
 {
@@ -56,8 +56,7 @@ fn push_shared(
 }
 
 /// Whether an operation is new to a site that knows what a table holds. It is taken into the table then, unless it needs an
-/// operation
-/// that is missing.
+/// operation that is missing.
 fn take_one(alloc: Global, table: &mut Table, operation: &Shared) -> Result<bool, Or<Identity>>
     ensures next { HasNextNumber operation.now }
     ensures known { IfOk result (λ new. holds table.old operation.now.identity ≡ not new) }
@@ -80,8 +79,7 @@ fn take_one(alloc: Global, table: &mut Table, operation: &Shared) -> Result<bool
 }
 
 /// Those of some operations that are new to a site that knows what a table holds, in order, which are taken into the table; or
-/// the
-/// first operation that is missing.
+/// the first operation that is missing.
 fn news_of(
     alloc: Global,
     table: &mut Table,
@@ -142,8 +140,7 @@ impl Log {
     }
 
     /// Those behind the first `from` operations that a table does not hold, in order. Takes time linear in what stands there, and
-    /// in the
-    /// sites for each.
+    /// in the sites for each.
     pub fn above(&self, alloc: Global, from: usize, table: &Table) -> Result<Vec<Shared>, NoMemory>
         requires { from ≤ length self.now }
         ensures { IfOk result
@@ -170,8 +167,7 @@ impl Log {
 
     /// Takes in the operations of a packet that are not known yet, and answers how many; or answers the first operation that is
     /// missing. An `Err` changes nothing. Takes time linear in the sites for each operation of the packet, and for each new one
-    /// the
-    /// time of `first_gap`.
+    /// the time of `first_gap`.
     pub fn import_operations(
         &mut self,
         alloc: Global,

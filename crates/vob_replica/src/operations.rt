@@ -19,8 +19,7 @@ pub enum SiteDeed {
 }
 
 /// An operation. `needs` is the epoch table of its maker before it: in byte order of sites, without those of which no operation
-/// was
-/// known.
+/// was known.
 #[derive(Drop)]
 pub struct Operation {
     pub identity: Identity,

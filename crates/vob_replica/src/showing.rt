@@ -1,13 +1,15 @@
-//! What replies say of a site, of an identity and of a number.
+//! What replies say.
 
-ghost use Rattle.std.specs.Prelude.{◌≡◌, ◌++◌, IfOk, OnOk, flat_map};
+ghost use Rattle.std.specs.Prelude.{◌≡◌, ◌++◌, codes, IfOk, OnOk, flat_map};
 ghost use Rattle.std.specs.Fmt.{decimal};
-ghost use Rattle.vob_replica.specs.Showing.{identity_text, epoch_line, version_line, branch_line, tree_lines, known_lines};
+ghost use Rattle.vob_replica.specs.Showing.{identity_text, epoch_line, version_line, branch_line, tree_lines, known_lines, fault_name, fault_argument, fault_text, event_word, behind_ok, with_bars, done_text, answer_text, reply_text};
 
 use crate::branch::{Branch, Version};
 use crate::branches::Branches;
-use crate::events::Identity;
+use crate::events::{Event, Identity};
+use crate::operations::{Answer, SiteFault};
 use crate::tables::Table;
+use cc_names::cuts::Lines;
 use cc_names::memory::NoMemory;
 use cc_names::numbers::push_number;
 use cc_names::texts::Text;
@@ -126,8 +128,8 @@ fn push_table(alloc: Global, text: &mut Vec<u8>, table: &[Identity]) -> Result<(
     Ok(())
 }
 
-/// The lines of an epoch table and of branches. Takes time linear in them.
-pub fn show_text(alloc: Global, table: &Table, branches: &Branches) -> Result<Text, NoMemory>
+/// The lines of an epoch table and of branches.
+pub(crate) fn show_text(alloc: Global, table: &Table, branches: &Branches) -> Result<Text, NoMemory>
     ensures { IfOk result (λ text. text ≡ known_lines table.now branches.now) }
 {
     let mut text = Vec::new(alloc);
@@ -137,7 +139,7 @@ pub fn show_text(alloc: Global, table: &Table, branches: &Branches) -> Result<Te
 }
 
 /// An identity as a text.
-pub fn identity_text(alloc: Global, identity: &Identity) -> Result<Text, NoMemory>
+pub(crate) fn identity_text(alloc: Global, identity: &Identity) -> Result<Text, NoMemory>
     ensures { IfOk result (λ text. text ≡ identity_text identity.now) }
 {
     let mut text = Vec::new(alloc);
@@ -146,10 +148,147 @@ pub fn identity_text(alloc: Global, identity: &Identity) -> Result<Text, NoMemor
 }
 
 /// A number as a text.
-pub fn number_text(alloc: Global, number: u64) -> Result<Text, NoMemory>
+pub(crate) fn number_text(alloc: Global, number: u64) -> Result<Text, NoMemory>
     ensures { IfOk result (λ text. text ≡ decimal number) }
 {
     let mut text = Vec::new(alloc);
     push_number(alloc, &mut text, number)?;
     Ok(Text::of(text))
+}
+
+/// The number and the name of a fault.
+fn fault_name(fault: &SiteFault) -> &'static [u8]
+    ensures { result.now ≡ fault_name fault.now }
+{
+    match fault {
+        SiteFault::SiteExists(_) => b"V1 SiteExists ",
+        SiteFault::TooManySites => b"V2 TooManySites",
+        SiteFault::NoSite(_) => b"V3 NoSite ",
+        SiteFault::NoBranch(_) => b"V4 NoBranch ",
+        SiteFault::NotMaster(_) => b"V5 NotMaster ",
+        SiteFault::NoVersion(_) => b"V6 NoVersion ",
+        SiteFault::BranchExists(_) => b"V7 BranchExists ",
+        SiteFault::PacketExists(_) => b"V8 PacketExists ",
+        SiteFault::NoPacket(_) => b"V9 NoPacket ",
+        SiteFault::Gap(_) => b"V10 Gap ",
+    }
+}
+
+/// Writes what a fault carries.
+fn push_argument(alloc: Global, text: &mut Vec<u8>, fault: &SiteFault) -> Result<(), NoMemory>
+    ensures { OnOk result (text.new.items ≡ text.old.items ++ fault_argument fault.now) }
+{
+    match fault {
+        SiteFault::SiteExists(site) => push(text, site.as_bytes()),
+        SiteFault::TooManySites => Ok(()),
+        SiteFault::NoSite(site) => push(text, site.as_bytes()),
+        SiteFault::NoBranch(branch) => push_identity(alloc, text, b"", branch),
+        SiteFault::NotMaster(site) => push(text, site.as_bytes()),
+        SiteFault::NoVersion(number) => push_number(alloc, text, *number),
+        SiteFault::BranchExists(branch) => push_identity(alloc, text, b"", branch),
+        SiteFault::PacketExists(packet) => push(text, packet.as_bytes()),
+        SiteFault::NoPacket(packet) => push(text, packet.as_bytes()),
+        SiteFault::Gap(missing) => push_identity(alloc, text, b"", missing),
+    }
+}
+
+/// Writes a fault, with its number, its name and what it carries.
+fn push_fault(alloc: Global, text: &mut Vec<u8>, fault: &SiteFault) -> Result<(), NoMemory>
+    ensures { OnOk result (text.new.items ≡ text.old.items ++ fault_text fault.now) }
+{
+    push(text, fault_name(fault))?;
+    push_argument(alloc, text, fault)
+}
+
+/// The word of an event.
+fn word_of(event: &Event) -> &'static [u8]
+    ensures { result.now ≡ event_word event.now }
+{
+    match event {
+        Event::Site { .. } => b"site",
+        Event::Mkelem { .. } => b"mkelem",
+        Event::Mkbranch { .. } => b"mkbranch",
+        Event::Checkin { .. } => b"checkin",
+        Event::Chmaster { .. } => b"chmaster",
+        Event::Export { .. } => b"export",
+        Event::Import { .. } => b"import",
+        Event::Recover { .. } => b"recover",
+        Event::Show { .. } => b"show",
+    }
+}
+
+/// Writes what follows `ok`: nothing, or a word.
+fn push_behind_ok(text: &mut Vec<u8>, word: &[u8]) -> Result<(), NoMemory>
+    ensures { OnOk result (text.new.items ≡ text.old.items ++ behind_ok word.now) }
+{
+    match word {
+        [] => push(text, b"\n"),
+        _ => {
+            push_texts(text, b" ", word)?;
+            push(text, b"\n")
+        }
+    }
+}
+
+/// Writes each line of a text behind a `|`.
+fn push_with_bars(text: &mut Vec<u8>, shown: &[u8]) -> Result<(), NoMemory>
+    ensures { OnOk result (text.new.items ≡ text.old.items ++ with_bars shown.now) }
+{
+    let mut lines = Lines::of(shown);
+    while let Some(line) = lines.next() {
+        push_texts(text, b"|", line)?;
+        push(text, b"\n")?;
+    }
+    Ok(())
+}
+
+/// Writes what follows `ok` of an event.
+fn push_done(text: &mut Vec<u8>, event: &Event, done: &[u8]) -> Result<(), NoMemory>
+    ensures { OnOk result (text.new.items ≡ text.old.items ++ done_text event.now done.now) }
+{
+    match event {
+        Event::Show { .. } => {
+            push(text, b"\n")?;
+            push_with_bars(text, done)
+        }
+        _ => push_behind_ok(text, done),
+    }
+}
+
+/// Writes what follows the word of an event.
+fn push_answer(
+    alloc: Global,
+    text: &mut Vec<u8>,
+    event: &Event,
+    answer: &Answer,
+) -> Result<(), NoMemory>
+    ensures { OnOk result (text.new.items ≡ text.old.items ++ answer_text event.now answer.now) }
+{
+    match answer {
+        Answer::Done(done) => {
+            push(text, b" ok")?;
+            push_done(text, event, done.as_bytes())
+        }
+        Answer::Refused(fault) => {
+            push(text, b" refused ")?;
+            push_fault(alloc, text, fault)?;
+            push(text, b"\n")
+        }
+    }
+}
+
+/// Writes the reply to the event of this number. Takes time linear in the reply.
+pub fn push_reply(
+    alloc: Global,
+    text: &mut Vec<u8>,
+    number: u64,
+    event: &Event,
+    answer: &Answer,
+) -> Result<(), NoMemory>
+    ensures { OnOk result
+        (text.new.items ≡ text.old.items ++ reply_text number event.now answer.now) }
+{
+    push_number(alloc, text, number)?;
+    push_texts(text, b" ", word_of(event))?;
+    push_answer(alloc, text, event, answer)
 }

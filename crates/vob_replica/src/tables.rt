@@ -175,8 +175,7 @@ impl Table {
     }
 
     /// Takes the operations of another table in. An `Err` leaves it with some of them. Takes time linear in the sites of both,
-    /// each with
-    /// each.
+    /// each with each.
     pub fn raise_all(&mut self, alloc: Global, others: &[Identity]) -> Result<(), NoMemory>
         ensures { OnOk result (self.new ≡ raised_by self.old others.now) }
     {
