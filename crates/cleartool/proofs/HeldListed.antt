@@ -30,11 +30,11 @@ use Rattle.base_rows.specs.LookUps.{last_of}
 use Rattle.base_rows.specs.Giving.{gives_view}
 use Rattle.cleartool.specs.Owned.{paths_given, was_given}
 use Rattle.base_rows.specs.Lifetimes.{ended_or}
-use Rattle.cleartool.proofs.GivenRows.{AreDeeds, deeds_below}
+use Rattle.view_lookup.proofs.GivenRows.{AreDeeds, deeds_below}
 use Rattle.base_rows.proofs.Holdings.{held_by_last, held_effect, same_view_path}
 use Rattle.base_rows.proofs.Newest.{no_later}
 use Rattle.cleartool.specs.HeldObjects.{held_line_at}
-use Rattle.cleartool.proofs.ByKeys.{by_keys, reported, text_of_key}
+use Rattle.view_lookup.proofs.ByKeys.{by_keys, reported, text_of_key}
 
 t_first : (a b : Bool) → T (a && b) → T a
 t_first true b h = tt

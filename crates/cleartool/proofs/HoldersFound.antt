@@ -33,9 +33,10 @@ use Rattle.base_rows.specs.Effects.{holds_one, winked_effect}
 use Rattle.base_rows.specs.Lifetimes.{ended_or}
 use Rattle.base_rows.specs.LookUps.{last_of, update_by_row}
 use Rattle.base_rows.specs.Made.{is_target}
-use Rattle.cleartool.specs.Owned.{is_name, maker_by, winker, winker_at}
+use Rattle.view_lookup.specs.GivenNames.{is_name}
+use Rattle.cleartool.specs.Owned.{maker_by, winker, winker_at}
 use Rattle.base_rows.specs.Walks.{updating_rows}
-use Rattle.cleartool.proofs.GivenRows.{AreDeeds, any_put, deed_newest, deeds_below}
+use Rattle.view_lookup.proofs.GivenRows.{AreDeeds, any_put, deed_newest, deeds_below}
 use Rattle.view_lookup.proofs.HeldSomewhere.{holds_target, number_of}
 use Rattle.base_rows.proofs.Holdings.{held_by_last, held_effect, view_paths_total, same_view_path}
 

@@ -4,7 +4,7 @@ use Rattle.std.proofs.Common.{length, map, reverse, refl, ap, ap₂, sym, subst,
 use Rattle.std.specs.Prelude.{T, is_some, nat_le, nat_lt, unwrap_or, if◌then◌else◌}
 use Rattle.std.specs.Cmp.Lexicographic.{slice_cmp}
 use Rattle.std.specs.FinMap.Entries.{find, find-put, is_sorted, is_sorted-put}
-use Rattle.std.specs.List.{AllByRecursion, concat, last_or}
+use Rattle.std.specs.List.{concat, last_or}
 use Rattle.std.specs.List.Sorted.{IsStrictlySortedBy}
 use Rattle.std.specs.Option.{option_map_or}
 use Rattle.std.specs.Ordering.{eq_by_cmp, nat_cmp}
@@ -26,7 +26,7 @@ use Rattle.cc_names.specs.declared.selection.Picked.{Picked}
 use Rattle.cc_names.specs.declared.selection.Seen.{Seen}
 use Rattle.cc_names.specs.declared.selection.Seen.TheVariants.{Nothing}
 use Rattle.cc_names.proofs.NamesOfPaths.{path-short}
-use Rattle.cc_names.proofs.PathParts.{path_of_names-names_of, last_or-append, names_of-path_of_names, names_of-names}
+use Rattle.cc_names.proofs.PathParts.{path_of_names-names_of, last_or-append}
 use Rattle.cc_names.proofs.PathParts.{without_last-append}
 use Rattle.base_model.specs.Catalogs.{Catalog, catalog_of, element_named, own_of}
 use Rattle.base_model.specs.Changes.{objects_held}
@@ -43,12 +43,14 @@ use Rattle.legal_history.specs.Queries.DirectoryTexts.{object_names, path_of_ent
 use Rattle.base_model.proofs.Makings.{seen_element}
 use Rattle.base_model.proofs.Picks.{picked_is}
 use Rattle.base_rows.specs.Giving.{gives_view}
-use Rattle.cleartool.specs.Owned.{is_name, paths_given, was_given}
+use Rattle.view_lookup.specs.GivenNames.{is_name}
+use Rattle.cleartool.specs.Owned.{paths_given, was_given}
 use Rattle.base_rows.proofs.Holdings.{same_view_path}
 use Rattle.cleartool.specs.Listed.{HasNames, SeesDirectory, lies_in, line_at, seen_line, seen_line_where}
-use Rattle.cleartool.proofs.ByKeys.{by_keys, text_of_key}
+use Rattle.view_lookup.proofs.ByKeys.{by_keys, text_of_key}
 use Rattle.cleartool.proofs.HeldListed.{held_given}
-use Rattle.cleartool.proofs.NamesGiven.{checkout_given, version_given}
+use Rattle.view_lookup.proofs.NamesGiven.{checkout_given, version_given}
+use Rattle.view_lookup.proofs.NamesInPaths.{names_in_path}
 
 and_both : (a b : Bool) → (a && b) ≡ true → (a ≡ true) × (b ≡ true)
 and_both true b h = (refl, h)
@@ -80,15 +82,6 @@ not_true true h = absurd (h refl)
 not_true false h = refl
 
 -- ---- paths in a directory
-
-all_more : (P : List ℕ → Type 0) (xs : List (List ℕ)) (x : List ℕ) → AllByRecursion P xs → P x → AllByRecursion P (xs ++ x ∷ [])
-all_more P [] x all is = (is, tt)
-all_more P (first ∷ xs) x all is = (all.0, all_more P xs x all.1 is)
-
-pub names_in_path : (directory name : List ℕ) → IsPath directory → IsName name
-    → names_of (path_of_entry directory name) ≡ names_of directory ++ name ∷ []
-names_in_path directory name path is = names_of-path_of_names (names_of directory ++ name ∷ [])
-    (all_more IsName (names_of directory) name (names_of-names directory path) is)
 
 parent_in : (directory name : List ℕ) → IsPath directory → IsName name → parent_of (path_of_entry directory name) ≡ Some directory
 parent_in directory name path is =

@@ -1,14 +1,3 @@
-pub mod Answering
-pub mod Naming
-pub mod Histories
-pub mod Descriptions
-pub mod VersionTrees
 pub mod HeldObjects
 pub mod Listed
-pub mod Recorded
-pub mod Covering
-pub mod Differences
-pub mod LabelSets
 pub mod Owned
-pub mod Reached
-pub mod ElementsBelow

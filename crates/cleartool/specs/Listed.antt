@@ -20,7 +20,8 @@ use Rattle.legal_history.specs.Commands.Decisions.{Answers, answers}
 use Rattle.legal_history.specs.Queries.DirectoryTexts.{name_line, held_object_line}
 use Rattle.legal_history.specs.Queries.QueryLines.{ls_tests}
 use Rattle.legal_history.specs.Queries.VersionNames.{line}
-use Rattle.cleartool.specs.Owned.{is_name, was_given, was_named}
+use Rattle.view_lookup.specs.GivenNames.{is_name, was_named}
+use Rattle.cleartool.specs.Owned.{was_given}
 
 -- the line of a name with what stands there
 abbrev pub seen_line : Base → List ℕ → List ℕ → List ℕ → Seen → List ℕ

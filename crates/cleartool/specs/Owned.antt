@@ -1,12 +1,12 @@
--- What rows gave views at paths, which names they gave in directories, and which views hold an object.
-use Rattle.std.specs.Prelude.{ℕ, Bool, false, ◌&&◌, ◌||◌, ◌==◌, Option, Some, None, List, [], ◌∷◌, bytes_eq, option_and_then}
+-- What rows gave views at paths, and which views hold an object.
+use Rattle.std.specs.Prelude.{ℕ, Bool, false, ◌&&◌, ◌||◌, Option, Some, None, List, [], ◌∷◌, option_and_then}
 use Rattle.cc_names.specs.declared.rows.Deed.{Deed}
 use Rattle.cc_names.specs.declared.rows.Deed.TheVariants as deeds
 use Rattle.base_model.specs.Changes.{targets_of}
 use Rattle.base_model.specs.Closures.{is_path_among}
 use Rattle.base_model.specs.Rows.{Base, deed_at, only_where}
 use Rattle.base_rows.specs.Effects.{holds_one}
-use Rattle.base_rows.specs.Giving.{gives_in, gives_view}
+use Rattle.base_rows.specs.Giving.{gives_view}
 
 -- the paths at which a deed gives its view a private file or an object
 abbrev pub paths_given : Base → Deed → List (List ℕ)
@@ -29,26 +29,6 @@ abbrev pub was_given : Base → List ℕ → List ℕ → Base → Bool
 was_given b v path [] = false
 was_given b v path (row ∷ older) = (gives_view v row.deed && is_path_among path (paths_given b row.deed))
     || was_given b v path older
-
--- whether it is this name
-abbrev pub is_name : List ℕ → Option (List ℕ) → Bool
-is_name name None = false
-is_name name (Some other) = bytes_eq name other
-
--- the name that a deed gives
-abbrev pub name_given : Deed → Option (List ℕ)
-name_given (deeds.Mkelem v directory name kind out) = Some name
-name_given (deeds.Mv v directory from_name to_name) = Some to_name
-name_given deed = None
-
--- the name that the row of a number gave
-abbrev pub name_at : Base → ℕ → Option (List ℕ)
-name_at b n = option_and_then name_given (deed_at b n)
-
--- whether a row of a base gave the name in the directory
-abbrev pub was_named : ℕ → List ℕ → Base → Bool
-was_named d name [] = false
-was_named d name (row ∷ older) = (gives_in d row.deed && is_name name (name_given row.deed)) || was_named d name older
 
 -- the view of the row that made an object, where it holds it
 abbrev pub maker_by : Base → ℕ → Option Deed → Option (List ℕ)

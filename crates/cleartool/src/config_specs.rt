@@ -2,7 +2,7 @@
 
 ghost use Rattle.std.specs.Prelude.{◌≡◌};
 ghost use Rattle.legal_history.specs.Queries.QueryLines.{catcs};
-ghost use Rattle.cleartool.specs.Answering.{AnswersAs};
+ghost use Rattle.view_lookup.specs.Answering.{AnswersAs};
 
 use cc_names::memory::Or;
 use cc_names::names::Name;

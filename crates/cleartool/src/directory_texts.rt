@@ -9,13 +9,11 @@ ghost use Rattle.base_model.specs.Seen.{at};
 ghost use Rattle.legal_history.specs.Queries.DirectoryTexts.{by_rule, ls_text, path_of_entry, picked_line};
 ghost use Rattle.legal_history.specs.Queries.QueryLines.{ls};
 ghost use Rattle.legal_history.specs.Queries.VersionNames.{line};
-ghost use Rattle.cleartool.specs.Answering.{AnswersAs};
+ghost use Rattle.view_lookup.specs.Answering.{AnswersAs};
 ghost use Rattle.cleartool.specs.Listed.{FindsDirectory, SeesDirectory, line_at, seen_line_where, object_line_where};
 
-use crate::descriptions::origin_name;
-use crate::lines::{push_at_version, push_object};
+use crate::lines::push_object;
 use crate::listed_names::names_in;
-use crate::version_names::version_name;
 use cc_names::memory::{NoMemory, Or};
 use cc_names::names::Name;
 use cc_names::numbers::push_number;
@@ -24,7 +22,10 @@ use cc_names::refusals::Refusal;
 use cc_names::selection::{Picked, Seen};
 use cc_names::texts::Text;
 use std::alloc::Global;
-use view_lookup::{FirstRows, at, held_object, is_directory_element, view_row};
+use view_lookup::{
+    FirstRows, at, held_object, is_directory_element, origin_name, push_at_version, version_name,
+    view_row,
+};
 
 /// Adds the line of a name and words behind it.
 fn push_name_with_words(text: &mut Vec<u8>, name: &[u8], words: &[u8]) -> Result<(), NoMemory>

@@ -5,7 +5,7 @@ ghost use Rattle.base_model.specs.Seen.{at};
 ghost use Rattle.legal_history.specs.Commands.Decisions.{first_refusal};
 ghost use Rattle.legal_history.specs.Commands.Tests.{needs_no_directory};
 ghost use Rattle.legal_history.specs.Queries.QueryLines.{cat, needs_text, made_text_at, text_row};
-ghost use Rattle.cleartool.specs.Answering.{AnswersAs};
+ghost use Rattle.view_lookup.specs.Answering.{AnswersAs};
 
 use cc_names::memory::{NoMemory, Or};
 use cc_names::names::Name;

@@ -3,7 +3,7 @@
 ghost use Rattle.std.specs.Prelude.{◌≡◌, ◌++◌, IfOk, OnOk};
 ghost use Rattle.legal_history.specs.Queries.DirectoryTexts.{lsdo_text};
 ghost use Rattle.legal_history.specs.Queries.QueryLines.{lsdo};
-ghost use Rattle.cleartool.specs.Answering.{AnswersAs};
+ghost use Rattle.view_lookup.specs.Answering.{AnswersAs};
 ghost use Rattle.cleartool.specs.HeldObjects.{held_line_at};
 
 use crate::lines::push_object;

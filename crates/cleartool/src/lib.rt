@@ -1,37 +1,25 @@
-//! The answers to queries, and the names of versions.
+//! Queries about what a view sees: files, names and objects.
 //!
-//! What it is for: `answer` answers a query's text, or its first refusal in the order of the tests of its line. `version_name`
-//! and `replied_name` give the names by which texts and replies speak of versions.
+//! What it is for: `catcs`, `cat`, `cat_version`, `ls` and `lsdo` answer a query's text, or its first refusal in the order of the
+//! tests of its line.
 //!
-//! What it promises: the answer is the model's decision on the query, and a name is the model's. A query makes no row.
+//! What it promises: the answer is the model's line of the query. A query makes no row.
 //!
-//! What it stands on: `view_lookup` for what a view sees, `legal_history` for the definitions,
-//! `date_text` for dates, and `cc_names` for plain data.
+//! What it stands on: `view_lookup` for what a view sees and for the names of versions, `base_model` and `legal_history` for the
+//! definitions, and `cc_names` for plain data.
 #![tactic(auto)]
 
-mod answers;
-mod bracketed;
 mod config_specs;
-mod covered_records;
-mod descriptions;
 mod directory_texts;
-mod elements_below;
 mod file_texts;
-mod found;
 mod held_objects;
-mod histories;
 mod lines;
 mod listed_names;
-mod merges;
-mod reached;
-mod record_differences;
-mod record_texts;
-mod records;
-mod row_names;
 mod sets;
-mod version_names;
 mod version_texts;
-mod version_trees;
 
-pub use answers::answer;
-pub use version_names::{replied_name, version_name};
+pub use config_specs::catcs;
+pub use directory_texts::ls;
+pub use file_texts::cat;
+pub use held_objects::lsdo;
+pub use version_texts::cat_version;

@@ -3,17 +3,16 @@
 ghost use Rattle.std.specs.Prelude.{◌≡◌, ◌||◌, ℕ, List, IfOk, OnOk};
 ghost use Rattle.cc_names.specs.Paths.{IsPath, last_of, parent_of};
 ghost use Rattle.base_model.specs.Closures.{is_path_among};
-ghost use Rattle.cleartool.specs.Owned.{is_name};
+ghost use Rattle.view_lookup.specs.GivenNames.{is_name};
 ghost use Rattle.cleartool.specs.Listed.{HasNames, lies_in};
 
-use crate::sets::given_names::names_given;
 use crate::sets::owned_paths::paths_owned;
 use cc_names::memory::NoMemory;
 use cc_names::names::Name;
 use cc_names::paths::Path;
 use std::alloc::Global;
 use std::collections::BTreeSet;
-use view_lookup::FirstRows;
+use view_lookup::{FirstRows, names_given};
 
 /// Whether a path lies right in the directory of these bytes.
 fn is_inside(alloc: Global, directory: &[u8], path: &Path) -> Result<bool, NoMemory>

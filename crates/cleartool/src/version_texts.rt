@@ -3,7 +3,7 @@
 ghost use Rattle.std.specs.Prelude.{◌≡◌, Some, IfOk};
 ghost use Rattle.legal_history.specs.Commands.Tests.{needs_no_directory};
 ghost use Rattle.legal_history.specs.Queries.QueryLines.{cat, version_seen};
-ghost use Rattle.cleartool.specs.Answering.{AnswersAs};
+ghost use Rattle.view_lookup.specs.Answering.{AnswersAs};
 
 use crate::file_texts::made_text_at;
 use cc_names::commands::VersionName;

@@ -17,3 +17,11 @@ pub mod LesserPaths
 pub mod ReservedOnce
 mod WorkedPools
 pub mod LeavingRows
+pub mod BranchNames
+pub mod NextNames
+pub mod NamesBack
+pub mod PathSets
+pub mod ByKeys
+pub mod GivenRows
+pub mod NamesGiven
+pub mod NamesInPaths

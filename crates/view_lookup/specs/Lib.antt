@@ -6,3 +6,6 @@ pub mod Reservations
 pub mod AlteringRows
 pub mod Resolving
 pub mod Sources
+pub mod GivenNames
+pub mod Naming
+pub mod Answering

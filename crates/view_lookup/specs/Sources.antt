@@ -1,5 +1,4 @@
 -- What the text of a row comes from, as code tells it.
-use Rattle.std.specs.Prelude.{ℕ, List}
 use Rattle.base_model.specs.Texts.{TextSource, Bytes, OfRow, NoText}
 use Rattle.view_lookup.specs.declared.texts.TextSource as code
 use Rattle.view_lookup.specs.declared.texts.TextSource.TheVariants as codes

@@ -18,6 +18,7 @@ mod catalogs;
 mod checkins;
 mod closures;
 mod directories;
+mod directory_names;
 mod fitting;
 mod fitting_elements;
 mod given_names;
@@ -37,6 +38,7 @@ mod seen;
 mod standings;
 mod texts;
 mod types;
+mod version_names;
 
 pub use base_rows::bases::{FirstRows, Rows, first_rows, row_at};
 pub use base_rows::checkouts::{Checkout, checked_out, has_out, making};
@@ -57,6 +59,7 @@ pub use checkins::{
 };
 pub use closures::{InputTest, first_input};
 pub use directories::{has_name, has_out_by_name, is_directory_element, is_file_element};
+pub use directory_names::{add_name, names_given};
 pub use fitting::{ROW_LIMIT, fits};
 pub use given_names::rows_naming;
 pub use history::history_of;
@@ -75,3 +78,4 @@ pub use seen::{at, file_at, is_directory, kind_of};
 pub use standings::oldest_out;
 pub use texts::{text_at, text_of};
 pub use types::{is_branch_type, is_label_type, is_type_taken, kind_of_type};
+pub use version_names::{branch_name, origin_name, push_at_version, replied_name, version_name};

@@ -7,15 +7,15 @@ ghost use Rattle.cc_names.specs.References.{count};
 ghost use Rattle.base_model.specs.Changes.{objects_held};
 ghost use Rattle.base_model.specs.Closures.{is_path_among};
 ghost use Rattle.base_model.specs.Rows.{deed_at};
-ghost use Rattle.cleartool.specs.Owned.{is_name, maker_by, winker, winker_at};
+ghost use Rattle.view_lookup.specs.GivenNames.{is_name};
+ghost use Rattle.cleartool.specs.Owned.{maker_by, winker, winker_at};
 
-use crate::sets::given_names::add_name;
 use cc_names::memory::NoMemory;
 use cc_names::names::Name;
 use cc_names::rows::Deed;
 use std::alloc::Global;
 use std::collections::BTreeSet;
-use view_lookup::{FirstRows, holds_one, row_at, winks_of};
+use view_lookup::{FirstRows, add_name, holds_one, row_at, winks_of};
 
 /// The view of the row that made an object, where it holds it.
 fn maker_of<'a>(rows: &FirstRows<'a>, object: u64) -> Option<&'a Name>

@@ -3,7 +3,7 @@ use Rattle.std.proofs.Common.{ℕ, List, ◌++◌, append-nil, append_assoc, map
 use Rattle.std.specs.List.{concat}
 use Rattle.legal_history.specs.Queries.DirectoryTexts.{names_in}
 use Rattle.cleartool.specs.Listed.{seen_line}
-use Rattle.cleartool.proofs.ByKeys.{text_of_key}
+use Rattle.view_lookup.proofs.ByKeys.{text_of_key}
 use Rattle.cleartool.proofs.ListedNames.{ls_by_names, line_at_is}
 use Rattle.cleartool.proofs.directory_texts.ls_text.Goals as goal
 

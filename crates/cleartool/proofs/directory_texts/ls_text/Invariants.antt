@@ -2,7 +2,7 @@ use Rattle.std.proofs.Common.{◌≡◌, ◌++◌, map}
 use Rattle.std.specs.List.{concat}
 use Rattle.legal_history.specs.Queries.DirectoryTexts.{names_in}
 use Rattle.cleartool.specs.Listed.{SeesDirectory, seen_line}
-use Rattle.cleartool.proofs.ByKeys.{text_of_key}
+use Rattle.view_lookup.proofs.ByKeys.{text_of_key}
 use Rattle.cleartool.proofs.directory_texts.ls_text.Given as goal
 
 -- what is written, and then the lines of the names that are left

@@ -1,8 +1,8 @@
 -- The last name is among the names then.
 use Rattle.std.proofs.Common.{ℕ, List, ◌||◌, Option, ap, sym, ◌∙◌}
 use Rattle.base_model.specs.Closures.{is_path_among}
-use Rattle.cleartool.specs.Owned.{is_name}
-use Rattle.cleartool.proofs.PathSets.{one_inserted}
+use Rattle.view_lookup.specs.GivenNames.{is_name}
+use Rattle.view_lookup.proofs.PathSets.{one_inserted}
 use Rattle.cleartool.proofs.listed_names.add_last.Goals as goal
 
 pub returns-in_ok-insert-in-Some : goal.returns-in_ok-insert-in-Some

@@ -1,6 +1,6 @@
 use Rattle.std.proofs.Common.{◌≡◌, ℕ, true, false, List}
 use Rattle.base_model.specs.Closures.{is_path_among}
-use Rattle.cleartool.specs.Owned.{was_named}
+use Rattle.view_lookup.specs.GivenNames.{was_named}
 use Rattle.cleartool.specs.Listed.{lies_in}
 use Rattle.cleartool.proofs.listed_names.names_in.Given as goal
 

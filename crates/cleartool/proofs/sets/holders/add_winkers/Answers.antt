@@ -3,8 +3,9 @@ use Rattle.std.proofs.Common.{ℕ, ◌+◌, Bool, ◌||◌, List, drop, get_or, 
 use Rattle.std.proofs.lemmas.List.{at_drop_all, at_drop_more}
 use Rattle.std.specs.List.{list_any}
 use Rattle.base_model.specs.Closures.{is_path_among}
-use Rattle.cleartool.specs.Owned.{is_name, winker_at}
-use Rattle.cleartool.proofs.PathSets.{moved_over}
+use Rattle.view_lookup.specs.GivenNames.{is_name}
+use Rattle.cleartool.specs.Owned.{winker_at}
+use Rattle.view_lookup.proofs.PathSets.{moved_over}
 use Rattle.cleartool.proofs.sets.holders.add_winkers.Goals as goal
 
 pub loop-wink-preserved : goal.loop-wink-preserved

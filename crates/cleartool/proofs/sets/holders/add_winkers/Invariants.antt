@@ -1,7 +1,8 @@
 use Rattle.std.proofs.Common.{◌≡◌, ◌||◌, ℕ, List, drop}
 use Rattle.std.specs.List.{list_any}
 use Rattle.base_model.specs.Closures.{is_path_among}
-use Rattle.cleartool.specs.Owned.{is_name, winker_at}
+use Rattle.view_lookup.specs.GivenNames.{is_name}
+use Rattle.cleartool.specs.Owned.{winker_at}
 use Rattle.cleartool.proofs.sets.holders.add_winkers.Given as goal
 
 -- the views of the winks that are left, and those that were found

@@ -4,7 +4,8 @@ use Rattle.std.specs.List.{list_any}
 use Rattle.cc_names.specs.References.{is_held_by}
 use Rattle.base_model.specs.Changes.{objects_held}
 use Rattle.base_model.specs.Closures.{is_path_among}
-use Rattle.cleartool.specs.Owned.{is_name, winker_at}
+use Rattle.view_lookup.specs.GivenNames.{is_name}
+use Rattle.cleartool.specs.Owned.{winker_at}
 use Rattle.cleartool.proofs.HoldersFound.{holder_found, holders_counted}
 use Rattle.cleartool.proofs.sets.holders.count_holders.Goals as goal
 

@@ -2,7 +2,7 @@
 use Rattle.std.proofs.Common.{ℕ, ◌+◌, ◌||◌, List, drop, ap, sym, ◌∙◌, bytes_eq}
 use Rattle.std.proofs.lemmas.List.{at_drop_all, at_drop_more}
 use Rattle.base_model.specs.Closures.{is_path_among}
-use Rattle.cleartool.proofs.PathSets.{moved_over, one_inserted}
+use Rattle.view_lookup.proofs.PathSets.{moved_over, one_inserted}
 use Rattle.cleartool.proofs.sets.owned_paths.add_all.Goals as goal
 
 pub loop-path-preserved : goal.loop-path-preserved

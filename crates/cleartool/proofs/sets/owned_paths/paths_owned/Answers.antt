@@ -5,8 +5,8 @@ use Rattle.std.specs.List.{list_any}
 use Rattle.cc_names.specs.Formed.{IsBelowRoot}
 use Rattle.base_model.specs.Closures.{is_path_among}
 use Rattle.cleartool.specs.Owned.{is_given_by}
-use Rattle.cleartool.proofs.GivenRows.{paths_found}
-use Rattle.cleartool.proofs.PathSets.{moved_over}
+use Rattle.cleartool.proofs.GivenPaths.{paths_found}
+use Rattle.view_lookup.proofs.PathSets.{moved_over}
 use Rattle.cleartool.proofs.sets.owned_paths.paths_owned.Goals as goal
 
 pub loop-number-preserved : goal.loop-number-preserved

@@ -1,9 +1,0 @@
-use Rattle.std.proofs.Common.{◌≡◌, ◌++◌, drop, map}
-use Rattle.cleartool.specs.declared.version_trees.Part.TheVariants.{Branch}
-use Rattle.cleartool.proofs.version_trees.leave_branches.Given as goal
-
--- what is left to tell, and then the branches that are left to add
-abbrev pub invariant-loop-branch : goal.invariant-loop-branch
-invariant-loop-branch l =
-    l.left.items ++ map (Branch l.depth) (drop l.branch-index l.branch-items) ≡ l.initial.left.items
-    ++ map (Branch l.depth) l.branch-items

@@ -1,0 +1,507 @@
+-- The labels on a version, found along the history of its element, are those of the label types that stand on it.
+use Rattle.std.proofs.Common.{◌≡◌, ℕ, ◌≤◌, ◌==◌, Bool, true, false, cond, T, ◌&&◌, ◌||◌, List, [], ◌∷◌, length, map, filter}
+use Rattle.std.proofs.Common.{Option, Some, None, refl, ap, ap₂, sym, subst, ◌∙◌, arith, bytes_eq}
+use Rattle.std.specs.Prelude.{is_some, option_and_then}
+use Rattle.std.specs.BTreeSet.{insert_key}
+use Rattle.std.specs.Cmp.Lexicographic.{slice_cmp}
+use Rattle.std.specs.FinMap.Entries.{put, by_order, find, where_key, below_all, is_sorted, is_sorted-put, is_sorted-where_key}
+use Rattle.std.specs.FinMap.Entries.{find-put, find-where_key}
+use Rattle.std.specs.List.{list_any}
+use Rattle.std.specs.Ordering.{nat_cmp, is_eq, is_lt, match_ordering, ordering_reverse}
+use Rattle.std.specs.declared.cmp.Ordering.{Ordering}
+use Rattle.std.specs.declared.cmp.Ordering.TheVariants.{Less, Equal, Greater}
+use Rattle.std.proofs.lemmas.Bool.Decides.{nat_tests}
+use Rattle.std.proofs.lemmas.Cmp.{nat_list_cmp_total}
+use Rattle.std.proofs.lemmas.Map.Text.{is_eq-slice_cmp}
+use Rattle.std.proofs.lemmas.Slice.Eq.{bytes_eq-Decides}
+use Rattle.cc_names.specs.Formed.{Plain}
+use Rattle.cc_names.specs.Labels.{holder}
+use Rattle.cc_names.specs.Last.{Ends, Sets, only_if, value_after}
+use Rattle.cc_names.specs.Versions.{is_number, put_if}
+use Rattle.cc_names.specs.declared.changes.LabelChange.{LabelChange}
+use Rattle.cc_names.specs.declared.changes.LabelChange.TheVariants.{Put, Taken}
+use Rattle.cc_names.specs.declared.rows.Deed.{Deed}
+use Rattle.cc_names.specs.declared.rows.Deed.TheVariants as deeds
+use Rattle.cc_names.specs.declared.rows.Placed.{Placed}
+use Rattle.cc_names.specs.declared.rows.TypeKind.{TypeKind}
+use Rattle.cc_names.specs.declared.rows.TypeKind.TheVariants as type_kinds
+use Rattle.base_model.specs.Rows.{Base, size, row_at, deed_of}
+use Rattle.base_model.specs.Changes.{labels, labels_after, all_placed, kind_of_type, type_effect}
+use Rattle.base_model.specs.Conditions.{is_label_type, is_label_kind}
+use Rattle.base_model.specs.Fits.{is_base, deed_fits}
+use Rattle.legal_history.specs.Queries.ElementTexts.{NameSet, entry_key, label_types, labels_on, with_label_type}
+use Rattle.base_model.proofs.Owned.{row_fits, rows_below, and_first, and_second}
+use Rattle.base_rows.specs.Histories.{history_of, is_placed_on, tells_of}
+use Rattle.vob_history.specs.LabelSets.{label_put, label_at, stands_on, with_label_if, with_label, labels_among}
+use Rattle.base_rows.specs.LookUps.{update_by_row}
+use Rattle.view_lookup.proofs.EntryEdits.{flipped}
+
+-- ---- sets of names
+
+-- whether a set has a name
+abbrev has : List ℕ → NameSet → Bool
+has name set = is_some (find (slice_cmp nat_cmp) name set)
+
+-- a name with itself, put where a test holds
+abbrev put_one : Bool → List ℕ → NameSet → NameSet
+put_one true name set = put (slice_cmp nat_cmp) name name set
+put_one false name set = set
+
+some_if : (is : Bool) (name : List ℕ) (found : Option (List ℕ)) → is_some (cond is (Some name) found) ≡ (is || is_some found)
+some_if true name found = refl
+some_if false name found = refl
+
+has_put : (name other : List ℕ) (set : NameSet) → has name (put (slice_cmp nat_cmp) other other set)
+    ≡ (bytes_eq name other || has name set)
+has_put name other set =
+    ap is_some (find-put (slice_cmp nat_cmp) nat_list_cmp_total name other other set)
+    ∙ some_if (is_eq (slice_cmp nat_cmp name other)) other (find (slice_cmp nat_cmp) name set)
+    ∙ ap (λ is. is || has name set) (is_eq-slice_cmp name other)
+
+some_where : (is : Bool) (found : Option (List ℕ)) → is_some (cond is found None) ≡ (is && is_some found)
+some_where true found = refl
+some_where false found = refl
+
+has_where : (p : List ℕ → Bool) (name : List ℕ) (set : NameSet) → has name (where_key (slice_cmp nat_cmp) p set)
+    ≡ (p name && has name set)
+has_where p name set =
+    ap is_some (find-where_key (slice_cmp nat_cmp) p name same set) ∙ some_where (p name) (find (slice_cmp nat_cmp) name set)
+  where
+    same : (key : List ℕ) → slice_cmp nat_cmp name key ≡ Equal → p key ≡ p name
+    same key ties = ap p (sym ((bytes_eq-Decides name key).0 (sym (is_eq-slice_cmp name key) ∙ ap is_eq ties)))
+
+-- the names of a set with one more
+names_put : (name : List ℕ) (set : NameSet) → map entry_key (put (slice_cmp nat_cmp) name name set)
+    ≡ insert_key (slice_cmp nat_cmp) (map entry_key set) name
+names_put name [] = refl
+names_put name (entry ∷ set) = by (slice_cmp nat_cmp name entry.0) (names_put name set)
+  where
+    by : (o : Ordering) → map entry_key (put (slice_cmp nat_cmp) name name set)
+        ≡ insert_key (slice_cmp nat_cmp) (map entry_key set) name →
+        map entry_key (by_order o ((name, name) ∷ entry ∷ set) ((entry.0, name) ∷ set)
+        (entry ∷ put (slice_cmp nat_cmp) name name set))
+        ≡ match_ordering o (name ∷ entry.0 ∷ map entry_key set) (entry.0 ∷ map entry_key set)
+        (entry.0 ∷ insert_key (slice_cmp nat_cmp) (map entry_key set) name)
+    by Less rest = refl
+    by Equal rest = refl
+    by Greater rest = ap (λ names. entry.0 ∷ names) rest
+
+-- the names of a part of a set
+names_where : (p : List ℕ → Bool) (set : NameSet) → map entry_key (where_key (slice_cmp nat_cmp) p set)
+    ≡ filter p (map entry_key set)
+names_where p [] = refl
+names_where p (entry ∷ set) = by (p entry.0) (names_where p set)
+  where
+    by : (is : Bool) → map entry_key (where_key (slice_cmp nat_cmp) p set) ≡ filter p (map entry_key set) →
+        map entry_key (cond is (entry ∷ where_key (slice_cmp nat_cmp) p set) (where_key (slice_cmp nat_cmp) p set))
+        ≡ cond is (entry.0 ∷ filter p (map entry_key set)) (filter p (map entry_key set))
+    by true rest = ap (λ names. entry.0 ∷ names) rest
+    by false rest = rest
+
+t_first : (a b : Bool) → T (a && b) → T a
+t_first true b h = tt
+t_first false b h = absurd h
+
+t_second : (a b : Bool) → T (a && b) → T b
+t_second true b h = h
+t_second false b h = absurd h
+
+less : (o : Ordering) → T (is_lt o) → o ≡ Less
+less Less h = refl
+less Equal h = absurd h
+less Greater h = absurd h
+
+same_name : (one two : List ℕ) → slice_cmp nat_cmp one two ≡ Equal → one ≡ two
+same_name one two ties = (bytes_eq-Decides one two).0 (sym (is_eq-slice_cmp one two) ∙ ap is_eq ties)
+
+-- a name below all of a set is not in it
+below_none : (name : List ℕ) (set : NameSet) → T (below_all (slice_cmp nat_cmp) name set) → has name set ≡ false
+below_none name [] h = refl
+below_none name (entry ∷ set) h =
+    let apart : slice_cmp nat_cmp name entry.0 ≡ Less = less (slice_cmp nat_cmp name entry.0) (t_first _ _ h) in
+    ap (λ o. is_some (cond (is_eq o) (Some entry.1) (find (slice_cmp nat_cmp) name set))) apart
+    ∙ below_none name set (t_second _ _ h)
+
+-- a name below the first of a set is below all
+below_first : (name : List ℕ) (entry : List ℕ × List ℕ) (set : NameSet) → slice_cmp nat_cmp name entry.0 ≡ Less
+    → T (below_all (slice_cmp nat_cmp) entry.0 set) → T (below_all (slice_cmp nat_cmp) name set)
+below_first name entry [] low h = tt
+below_first name entry (next ∷ set) low h =
+    let step : slice_cmp nat_cmp name next.0 ≡ Less = nat_list_cmp_total.trans name entry.0 next.0 low (less _ (t_first _ _ h)) in
+    t_both (is_lt (slice_cmp nat_cmp name next.0)) (below_all (slice_cmp nat_cmp) name set)
+    (subst (λ o. T (is_lt o)) (sym step) tt) (below_first name entry set low (t_second _ _ h))
+  where
+    t_both : (a b : Bool) → T a → T b → T (a && b)
+    t_both true b p q = q
+    t_both false b p q = p
+
+has_first : (entry : List ℕ × List ℕ) (set : NameSet) → has entry.0 (entry ∷ set) ≡ true
+has_first entry set = ap (λ is. is_some (cond is (Some entry.1) (find (slice_cmp nat_cmp) entry.0 set)))
+    (is_eq-slice_cmp entry.0 entry.0 ∙ (bytes_eq-Decides entry.0 entry.0).1 refl)
+
+-- two sets with the same names are the same names
+same_sets : (one two : NameSet) → T (is_sorted (slice_cmp nat_cmp) one) → T (is_sorted (slice_cmp nat_cmp) two)
+    → ((name : List ℕ) → has name one ≡ has name two) → map entry_key one ≡ map entry_key two
+same_sets [] [] s t same = refl
+same_sets [] (entry ∷ two) s t same = absurd (cc (same entry.0, has_first entry two))
+same_sets (entry ∷ one) [] s t same = absurd (cc (same entry.0, has_first entry one))
+same_sets (first ∷ one) (second ∷ two) s t same = by (slice_cmp nat_cmp first.0 second.0) refl
+    (same_sets one two (t_second _ _ s) (t_second _ _ t))
+  where
+    rest_of : first.0 ≡ second.0 → (name : List ℕ) → has name one ≡ has name two
+    rest_of at name = elim (is_eq (slice_cmp nat_cmp name first.0)) as (λ is. is_eq (slice_cmp nat_cmp name first.0) ≡ is
+        → has name one ≡ has name two) [
+          | true ↦ λ e.
+              let is : name ≡ first.0 = (bytes_eq-Decides name first.0).0 (sym (is_eq-slice_cmp name first.0) ∙ e) in
+              ap (λ n. has n one) is ∙ below_none first.0 one (t_first _ _ s)
+              ∙ sym (ap (λ n. has n two) (is ∙ at) ∙ below_none second.0 two (t_first _ _ t))
+          | false ↦ λ e.
+              sym (ap (λ is. is_some (cond is (Some first.1) (find (slice_cmp nat_cmp) name one))) e)
+              ∙ same name
+              ∙ ap (λ is. is_some (cond is (Some second.1) (find (slice_cmp nat_cmp) name two)))
+              (ap (λ n. is_eq (slice_cmp nat_cmp name n)) (sym at) ∙ e)
+        ] refl
+
+    by : (o : Ordering) → slice_cmp nat_cmp first.0 second.0 ≡ o → (((name : List ℕ) → has name one ≡ has name two)
+        → map entry_key one ≡ map entry_key two) → map entry_key (first ∷ one) ≡ map entry_key (second ∷ two)
+    by Less e rest =
+        let none : has first.0 (second ∷ two) ≡ false =
+        ap (λ o. is_some (cond (is_eq o) (Some second.1) (find (slice_cmp nat_cmp) first.0 two))) e
+        ∙ below_none first.0 two (below_first first.0 second two e (t_first _ _ t)) in
+        absurd (cc (same first.0, has_first first one, none))
+    by Equal e rest =
+        let at = same_name first.0 second.0 e in
+        ap₂ (λ (name : List ℕ) (names : List (List ℕ)). name ∷ names) at (rest (rest_of at))
+    by Greater e rest =
+        let low : slice_cmp nat_cmp second.0 first.0 ≡ Less = turned (slice_cmp nat_cmp second.0 first.0)
+        (nat_list_cmp_total.antisymm first.0 second.0) e in
+        let none : has second.0 (first ∷ one) ≡ false =
+        ap (λ o. is_some (cond (is_eq o) (Some first.1) (find (slice_cmp nat_cmp) second.0 one))) low
+        ∙ below_none second.0 one (below_first second.0 first one low (t_first _ _ s)) in
+        absurd (cc (same second.0, has_first second two, none))
+      where
+        turned : (o : Ordering) → slice_cmp nat_cmp first.0 second.0 ≡ ordering_reverse o
+            → slice_cmp nat_cmp first.0 second.0 ≡ Greater → o ≡ Less
+        turned Less a g = refl
+        turned Equal a g = absurd (cc)
+        turned Greater a g = absurd (cc)
+
+-- ---- the label types
+
+types_sorted : (b : Base) → T (is_sorted (slice_cmp nat_cmp) (label_types b))
+types_sorted [] = tt
+types_sorted (row ∷ older) = by row.deed (types_sorted older)
+  where
+    by : (deed : Deed) → T (is_sorted (slice_cmp nat_cmp) (label_types older))
+        → T (is_sorted (slice_cmp nat_cmp) (with_label_type deed (label_types older)))
+    by (deeds.Mktype type_kinds.Label name) rest = is_sorted-put (slice_cmp nat_cmp) nat_list_cmp_total name name
+        (label_types older) rest
+    by (deeds.Mktype type_kinds.Branch name) rest = rest
+    by deed rest = rest
+
+or_last : (a b : Bool) → b ≡ true → (a || b) ≡ true
+or_last true b h = refl
+or_last false b h = h
+
+or_first : (a b : Bool) → a ≡ true → (a || b) ≡ true
+or_first true b h = refl
+or_first false b h = absurd (cc)
+
+-- a type stays one
+type_stays : (name : List ℕ) (deed : Deed) (set : NameSet) → has name set ≡ true → has name (with_label_type deed set) ≡ true
+type_stays name (deeds.Mktype type_kinds.Label other) set h = has_put name other set
+    ∙ or_last (bytes_eq name other) (has name set) h
+type_stays name (deeds.Mktype type_kinds.Branch other) set h = h
+type_stays name deed set h = h
+
+-- a label type is one of them
+type_has : (b : Base) (name : List ℕ) → is_label_type b name ≡ true → has name (label_types b) ≡ true
+type_has [] name is = absurd (cc)
+type_has (row ∷ older) name is = by row.deed (type_has older name) is
+  where
+    kept : (made : List ℕ) (kind : TypeKind) (test : Bool) → bytes_eq made name ≡ test
+        → is_label_kind (value_after (only_if test (Sets kind)) (kind_of_type older name)) ≡ true →
+        (is_label_type older name ≡ true → has name (label_types older) ≡ true)
+        → has name (with_label_type (deeds.Mktype kind made) (label_types older)) ≡ true
+    kept made type_kinds.Label true test is before = has_put name made (label_types older)
+        ∙ or_first (bytes_eq name made) (has name (label_types older)) (flipped made name true test)
+    kept made type_kinds.Branch true test is before = absurd (cc)
+    kept made kind false test is before = type_stays name (deeds.Mktype kind made) (label_types older) (before is)
+
+    by : (deed : Deed) → (is_label_type older name ≡ true → has name (label_types older) ≡ true)
+        → is_label_kind (value_after (type_effect name deed) (kind_of_type older name)) ≡ true
+        → has name (with_label_type deed (label_types older)) ≡ true
+    by (deeds.Mktype kind made) before is = kept made kind (bytes_eq made name) refl is before
+    by deed before is = before is
+
+-- each label that changes leave is a label type of the base
+record AllTyped (b : Base) (changes : List LabelChange) : Type 0 where
+  typed : (name : List ℕ) (e r : ℕ) → holder changes name e ≡ Some r → has name (label_types b) ≡ true
+
+one_put : (b : Base) (n : ℕ) (label : List ℕ) (f version : ℕ) (changes : List LabelChange) → has label (label_types b) ≡ true
+    → AllTyped b changes → AllTyped b (Put n label f version ∷ changes)
+one_put b n label f version changes is h = record {
+  typed = λ name e r held. by name e r (bytes_eq name label && (e == f)) refl
+      held;
+}
+  where
+    by : (name : List ℕ) (e r : ℕ) (x : Bool) → (bytes_eq name label && (e == f)) ≡ x
+        → value_after (only_if x (Sets version)) (holder changes name e) ≡ Some r → has name (label_types b) ≡ true
+    by name e r true test held = subst (λ n. has n (label_types b) ≡ true)
+        (sym ((bytes_eq-Decides name label).0 (and_first _ _ test))) is
+    by name e r false test held = h.typed name e r held
+
+one_taken : (b : Base) (n : ℕ) (label : List ℕ) (f : ℕ) (changes : List LabelChange) → AllTyped b changes
+    → AllTyped b (Taken n label f ∷ changes)
+one_taken b n label f changes h = record { typed = λ name e r held. by name e r (bytes_eq name label && (e == f)) held }
+  where
+    by : (name : List ℕ) (e r : ℕ) (x : Bool) → value_after (only_if x Ends) (holder changes name e) ≡ Some r
+        → has name (label_types b) ≡ true
+    by name e r true held = absurd (cc)
+    by name e r false held = h.typed name e r held
+
+all_put : (b : Base) (n : ℕ) (label : List ℕ) (placed : List Placed) (changes : List LabelChange)
+    → has label (label_types b) ≡ true → AllTyped b changes → AllTyped b (all_placed n label placed changes)
+all_put b n label [] changes is h = h
+all_put b n label (one ∷ more) changes is h = all_put b n label more (Put n label one.element one.version ∷ changes) is
+    (one_put b n label one.element one.version changes is h)
+
+row_typed : (b older : Base) (deed : Deed) (changes : List LabelChange)
+    → ((name : List ℕ) → has name (label_types older) ≡ true → has name (label_types b) ≡ true) →
+    deed_fits older deed ≡ true → AllTyped b changes → AllTyped b (labels_after (size older) deed changes)
+row_typed b older (deeds.Label label e version) changes stays fit h = one_put b (size older) label e version changes
+    (stays label (type_has older label (and_first (is_label_type older label) _ fit))) h
+row_typed b older (deeds.Unlabel label e) changes stays fit h = one_taken b (size older) label e changes h
+row_typed b older (deeds.Labels label placed) changes stays fit h = all_put b (size older) label placed changes
+    (stays label (type_has older label (and_first (is_label_type older label) _ fit))) h
+row_typed b older deed changes stays fit h = h
+
+labels_typed : (b : Base) → is_base b ≡ true → AllTyped b (labels b)
+labels_typed [] h = record { typed = λ name e r held. absurd (cc) }
+labels_typed (row ∷ older) h =
+    let stays : (name : List ℕ) → has name (label_types older) ≡ true → has name (label_types (row ∷ older)) ≡ true =
+    λ name is. type_stays name row.deed (label_types older) is in
+    let before = labels_typed older (rows_below row older h) in
+    row_typed (row ∷ older) older row.deed (labels older) stays (row_fits row older h)
+    (record { typed = λ name e r held. stays name (before.typed name e r held) })
+
+-- ---- the labels of a history
+
+-- whether it is this label
+abbrev is_label : List ℕ → Option (List ℕ) → Bool
+is_label name None = false
+is_label name (Some label) = bytes_eq name label
+
+-- whether one of the rows of these numbers puts a label of this name
+abbrev is_put : Base → List ℕ → List ℕ → Bool
+is_put b name [] = false
+is_put b name (n ∷ ns) = is_label name (label_at b n) || is_put b name ns
+
+more_put : (b : Base) (name : List ℕ) (test : Bool) (n : ℕ) (ns : List ℕ) → is_put b name ns ≡ true
+    → is_put b name (put_if test n ns) ≡ true
+more_put b name true n ns h = or_last (is_label name (label_at b n)) (is_put b name ns) h
+more_put b name false n ns h = h
+
+turned_number : (one two : ℕ) → (one == two) ≡ true → (two == one) ≡ true
+turned_number one two is = grind (arith, nat_tests, is)
+
+-- what a list of versions adds: the label is held before, or the row puts it on the element
+put_or_before : (P : Type 0) (n : ℕ) (label : List ℕ) (placed : List Placed) (changes : List LabelChange) (name : List ℕ)
+    (e r : ℕ) → holder (all_placed n label placed changes) name e ≡ Some r →
+    (holder changes name e ≡ Some r → P) → (bytes_eq name label ≡ true → list_any (is_placed_on e) placed ≡ true → P) → P
+put_or_before P n label [] changes name e r held before here = before held
+put_or_before P n label (one ∷ more) changes name e r held before here =
+    put_or_before P n label more (Put n label one.element one.version ∷ changes) name e r held
+    (λ held. by (bytes_eq name label && (e == one.element)) refl held)
+    (λ same any. here same (or_last (one.element == e) (list_any (is_placed_on e) more) any))
+  where
+    by : (x : Bool) → (bytes_eq name label && (e == one.element)) ≡ x → value_after (only_if x (Sets one.version))
+        (holder changes name e) ≡ Some r → P
+    by true test held =
+        let at : (one.element == e) ≡ true = turned_number e one.element
+        (and_second (bytes_eq name label) (e == one.element) test) in
+        here (and_first (bytes_eq name label) (e == one.element) test)
+        (or_first (one.element == e) (list_any (is_placed_on e) more) at)
+    by false test held = before held
+
+-- where row n puts the label on the element it is put by the history
+put_here : (b : Base) (name label : List ℕ) (n : ℕ) (ns : List ℕ) (test : Bool) → label_at b n ≡ Some label
+    → bytes_eq name label ≡ true → test ≡ true → is_put b name (put_if (is_some (update_by_row n (only_if test (Sets n)))) n ns)
+    ≡ true
+put_here b name label n ns true at same is =
+    ap (λ found. is_label name found || is_put b name ns) at ∙ or_first (bytes_eq name label) (is_put b name ns) same
+put_here b name label n ns false at same is = absurd (cc)
+
+-- a label that is held was put by a row of the element's history
+row_put : (b older : Base) (deed : Deed) (e : ℕ) (name : List ℕ) (r : ℕ) → label_at b (size older) ≡ label_put deed
+    → holder (labels_after (size older) deed (labels older)) name e ≡ Some r →
+    (holder (labels older) name e ≡ Some r → is_put b name (history_of older e) ≡ true) →
+    is_put b name (put_if (is_some (update_by_row (size older) (only_if (tells_of e (size older) deed) (Sets (size older)))))
+    (size older) (history_of older e)) ≡ true
+row_put b older (deeds.Label label f version) e name r at held before = by (bytes_eq name label && (e == f)) refl held
+  where
+    by : (x : Bool) → (bytes_eq name label && (e == f)) ≡ x → value_after (only_if x (Sets version))
+        (holder (labels older) name e) ≡ Some r →
+        is_put b name (put_if (is_some (update_by_row (size older) (only_if (f == e) (Sets (size older))))) (size older)
+        (history_of older e)) ≡ true
+    by true test held = put_here b name label (size older) (history_of older e) (f == e) at (and_first _ _ test)
+        (turned_number e f (and_second (bytes_eq name label) (e == f) test))
+    by false test held = more_put b name (is_some (update_by_row (size older) (only_if (f == e) (Sets (size older)))))
+        (size older) (history_of older e) (before held)
+row_put b older (deeds.Unlabel label f) e name r at held before = by (bytes_eq name label && (e == f)) held
+  where
+    by : (x : Bool) → value_after (only_if x Ends) (holder (labels older) name e) ≡ Some r →
+        is_put b name (put_if (is_some (update_by_row (size older) (only_if (f == e) (Sets (size older))))) (size older)
+        (history_of older e)) ≡ true
+    by true held = absurd (cc)
+    by false held = more_put b name (is_some (update_by_row (size older) (only_if (f == e) (Sets (size older))))) (size older)
+        (history_of older e) (before held)
+row_put b older (deeds.Labels label placed) e name r at held before =
+    put_or_before (is_put b name (put_if (is_some (update_by_row (size older)
+    (only_if (list_any (is_placed_on e) placed) (Sets (size older))))) (size older) (history_of older e)) ≡ true)
+    (size older) label placed (labels older) name e r held
+    (λ held. more_put b name (is_some (update_by_row (size older) (only_if (list_any (is_placed_on e) placed)
+    (Sets (size older))))) (size older) (history_of older e) (before held))
+    (λ same any. put_here b name label (size older) (history_of older e) (list_any (is_placed_on e) placed) at same any)
+row_put b older deed e name r at held before =
+    more_put b name (is_some (update_by_row (size older) (only_if (tells_of e (size older) deed) (Sets (size older)))))
+    (size older) (history_of older e) (before held)
+
+newest_row : (row : Plain) (older : Base) → row_at (row ∷ older) (size older) ≡ Some row
+newest_row row older = ap (λ is. elim is [ true ↦ Some row | false ↦ row_at older (size older) ]) (same (size older))
+  where
+    same : (n : ℕ) → (n == n) ≡ true
+    same n = grind (arith, nat_tests)
+
+older_row : (row : Plain) (older : Base) (n : ℕ) → n ≤ length older → row_at (row ∷ older) n ≡ row_at older n
+older_row row older n low =
+    let apart : (size older == n) ≡ false = grind (arith, nat_tests, low) in
+    ap (λ is. elim is [ true ↦ Some row | false ↦ row_at older n ]) apart
+
+held_put : (b : Base) (e : ℕ) (name : List ℕ) (r : ℕ) (rows : Base) → ((n : ℕ) → n ≤ length rows → row_at b n ≡ row_at rows n)
+    → holder (labels rows) name e ≡ Some r → is_put b name (history_of rows e) ≡ true
+held_put b e name r [] agree held = absurd (cc)
+held_put b e name r (row ∷ older) agree held =
+    let at : label_at b (size older) ≡ label_put row.deed = ap (λ found. option_and_then label_put (deed_of found))
+    (agree (size older) (omega arith) ∙ newest_row row older) in
+    row_put b older row.deed e name r at held (held_put b e name r older (λ n low. agree n (omega (arith, low))
+    ∙ older_row row older n low))
+
+-- ---- the labels that stand on a version
+
+-- the labels of a history with themselves
+abbrev put_label : Base → ℕ → ℕ → Option (List ℕ) → NameSet → NameSet
+put_label b e version None set = set
+put_label b e version (Some label) set = put_one (stands_on b e version label) label set
+
+abbrev put_among : Base → ℕ → ℕ → List ℕ → NameSet → NameSet
+put_among b e version [] set = set
+put_among b e version (n ∷ ns) set = put_among b e version ns (put_label b e version (label_at b n) set)
+
+names_label : (b : Base) (e version : ℕ) (found : Option (List ℕ)) (set : NameSet)
+    → map entry_key (put_label b e version found set) ≡ with_label b e version found (map entry_key set)
+names_label b e version None set = refl
+names_label b e version (Some label) set = by (stands_on b e version label)
+  where
+    by : (is : Bool) → map entry_key (put_one is label set) ≡ with_label_if is label (map entry_key set)
+    by true = names_put label set
+    by false = refl
+
+names_among : (b : Base) (e version : ℕ) (ns : List ℕ) (set : NameSet)
+    → map entry_key (put_among b e version ns set) ≡ labels_among b e version ns (map entry_key set)
+names_among b e version [] set = refl
+names_among b e version (n ∷ ns) set =
+    names_among b e version ns (put_label b e version (label_at b n) set)
+    ∙ ap (labels_among b e version ns) (names_label b e version (label_at b n) set)
+
+label_sorted : (b : Base) (e version : ℕ) (found : Option (List ℕ)) (set : NameSet) → T (is_sorted (slice_cmp nat_cmp) set)
+    → T (is_sorted (slice_cmp nat_cmp) (put_label b e version found set))
+label_sorted b e version None set h = h
+label_sorted b e version (Some label) set h = by (stands_on b e version label)
+  where
+    by : (is : Bool) → T (is_sorted (slice_cmp nat_cmp) (put_one is label set))
+    by true = is_sorted-put (slice_cmp nat_cmp) nat_list_cmp_total label label set h
+    by false = h
+
+among_sorted : (b : Base) (e version : ℕ) (ns : List ℕ) (set : NameSet) → T (is_sorted (slice_cmp nat_cmp) set)
+    → T (is_sorted (slice_cmp nat_cmp) (put_among b e version ns set))
+among_sorted b e version [] set h = h
+among_sorted b e version (n ∷ ns) set h = among_sorted b e version ns (put_label b e version (label_at b n) set)
+    (label_sorted b e version (label_at b n) set h)
+
+-- what the set has once a label was looked at
+has_label : (b : Base) (e version : ℕ) (found : Option (List ℕ)) (name : List ℕ) (set : NameSet)
+    → has name (put_label b e version found set) ≡ ((is_label name found && stands_on b e version name) || has name set)
+has_label b e version None name set = refl
+has_label b e version (Some label) name set = by (bytes_eq name label) refl (stands_on b e version label) refl
+  where
+    by : (same : Bool) → bytes_eq name label ≡ same → (is : Bool) → stands_on b e version label ≡ is
+        → has name (put_one is label set) ≡ ((bytes_eq name label && stands_on b e version name) || has name set)
+    by true at true stands =
+        has_put name label set ∙ or_first _ _ at
+        ∙ sym (or_first (bytes_eq name label && stands_on b e version name) (has name set)
+        (ap₂ (λ (x y : Bool). x && y) at (ap (stands_on b e version) ((bytes_eq-Decides name label).0 at) ∙ stands)))
+    by true at false stands =
+        sym (ap₂ (λ (x y : Bool). (x && y) || has name set) at (ap (stands_on b e version) ((bytes_eq-Decides name label).0 at)
+        ∙ stands))
+    by false apart true stands = has_put name label set ∙ ap (λ x. x || has name set) apart
+        ∙ sym (ap (λ x. (x && stands_on b e version name) || has name set) apart)
+    by false apart false stands = sym (ap (λ x. (x && stands_on b e version name) || has name set) apart)
+
+has_among : (b : Base) (e version : ℕ) (ns : List ℕ) (name : List ℕ) (set : NameSet)
+    → has name (put_among b e version ns set) ≡ ((is_put b name ns && stands_on b e version name) || has name set)
+has_among b e version [] name set = refl
+has_among b e version (n ∷ ns) name set =
+    has_among b e version ns name (put_label b e version (label_at b n) set)
+    ∙ ap (λ rest. (is_put b name ns && stands_on b e version name) || rest) (has_label b e version (label_at b n) name set)
+    ∙ joined (is_label name (label_at b n)) (is_put b name ns) (stands_on b e version name) (has name set)
+  where
+    joined : (one more stands before : Bool) → ((more && stands) || ((one && stands) || before))
+        ≡ (((one || more) && stands) || before)
+    joined true true true before = refl
+    joined true true false before = refl
+    joined true false true before = refl
+    joined true false false before = refl
+    joined false true true before = refl
+    joined false true false before = refl
+    joined false false stands before = refl
+
+-- a label that stands on a version is held
+is_held : (version : ℕ) (found : Option ℕ) → is_number version found ≡ true → found ≡ Some version
+is_held version None h = absurd (cc)
+is_held version (Some other) h = ap Some (turned version other h)
+  where
+    turned : (one two : ℕ) → (one == two) ≡ true → two ≡ one
+    turned one two is = grind (arith, nat_tests, is)
+
+same_labels : (b : Base) (e version : ℕ) (name : List ℕ) → is_base b ≡ true →
+    has name (put_among b e version (history_of b e) []) ≡ has name (where_key (slice_cmp nat_cmp) (stands_on b e version)
+    (label_types b))
+same_labels b e version name fits =
+    has_among b e version (history_of b e) name []
+    ∙ by (stands_on b e version name) refl
+    ∙ sym (has_where (stands_on b e version) name (label_types b))
+  where
+    none : (x : Bool) → ((x && false) || false) ≡ false
+    none true = refl
+    none false = refl
+
+    by : (is : Bool) → stands_on b e version name ≡ is → ((is_put b name (history_of b e) && is) || false)
+        ≡ (is && has name (label_types b))
+    by true stands =
+        let held = is_held version (holder (labels b) name e) stands in
+        let put : is_put b name (history_of b e) ≡ true = held_put b e name version b (λ n low. refl) held in
+        let typed : has name (label_types b) ≡ true = (labels_typed b fits).typed name e version held in
+        ap (λ x. (x && true) || false) put ∙ sym typed
+    by false stands = none (is_put b name (history_of b e))
+
+pub labels_found : (b : Base) (e version : ℕ) → is_base b ≡ true → labels_among b e version (history_of b e) []
+    ≡ labels_on b e version
+labels_found b e version fits =
+    sym (names_among b e version (history_of b e) [])
+    ∙ same_sets (put_among b e version (history_of b e) []) (where_key (slice_cmp nat_cmp) (stands_on b e version)
+    (label_types b))
+    (among_sorted b e version (history_of b e) [] tt) (is_sorted-where_key (slice_cmp nat_cmp) (stands_on b e version)
+    (label_types b) (types_sorted b))
+    (λ name. same_labels b e version name fits)
+    ∙ names_where (stands_on b e version) (label_types b)

@@ -1,0 +1,27 @@
+-- What is found of what a query asks about, or refused.
+use Rattle.std.specs.Prelude.{◌≡◌, ℕ, Option, Some, None, Result, Ok, Err, List}
+use Rattle.cc_names.specs.declared.memory.Or.{Or}
+use Rattle.cc_names.specs.declared.memory.Or.TheVariants.{NoMemory, Is}
+use Rattle.cc_names.specs.declared.refusals.Refusal.{Refusal}
+use Rattle.cc_names.specs.declared.selection.Picked.{Picked}
+use Rattle.legal_history.specs.Commands.Decisions.{Decision, Answers}
+
+-- the element that was found, and what was picked of it, is that of which a text answers, whatever it tells; where there is none
+-- the refusal was decided
+abbrev pub FindsSelected : Result (ℕ × Picked) (Or Refusal) → ((ℕ → Picked → List ℕ) → Result Decision Refusal) → Type 0
+FindsSelected (Ok found) decided = (text : ℕ → Picked → List ℕ) → decided text ≡ Ok (Answers (text found.0 found.1))
+FindsSelected (Err (Is refusal)) decided = (text : ℕ → Picked → List ℕ) → decided text ≡ Err refusal
+FindsSelected (Err NoMemory) decided = Unit {0}
+
+-- the object that was found is the one of which the rest is decided, whatever the rest is; where there is none the refusal was
+-- decided
+abbrev pub FindsObject : Result ℕ (Or Refusal) → ((ℕ → Result Decision Refusal) → Result Decision Refusal) → Type 0
+FindsObject (Ok id) decided = (more : ℕ → Result Decision Refusal) → decided more ≡ more id
+FindsObject (Err (Is refusal)) decided = (more : ℕ → Result Decision Refusal) → decided more ≡ Err refusal
+FindsObject (Err NoMemory) decided = Unit {0}
+
+-- the test is passed, or its refusal is answered, unless memory ran out
+abbrev pub Tests : {A : Type 0} → Result A (Or Refusal) → Option Refusal → Type 0
+Tests (Ok passed) test = test ≡ None
+Tests (Err (Is refusal)) test = test ≡ Some refusal
+Tests (Err NoMemory) test = Unit {0}

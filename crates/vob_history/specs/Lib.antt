@@ -1,0 +1,10 @@
+pub mod Found
+pub mod Histories
+pub mod Descriptions
+pub mod VersionTrees
+pub mod Recorded
+pub mod Covering
+pub mod Differences
+pub mod LabelSets
+pub mod Reached
+pub mod ElementsBelow
