@@ -8,7 +8,7 @@ use Rattle.cc_names.specs.declared.units.Unit.{Unit}
 use Rattle.script_grammar.specs.Lines.{script_of}
 use Rattle.script_grammar.specs.declared.lines.Line.{Line}
 use Rattle.base_model.specs.Rows.{Base, first_rows}
-use Rattle.legal_history.specs.Builds.Active.{Build, came_to, is_outcome, unit_at, unit_with}
+use Rattle.legal_history.specs.Builds.Active.{Build, Started, came_to, is_outcome, unit_at, unit_with}
 use Rattle.legal_history.specs.Builds.Fresh.{script_text}
 use Rattle.base_model.specs.Objects.{held_at_all}
 use Rattle.legal_history.specs.Builds.Reuse.{reusable}
@@ -59,9 +59,10 @@ pub record UnitWinks (b : Base) (build : Build) (n : ℕ) (unit : Unit) (id : �
   pub chosen : reusable b build n unit ≡ Some id
   pub lacks : is_number id (held_at_all b build.view unit.targets) ≡ false
 
--- unit n is open, and may reuse no object
+-- unit n is open and has come to nothing yet, and may reuse no object
 pub record IsToRun (b : Base) (build : Build) (n : ℕ) (unit : Unit) : Type 0 where
   pub open_unit : IsUnitOpen (first_rows build.rows b) build unit
+  pub fresh : came_to build n ≡ None
   pub nothing : reusable b build n unit ≡ None
 
 -- unit n is to run, and its script was read
@@ -76,6 +77,17 @@ pub record IsUnreadable (b : Base) (build : Build) (n : ℕ) (unit : Unit) (faul
   pub to_run : IsToRun b build n unit
   pub fault_is : script_of (script_text unit.script) ≡ Err fault
 
+-- unit n was started and has no outcome, and its script was read
+pub record RunsAgain (build : Build) (n : ℕ) (unit : Unit) (script : List Line) (targets : List (List ℕ)) : Type 0 where
+  pub started : came_to build n ≡ Some Started
+  pub script_is : script_of (script_text unit.script) ≡ Ok script
+  pub targets_are : targets ≡ unit.targets
+
+-- unit n was started and has no outcome, and its script cannot be read
+pub record FailsToRun (build : Build) (n : ℕ) (unit : Unit) (fault : ScriptFault) : Type 0 where
+  pub started : came_to build n ≡ Some Started
+  pub fault_is : script_of (script_text unit.script) ≡ Err fault
+
 -- what comes next for unit n, which has no outcome
 abbrev pub IsNextOfUnit : Base → Build → ℕ → Unit → UnitStep → Type 0
 IsNextOfUnit b build n unit next.Concluded = ⊥
@@ -85,6 +97,8 @@ IsNextOfUnit b build n unit (next.Keep id) = UnitKeeps b build n unit id
 IsNextOfUnit b build n unit (next.Wink id) = UnitWinks b build n unit id
 IsNextOfUnit b build n unit (next.Start script targets) = UnitStarts b build n unit script targets
 IsNextOfUnit b build n unit (next.Unreadable fault) = IsUnreadable b build n unit fault
+IsNextOfUnit b build n unit (next.Run script targets) = RunsAgain build n unit script targets
+IsNextOfUnit b build n unit (next.Fail fault) = FailsToRun build n unit fault
 
 -- unit n has no outcome, and this comes next for it
 pub record UnitWaits (b : Base) (build : Build) (n : ℕ) (step : UnitStep) : Type 0 where

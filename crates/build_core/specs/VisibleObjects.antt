@@ -14,7 +14,7 @@ object_before build paths n path = object_among path (needed_units unit_of_membe
 -- the units that unit n of a build stands on are marked, and the build's units are in order
 pub record AreNeeds (build : Build) (n : ℕ) (marks : List Bool) : Type 0 where
   pub in_order : InOrder build.units
-  pub needed_units : (m : ℕ) → is_marked marks m ≡ is_in (closure_of build.units n) m
+  pub needed : (m : ℕ) → is_marked marks m ≡ is_in (closure_of build.units n) m
 
 -- the object that the unit of a path was given or kept, where that unit is marked
 abbrev pub object_marked : Build → List Bool → List ℕ → Option ℕ

@@ -66,11 +66,11 @@ pub fn released_units(alloc: Global, build: &ActiveBuild, unit: u32) -> Result<V
         ≡ filter (is_released build.now unit) (range_with_len 0 (length build.now.units))) }
 {
     let dependants = build.dependants(unit);
-    let mut released_units = Vec::new(alloc);
+    let mut released = Vec::new(alloc);
     for dependant in dependants {
         if can_be_driven(build, *dependant) {
-            released_units.push(*dependant)?;
+            released.push(*dependant)?;
         }
     }
-    Ok(released_units)
+    Ok(released)
 }

@@ -4,12 +4,12 @@ ghost use Rattle.std.specs.Prelude.{◌≡◌, ◌<◌, ◌^◌, ℕ, true, fals
 ghost use Rattle.cc_names.specs.Answers.{Gives};
 ghost use Rattle.script_grammar.specs.Lines.{script_of};
 ghost use Rattle.base_model.specs.Rows.{Base, first_rows};
-ghost use Rattle.legal_history.specs.Builds.Active.{Build, came_to, is_outcome, unit_at};
+ghost use Rattle.legal_history.specs.Builds.Active.{Build, Started, came_to, is_outcome, unit_at};
 ghost use Rattle.legal_history.specs.Builds.Fresh.{script_text};
 ghost use Rattle.legal_history.specs.Builds.Turns.{early_in};
 ghost use Rattle.build_core.specs.UnitSteps.{first_awaited, IsNextOfUnit, IsUnitOpen, IsUnitStep, IsToRun};
 
-use crate::active::ActiveBuild;
+use crate::active::{ActiveBuild, Came};
 use crate::ends::early;
 use crate::reuse::{Chosen, choose};
 use build_script::scripts::Script;
@@ -40,6 +40,11 @@ pub enum UnitStep {
     Start(Script, List<Path>),
     /// It may reuse no object, and its script cannot be read.
     Unreadable(ScriptFault),
+    /// It was started and has no outcome, as where memory ran out under its run: its script, and the targets that a run is to
+    /// write.
+    Run(Script, List<Path>),
+    /// It was started and has no outcome, and its script cannot be read.
+    Fail(ScriptFault),
 }
 
 /// The first of the units that make these paths and have no outcome.
@@ -96,6 +101,22 @@ fn start(alloc: Global, unit: &Unit) -> Result<UnitStep, NoMemory>
     }
 }
 
+/// The step of a unit that was started and has no outcome: its run.
+fn run_again(alloc: Global, unit: &Unit) -> Result<UnitStep, NoMemory>
+    ensures { (b : Base) (build : Build) (n : ℕ)
+        → came_to build n ≡ Some Started
+        → IfOk result (λ step. IsNextOfUnit b build n unit.now step) }
+{
+    match read_script(alloc, unit) {
+        Ok(script) => {
+            let targets = unit.targets.copy(alloc)?;
+            Ok(UnitStep::Run(script, targets))
+        }
+        Err(Or::Is(fault)) => Ok(UnitStep::Fail(fault)),
+        Err(Or::NoMemory) => Err(NoMemory),
+    }
+}
+
 /// The step of an open unit: by the object that it may reuse, else its start.
 fn reuse_or_start(
     alloc: Global,
@@ -106,6 +127,7 @@ fn reuse_or_start(
 ) -> Result<UnitStep, NoMemory>
     requires unit { unit_at build.now number ≡ Some unit.now }
     requires open_unit { IsUnitOpen (first_rows build.now.rows rows.now) build.now unit.now }
+    requires fresh { came_to build.now number ≡ None }
     ensures { IfOk result (λ step. IsNextOfUnit rows.now build.now number unit.now step) }
 {
     match choose(alloc, rows, build, number)? {
@@ -131,7 +153,7 @@ fn end_without_run(
     early(alloc, &seen, build, unit)
 }
 
-/// What comes next for a unit without an outcome.
+/// What comes next for a unit that has come to nothing yet.
 fn next(
     alloc: Global,
     rows: &FirstRows<'_>,
@@ -141,6 +163,7 @@ fn next(
 ) -> Result<UnitStep, NoMemory>
     requires unit { unit_at build.now number ≡ Some unit.now }
     requires few { length build.now.units < 2 ^ 32 }
+    requires fresh { came_to build.now number ≡ None }
     ensures { IfOk result (λ step. IsNextOfUnit rows.now build.now number unit.now step) }
 {
     if let Some(other) = first_awaited(build, unit.prerequisites.as_slice()) {
@@ -152,9 +175,9 @@ fn next(
     reuse_or_start(alloc, rows, build, number, unit)
 }
 
-/// What comes next for a unit of an active build: nothing where it has its outcome; else the wait for another unit, the end
-/// without a run, the object that it keeps or that its view winks in, or its start with its script. Fails only where memory
-/// runs out.
+/// What comes next for a unit of an active build: nothing where it has its outcome; its run where it was started; else the wait
+/// for another unit, the end without a run, the object that it keeps or that its view winks in, or its start with its script.
+/// Fails only where memory runs out.
 ///
 /// Takes look-ups by the paths of the unit's prerequisites and targets; what `reusable` takes; and where it may reuse no object
 /// time linear in the bytes of the script.
@@ -168,8 +191,10 @@ pub fn step(
     requires few { length build.now.units < 2 ^ 32 }
     ensures { IfOk result (λ step. IsUnitStep rows.now build.now unit step) }
 {
-    if build.has_outcome(unit) {
-        return Ok(UnitStep::Concluded);
+    let found = &build.units()[unit as usize];
+    match build.came_to(unit) {
+        None => next(alloc, rows, build, unit, found),
+        Some(Came::Started) => run_again(alloc, found),
+        Some(Came::Concluded(_) | Came::Given(_)) => Ok(UnitStep::Concluded),
     }
-    next(alloc, rows, build, unit, &build.units()[unit as usize])
 }

@@ -1,7 +1,7 @@
 -- What came of a run outside the lock.
 use Rattle.std.proofs.Common.{◌≡◌, refl, ap, sym, ◌∙◌, ℕ, ◌<◌, inl, inr, Option, Some, None, Result, Ok, Err, List, arith}
 use Rattle.std.proofs.lemmas.Bool.{cases_lt}
-use Rattle.std.specs.Prelude.{IfErr, IfOk, option_and_then, option_map}
+use Rattle.std.specs.Prelude.{IfErr, IfOk, is_some, option_and_then, option_map}
 use Rattle.cc_names.specs.Counts.{last_count}
 use Rattle.cc_names.specs.declared.memory.Or.{Or}
 use Rattle.cc_names.specs.declared.memory.Or.TheVariants.{NoMemory, Is}
@@ -44,7 +44,7 @@ run_is s lane n script targets ran h e = record {
   active = h.has.active;
   unit = h.has.unit;
   is_unit = h.has.is_unit;
-  started = h.started;
+  started = ap is_some h.started;
   run = e ∙ (λ i. carried_out (λ path. seen path i) (run_of (h.has.targets_are i) (sym h.has.script_is i)));
 }
   where

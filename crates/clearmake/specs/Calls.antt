@@ -9,7 +9,7 @@ use Rattle.cc_names.specs.declared.units.Unit.{Unit}
 use Rattle.script_grammar.specs.Lines.{script_of}
 use Rattle.script_grammar.specs.Run.{Ran}
 use Rattle.script_grammar.specs.declared.lines.Line.{Line}
-use Rattle.legal_history.specs.Builds.Active.{Build, build_of, came_to, is_outcome, unit_at, unit_with}
+use Rattle.legal_history.specs.Builds.Active.{Build, Started, build_of, came_to, is_outcome, unit_at, unit_with}
 use Rattle.legal_history.specs.Builds.Choices.{here}
 use Rattle.legal_history.specs.Builds.Fresh.{script_text}
 use Rattle.legal_history.specs.Builds.Turns.{is_complete, is_unit_ready}
@@ -50,10 +50,15 @@ pub record WasStarted (s : State) (lane n : ℕ) : Type 0 where
   pub is_unit : unit_at build n ≡ Some unit
   pub started : is_some (came_to build n) ≡ true
 
--- the same, with its script and its targets
+-- unit n of a lane's build, with this script and these targets, was started and has no outcome
 pub record IsStarted (s : State) (lane n : ℕ) (script : List Line) (targets : List (List ℕ)) : Type 0 where
   pub has : HasScript s lane n script targets
-  pub started : is_some (came_to has.build n) ≡ true
+  pub started : came_to has.build n ≡ Some Started
+
+-- a unit is started once: where unit n of a lane's build had come to anything, nothing changed
+abbrev pub StartsOnce : List StoryStep → List StoryStep → ℕ → ℕ → Type 0
+StartsOnce old new lane n = (build : Build) → build_of (state_of old).active lane ≡ Some build → is_some (came_to build n) ≡ true
+    → new ≡ old
 
 -- unit n of a lane's build was started, and this is the run of its script on what it sees; by now it may have its outcome
 pub record IsRunOfUnit (s : State) (lane n : ℕ) (ran : Ran) : Type 0 where
@@ -88,13 +93,14 @@ pub record IsOver (s : State) (lane : ℕ) : Type 0 where
 abbrev pub Concludes : List StoryStep → List StoryStep → ℕ → ℕ → Type 0
 Concludes old new lane n = GoesOn old new lane × HasOutcome (state_of new) lane n
 
--- what became of a unit that was tried: it has its outcome, it waits for another and nothing changed, or its script was started;
--- or the disk failed and its lane's command is finished
+-- what became of a unit that was tried: it has its outcome, it waits for another and nothing changed, or its script is to be run,
+-- by this call's start or by an earlier one, behind which nothing changed; or the disk failed and its lane's command is finished
 abbrev pub Tries : List StoryStep → List StoryStep → ℕ → ℕ → UnitTurn → Type 0
 Tries old new lane n (turns.End turn_ends.Concluded) = Concludes old new lane n
 Tries old new lane n (turns.End (turn_ends.NotReady m)) = (new ≡ old) × WaitsFor (state_of old) lane n m
 Tries old new lane n (turns.End turn_ends.Over) = Finishes old new lane
-Tries old new lane n (turns.Run script targets) = GoesOn old new lane × IsStarted (state_of new) lane n script targets
+Tries old new lane n (turns.Run script targets) =
+    GoesOn old new lane × IsStarted (state_of new) lane n script targets × StartsOnce old new lane n
 
 -- what became of a unit that was given its outcome: it has it, or the disk failed and its lane's command is finished; it never
 -- waits

@@ -1,6 +1,9 @@
 -- How a story goes on while a lane builds.
-use Rattle.std.specs.Prelude.{◌≡◌, ℕ, ◌+◌, true, Some, List, ◌++◌, ◌≢◌}
+use Rattle.std.specs.Prelude.{◌≡◌, ℕ, ◌+◌, true, Option, Some, None, List, [], ◌∷◌, ◌++◌, ◌≢◌}
+use Rattle.cc_names.specs.declared.steps.Step.{Step}
+use Rattle.cc_names.specs.declared.steps.Step.TheVariants as steps
 use Rattle.cc_names.specs.declared.steps.StoryStep.{StoryStep}
+use Rattle.cc_names.specs.declared.steps.StoryStep.TheVariants as story_steps
 use Rattle.legal_history.specs.Builds.Active.{Build, build_of, came_to, is_outcome}
 use Rattle.legal_history.specs.Stories.States.{State, done_of}
 use Rattle.legal_history.specs.Stories.Steps.{state_of}
@@ -18,10 +21,37 @@ pub record BuildsOn (new : State) (lane : ℕ) (before : Build) : Type 0 where
   pub units : build.units ≡ before.units
   pub outcomes : (n : ℕ) → is_outcome (came_to before n) ≡ true → is_outcome (came_to build n) ≡ true
 
--- A story goes on by steps of a lane's build, which is not over: no lane has finished a command.
+-- the lane of a step that is told as it stands, where it is of a command
+abbrev pub lane_of_step : Step → Option ℕ
+lane_of_step (steps.Refused tag refusal) = Some tag.lane
+lane_of_step (steps.Answer tag text) = Some tag.lane
+lane_of_step (steps.Begin tag rows units) = Some tag.lane
+lane_of_step (steps.Start tag n) = Some tag.lane
+lane_of_step (steps.Concluded tag n outcome) = Some tag.lane
+lane_of_step (steps.End tag) = Some tag.lane
+lane_of_step (steps.Fault tag left before faults tick) = Some tag.lane
+lane_of_step step = None
+
+-- the lane of a step of a story, where it is of a command
+abbrev pub lane_of : StoryStep → Option ℕ
+lane_of (story_steps.Commit row tick) = Some row.tag.lane
+lane_of (story_steps.Other step) = lane_of_step step
+lane_of step = None
+
+-- What one call adds to a story for a lane: nothing, or one step of a command of the lane, or a fault of the disk and the end of
+-- the build that it ends.
+abbrev pub IsOneCall : ℕ → List StoryStep → Type 0
+IsOneCall lane [] = Unit {0}
+IsOneCall lane (step ∷ []) = lane_of step ≡ Some lane
+IsOneCall lane (story_steps.Other (steps.Fault tag left before faults tick) ∷ story_steps.Other (steps.End ended) ∷ []) =
+    (tag.lane ≡ lane) × (ended ≡ tag)
+IsOneCall lane steps = ⊥
+
+-- A story goes on by a step of a lane's build at most, which is not over: no lane has finished a command.
 pub record GoesOn (old new : List StoryStep) (lane : ℕ) : Type 0 where
   pub steps : List StoryStep
   pub grows : new ≡ old ++ steps
+  pub one : IsOneCall lane steps
   pub phase : SamePhase (state_of old) (state_of new)
   pub done : (state_of new).done ≡ (state_of old).done
   pub still : (build : Build) → build_of (state_of old).active lane ≡ Some build → BuildsOn (state_of new) lane build
@@ -32,10 +62,12 @@ pub record HasOutcome (s : State) (lane n : ℕ) : Type 0 where
   pub active : build_of s.active lane ≡ Some build
   pub outcome : is_outcome (came_to build n) ≡ true
 
--- A lane's next command is finished, by steps of its own; the other lanes are where they were.
+-- A lane's next command is finished, by a step of its own, or by a fault and the end that it brings; the other lanes are where
+-- they were.
 pub record Finishes (old new : List StoryStep) (lane : ℕ) : Type 0 where
   pub steps : List StoryStep
   pub grows : new ≡ old ++ steps
+  pub one : IsOneCall lane steps
   pub phase : SamePhase (state_of old) (state_of new)
   pub done : done_of (state_of new).done lane ≡ done_of (state_of old).done lane + 1
   pub others : (other : ℕ) → other ≢ lane → done_of (state_of new).done other ≡ done_of (state_of old).done other

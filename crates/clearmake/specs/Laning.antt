@@ -1,8 +1,9 @@
 -- What becomes of a lane's turn.
-use Rattle.std.specs.Prelude.{◌≡◌, ◌≤◌, ℕ, Some, List}
+use Rattle.std.specs.Prelude.{◌≡◌, ◌<◌, ◌≤◌, ℕ, Some, List}
 use Rattle.cc_names.specs.declared.occasions.Next.TheVariants as nexts
 use Rattle.cc_names.specs.declared.steps.StoryStep.{StoryStep}
 use Rattle.legal_history.specs.Stories.Commanded.{next_command_of}
+use Rattle.legal_history.specs.Stories.States.{done_of}
 use Rattle.legal_history.specs.Stories.Steps.{state_of}
 use Rattle.clearmake.specs.Nexts.{jobs_of, next_of_lane}
 use Rattle.clearmake.specs.Passes.{IsLaneDone}
@@ -19,3 +20,8 @@ IsLaneTurn (turn.Build tag jobs) story lane number =
     × (1 ≤ jobs) × (jobs ≤ 64)
 IsLaneTurn turn.Done story lane number = IsLaneDone story lane number
 IsLaneTurn turn.OutOfMemory story lane number = Unit {0}
+
+-- a turn in which a lane acted finished commands of the lane
+abbrev pub HasActed : LaneTurn → List StoryStep → List StoryStep → ℕ → Type 0
+HasActed turn.Acted old new lane = done_of (state_of old).done lane < done_of (state_of new).done lane
+HasActed became old new lane = Unit {0}

@@ -3,7 +3,7 @@
 ghost use Rattle.std.specs.Prelude.{◌≡◌, ◌<◌, ◌≤◌, ◌+◌, ◌-◌, ◌*◌, ◌^◌, OnOk};
 ghost use Rattle.std.specs.Thread.{IsSync};
 ghost use mathlib.Core.List.{IsPrefix};
-ghost use Rattle.clearmake.specs.Laning.{IsLaneTurn};
+ghost use Rattle.clearmake.specs.Laning.{HasActed, IsLaneTurn};
 ghost use Rattle.clearmake.specs.Passes.{AreLanesDone, IsLaneDone, IsLater};
 
 use crate::builds::build;
@@ -42,8 +42,9 @@ pub(crate) enum LaneTurn {
 pub(crate) fn take_turn_at<T: PhaseService>(service: &mut T, alloc: Global, lane: u32) -> LaneTurn
     ensures begins { IsPrefix (T.story service.old) (T.story service.new) }
     ensures turn { IsLaneTurn result (T.story service.new) lane T.number }
+    ensures acted { HasActed result (T.story service.old) (T.story service.new) lane }
 {
-    for _ in 0..COMMANDS_A_TURN {
+    for carried in 0..COMMANDS_A_TURN {
         service.legal();
         service.in_phase();
         match service.next(lane) {

@@ -157,11 +157,14 @@ fn left_by(alloc: Global, fail: &[u64]) -> Result<([Left; 3], u64), Fail> {
     let mut journal = Journal::open(disk).ok().ok_or("opened")?;
     read_all(alloc, &mut journal)?;
     let _ = commit(alloc, &mut journal, b"one")?;
-    let one = journal.left();
+    let one = journal.left_by_last_call();
     let _ = commit(alloc, &mut journal, b"two")?;
-    let two = journal.left();
+    let two = journal.left_by_last_call();
     let _ = journal.settle();
-    Ok(([one, two, journal.left()], journal.counts().ticks))
+    Ok((
+        [one, two, journal.left_by_last_call()],
+        journal.counts().ticks,
+    ))
 }
 
 /// Call 1 is that of the length; 2 and 3 settle, and 4 to 7 commit: the payload, a sync, the gate, a sync. Behind a fault the

@@ -17,7 +17,7 @@ use Rattle.vob_journal.specs.Moves.{Moves, Stands, Between}
 use Rattle.vob_journal.specs.Reads.{SameFiles}
 use Rattle.vob_journal.specs.Shown.{Shown}
 use Rattle.vob_journal.specs.declared.left.Left.TheVariants as lefts
-use Rattle.vob_journal.proofs.Adding.{measured_adds}
+use Rattle.vob_journal.proofs.Adding.{adds_none, adds_one, measured_adds}
 use Rattle.vob_journal.proofs.Journals.{stable_image}
 use Rattle.vob_journal.proofs.Passing.{passes_none, passes_call}
 use Rattle.vob_journal.proofs.Staying.{modeled_then}
@@ -75,6 +75,10 @@ idle_keeps d e is (inr missed) = subst (Keeps d) (sym missed) (record {
   now = λ image left. inl (handed_image d is image left);
 })
 
+idle_adds : (d e : Device) → Idles d e → Adds may_read d e
+idle_adds d e (inl same) = subst (Adds may_read d) (sym same) (adds_none may_read d)
+idle_adds d e (inr missed) = subst (Adds may_read d) (sym missed) (adds_one may_read Failed d refl)
+
 both_idle : (old new : Option Device) → IfModeled old (λ d. file_of 0 d ≡ stable (bytes_now 0 d)) → Both Idles old new
     → Both Keeps old new
 both_idle old new is idles = both_from (λ d. file_of 0 d ≡ stable (bytes_now 0 d)) Idles Keeps old new idle_keeps is idles
@@ -127,6 +131,13 @@ pub files_first : {D : Type 0} (ghost_state : D → DiskState) (first : DiskStat
 files_first ghost_state first opened read new reads = modeled_then first.modeled (ghost_state opened.disk).modeled
     (ghost_state read.disk).modeled new.files reads.files
 
+-- and calls that read were made
+pub read_since : {D : Type 0} (ghost_state : D → DiskState) (first : DiskState) (opened read : Shown D)
+    → IsNewOn ghost_state first opened → OnlyReads ghost_state opened read
+    → Both (Adds may_read) first.modeled (ghost_state read.disk).modeled
+read_since ghost_state first opened read new reads = adds_on first.modeled (ghost_state opened.disk).modeled
+    (ghost_state read.disk).modeled new.adds reads.adds
+
 -- why reading stopped, told of the disk as it was handed in
 pub stops_first : {D : Type 0} (ghost_state : D → DiskState) (first : DiskState) (cause : OpenCause) (opened read : Shown D)
     → IsNewOn ghost_state first opened → StopsBy (ghost_state opened.disk).modeled (λ _. opened.list) cause
@@ -160,12 +171,13 @@ unchanged_modeled first now ticks keeps = by first.modeled now ticks keeps
         (omega (arith, same, later)) keep left
 
 pub fails_to_open : (first now : DiskState) (cause : OpenCause) → IsCounted first → Both Keeps first.modeled now.modeled
-    → Both SameFiles first.modeled now.modeled → StopsBy first.modeled (λ d. frames (bytes_now 0 d)) cause first.faults now.faults
-    → FailsToOpen first cause now
-fails_to_open first now cause counted keeps files because = record {
+    → Both (Adds may_read) first.modeled now.modeled → Both SameFiles first.modeled now.modeled
+    → StopsBy first.modeled (λ d. frames (bytes_now 0 d)) cause first.faults now.faults → FailsToOpen first cause now
+fails_to_open first now cause counted keeps reads files because = record {
   because = because;
   tells = both_tells Keeps first.modeled now.modeled keeps;
   unchanged = unchanged_modeled first now.modeled counted.modeled keeps;
+  reads = reads;
   files = files;
 }
 
@@ -174,7 +186,8 @@ pub fails_at_once : (first now : DiskState) → IsCounted first → IsCounted no
     → IfModeled first.modeled (λ d. file_of 0 d ≡ stable (bytes_now 0 d)) → Both Idles first.modeled now.modeled
     → Both SameFiles first.modeled now.modeled → OneFault first now → FailsToOpen first causes.DiskFault now
 fails_at_once first now counted after is idles files fault =
-    fails_to_open first now causes.DiskFault counted (both_idle first.modeled now.modeled is idles) files
+    fails_to_open first now causes.DiskFault counted (both_idle first.modeled now.modeled is idles)
+    (both_map Idles (Adds may_read) first.modeled now.modeled idle_adds idles) files
     (raised_rises first now counted after fault.1)
 
 -- the journal behind a base that was opened

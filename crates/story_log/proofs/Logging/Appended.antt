@@ -12,17 +12,18 @@ use Rattle.disk_model.specs.Counting.{next_count}
 use Rattle.disk_model.specs.Devices.{Device}
 use Rattle.disk_model.specs.DiskStates.{DiskState, IfModeled, Both, IsCounted}
 use Rattle.base_model.specs.Rows.{Base}
-use Rattle.legal_history.specs.Stories.States.{State, start, hanging}
+use Rattle.legal_history.specs.Stories.States.{State, End, start, hanging}
 use Rattle.legal_history.specs.Stories.Steps.{state_of}
 use Rattle.row_form.specs.Spelled.{spelling_of}
-use Rattle.vob_journal.specs.Lefts.{leftover_after, settled_after}
+use Rattle.vob_journal.specs.Lefts.{FailsInPhase, leftover_after, settled_after}
 use Rattle.vob_journal.specs.Phases.{Spends, calls_of}
 use Rattle.vob_journal.specs.Moves.{Moves}
 use Rattle.vob_journal.specs.Added.{WritesOn, may_write}
 use Rattle.vob_journal.specs.Calls.{device_after_commit}
 use Rattle.vob_journal.specs.declared.left.Left.{Left}
 use Rattle.vob_journal.specs.declared.left.Left.TheVariants as lefts
-use Rattle.story_log.specs.Logging.Appending.{CommitsRow, IsQuiet, MayLeaveRow, IsCommitted, IsFaulted, with_ending}
+use Rattle.story_log.specs.Logging.Appending.{CommitsRow, StandsSettled, IsQuiet, MayLeaveRow, IsCommitted, IsFaulted}
+use Rattle.story_log.specs.Logging.Appending.{with_ending}
 use Rattle.story_log.specs.Logging.Leaving.{left_in, LeftSo}
 use Rattle.story_log.specs.Logging.Logs.{IsLogged, with_step_on}
 use Rattle.story_log.specs.Story.Telling.{story_of, AreNamedBySteps}
@@ -92,17 +93,21 @@ some_calls true = omega arith
 some_calls false = omega arith
 
 -- the calls that commit the row's spelling commit the row
-pub commits_row : (row : Plain) (frame : List ℕ) (settled : Bool) (tail : ℕ) (old new : Option Device) → frame ≡ spelling_of row
-    → Both (λ d e. e ≡ device_after_commit settled tail frame d) old new → Both (CommitsRow row) old new
-commits_row row frame settled tail None None is h = tt
-commits_row row frame settled tail None (Some e) is h = absurd h
-commits_row row frame settled tail (Some d) None is h = absurd h
-commits_row row frame settled tail (Some d) (Some e) is h = (
-  settled,
-  tail,
-  h
-      ∙ ap (λ payload. device_after_commit settled tail payload d) is,
-)
+pub commits_row : (ends : List End) (row : Plain) (frame : List ℕ) (settled : Bool) (tail : ℕ) (old new : Option Device)
+    → StandsSettled ends settled → frame ≡ spelling_of row → Both (λ d e. e ≡ device_after_commit settled tail frame d) old new
+    → Both (CommitsRow ends row) old new
+commits_row ends row frame settled tail None None stands is h = tt
+commits_row ends row frame settled tail None (Some e) stands is h = absurd h
+commits_row ends row frame settled tail (Some d) None stands is h = absurd h
+commits_row ends row frame settled tail (Some d) (Some e) stands is h =
+    (settled, tail, stands, h ∙ ap (λ payload. device_after_commit settled tail payload d) is)
+
+-- what was left over is so still only behind a tail that is not settled
+pub earlier_unsettled : (settled : Bool) (left : Left) (old new : ℕ) → FailsInPhase settled left old new → left ≡ lefts.Earlier
+    → settled ≡ false
+earlier_unsettled settled lefts.Nothing old new h is = absurd (cc)
+earlier_unsettled settled lefts.Earlier old new h is = h.0
+earlier_unsettled settled lefts.InFlight old new h is = absurd (cc)
 
 -- the row was committed
 pub is_committed : (on : Handed) (kept more : List Step) (base grown : Base) (phases : List Phase) (tag : Tag)
@@ -110,8 +115,8 @@ pub is_committed : (on : Handed) (kept more : List Step) (base grown : Base) (ph
     (settled : Bool) → IsLogged on kept base phases old list leftover ended left settled
     → more ≡ kept ++ steps.Commit tag number tick ∷ [] → grown ≡ row ∷ base → tick ≡ new.ticks → new.ticks ≡ old.ticks + calls
     → 1 ≤ calls → new.faults ≡ old.faults → IsFormed row → IsCounted new → Both WritesOn old.modeled new.modeled
-    → Both (CommitsRow row) old.modeled new.modeled → IsCommitted (shown on kept base phases old) (shown on more grown phases new)
-    row
+    → Both (CommitsRow (state_of (story_of on kept (oldest_first base) phases)).ends row) old.modeled new.modeled
+    → IsCommitted (shown on kept base phases old) (shown on more grown phases new) row
 is_committed on kept more base grown phases tag number tick calls row old new list leftover ended left settled h e g at spent some
     same formed fit writes calls' = record {
       tick = tick;
@@ -135,10 +140,14 @@ pub is_faulted : (on : Handed) (kept more : List Step) (base : Base) (phases : L
     → more ≡ kept ++ fault_step tag found before faults tick ∷ option_to_list ending → earlier ≡ left_in kept
     → LeftSo earlier row left' found → tick ≡ new.ticks → faults ≡ new.faults → before ≡ old.faults
     → next_count old.ticks ≤ new.ticks → new.faults ≡ next_count old.faults → IsCounted old → IsCounted new → IsFormed row
-    → Both WritesOn old.modeled new.modeled → IsFaulted (shown on kept base phases old) (shown on more base phases new) row ending
+    → Both WritesOn old.modeled new.modeled → FailsInPhase settled left' old.ticks new.ticks
+    → IsFaulted (shown on kept base phases old) (shown on more base phases new) row ending
 is_faulted on kept more base phases tag row earlier found before faults tick ending old new list leftover ended left left' settled
-    tagged quiet h e copied so at counts was spent rose counted counted' formed writes =
-    let s = state_of (story_of on kept (oldest_first base) phases) in record {
+    tagged quiet h e copied so at counts was spent rose counted counted' formed writes fails =
+    let s = state_of (story_of on kept (oldest_first base) phases) in
+    let found_so : LeftSo (hanging s.ends) row left' found = subst (λ o. LeftSo o row left' found) (copied
+    ∙ sym (hanging_is on 1 0 kept (oldest_first base) phases start h.modeled)) so in
+    record {
       left = found;
       before = before;
       faults = faults;
@@ -151,8 +160,8 @@ is_faulted on kept more base phases tag row earlier found before faults tick end
       rose = rises_raised before old.faults faults (omega (arith, was)) counted.faults (omega (arith, counts, rose))
           (omega (arith, counts, counted'.faults));
       later = omega (arith, h.backed.faults, was);
-      leaves = may_leave_so s row left' found (subst (λ o. LeftSo o row left' found) (copied
-          ∙ sym (hanging_is on 1 0 kept (oldest_first base) phases start h.modeled)) so);
+      leaves = may_leave_so s row left' found found_so;
+      calls = (settled, left', h.backed.shut, found_so, subst (FailsInPhase settled left' old.ticks) (sym at) fails);
       ticked = rises_raised _ old.ticks tick h.backed.ticks counted.ticks (omega (arith, at, spent))
           (omega (arith, at, counted'.ticks));
       counted = was;

@@ -79,10 +79,12 @@ StopsBy modeled list (causes.Damaged n) old new = (new ≡ old) × IfModeled mod
 StopsBy modeled list causes.DiskFault old new = rises old new ≡ true
 StopsBy modeled list causes.NoMemory old new = new ≡ old
 
--- No base was opened: each stop since finds the frames that were there, and both files are as they were.
+-- No base was opened: each stop since finds the frames that were there, calls that read were made, and both files are as they
+-- were.
 pub record FailsToOpen (old : DiskState) (cause : OpenCause) (new : DiskState) : Type 0 where
   pub because : StopsBy old.modeled (λ d. frames (bytes_now 0 d)) cause old.faults new.faults
   pub tells : is_some new.modeled ≡ is_some old.modeled
   pub unchanged : IfModeled old.modeled (λ d. IfModeled new.modeled (λ e. (k : ℕ) (image : List ℕ) → old.ticks < k
       → MayLeave 0 e k image → frames image ≡ frames (bytes_now 0 d)))
+  pub reads : Both (Adds may_read) old.modeled new.modeled
   pub files : Both SameFiles old.modeled new.modeled

@@ -1,5 +1,5 @@
 -- What became of a row that was to be committed.
-use Rattle.std.specs.Prelude.{◌≡◌, ℕ, ◌<◌, ◌≤◌, ◌⊎◌, Bool, true, false, Option, Some, None}
+use Rattle.std.specs.Prelude.{◌≡◌, ℕ, ◌<◌, ◌≤◌, ◌⊎◌, Bool, true, false, Option, Some, None, List}
 use Rattle.cc_names.specs.Formed.{Plain, IsFormed}
 use Rattle.cc_names.specs.declared.steps.Step.{Step}
 use Rattle.cc_names.specs.declared.steps.Step.TheVariants as steps
@@ -7,12 +7,16 @@ use Rattle.cc_names.specs.declared.steps.StoryStep.TheVariants as story_steps
 use Rattle.disk_model.specs.Counting.{next_count}
 use Rattle.disk_model.specs.Devices.{Device}
 use Rattle.disk_model.specs.DiskStates.{DiskState, Both, IsCounted}
-use Rattle.legal_history.specs.Stories.States.{State, ticks_of, faults_of, hanging}
+use Rattle.legal_history.specs.Stories.States.{State, End, ticks_of, faults_of, hanging}
 use Rattle.legal_history.specs.Stories.Steps.{state_of}
 use Rattle.cc_names.specs.Counts.{rises}
 use Rattle.row_form.specs.Spelled.{spelling_of}
 use Rattle.vob_journal.specs.Added.{WritesOn}
 use Rattle.vob_journal.specs.Calls.{device_after_commit}
+use Rattle.vob_journal.specs.Lefts.{FailsInPhase}
+use Rattle.vob_journal.specs.declared.left.Left.{Left}
+use Rattle.story_log.specs.Logging.Leaving.{LeftSo}
+use Rattle.story_log.specs.Stopping.Backed.{has_row, may_be_open}
 use Rattle.story_log.specs.Story.Faults.{is_fault}
 use Rattle.story_log.specs.Logging.Logs.{Logged, with_committed_row, with_step, with_step_on}
 use Rattle.story_log.specs.Story.Telling.{stands_alone}
@@ -24,9 +28,22 @@ abbrev pub MayLeaveRow : State → Plain → Option Plain → Type 0
 MayLeaveRow s row None = Unit {0}
 MayLeaveRow s row (Some left) = (left ≡ row) ⊎ (hanging s.ends ≡ Some left)
 
--- the calls that commit a row behind a tail, and no others
-abbrev pub CommitsRow : Plain → Device → Device → Type 0
-CommitsRow row d e = (settled : Bool) × (tail : ℕ) × (e ≡ device_after_commit settled tail (spelling_of row) d)
+-- Whether the journal's tail is settled after some commits and faults: it is where the newest of them can't have left it open,
+-- and a row was committed, or left by a fault, since the base was opened.
+abbrev pub StandsSettled : List End → Bool → Type 0
+StandsSettled ends settled = may_be_open ends ≡ false → has_row ends ≡ true → settled ≡ true
+
+-- the calls that commit a row behind a tail after these commits and faults, and no others: a settled tail is not settled again
+abbrev pub CommitsRow : List End → Plain → Device → Device → Type 0
+CommitsRow ends row d e = (settled : Bool) × (tail : ℕ) × StandsSettled ends settled
+    × (e ≡ device_after_commit settled tail (spelling_of row) d)
+
+-- what a fault under a row left after these commits and faults, by how many calls were made: the row only where its gate was to
+-- be opened, and what an earlier fault had left only where the tail was to be settled
+abbrev pub LeavesByCalls : List End → Plain → Option Plain → ℕ → ℕ → Type 0
+LeavesByCalls ends row left old new =
+    (settled : Bool) × (how : Left) × StandsSettled ends settled
+    × LeftSo (hanging ends) row how left × FailsInPhase settled how old new
 
 -- the row was committed at a later tick than any end before
 pub record IsCommitted (old new : Logged) (row : Plain) : Type 0 where
@@ -40,7 +57,7 @@ pub record IsCommitted (old new : Logged) (row : Plain) : Type 0 where
   pub faults : ghost_state.faults ≡ old.ghost_state.faults
   pub fit : IsCounted ghost_state
   pub writes : Both WritesOn old.ghost_state.modeled ghost_state.modeled
-  pub calls : Both (CommitsRow row) old.ghost_state.modeled ghost_state.modeled
+  pub calls : Both (CommitsRow (state_of old.story).ends row) old.ghost_state.modeled ghost_state.modeled
 
 -- a step that names no row and no phase, and is no fault of the disk
 abbrev pub IsQuiet : Step → Type 0
@@ -63,6 +80,7 @@ pub record IsFaulted (old new : Logged) (row : Plain) (ending : Option Step) : T
   pub rose : rises before faults ≡ true
   pub later : faults_of (state_of old.story).opened (state_of old.story).ends ≤ before
   pub leaves : MayLeaveRow (state_of old.story) row left
+  pub calls : LeavesByCalls (state_of old.story).ends row left old.ghost_state.ticks tick
   pub ticked : rises (ticks_of (state_of old.story).opened (state_of old.story).ends) tick ≡ true
   pub counted : before ≡ old.ghost_state.faults
   pub one : faults ≡ next_count before

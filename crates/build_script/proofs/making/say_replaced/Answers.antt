@@ -20,7 +20,7 @@ returns-in_err-say c =
     let rest = c.loop-place.rest.now in
     let after = c.args.to.now ++ replaced_behind c.args.from.now c.args.to.now 0
     (drop (c.in-Some.place + length c.args.from.now) rest) in
-    let whole = c.loop-place.invariant.said ∙ ap (λ (l : List ℕ). with_output output l (made_of c.loop-place.made))
+    let whole = c.loop-place.invariant.with_output ∙ ap (λ (l : List ℕ). with_output output l (made_of c.loop-place.made))
     (with_replaced-at c.args.from.now c.args.to.now rest c.in-Some.place c.loop-place.invariant.filled
     (rw c.new-finder.ensures at c.in-Some.ensures)) in
     rw (p.1, p.2) (gave_prefix {X = Unit {0}} {Y = Unit {0}} output (take c.in-Some.place rest) after (made_of c.loop-place.made)
@@ -32,7 +32,7 @@ returns-in_err-say-2 c =
     let output = output_by_parts c.args.making.path.now c.args.making.before in
     let rest = c.loop-place.rest.now in
     let more = replaced_behind c.args.from.now c.args.to.now 0 (drop (c.in-Some.place + length c.args.from.now) rest) in
-    let whole = c.loop-place.invariant.said ∙ ap (λ (l : List ℕ). with_output output l (made_of c.loop-place.made))
+    let whole = c.loop-place.invariant.with_output ∙ ap (λ (l : List ℕ). with_output output l (made_of c.loop-place.made))
     (with_replaced-at c.args.from.now c.args.to.now rest c.in-Some.place c.loop-place.invariant.filled
     (rw c.new-finder.ensures at c.in-Some.ensures)) in
     let then = gave_rest output (take c.in-Some.place rest) (c.args.to.now ++ more) (made_of c.loop-place.made)
@@ -45,7 +45,7 @@ loop-place-preserved c =
     let output = output_by_parts c.args.making.path.now c.args.making.before in
     let rest = c.loop-place.rest.now in
     let more = replaced_behind c.args.from.now c.args.to.now 0 (drop (c.in-Some.place + length c.args.from.now) rest) in
-    let whole = c.loop-place.invariant.said ∙ ap (λ (l : List ℕ). with_output output l (made_of c.loop-place.made))
+    let whole = c.loop-place.invariant.with_output ∙ ap (λ (l : List ℕ). with_output output l (made_of c.loop-place.made))
     (with_replaced-at c.args.from.now c.args.to.now rest c.in-Some.place c.loop-place.invariant.filled
     (rw c.new-finder.ensures at c.in-Some.ensures)) in
     let then = gave_rest output (take c.in-Some.place rest) (c.args.to.now ++ more) (made_of c.loop-place.made)
@@ -59,7 +59,7 @@ loop-place-preserved c =
     }
 
 pub returns : goal.returns
-returns c = rw (c.loop-place.invariant.said ∙ ap (λ (l : List ℕ). with_output
+returns c = rw (c.loop-place.invariant.with_output ∙ ap (λ (l : List ℕ). with_output
     (output_by_parts c.args.making.path.now c.args.making.before) l (made_of c.loop-place.made))
     (with_replaced-none c.args.from.now c.args.to.now c.loop-place.rest.now c.loop-place.invariant.filled
     (rw c.new-finder.ensures at c.in_default.ensures))) c.say-2.ensures

@@ -6,5 +6,5 @@ use Rattle.story_log.proofs.laws.a_story_keeps_its_base_formed.Goals as goal
 pub returns-clause-base : goal.returns-clause-base
 returns-clause-base c = λ story named. base_named IsFormed story named
 
-pub returns-clause-left_by_last_call : goal.returns-clause-left_by_last_call
-returns-clause-left_by_last_call c = λ story named. hanging_named IsFormed story named
+pub returns-clause-left : goal.returns-clause-left
+returns-clause-left c = λ story named. hanging_named IsFormed story named

@@ -3,8 +3,8 @@ use Rattle.std.proofs.Common.{sym, ◌∙◌, ap, subst}
 use Rattle.story_log.specs.Story.Handed.{handed_disk}
 use Rattle.story_log.specs.Bases.Opening.{FailsToOpen}
 use Rattle.story_log.specs.declared.opening.OpenCause.TheVariants as causes
-use Rattle.story_log.proofs.Bases.OpenedBases.{new_on, fails_at_once, fails_to_open, keeps_first, files_first, stops_first}
-use Rattle.story_log.proofs.Bases.OpenedBases.{opened_backed, is_opened}
+use Rattle.story_log.proofs.Bases.OpenedBases.{new_on, fails_at_once, fails_to_open, keeps_first, read_since, files_first}
+use Rattle.story_log.proofs.Bases.OpenedBases.{stops_first, opened_backed, is_opened}
 use Rattle.story_log.proofs.opening.open_log.Goals as goal
 
 pub returns-in-Err-clause-err : goal.returns-in-Err-clause-err
@@ -24,6 +24,7 @@ returns-in-Err-read_rows-clause-err g c =
     subst (λ disk. FailsToOpen first c.in-Err-read_rows.cause (ghost_state disk)) (sym c.into_disk.ensures)
     (fails_to_open first (ghost_state read.disk) c.in-Err-read_rows.cause (g.met.D.Disk.counted c.args.disk)
     (keeps_first ghost_state first opened read new c.in-Err-read_rows.ensures.reads)
+    (read_since ghost_state first opened read new c.in-Err-read_rows.ensures.reads)
     (files_first ghost_state first opened read new c.in-Err-read_rows.ensures.reads)
     (stops_first ghost_state first c.in-Err-read_rows.cause opened read new c.in-Err-read_rows.ensures.err))
 
@@ -69,5 +70,6 @@ returns-in-Err-open-clause-err g c =
     ∙ ap (λ journal. journal.disk) c.in-Err-open.ensures.err))
     (fails_to_open first (ghost_state read.disk) causes.NoMemory (g.met.D.Disk.counted c.args.disk)
     (keeps_first ghost_state first opened read new c.in-Ok-read_rows.ensures.reads)
+    (read_since ghost_state first opened read new c.in-Ok-read_rows.ensures.reads)
     (files_first ghost_state first opened read new c.in-Ok-read_rows.ensures.reads) (c.in-Ok-read_rows.ensures.sound
     ∙ new.counts.1))

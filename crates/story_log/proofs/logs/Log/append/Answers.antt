@@ -4,12 +4,16 @@ use Rattle.std.specs.Option.{option_to_list}
 use Rattle.cc_names.specs.declared.steps.Step.TheVariants as steps
 use Rattle.disk_model.specs.DiskStates.{IfModeled}
 use Rattle.base_model.specs.Fits.{fits}
+use Rattle.base_rows.specs.Order.{oldest_first}
+use Rattle.legal_history.specs.Stories.Steps.{state_of}
 use Rattle.vob_journal.specs.Lefts.{leftover_after}
 use Rattle.story_log.specs.Logging.Appending.{IsCommitted, IsFaulted}
 use Rattle.story_log.specs.Logging.Leaving.{left_in, LeftSo}
 use Rattle.story_log.specs.Logging.Logs.{IsLogged}
 use Rattle.story_log.specs.Story.Handed.{handed_disk}
-use Rattle.story_log.proofs.Logging.Appended.{commits_row, fault_step, is_committed, is_faulted, logged_faulted, some_calls}
+use Rattle.story_log.specs.Story.Telling.{story_of}
+use Rattle.story_log.proofs.Logging.Appended.{commits_row, earlier_unsettled, fault_step, is_committed, is_faulted}
+use Rattle.story_log.proofs.Logging.Appended.{logged_faulted, some_calls}
 use Rattle.story_log.proofs.Logging.Logged.{logged_row}
 use Rattle.story_log.proofs.Logging.LogSteps.{shown}
 use Rattle.story_log.proofs.logs.Log.append.Goals as goal
@@ -57,9 +61,11 @@ returns-in-Ok-clause-ok g c =
     c.self.inside.journal.leftover c.self.inside.journal.ended c.self.inside.journal.left c.self.inside.journal.settled
     c.self.invariant kept rows c.in-Ok.ensures.tick c.in-Ok.ensures.costs.0 (some_calls c.self.inside.journal.settled)
     c.in-Ok.ensures.costs.1 c.deed.ensures.formed (g.met.D.Disk.counted c.append.new.self.disk) c.in-Ok.ensures.writes
-    (commits_row c.args.row c.in_ok-frame.frame c.self.inside.journal.settled c.self.inside.journal.tail
-    (g.D.Disk.ghost_state c.self.inside.journal.disk).modeled (g.D.Disk.ghost_state c.append.new.self.disk).modeled
-    c.in_ok-frame.ensures c.in-Ok.ensures.calls))
+    (commits_row (state_of (story_of (handed_disk c.self.inside.handed g.D.Disk.tells) c.self.inside.steps.items
+    (oldest_first c.self.inside.rows.base) c.self.inside.phases.items)).ends c.args.row c.in_ok-frame.frame
+    c.self.inside.journal.settled c.self.inside.journal.tail (g.D.Disk.ghost_state c.self.inside.journal.disk).modeled
+    (g.D.Disk.ghost_state c.append.new.self.disk).modeled c.self.invariant.backed.shut c.in_ok-frame.ensures
+    c.in-Ok.ensures.calls))
 
 pub invariant_of-self : goal.invariant_of-self
 invariant_of-self g c =
@@ -77,11 +83,11 @@ invariant_of-self-2 g c =
     let left : LeftSo c.in_ok-earlier.earlier c.args.row c.append.new.self.left c.match-left_by_last_call.left =
     elim c.match-left_by_last_call.branch [
       | in-Nothing w ↦ subst (λ l. LeftSo c.in_ok-earlier.earlier c.args.row l c.match-left_by_last_call.left)
-          (sym w.in-Nothing.is ∙ c.left_by_last_call.ensures) w.left_by_last_call-is
+          (sym w.in-Nothing.is ∙ c.left_by_last_call.ensures) w.left-is
       | in-Earlier w ↦ subst (λ l. LeftSo c.in_ok-earlier.earlier c.args.row l c.match-left_by_last_call.left)
-          (sym w.in-Earlier.is ∙ c.left_by_last_call.ensures) w.left_by_last_call-is
+          (sym w.in-Earlier.is ∙ c.left_by_last_call.ensures) w.left-is
       | in-InFlight w ↦ subst (λ l. LeftSo c.in_ok-earlier.earlier c.args.row l c.match-left_by_last_call.left)
-          (sym w.in-InFlight.is ∙ c.left_by_last_call.ensures) w.left_by_last_call-is
+          (sym w.in-InFlight.is ∙ c.left_by_last_call.ensures) w.left-is
     ] in
     subst (λ rows. IsLogged (handed_disk c.self.inside.handed g.D.Disk.tells) c.push_both.new.steps.items rows
     c.self.inside.phases.items (g.D.Disk.ghost_state c.append.new.self.disk) c.append.new.self.list c.append.new.self.leftover
@@ -102,7 +108,7 @@ invariant_of-self-2 g c =
     (c.in_ok-earlier.ensures ∙ ap left_in c.as_slice.ensures.value) left c.counts-counts.ensures.ticks
     c.counts-counts.ensures.faults (g.met.D.Disk.counted c.self.inside.journal.disk)
     (g.met.D.Disk.counted c.append.new.self.disk) c.in_default.ensures.ended c.in_default.ensures.settled
-    c.in_default.ensures.earlier)
+    (earlier_unsettled c.self.inside.journal.settled c.append.new.self.left _ _ c.in_default.ensures.fails))
 
 pub returns-clause-ok : goal.returns-clause-ok
 returns-clause-ok g c =
@@ -113,11 +119,11 @@ returns-clause-ok g c =
     let left : LeftSo c.in_ok-earlier.earlier c.args.row c.append.new.self.left c.match-left_by_last_call.left =
     elim c.match-left_by_last_call.branch [
       | in-Nothing w ↦ subst (λ l. LeftSo c.in_ok-earlier.earlier c.args.row l c.match-left_by_last_call.left)
-          (sym w.in-Nothing.is ∙ c.left_by_last_call.ensures) w.left_by_last_call-is
+          (sym w.in-Nothing.is ∙ c.left_by_last_call.ensures) w.left-is
       | in-Earlier w ↦ subst (λ l. LeftSo c.in_ok-earlier.earlier c.args.row l c.match-left_by_last_call.left)
-          (sym w.in-Earlier.is ∙ c.left_by_last_call.ensures) w.left_by_last_call-is
+          (sym w.in-Earlier.is ∙ c.left_by_last_call.ensures) w.left-is
       | in-InFlight w ↦ subst (λ l. LeftSo c.in_ok-earlier.earlier c.args.row l c.match-left_by_last_call.left)
-          (sym w.in-InFlight.is ∙ c.left_by_last_call.ensures) w.left_by_last_call-is
+          (sym w.in-InFlight.is ∙ c.left_by_last_call.ensures) w.left-is
     ] in
     subst (λ old. IsFaulted old (shown (handed_disk c.self.inside.handed g.D.Disk.tells) c.push_both.new.steps.items
     c.reserve.new.self.base c.self.inside.phases.items (g.D.Disk.ghost_state c.append.new.self.disk)) c.args.row
@@ -137,7 +143,7 @@ returns-clause-ok g c =
     ∙ ap left_in c.as_slice.ensures.value) left c.counts-counts.ensures.ticks c.counts-counts.ensures.faults
     c.counts-before.ensures.faults c.in_default.ensures.costs.0 c.in_default.ensures.costs.2
     (g.met.D.Disk.counted c.self.inside.journal.disk) (g.met.D.Disk.counted c.append.new.self.disk) c.deed.ensures.formed
-    c.in_default.ensures.writes))
+    c.in_default.ensures.writes c.in_default.ensures.fails))
 
 pub push-requires-clause-fits : goal.push-requires-clause-fits
 push-requires-clause-fits g c =
