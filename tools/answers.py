@@ -72,10 +72,10 @@ ANSWER_ROWS = r"""
 """
 
 STATUS_ROWS = r"""
-| 0, 1 | the session was run; 1: something was refused or not made | every commit |
+| 0, 1 | the session was run; 1: something was refused or not made, or `verify` wrote `unsound` | every commit; after `verify` untouched |
 | 2, 3, 5, 9 | bad words, bad session, input failed, input too long | untouched |
 | 4 | the base is damaged | untouched; nothing was run, and no `FILE.objects` is created |
-| 6 | output failed | if a base was opened: the phases up to the one whose transcript failed were carried out |
+| 6 | output failed | if a base was opened: the phases up to the one whose transcript failed were carried out; with `big` all of them |
 | 7 | the disk failed | see below |
 | 8 | out of memory, or no random numbers from the system, which standard error says | what was committed by then, though no reply of that phase was written |
 """
@@ -107,7 +107,7 @@ SPEC_CAUSE_ROWS = r"""
 | NoBlock | `end time` with no open block |
 """
 
-# Where each table stands: its file, a text in front of it and one behind.
+# Where each table is: its file, the text before it and the text after it.
 TABLES = [
     (ANSWER_ROWS, "GUIDE.md", "## Replies and refusals", "With a status other than 0"),
     (STATUS_ROWS, "GUIDE.md", "With a status other than 0", "Statuses 6 and 8 take precedence"),

@@ -19,12 +19,12 @@ _ccbase_options() {
     esac
 }
 
-# ccbase FILE run
+# ccbase FILE run, ccbase FILE verify, ccbase FILE big SEED SIZE, ccbase FILE sites
 _ccbase() {
     local word=${COMP_WORDS[COMP_CWORD]}
     case $COMP_CWORD in
         1) COMPREPLY=($(compgen -f -- "$word") $(compgen -W '--help --version' -- "$word")) ;;
-        2) COMPREPLY=($(compgen -W 'run' -- "$word")) ;;
+        2) COMPREPLY=($(compgen -W 'run verify big sites' -- "$word")) ;;
         *) COMPREPLY=() ;;
     esac
 }

@@ -43,7 +43,7 @@ from system_calls import OUTPUT, can_trace, injecting, traced, without_tracer
 SAVES = 2000
 EMPTY = (0, b"", b"")
 IN_USE = (7, b"disk fault\n", b"ccbase: b: in use by another program\n")
-USAGE = b"usage: ccbase FILE run (see ccbase --help)\n"
+USAGE = b"usage: ccbase FILE run | ccbase FILE verify | ccbase FILE big SEED SIZE | ccbase FILE sites (see ccbase --help)\n"
 
 # A session of two phases, its rows, and its transcript phase by phase.
 PHASES = b"phase\nlane a\nmkview v\nsave v p\n|one\nphase\nlane a\nsave v q\n|two\n"
@@ -86,7 +86,7 @@ class Edge:
 
     def start(self, words, text=None, descriptors="", before="", tracer=()):
         """Starts the program; `descriptors` is what a shell writes to close or direct them, `before` what it does first, and the
-        words of a tracer stand in front. Without a text its input stays open."""
+        the words of a tracer come first. Without a text its input stays open."""
         with tempfile.TemporaryFile() as given:
             given.write(text or b"")
             given.seek(0)
@@ -116,7 +116,7 @@ class Edge:
         self.has([name, "run"], b"", EMPTY)
 
     def holds(self, name, rows):
-        """Checks that a base has these rows, one shut gate behind them and nothing more, and that it opens."""
+        """Checks that a base has these rows, a gate byte 0 after them and nothing more, and that it opens."""
         data = self.read(name)
         same(f"the end of {name}", data[sum(5 + len(payload) for payload in frames(data)) :], b"\0")
         self.has_rows(name, rows)
@@ -231,7 +231,7 @@ def files_that_cannot_be_opened(edge):
 
 def words_of_no_form(edge):
     text, _ = session(1, 1)
-    for words in [], ["b"], ["b", "walk"], ["b", "run", "more"]:
+    for words in [], ["b"], ["b", "walk"], ["b", "run", "more"], ["b", "verify", "more"], ["b", "big", "1", "0"], ["b", "sites", "more"]:
         edge.has(words, text, (2, b"bad words\n", USAGE))
     wanted = (2, b"bad words\n", b"ccbase: a word is not UTF-8 (see ccbase --help)\n")
     same("a word that is not UTF-8", edge.run([b"\xff", b"run"], text), wanted)
@@ -287,7 +287,7 @@ def too_long_a_session(edge):
 
 
 def file_that_may_not_grow(edge):
-    """A file may have one block. The write that would pass it is cut short, and the one behind that fails."""
+    """A file may have one block. The write that would pass it is cut short, and the next one fails."""
     text, rows = session(1, 40)
     edge.has(["ignored", "run"], b"", EMPTY)
     status, output, errors = edge.run(["ignored", "run"], text, before="trap '' XFSZ; ulimit -f 1;")
@@ -447,7 +447,8 @@ def no_random_numbers(edge):
     wanted = (2, b"bad words\n", USAGE)
     same("no random numbers", edge.run(["b", "walk"], b"", tracer=tracer), wanted)
     wanted = (8, b"", b"ccbase: the system gives no random numbers\n")
-    same("no random numbers", edge.run(["b", "run"], b"", tracer=tracer), wanted)
+    for words in ["b", "run"], ["b", "verify"], ["b", "big", "1", "1"], ["b", "sites"]:
+        same("no random numbers", edge.run(words, b"", tracer=tracer), wanted)
     edge.has_none_but([])
 
 

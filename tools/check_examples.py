@@ -4,11 +4,12 @@ transcript beside it.
 
     tools/check_examples.py [--refuse-threads] CCBASE [NAME ..]
 
-CCBASE is the built program; NAME an example without its ending, all of them where none is given. Says of each whether it is
-as told, shows the lines that differ, and ends with 1 where one does. The dates that `lshistory` tells are those of the run: a
+CCBASE is the built program; NAME an example without its ending, all of them where none is given. A text without a line
+`phase` is a text of sites, and is run by `sites` in place of `run`. Says of each whether it is
+as expected, shows the lines that differ, and ends with 1 where one does. The dates that `lshistory` prints are those of the run: a
 transcript has DATE in their place. With --refuse-threads the system makes no thread for the
 program, which then runs builders, and lanes once one builds, one after the other, the first lane first, and writes the same.
-That it does shows in two lanes that make one view, the first of them late, which are then run ten times too. It stands outside
+That it does shows in two lanes that make one view, the first of them late, which are then run ten times too. It is outside
 the gate."""
 import difflib
 import pathlib
@@ -22,6 +23,9 @@ EXAMPLES = pathlib.Path(__file__).resolve().parent.parent / "examples"
 
 # The date with which a line of `lshistory` begins.
 DATE = re.compile(r"^\|[0-9]{1,2}-[A-Z][a-z]{2}-[0-9]{4}\.[0-9:]{8} ", re.MULTILINE)
+
+# A line that a session has, and a text of sites has not.
+PHASE = re.compile(r"^phase$", re.MULTILINE)
 
 # Of two lanes at once, which are on threads since the first builds, the second makes its view while the first looks at another.
 LOOKS = 200
@@ -38,24 +42,25 @@ def refuse_threads():
 
 def written(program, session, prepare):
     """What the program writes for a session on a new base, where the process is prepared so."""
+    form = "run" if PHASE.search(session) else "sites"
     with tempfile.TemporaryDirectory() as folder:
         run = subprocess.run(
-            [program, str(pathlib.Path(folder) / "base"), "run"],
+            [program, str(pathlib.Path(folder) / "base"), form],
             input=session.encode(), stdout=subprocess.PIPE, check=False, preexec_fn=prepare,
         )
     return run.stdout.decode(errors="replace")
 
 
-def is_as_told(program, session, prepare):
+def is_as_expected(program, session, prepare):
     """Whether an example gives its transcript; what differs is shown."""
-    told = session.with_suffix(".transcript").read_text()
+    expected = session.with_suffix(".transcript").read_text()
     came = DATE.sub("|DATE ", written(program, session.read_text(), prepare))
-    if came == told:
-        print(f"{session.stem}: as told")
+    if came == expected:
+        print(f"{session.stem}: as expected")
         return True
     print(f"{session.stem}: differs")
     sys.stdout.writelines(difflib.unified_diff(
-        told.splitlines(keepends=True), came.splitlines(keepends=True), "told", "written"))
+        expected.splitlines(keepends=True), came.splitlines(keepends=True), "expected", "written"))
     return False
 
 
@@ -76,8 +81,8 @@ def main():
     sessions = [s for s in sorted(EXAMPLES.glob("*.txt")) if not names or s.stem in names]
     if not sessions:
         sys.exit("no example of that name")
-    differing = [s.stem for s in sessions if not is_as_told(program, s, prepare)]
-    print(f"{len(sessions) - len(differing)} of {len(sessions)} as told")
+    differing = [s.stem for s in sessions if not is_as_expected(program, s, prepare)]
+    print(f"{len(sessions) - len(differing)} of {len(sessions)} as expected")
     in_order = all(is_first_first(program, prepare) for _ in range(TIMES if prepare else 0))
     if prepare:
         print("the first lane " + ("first" if in_order else "not always first"))

@@ -309,8 +309,8 @@ MISSING = (
 )
 
 STATUSES = (
-    Status(0, "each command was carried out, and each unit of each build is made"),
-    Status(1, "a command was refused, or a unit of a build failed or was blocked"),
+    Status(0, "each command was carried out, and each unit of each build is made; each live object is what its record gives"),
+    Status(1, "a command was refused, or a unit of a build failed or was blocked; a live object is not what its record gives"),
     Status(2, "the words are none of the forms"),
     Status(3, "the text is no session"),
     Status(4, "the journal is damaged: FILE has a frame that is no row, or whose row does not fit"),

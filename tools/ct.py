@@ -46,7 +46,7 @@ class Desk:
         self.file, self.view, self.program = file, view, program
 
     def base(self):
-        """The base as its files stand."""
+        """The base as its files are."""
         return vob.read(self.file)
 
     def known(self):
@@ -163,7 +163,7 @@ def words_of(line):
 
 
 def shown(words, reply):
-    """A reply of the program behind the words of its command, but for the view."""
+    """A reply of the program after the words of its command, but for the view."""
     rest = words[1:] if words[0] in WITHOUT_VIEW else words[2:]
     return f"{' '.join([words[0], *rest])}: {reply}"
 
@@ -197,7 +197,7 @@ def tell(desk, lines, transcript):
 
 
 def is_fault(words):
-    """Whether a line tells of a refusal, or of a unit that was not made."""
+    """Whether a line reports a refusal, or of a unit that was not made."""
     return "refused" in words[2:3] or "failed" in words[1:2] or "blocked" in words[1:2]
 
 

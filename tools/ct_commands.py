@@ -25,7 +25,7 @@ class Wrong(VobError):
 
 @dataclass
 class Command:
-    """A command: what stands behind its name, the options that it has (those with True take a word), and what makes its lines."""
+    """A command: what follows its name, the options that it has (those with True take a word), and what makes its lines."""
 
     usage: str
     options: dict
@@ -85,7 +85,7 @@ def type_name(call, text, what):
 
 
 def version(call, text):
-    """A version as /main/3, or behind the path's `@@`."""
+    """A version as /main/3, or after the path's `@@`."""
     if not re.fullmatch(r"/main(/[^/]+)*/(0|[1-9][0-9]*)", text) or not all(map(is_type_name, text.split("/")[1:-1])):
         raise call.wrong(f"{text!r} is no version: wanted is one as /main/3 or /main/fix/0")
     return text
@@ -245,7 +245,7 @@ def mkarrow(call, base):
 def merge(call, base):
     """cleartool's way to note a merge that was made by hand."""
     if "-ndata" not in call or "-to" not in call:
-        raise call.wrong("no texts are merged here: wanted is merge -ndata -to P P@@/main/B/N behind a merge by hand")
+        raise call.wrong("no texts are merged here: wanted is merge -ndata -to P P@@/main/B/N after a merge by hand")
     to = path(call, call.options["-to"])
     at, _, made = exactly(call, 1)[0].partition("@@")
     if path(call, at) != to:
@@ -332,9 +332,9 @@ def build(call, base):
         option = "-J" if option == "-j" else option
         if option in ("-J", "-f"):
             if value is None and not words:
-                raise call.wrong(f"a word is missing behind {word}: wanted is {'a number' if option == '-J' else 'a makefile'}")
+                raise call.wrong(f"a word is missing after {word}: wanted is {'a number' if option == '-J' else 'a makefile'}")
             if option in given:
-                raise call.wrong(f"{option} stands twice: wanted is one")
+                raise call.wrong(f"{option} is given twice: wanted is one")
             given.add(option)
             value = value or words.pop(0)
             out += [option, number(call, value, "number of scripts at once", 1, 64) if option == "-J" else path(call, value, True)]
@@ -351,7 +351,7 @@ def build(call, base):
 
 def macro(call, word):
     if not re.fullmatch(r"[A-Za-z0-9_.]+=[!-~]*", word):
-        raise call.wrong(f"{word!r} is no macro: wanted is NAME=TEXT, with letters, digits, _ and . before the =, and no blank behind it")
+        raise call.wrong(f"{word!r} is no macro: wanted is NAME=TEXT, with letters, digits, _ and . before the =, and no blank after it")
     return word
 
 
@@ -436,7 +436,7 @@ def call_of(view, words):
             continue
         option = option_of(call, word, command.options)
         if command.options[option] and not rest:
-            raise call.wrong(f"a word is missing behind {option}: wanted is {call.name} {command.usage}")
+            raise call.wrong(f"a word is missing after {option}: wanted is {call.name} {command.usage}")
         call.options[option] = rest.pop(0) if command.options[option] else True
     return call
 

@@ -2,7 +2,7 @@
 gives the lines for a refusal or a unit's fault, as
 
     C21: rows 22 (src/a.c) and 40 (lib/b.c) are checked out in this view
-      HasCheckouts: the view has elements out, the first of them since that row
+      HasCheckouts: the view has checkouts, the first made by that row
       do: checkin or uncheckout each, or rmview -force V
 
 The first line is about this base; where nothing more is known than the answer says, it is what the answer means."""
@@ -69,7 +69,7 @@ class Explainer:
         return f"{self.path_of(branch.element)} has the branch {branch.path}, made by {self.since(int(row))}"
 
     def c16(self, row):
-        return f"the label stands on {self.version(int(row))}"
+        return f"the label is on {self.version(int(row))}"
 
     def c17(self, line):
         return f"line {line} of the config spec has -nocheckout: {self.spec_line(int(line))}"

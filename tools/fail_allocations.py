@@ -9,14 +9,14 @@ its threads meet. The session is one phase of two lanes, each of which builds in
 once.
 
 - A run ends by itself, with status 0 or 8.
-- What it printed is a front of the transcript of a run in which none fails, and all of it unless it ended with 8.
+- What it printed is a prefix of the transcript of a run in which none fails, and all of it unless it ended with 8.
 
 Status 8 is right before the lanes start, at the lock and in the transcript; elsewhere what is left is run once more and 0 is right.
 Where an allocation lies the tool cannot tell, since the lanes allocate in an order of their own. So it takes 8 at any number, and
 lists the numbers that ended so: a second try that does nothing would show in that list alone.
 
 Prints each number whose run ends otherwise, a line for each ten numbers, the numbers that ended with 8, and how many runs ended
-with which status; ends with 1 where one ended otherwise. It stands outside the gate: rt builds the program anew for each number,
+with which status; ends with 1 where one ended otherwise. It is outside the gate: rt builds the program anew for each number,
 which takes a minute or more, so a whole sweep takes half a day. A step of 50 and another FIRST each time take a quarter of an hour.
 """
 import collections

@@ -7,7 +7,7 @@ MAKE is the program, /usr/bin/make where it is not given. Reads the tables of cr
 has the saves of a view, a build, and a `cat` of each file that the build makes, with what these reply. MAKE is run with the words
 of the build, and nothing of the surroundings but a PATH, in a new folder with these saves. What it leaves there beside them has
 to be these files, with these texts. Prints each case that differs and how many were run; ends with 1 where one differs. It
-stands outside the gate."""
+is outside the gate."""
 import pathlib
 import re
 import subprocess

@@ -13,7 +13,7 @@
     record [-r] ROW         the configuration record of an object; with -r down to versions and to what was absent
     why ROW ROW             why two objects differ: the first cause, down the objects that they were made from
     due AGE [--at DATE]     what a scrub of that age would take, and how many bytes that are
-    check                   frames, bytes behind the last one, digests
+    check                   frames, bytes after the last one, digests
     follow [--seconds N]    rows as a running program adds them
 
 BASE is the FILE of `ccbase FILE run`. A damaged base is printed as far as it can be read, with a line on standard error and the
@@ -82,7 +82,7 @@ def row_json(row):
 
 
 def text_lines(text):
-    """A text's lines as a session has them, each behind a `|`."""
+    """A text's lines as a session has them, each after a `|`."""
     lines = text.decode("utf-8", "replace").split("\n")
     return [f"|{line}" for line in (lines[:-1] if not lines[-1] else lines)]
 
@@ -340,7 +340,7 @@ def check(base, words):
     digest = digest_of_frames(base, behind.place)
     lines = [f"frames {count:,}, {several(behind.place, 'byte')}, sha256 {digest}"]
     state = "foreign: no row, and the next row is written over them" if behind.foreign else "as after a row or a crash"
-    lines.append(f"behind them {several(behind.count, 'byte')}" + (f", {state}" if behind.count else ""))
+    lines.append(f"after them {several(behind.count, 'byte')}" + (f", {state}" if behind.count else ""))
     other = base.path + ".objects"
     size = os.path.getsize(other) if os.path.exists(other) else None
     lines.append(f"{other}: " + ("absent" if size is None else several(size, "byte") + ("" if not size else ", and no row names any")))

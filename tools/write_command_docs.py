@@ -131,6 +131,19 @@ ccbase \- versioned object base with dynamic views and audited builds
 .I FILE
 .B run
 .br
+.B ccbase
+.I FILE
+.B verify
+.br
+.B ccbase
+.I FILE
+.B big
+.I SEED SIZE
+.br
+.B ccbase
+.I FILE
+.B sites
+.br
 .B ccbase \-\-help
 |
 .B \-h
@@ -139,7 +152,7 @@ ccbase \- versioned object base with dynamic views and audited builds
 .br
 .B ccbase \-\-version
 .SH DESCRIPTION
-.B ccbase
+.B ccbase run
 reads a session from standard input, runs it on the base that the files
 .I FILE
 and
@@ -147,6 +160,26 @@ and
 keep, and writes the replies to standard output. Absent files are created as an empty base.
 .I FILE
 is locked during the run.
+.PP
+.B ccbase verify
+runs the script of each live object again, on what its record lists, and writes
+.B sound
+with the number of live objects, or
+.B unsound
+with the row of the first that is not what its script gives. It changes nothing and reads no input.
+.PP
+.B ccbase big
+runs the large session of
+.I SEED
+and
+.I SIZE
+and writes a summary of its replies in five lines. It reads no input.
+.PP
+.B ccbase sites
+reads a text of sites from standard input: what happens at up to 64 sites that exchange packets, a line each. It writes a
+reply to each line.
+.I FILE
+is neither opened nor made.
 .PP
 .I FILE
 must be a base, or absent. Any other file whose bytes begin no row is treated as an empty base, and
@@ -225,12 +258,12 @@ _ccbase_options() {
     esac
 }
 
-# ccbase FILE run
+# ccbase FILE run, ccbase FILE verify, ccbase FILE big SEED SIZE, ccbase FILE sites
 _ccbase() {
     local word=${COMP_WORDS[COMP_CWORD]}
     case $COMP_CWORD in
         1) COMPREPLY=($(compgen -f -- "$word") $(compgen -W '--help --version' -- "$word")) ;;
-        2) COMPREPLY=($(compgen -W 'run' -- "$word")) ;;
+        2) COMPREPLY=($(compgen -W 'run verify big sites' -- "$word")) ;;
         *) COMPREPLY=() ;;
     esac
 }

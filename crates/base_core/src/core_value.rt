@@ -6,6 +6,7 @@ mod building;
 mod looks;
 mod unit_rows;
 mod units;
+mod verifying;
 
 use crate::lanes::Lanes;
 use crate::phases::last_phase;

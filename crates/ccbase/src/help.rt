@@ -1,12 +1,25 @@
 //! What `--help` says.
 
-/// The form of words, the lines of a session (written by `tools/write_command_docs.py`), and the statuses.
+/// The forms of words, the lines of a session (written by `tools/write_command_docs.py`), and the statuses.
 pub(crate) const HELP: &str = "ccbase FILE run
+ccbase FILE verify
+ccbase FILE big SEED SIZE
+ccbase FILE sites
 ccbase --help, ccbase -h, ccbase help
 ccbase --version
 
-Reads a session from standard input, runs it on the base that the files FILE and FILE.objects keep, and writes its
+run reads a session from standard input, runs it on the base that the files FILE and FILE.objects keep, and writes its
 replies to standard output. FILE is locked meanwhile. Files that are absent are made, and are an empty base.
+
+verify runs the script of each live object again, on what its record lists. It writes `sound N`, where N objects are
+live and each is what its script gives, else `unsound ROW`, the first that is not. It changes nothing and reads no
+input.
+
+big runs a large session that SEED and SIZE make, on FILE, and writes a summary of its replies: commands, refused,
+units, bytes of objects, and a digest. SEED is below 2^64 and SIZE from 1 to 1000. It reads no input.
+
+sites reads a text of sites from standard input: what happens at up to 64 sites that exchange packets, a line each. It
+writes a reply to each line. It is a model of replicas that stands alone: FILE is neither opened nor made.
 
 NAME A BASE, OR NOTHING. Any other FILE, a text or a picture, is taken for an empty base, and the first row that is
 made is WRITTEN OVER IT. Before that a line on standard error says how many of its bytes are no row. There may be no
@@ -57,8 +70,8 @@ The lines of a session; save and setcs are followed by a text, each line of it w
   scrub AGE                       removes objects without references that are AGE seconds old or more
 
 Ends with the status
-  0  each command was carried out, and each unit of each build is made
-  1  a command was refused, or a unit of a build failed or was blocked
+  0  each command was carried out, and each unit of each build is made; sound
+  1  a command was refused, or a unit of a build failed or was blocked; unsound
   2  the words are none of the forms
   3  the text is no session
   4  the journal is damaged: FILE has a frame that is no row, or whose row does not fit or is of a deed not made yet

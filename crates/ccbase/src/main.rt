@@ -1,7 +1,10 @@
 //! The program.
 //!
 //! What it is for: `ccbase FILE run` reads a session from standard input, runs it on the base that the files FILE and
-//! FILE.objects keep, and writes its replies to standard output.
+//! FILE.objects keep, and writes its replies to standard output. `ccbase FILE verify` tells whether the objects of the base are
+//! what their records give, `ccbase FILE big SEED SIZE` runs a large session and writes a summary, and `ccbase FILE sites`
+//! replies to
+//! a text of sites.
 //!
 //! What it promises: it adds nothing to `session_run::run_words` but the streams of the process, its clock, its threads, its two
 //! files, the help and the version, and lines on standard error: what of FILE is no base, and why a session was not carried out.
@@ -21,7 +24,7 @@ use cc_names::refusals::SessionCause;
 use cc_names::texts::Text;
 use cc_outside::{OpenHook, StdSink, StdSource, SystemClock, write_whole};
 use disk_model::FileDisk;
-use session_run::{Status, run_words};
+use session_run::{Status, form_of, run_words};
 use std::alloc::Global;
 use std::hash::RandomState;
 use std::process::ExitCode;
@@ -31,7 +34,8 @@ use std::{env, io};
 
 const VERSION: &str = "ccbase 0.1.0\n";
 
-const USAGE: &str = "usage: ccbase FILE run";
+const USAGE: &str =
+    "usage: ccbase FILE run | ccbase FILE verify | ccbase FILE big SEED SIZE | ccbase FILE sites";
 
 /// The words behind the name of the program. The error is of the kind `InvalidData` where one of them is not UTF-8.
 fn words_given(rt: &HostRuntime) -> io::Result<Vec<String>> {
@@ -76,13 +80,13 @@ fn refuse_words(rt: &HostRuntime, cause: &str) -> Status {
 }
 
 /// Ends a call to which the system gives no random numbers. Words of no form need none.
-fn end_without_random_numbers(rt: &HostRuntime, words: &[String]) -> Status {
-    match words {
-        [_, word] if word.as_str() == "run" => {
+fn end_without_random_numbers(rt: &HostRuntime, words: &[Text]) -> Status {
+    match form_of(words) {
+        Some(_) => {
             let _ = eprintln!(rt; "ccbase: the system gives no random numbers");
             Status::NoMemory
         }
-        _ => refuse_words(rt, USAGE),
+        None => refuse_words(rt, USAGE),
     }
 }
 
@@ -149,7 +153,7 @@ fn run<R: Threads + Wait + Sync>(
     let alloc = rt.alloc();
     let texts = texts_of(alloc, words)?;
     let Ok(hashing) = RandomState::new(rt) else {
-        return Ok(end_without_random_numbers(rt, words));
+        return Ok(end_without_random_numbers(rt, texts.as_slice()));
     };
     let file = words.first().map_or("", |word| word.as_str());
     let Ok(disk) = LookingDisk::new(rt.clone()?, file) else {

@@ -1,4 +1,7 @@
 pub mod Files
 pub mod Joins
+pub mod Lengths
+pub mod Totals
 mod WorkedDraws
 mod WorkedSessions
+mod WorkedSummaries

@@ -1,7 +1,7 @@
 //! The text of the large session.
 #![tactic(auto, using(std::proofs::lemmas::List::append_assoc))]
 
-ghost use Rattle.std.specs.Prelude.{◌≡◌, ◌++◌, IfOk, OnOk, codes};
+ghost use Rattle.std.specs.Prelude.{◌≡◌, ◌≤◌, ◌+◌, ◌*◌, ◌++◌, IfOk, OnOk, codes, length};
 ghost use Rattle.std.specs.List.{flat_map};
 ghost use Rattle.large_session.specs.LargeSession.{line, source_name, object_name, object_sources, object_rule_line, object_script_line, rule, wanted_name, makefile, made, source_text, made_source, making, session_text_of, large_session};
 
@@ -197,7 +197,8 @@ fn push_session(alloc: Global, text: &mut Vec<u8>, files: &[SourceFile]) -> Resu
 ///
 /// Answers NoMemory alone. Takes time and memory linear in the text.
 pub fn make_session(alloc: Global, seed: u64, size: u32) -> Result<Text, NoMemory>
-    ensures { IfOk result (λ text. text ≡ large_session seed size) }
+    ensures text { IfOk result (λ text. text ≡ large_session seed size) }
+    ensures short { IfOk result (λ text. length text ≤ 600 + 300 * size) }
 {
     let files = files_of(alloc, seed, size)?;
     let mut text = Vec::new(alloc);

@@ -5,4 +5,5 @@ pub mod KeptTexts
 pub mod Needing
 pub mod NextRows
 pub mod SameTexts
+pub mod Soundness
 pub mod Worked

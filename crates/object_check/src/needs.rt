@@ -83,7 +83,7 @@ fn take_row(rows: &FirstRows<'_>, needed: &mut BTreeSet<u64>, id: u64) -> Result
 /// The objects that have to be run again. An object that was scrubbed is one of them where an entry names it. Takes for each
 /// row the time of `live_row`, and for each entry of these objects time logarithmic in their number.
 pub(crate) fn needed(alloc: Global, rows: &FirstRows<'_>) -> Result<BTreeSet<u64>, NoMemory>
-    ensures live_row { IfOk result (λ needed. HasLive rows.now (contains nat_cmp needed)) }
+    ensures live { IfOk result (λ needed. HasLive rows.now (contains nat_cmp needed)) }
     ensures closed { IfOk result (λ needed. IsClosed rows.now (contains nat_cmp needed)) }
 {
     let mut needed = BTreeSet::new(alloc);

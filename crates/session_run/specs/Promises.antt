@@ -1,4 +1,5 @@
 -- What is promised of the history of a call, and of the next call.
+pub mod Checked
 pub mod HandedOn
 pub mod Headline
 pub mod Objects

@@ -1,6 +1,6 @@
 //! The top call.
 
-ghost use Rattle.std.specs.Prelude.{◌≡◌, true};
+ghost use Rattle.std.specs.Prelude.{◌≡◌, ◌≢◌, [], true};
 ghost use Rattle.legal_history.specs.Builds.Values.{IsSound};
 ghost use Rattle.legal_history.specs.Stories.Steps.{state_of};
 ghost use Rattle.story_log.specs.Stopping.Backed.{may_be_open};
@@ -8,9 +8,11 @@ ghost use Rattle.cc_names.specs.Counts.{rises};
 ghost use Rattle.disk_model.specs.DiskStates.{IfModeled, IsCounted};
 ghost use Rattle.disk_model.specs.Devices.{file_of, bytes_now};
 ghost use Rattle.disk_model.specs.Files.{stable};
+ghost use Rattle.session_run.specs.Calls.Asked.{form_of};
 ghost use Rattle.session_run.specs.Calls.Causes.{disk_ghost_states, intake_of, sink_faults, FindsDamage, HasCause, LeavesAlone, TakesNoMore};
 ghost use Rattle.session_run.specs.Faults.Accounted.{IsAccountedFor, KeepsFiles, SettlesJournal};
 ghost use Rattle.session_run.specs.Faults.Stopped.{IsHandedIn, IsMended, IsStopped};
+ghost use Rattle.session_run.specs.Promises.Checked.{TellsSoundness};
 ghost use Rattle.session_run.specs.Promises.Headline.{clock_readings, IsSession, IsOneHistory, AreOfTheirCommands, AreFromNothing, ArePrinted};
 ghost use Rattle.session_run.specs.Promises.Objects.{HeldObjectsAreLive, ScrubsListWhatIsDue};
 ghost use Rattle.session_run.specs.Promises.Reused.{HaveTheirOutcomes, PassNothingOver, RecordWhatTheyRead, TakeWhatTheySee, WasSound};
@@ -18,11 +20,13 @@ ghost use Rattle.session_run.specs.Running.Outcomes.{RunsOpened, RunsSession};
 ghost use Rattle.session_run.specs.Running.Runs.{IsJustOpened, IsRunnable, outside_of, run_status};
 ghost use Rattle.session_run.specs.Running.Unstarted.{of_unopened};
 ghost use Rattle.session_run.specs.Story.Begun.{first_step, is_opened};
+ghost use Rattle.session_run.specs.declared.words.Form.TheVariants as forms;
 
+use crate::carrying::carry_out;
 use crate::laws::{builds_are_as_from_nothing, objects_are_reused_well, objects_are_scrubbed_well};
 use crate::lines::write_unstarted;
-use crate::phases::run_phases;
-use crate::sessions::{Unstarted, session_given};
+use crate::sessions::{GivenSession, Unstarted, session_given};
+use crate::sites::write_without_base;
 use crate::statuses::Status;
 use crate::threads::Host;
 use base_core::Core;
@@ -30,7 +34,6 @@ use cc_names::memory::Or;
 use cc_names::texts::Text;
 use cc_outside::{Clock, Hook, Sink, Source, WriteFault};
 use disk_model::Disk;
-use session_text::PhaseText;
 use std::alloc::Global;
 use std::hash::RandomState;
 use std::sync::Wait;
@@ -53,7 +56,7 @@ fn has_risen(before: u64, after: u64) -> bool
     before < after || (before == u64::MAX && after == u64::MAX)
 }
 
-/// The status of a run whose base was opened, by whether the disk's faults rose.
+/// The status of a call that opened a base, by whether a failure is told and whether the disk's faults rose.
 fn status_of(run: Result<bool, Or<WriteFault>>, rose: bool) -> Status
     ensures { result ≡ run_status run rose }
 {
@@ -92,24 +95,27 @@ fn settle<D: Disk>(core: &mut Core<D>)
     let _ = core.finish();
 }
 
-/// Runs the phases on a base that was just opened, settles its journal, and hands the disk back. The disk had this count of
-/// faults before.
+/// Carries out what a form asks for on a base that was just opened, with the phases of its session, settles the journal, and
+/// hands the disk back. The disk had this count of faults before.
 fn run_opened<R: Threads + Wait + Sync, G: Hook + Sync, K: Sink, D: Disk + Send, C: Clock>(
     host: &Host<'_, R, G>,
     core: Core<D>,
     before: u64,
-    phases: Vec<PhaseText>,
+    given: GivenSession,
     sink: &mut K,
     clock: &mut C,
 ) -> SessionResult<D>
     requires opened { IsJustOpened core.story }
-    requires runnable { IsRunnable phases.items }
-    ensures { RunsOpened phases.items result.status (first_step core.story) result.history before
-        (disk_ghost_states core.ghost_state (D.ghost_state result.disk))
+    requires runnable { IsRunnable given.phases.items }
+    requires none { given.form ≡ forms.Verify → given.phases.items ≡ [] }
+    requires base { given.form ≢ forms.Sites }
+    ensures { RunsOpened given.form given.phases.items result.status (first_step core.story)
+        result.history before (disk_ghost_states core.ghost_state (D.ghost_state result.disk))
         (outside_of (K.ghost_state sink.old) (K.ghost_state sink.new) (C.ghost_state clock.old) (C.ghost_state clock.new))
         (sink_faults (K.ghost_state sink.old) (K.ghost_state sink.new)) }
 {
-    let (core, run) = run_phases(host, core, phases, sink, clock);
+    let GivenSession { form, phases } = given;
+    let (core, run) = carry_out(host, form, core, phases, sink, clock);
     let mut core = core;
     a_stop_opens_again();
     settle(&mut core);
@@ -122,24 +128,26 @@ fn run_opened<R: Threads + Wait + Sync, G: Hook + Sync, K: Sink, D: Disk + Send,
     }
 }
 
-/// Opens the base that a disk stands for and runs the phases on it, or writes why it cannot be opened.
+/// Opens the base that a disk stands for and carries out on it what a form asks for, or writes why it cannot be opened.
 fn run_session<R: Threads + Wait + Sync, G: Hook + Sync, K: Sink, D: Disk + Send, C: Clock>(
     host: &Host<'_, R, G>,
-    phases: Vec<PhaseText>,
+    given: GivenSession,
     sink: &mut K,
     disk: D,
     clock: &mut C,
 ) -> SessionResult<D>
-    requires runnable { IsRunnable phases.items }
+    requires runnable { IsRunnable given.phases.items }
+    requires none { given.form ≡ forms.Verify → given.phases.items ≡ [] }
+    requires base { given.form ≢ forms.Sites }
     requires stable { IfModeled (D.ghost_state disk).modeled (λ d. file_of 0 d ≡ stable (bytes_now 0 d)) }
-    ensures { RunsSession phases.items result.status result.history
+    ensures { RunsSession given.form given.phases.items result.status result.history
         (outside_of (K.ghost_state sink.old) (K.ghost_state sink.new) (C.ghost_state clock.old) (C.ghost_state clock.new))
         (sink_faults (K.ghost_state sink.old) (K.ghost_state sink.new))
         (disk_ghost_states (D.ghost_state disk) (D.ghost_state result.disk)) }
 {
     let before = disk.counts().faults;
     match Core::open(host.alloc, host.hashing, disk) {
-        Ok(core) => run_opened(host, core, before, phases, sink, clock),
+        Ok(core) => run_opened(host, core, before, given, sink, clock),
         Err(OpenFault { cause, disk }) => {
             let unstarted = of_unopened(cause, has_risen(before, disk.counts().faults));
             SessionResult {
@@ -151,10 +159,17 @@ fn run_session<R: Threads + Wait + Sync, G: Hook + Sync, K: Sink, D: Disk + Send
     }
 }
 
-/// Runs the session that the words ask for: reads it from the source, opens the base that the disk stands for, runs the
-/// phases in order, writes the transcript of each when its lanes have ended, and settles the journal. The disk comes back in
-/// every case, and unless a session was read no call was made on it. Names in the base are found by hashing them so: with
-/// random keys nobody can choose names that make a look-up there slow, and the answers are the same with any.
+/// Carries out what the words ask for. FILE `run` reads a session from the source, opens the base that the disk stands for, runs
+/// the phases in order, writes the transcript of each when its lanes have ended, and settles the journal. FILE `big` SEED SIZE
+/// does so with the large session of these two numbers, and writes in place of the transcripts their summary, once all phases are
+/// run. FILE `verify` opens the base, runs the record of each live object again, and writes how many are live, or the first that
+/// is not what its record gives. FILE `sites` reads a text of sites from the source, and writes the replies to it. `run` and
+/// `sites`
+/// alone read the source.
+///
+/// The disk comes back in every case, and unless a base was to be opened no call was made on it. Names in the base are found by
+/// hashing them so: with random keys nobody can choose names that make a look-up there slow, and the answers are the same with
+/// any.
 ///
 /// The lanes of a phase run on threads once one of them builds, and so do the units of each build: what is promised holds in
 /// whatever order they take turns, and it is not promised that they get on. Around each script, and before each read of it, the
@@ -166,7 +181,8 @@ fn run_session<R: Threads + Wait + Sync, G: Hook + Sync, K: Sink, D: Disk + Send
 /// was wanted for.
 ///
 /// Takes time linear in the session and in the replies, the time of `Core::open`, and for each command that of `act` or of its
-/// build.
+/// build. `big` keeps its transcripts until all phases are run. `verify` takes what `Core::verify` takes, `sites` what
+/// `vob_replica::run` takes.
 pub fn run_words<
     R: Threads + Wait + Sync,
     S: Source,
@@ -189,7 +205,7 @@ pub fn run_words<
     ensures session { IsSession result.status result.history
         (intake_of words.now (S.ghost_state source.old) (S.ghost_state source.new)) (C.ghost_state clock.old).modeled
         (clock_readings (C.ghost_state clock.old) (C.ghost_state clock.new)) }
-    ensures history { IsOneHistory result.status result.history (D.ghost_state disk)
+    ensures history { IsOneHistory (form_of words.now) result.status result.history (D.ghost_state disk)
         (K.ghost_state sink.old).held (K.ghost_state sink.new).held }
     ensures commanded { AreOfTheirCommands result.history }
     ensures built { WasSound result.history → AreFromNothing result.history }
@@ -198,6 +214,7 @@ pub fn run_words<
     ensures sought { PassNothingOver result.history }
     ensures recorded { RecordWhatTheyRead result.history }
     ensures sound { WasSound result.history → IsSound (state_of result.history).base }
+    ensures checked { TellsSoundness (form_of words.now) result.status result.history }
     ensures scrubs { ScrubsListWhatIsDue result.history }
     ensures held { HeldObjectsAreLive result.history }
     ensures printed { ArePrinted result.status result.history
@@ -225,17 +242,17 @@ pub fn run_words<
     objects_are_scrubbed_well();
     a_disk_is_counted::<D>();
     match session_given(alloc, hashing, words, source) {
-        Ok(phases) => {
+        Ok(given) => {
             let host = Host {
                 rt,
                 alloc,
                 hashing,
                 hook,
             };
-            run_session(&host, phases, sink, disk, clock)
+            run_session(&host, given, sink, disk, clock)
         }
-        Err(unstarted) => SessionResult {
-            status: write_unstarted(unstarted, sink),
+        Err(without) => SessionResult {
+            status: write_without_base(alloc, hashing, without, sink),
             disk,
             history: History::empty(alloc),
         },

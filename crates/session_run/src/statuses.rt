@@ -8,9 +8,9 @@ use cc_names::refusals::SessionError;
 /// How a call of the program ends.
 #[derive(Clone, Copy, Debug, PartialEq, Eq)]
 pub enum Status {
-    /// Each command was carried out, and each unit of each build is made.
+    /// Each command was carried out, and each unit of each build is made; each live object is what its record gives.
     Good,
-    /// A command was refused, or a unit of a build is not made.
+    /// A command was refused, or a unit of a build is not made; a live object is not what its record gives.
     SomeFailed,
     /// The words have none of the forms.
     BadWords,

@@ -119,7 +119,7 @@ pub(crate) fn first_difference<R: Threads + Wait + Sync>(
         let number = format!(in host.rt.alloc(); "{number}")?;
         let case = case.replace(host.rt.alloc(), "EACH", number.as_str())?;
         if let Some(reported) = difference_in(host, preamble, case.as_str())? {
-            let reported = format!(in host.rt.alloc(); "with {number}:\n{told}")?;
+            let reported = format!(in host.rt.alloc(); "with {number}:\n{reported}")?;
             return Ok(Some(reported));
         }
     }

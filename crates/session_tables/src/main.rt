@@ -74,7 +74,7 @@ fn run_cases<R: Threads + Wait + Sync>(
         cases = cases.saturating_add(1);
         if let Some(reported) = first_difference(&host, preamble, case)? {
             differing = differing.saturating_add(1);
-            println!(rt; "{name}: a case comes to\n{told}and not to what it says:\n{case}")?;
+            println!(rt; "{name}: a case comes to\n{reported}and not to what it says:\n{case}")?;
         }
     }
     Ok(Tally {

@@ -57,7 +57,7 @@ fn add_journal(alloc: Global, journal: &[u8], reported: &mut String) -> Result<(
 fn mended_text(alloc: Global, written: &str) -> Result<String> {
     let faults = written.matches(" disk fault\n").count();
     let mended_text = written.replace(alloc, " disk fault\n", " ok\n")?;
-    Ok(format!(in alloc; "{mended}{faults} disk faults above\n")?)
+    Ok(format!(in alloc; "{mended_text}{faults} disk faults above\n")?)
 }
 
 fn written_of(alloc: Global, asked: Asked<'_>, written: &[u8]) -> Result<String> {

@@ -60,7 +60,7 @@ pub(crate) fn words_of(alloc: Global, line: &str) -> Result<Vec<Text>, NoMemory>
 
 // The text of a session behind that of a front. Where a number of bytes is asked for, a note fills it up to so many.
 fn bytes_of(alloc: Global, preamble: &str, asked: Asked<'_>) -> Result<Vec<u8>> {
-    let text = format!(in alloc; "{front}{}", asked.text)?;
+    let text = format!(in alloc; "{preamble}{}", asked.text)?;
     let mut bytes = text.as_str().as_bytes().to_vec(alloc)?;
     if let Some(size) = asked.setting("the text has ") {
         bytes.resize(size.parse::<usize>()?, b'#')?;

@@ -147,7 +147,7 @@ fn large_sessions_are_run(rt: HostRuntime) -> Result<(), Fail> {
         let reported = outcome_on(&rt, rt.alloc(), &[], ALONE, session.as_str())?.reported;
         assert!(rt;
             is_as_wanted(reported.as_str(), wanted),
-            "{told:?} of the seed {seed} and the size {size}"
+            "{reported:?} of the seed {seed} and the size {size}"
         );
     }
     Ok(())

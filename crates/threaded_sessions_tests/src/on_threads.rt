@@ -25,7 +25,7 @@ fn assert_session_at<G: Hook + Sync>(
     let reported = outcome.reported.as_str().strip_prefix(preamble.reported);
     assert!(rt;
         reported.is_some_and(|reported| is_as_wanted(reported, wanted)),
-        "{told:?} of {session:?}"
+        "{reported:?} of {session:?}"
     );
     Ok(())
 }

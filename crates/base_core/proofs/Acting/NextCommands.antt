@@ -19,7 +19,7 @@ use Rattle.cc_names.specs.declared.refusals.Refusal.{Refusal}
 use Rattle.cc_names.specs.declared.rows.Tag.{Tag}
 use Rattle.cc_names.specs.declared.steps.StoryStep.{StoryStep}
 use Rattle.checkout_desk.specs.Deciding.{DecidesIfAny, Sees}
-use Rattle.cleartool.specs.Answering.{AnswersAs}
+use Rattle.view_lookup.specs.Answering.{AnswersAs}
 use Rattle.base_model.specs.Rows.{Base, size, only_where}
 use Rattle.legal_history.specs.Builds.Active.{building, build_of, rows_reserved}
 use Rattle.legal_history.specs.Commands.Decisions.{Makes, Scene}

@@ -168,6 +168,7 @@ pub broken_finishes : (log : Logged) (story : List StoryStep) (lane : ℕ) (buil
 broken_finishes log story lane build tag left before faults tick ghost_state same is tagged = record {
   steps = fault ∷ end ∷ [];
   grows = ap (λ t. (t ++ fault ∷ []) ++ end ∷ []) same ∙ append_assoc story (fault ∷ []) (end ∷ []);
+  one = (ap (λ (t : Tag). t.lane) tagged, refl);
   phase = record { phase = ap (λ t. t.phase) state; number = ap (λ t. t.number) state; moment = ap (λ t. t.moment) state };
   done = ap (λ t. done_of t.done lane) state ∙ done_same s.done lane;
   others = λ other differs. ap (λ t. done_of t.done other) state ∙ done_other s.done lane other differs;

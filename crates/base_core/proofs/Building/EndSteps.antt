@@ -48,6 +48,7 @@ pub ended_finishes : (log : Logged) (story : List StoryStep) (lane : ℕ) (tag :
 ended_finishes log story lane tag same tagged = record {
   steps = x ∷ [];
   grows = ap (λ t. t ++ x ∷ []) same;
+  one = ap (λ (t : Tag). Some t.lane) tagged;
   phase = record { phase = ap (λ t. t.phase) state; number = ap (λ t. t.number) state; moment = ap (λ t. t.moment) state };
   done = ap (λ t. done_of t.done lane) state ∙ done_same s.done lane;
   others = λ other differs. ap (λ t. done_of t.done other) state ∙ done_other s.done lane other differs;

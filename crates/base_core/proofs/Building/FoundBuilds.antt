@@ -15,8 +15,8 @@ use Rattle.legal_history.specs.Laws.TakenLaws.{FoundAfterTheStartIsNotHeld}
 use Rattle.legal_history.specs.Stories.Lawful.{Legal}
 use Rattle.legal_history.specs.Stories.States.{State, next_tag}
 use Rattle.legal_history.specs.Stories.Steps.{state_of}
-use Rattle.clearmake.specs.Calls.{HasScript, IsCarried, IsRunOfUnit, IsStarted, Tries}
-use Rattle.base_core.specs.Calls.BuildCalls.{MayConclude, MayWink, HasRun, Noted}
+use Rattle.clearmake.specs.Calls.{HasScript, IsCarried, IsRunOfUnit, IsStarted, StartsOnce, Tries}
+use Rattle.base_core.specs.Calls.BuildCalls.{MayConclude, MayStart, MayWink, HasRun, Noted}
 use Rattle.base_core.specs.Calls.Building.{BuildInvariant}
 use Rattle.clearmake.specs.declared.turns.TurnEnd.{TurnEnd}
 use Rattle.clearmake.specs.declared.turns.TurnEnd.TheVariants as turn_ends
@@ -40,11 +40,11 @@ pub build_preserved : (log : Logged) (lanes : List LaneState) (now : ℕ) (story
 build_preserved log lanes now story lane build same h is = subst (λ t. BuildInvariant (state_of t) lane build) same
     (h.builds.kept lane build (ap (λ t. build_of (state_of t).active lane) same ∙ is))
 
--- a unit whose script was started has it still
+-- a unit that had come to nothing, and whose script was started, has it still
 pub started_has : (old new : List StoryStep) (lane n : ℕ) (script : List Line) (targets : List (List ℕ))
-    → HasScript (state_of old) lane n script targets → Noted old new lane n Started → GoesOn old new lane
-    × IsStarted (state_of new) lane n script targets
-started_has old new lane n script targets has noted =
+    → MayStart (state_of old) lane n None → HasScript (state_of old) lane n script targets → Noted old new lane n Started
+    → GoesOn old new lane × IsStarted (state_of new) lane n script targets × StartsOnce old new lane n
+started_has old new lane n script targets may has noted =
     let still : BuildsOn (state_of new) lane has.build = noted.goes.still has.build has.active in
     let units : noted.build.units ≡ has.build.units = ap (λ b. b.units) (some_same noted.build still.build (sym noted.active
     ∙ still.active)) ∙ still.units in (
@@ -59,8 +59,10 @@ started_has old new lane n script targets has noted =
           script_is = has.script_is;
           targets_are = has.targets_are;
         };
-        started = ap is_some noted.came_to_it;
+        started = noted.came_to_it;
       },
+      (λ build is some. absurd (let none : is_some (came_to build n) ≡ false = ap (λ b. is_some (came_to b n))
+          (some_same build may.build (sym is ∙ may.active)) ∙ ap is_some may.fresh in cc)),
     )
 
 -- a unit whose script was run is running

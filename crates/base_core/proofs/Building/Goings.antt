@@ -9,6 +9,7 @@ pub goes_nowhere : (story : List StoryStep) (lane : ℕ) → GoesOn story story 
 goes_nowhere story lane = record {
   steps = [];
   grows = sym (append-nil story);
+  one = tt;
   phase = record { phase = refl; number = refl; moment = refl };
   done = refl;
   still = λ build is. record { build = build; active = is; units = refl; outcomes = λ n e. e };

@@ -3,6 +3,7 @@ use Rattle.std.proofs.Common.{◌≡◌, ℕ, true, Some, List, [], ◌∷◌, �
 use Rattle.std.proofs.lemmas.List.{append-nil}
 use Rattle.cc_names.specs.Counts.{rises}
 use Rattle.cc_names.specs.Formed.{Plain, IsFormed}
+use Rattle.cc_names.specs.declared.rows.Tag.{Tag}
 use Rattle.cc_names.specs.declared.steps.StoryStep.{StoryStep}
 use Rattle.cc_names.specs.declared.steps.StoryStep.TheVariants as story_steps
 use Rattle.disk_model.specs.DiskStates.{DiskState}
@@ -89,6 +90,7 @@ object_goes story lane n row object tick g = (
   record {
     steps = x ∷ [];
     grows = refl;
+    one = ap (λ (t : Tag). Some t.lane) g.of_tag;
     phase = record { phase = ap (λ t. t.phase) state; number = ap (λ t. t.number) state; moment = ap (λ t. t.moment) state };
     done = ap (λ t. t.done) state;
     still = λ build is. still build (some_same g.build build (sym g.active ∙ is));

@@ -15,7 +15,7 @@ use Rattle.legal_history.specs.Stories.Steps.{after, build_begun_by, state_of, w
 use Rattle.base_core.specs.Calls.Acting.{Acts, IsStepOf}
 use Rattle.clearmake.specs.Calls.{IsBuilding}
 use Rattle.base_core.specs.Calls.Building.{IsNextBuild}
-use Rattle.clearmake.specs.Going.{GoesOn, Finishes}
+use Rattle.clearmake.specs.Going.{GoesOn, Finishes, lane_of}
 use Rattle.base_core.specs.Keeping.CoreInvariants.{CoreInvariant}
 use Rattle.base_core.specs.Keeping.Lanes.{LaneState, put_build}
 use Rattle.story_log.specs.Logging.Logs.{Logged, with_step}
@@ -49,6 +49,7 @@ opened_so log rows count story tag build same next tagged = (
   record {
     steps = x ∷ [];
     grows = ap (λ t. t ++ x ∷ []) same;
+    one = ap (λ (t : Tag). Some t.lane) tagged;
     phase = record { phase = ap (λ t. t.phase) state; number = ap (λ t. t.number) state; moment = ap (λ t. t.moment) state };
     done = ap (λ t. t.done) state;
     still = λ other is. absurd (not_both (build_of s.active build.tag.lane) other
@@ -75,15 +76,16 @@ opened_so log rows count story tag build same next tagged = (
         ∙ ap (λ o. record s { active = with_build s.active build.tag.lane o }) next.begins
 
 -- a step that finishes a command of a lane, and leaves the last phase and its other lanes as they are
-step_finishes : (old new : List StoryStep) (lane : ℕ) (step : StoryStep) → new ≡ old ++ step ∷ []
+step_finishes : (old new : List StoryStep) (lane : ℕ) (step : StoryStep) → new ≡ old ++ step ∷ [] → lane_of step ≡ Some lane
     → (after (state_of old) step).phase ≡ (state_of old).phase → (after (state_of old) step).number ≡ (state_of old).number
     → (after (state_of old) step).moment ≡ (state_of old).moment → (after (state_of old) step).done
     ≡ with_done (state_of old).done lane → Finishes old new lane
-step_finishes old new lane step e phase number moment done =
+step_finishes old new lane step e own phase number moment done =
     let state : state_of new ≡ after (state_of old) step = ap state_of e ∙ state_from-more start old step in
     record {
       steps = step ∷ [];
       grows = e;
+      one = own;
       phase = record {
         phase = ap (λ t. t.phase) state ∙ phase;
         number = ap (λ t. t.number) state
@@ -102,5 +104,6 @@ refused_finishes old new lane acts = by acts.step acts.grows acts.is
     by : (step : StoryStep) → new ≡ old ++ step ∷ [] → IsStepOf (state_of old) (next_tag (state_of old) lane) dones.Refused step
         → Finishes old new lane
     by (story_steps.Other (steps.Refused tag refusal)) e is = step_finishes old new lane
-        (story_steps.Other (steps.Refused tag refusal)) e refl refl refl (ap (λ t. with_done (state_of old).done t.lane) is.0)
+        (story_steps.Other (steps.Refused tag refusal)) e (ap (λ (t : Tag). Some t.lane) is.0) refl refl refl
+        (ap (λ t. with_done (state_of old).done t.lane) is.0)
     by step e is = absurd is

@@ -4,7 +4,6 @@ use Rattle.std.proofs.Common.{subst, ◌∙◌, arith}
 use Rattle.std.specs.Prelude.{IfOk, option_and_then, option_map}
 use Rattle.cc_names.specs.Commands.{lane_at}
 use Rattle.cc_names.specs.declared.commands.Clearmake.{Clearmake}
-use Rattle.cc_names.specs.declared.commands.Command.{Command}
 use Rattle.cc_names.specs.declared.commands.Command.TheVariants as commands
 use Rattle.cc_names.specs.declared.occasions.Next.TheVariants as nexts
 use Rattle.cc_names.specs.declared.memory.Or.{Or}

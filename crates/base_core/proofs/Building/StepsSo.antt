@@ -7,8 +7,11 @@ use Rattle.build_core.specs.UnitSteps.{IsUnitStep}
 use Rattle.build_core.specs.declared.steps.UnitStep.{UnitStep}
 use Rattle.build_core.specs.declared.steps.UnitStep.TheVariants as next
 use Rattle.script_grammar.specs.Lines.{script_of}
+use Rattle.script_grammar.specs.Run.{carried_out, run_of}
 use Rattle.base_model.specs.Rows.{Base, first_rows}
+use Rattle.base_model.specs.Texts.{text_of_row}
 use Rattle.legal_history.specs.Builds.Active.{Build, build_of, came_to, is_outcome, unit_at}
+use Rattle.legal_history.specs.Builds.Choices.{visible}
 use Rattle.legal_history.specs.Builds.Fresh.{script_text, sees_file, sees_directory}
 use Rattle.legal_history.specs.Builds.Consistency.{IsConsistent}
 use Rattle.legal_history.specs.Builds.Serials.{standing_or_file}
@@ -53,6 +56,7 @@ starts s lane n build unit fault kept active within is waits to_run fault_is = r
   kept = kept;
   unit = unit;
   open_unit = opens s lane n build unit kept active is waits to_run.open_unit;
+  fresh = to_run.fresh;
   nothing = to_run.nothing;
   fault_is = fault_is;
 }
@@ -133,3 +137,32 @@ steps_so s b lane n build step kept active within consistent same h = here step
     )
     here (next.Unreadable fault) h = starts s lane n build h.unit (Some fault) kept active within h.is_unit h.waits h.next.to_run
         (sym (ap script_fault_of h.next.fault_is))
+    here (next.Run script targets) h = record {
+      has = record {
+        build = build;
+        active = active;
+        unit = h.unit;
+        is_unit = h.is_unit;
+        script_is = h.next.script_is;
+        targets_are = h.next.targets_are;
+      };
+      started = h.next.started;
+    }
+    here (next.Fail fault) h = record {
+      build = build;
+      active = active;
+      within = within;
+      kept = kept;
+      waits = h.waits;
+      concludes = record {
+        build = build;
+        unit = h.unit;
+        running = record {
+          waits = waiting_unit s lane n build h.unit kept active h.is_unit h.waits;
+          sound = kept.sound;
+          started = h.next.started;
+        };
+        fails = ap (λ read. (carried_out (λ path. text_of_row s.base path (visible s.base build n h.unit path))
+            (run_of h.unit.targets read)).result) h.next.fault_is;
+      };
+    }

@@ -62,6 +62,7 @@ noted_so log story lane n step came same notes = record {
   goes = record {
     steps = story_steps.Other step ∷ [];
     grows = ap (λ t. t ++ story_steps.Other step ∷ []) same;
+    one = notes.own;
     phase = record { phase = ap (λ t. t.phase) state; number = ap (λ t. t.number) state; moment = ap (λ t. t.moment) state };
     done = ap (λ t. t.done) state;
     still = λ build is. still build (some_same notes.build build (sym notes.active ∙ is));

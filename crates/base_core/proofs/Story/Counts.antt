@@ -1,17 +1,27 @@
 -- That each call's steps say what became of the disk's counts.
-use Rattle.std.proofs.Common.{◌≡◌, List, [], ◌∷◌, ◌++◌, refl, ap, sym, subst, ◌∙◌, append_assoc}
+use Rattle.std.proofs.Common.{◌≡◌, Some, None, List, [], ◌∷◌, ◌++◌, refl, ap, sym, subst, ◌∙◌, append_assoc}
 use Rattle.std.proofs.lemmas.List.{append-nil}
+use Rattle.cc_names.specs.Formed.{Plain}
+use Rattle.cc_names.specs.declared.rows.Tag.{Tag}
+use Rattle.cc_names.specs.declared.steps.Step.TheVariants as steps
 use Rattle.cc_names.specs.declared.steps.StoryStep.{StoryStep}
+use Rattle.cc_names.specs.declared.steps.StoryStep.TheVariants as story_steps
 use Rattle.disk_model.specs.DiskStates.{DiskState}
+use Rattle.legal_history.specs.Stories.States.{State, start}
+use Rattle.legal_history.specs.Stories.Steps.{after, state_from, state_of}
+use Rattle.legal_history.proofs.Stories.Prefixes.{state_goes_on}
+use Rattle.story_log.specs.Logging.Appending.{Appends, IsCommitted, IsFaulted}
+use Rattle.story_log.specs.declared.logs.Appended.{Appended}
+use Rattle.story_log.specs.declared.logs.Appended.TheVariants as appends
 use Rattle.base_core.specs.Story.Counted.{CountsSteps, KeepsCount}
 use Rattle.story_log.specs.Logging.Logs.{Logged}
 use Rattle.base_core.specs.Story.Shown.{Shown}
 
 -- steps, and then more steps
-counts_further : (xs ys : List StoryStep) (old mid new : DiskState) → CountsSteps xs old mid → CountsSteps ys mid new
-    → CountsSteps (xs ++ ys) old new
-counts_further [] ys old mid new h g = subst (λ s. CountsSteps ys s new) h g
-counts_further (x ∷ xs) ys old mid new h g = (h.0, h.1, counts_further xs ys h.0 mid new h.2 g)
+counts_further : (s : State) (xs ys : List StoryStep) (old mid new : DiskState) → CountsSteps s xs old mid
+    → CountsSteps (state_from s xs) ys mid new → CountsSteps s (xs ++ ys) old new
+counts_further s [] ys old mid new h g = subst (λ d. CountsSteps s ys d new) h g
+counts_further s (x ∷ xs) ys old mid new h g = (h.0, h.1, counts_further (after s x) xs ys h.0 mid new h.2 g)
 
 -- a story that does not go on
 pub keeps_count : (shown : Shown) → KeepsCount shown shown
@@ -22,7 +32,9 @@ pub keeps_further : (one two three : Shown) → KeepsCount one two → KeepsCoun
 keeps_further one two three h g = record {
   steps = h.steps ++ g.steps;
   grows = g.grows ∙ ap (λ s. s ++ g.steps) h.grows ∙ append_assoc one.story h.steps g.steps;
-  counts = counts_further h.steps g.steps one.ghost_state two.ghost_state three.ghost_state h.counts g.counts;
+  counts = counts_further (state_of one.story) h.steps g.steps one.ghost_state two.ghost_state three.ghost_state h.counts
+      (subst (λ s. CountsSteps s g.steps two.ghost_state three.ghost_state) (ap state_of h.grows
+      ∙ state_goes_on start one.story h.steps) g.counts);
 }
 
 -- nothing was changed
@@ -36,3 +48,63 @@ shown_of log = record { story = log.story; ghost_state = log.ghost_state }
 -- memory ran out, and the log is as it was
 pub log_stays : (log new : Logged) (old : Shown) → shown_of log ≡ old → new ≡ log → KeepsCount old (shown_of new)
 log_stays log new old view e = keeps_same old (shown_of new) (ap shown_of e ∙ view)
+
+-- a row was committed, and its step says what became of the disk's counts
+counts_committed : (log new : Logged) (old : Shown) (row : Plain) → shown_of log ≡ old → IsCommitted log new row
+    → KeepsCount old (shown_of new)
+counts_committed log new old row view done =
+    subst (λ (shown : Shown). KeepsCount shown (shown_of new)) view
+    (record {
+      steps = story_steps.Commit row done.tick ∷ [];
+      grows = ap (λ (l : Logged). l.story) done.grows;
+      counts = (
+        done.ghost_state,
+        (done.at, done.spent, done.faults, done.fit, done.writes, done.calls),
+        ap (λ (l : Logged). l.ghost_state) done.grows,
+      );
+    })
+
+-- and so does the fault of a row, where it brings no step with it
+pub counts_so : (log new : Logged) (old : Shown) (row : Plain) (appended : Appended) → shown_of log ≡ old
+    → Appends log new row None appended → KeepsCount old (shown_of new)
+counts_so log new old row appends.Committed view became = counts_committed log new old row view became
+counts_so log new old row appends.Faulted view became =
+    let done : IsFaulted log new row None = became in
+    subst (λ (shown : Shown). KeepsCount shown (shown_of new)) view
+    (record {
+      steps = story_steps.Other (steps.Fault row.tag done.left done.before done.faults done.tick) ∷ [];
+      grows = ap (λ (l : Logged). l.story) done.grows;
+      counts = (
+        done.ghost_state,
+        (
+          done.counted,
+          done.modeled,
+          done.one,
+          done.at,
+          done.spent,
+          done.fit,
+          done.writes,
+          (row, done.calls),
+        ),
+        ap (λ (l : Logged). l.ghost_state) done.grows,
+      );
+    })
+
+-- and where the end of a build comes behind it
+pub counts_ended : (log new : Logged) (old : Shown) (row : Plain) (tag : Tag) (appended : Appended) → shown_of log ≡ old
+    → Appends log new row (Some (steps.End tag)) appended → KeepsCount old (shown_of new)
+counts_ended log new old row tag appends.Committed view became = counts_committed log new old row view became
+counts_ended log new old row tag appends.Faulted view became =
+    let done : IsFaulted log new row (Some (steps.End tag)) = became in
+    let fault = story_steps.Other (steps.Fault row.tag done.left done.before done.faults done.tick) in
+    let end = story_steps.Other (steps.End tag) in
+    subst (λ (shown : Shown). KeepsCount shown (shown_of new)) view
+    (record {
+      steps = fault ∷ end ∷ [];
+      grows = ap (λ (l : Logged). l.story) done.grows ∙ append_assoc log.story (fault ∷ []) (end ∷ []);
+      counts = (
+        done.ghost_state,
+        (done.counted, done.modeled, done.one, done.at, done.spent, done.fit, done.writes, (row, done.calls)),
+        (done.ghost_state, refl, ap (λ (l : Logged). l.ghost_state) done.grows),
+      );
+    })

@@ -20,7 +20,7 @@ use Rattle.legal_history.specs.Commands.Decisions.{Makes, Answers}
 use Rattle.base_model.specs.Fits.{fits}
 use Rattle.legal_history.specs.Stories.States.{State, decision_for, next_command, next_tag, with_done}
 use Rattle.legal_history.specs.Stories.Steps.{state_of, active_after, done_after}
-use Rattle.cleartool.specs.Naming.{replied_name}
+use Rattle.view_lookup.specs.Naming.{replied_name}
 use Rattle.base_core.specs.Story.Replying.{replied_count, reply_to_row, reply_to_answer, row_reply}
 
 -- A step by which a command of this tag is finished, by its kind: the row that was decided, committed at the moment of the

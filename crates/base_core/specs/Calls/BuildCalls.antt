@@ -8,7 +8,8 @@ use Rattle.cc_names.specs.declared.refusals.ScriptFault.{ScriptFault}
 use Rattle.cc_names.specs.declared.rows.Deed.TheVariants as deeds
 use Rattle.cc_names.specs.declared.steps.Step.{Step}
 use Rattle.cc_names.specs.declared.steps.UnitEnd.{UnitEnd}
-use Rattle.cc_names.specs.declared.steps.UnitEnd.TheVariants.{Kept}
+use Rattle.cc_names.specs.declared.steps.UnitEnd.TheVariants.{Kept, Failed}
+use Rattle.cc_names.specs.declared.refusals.UnitFault.TheVariants.{Script}
 use Rattle.cc_names.specs.declared.steps.StoryStep.{StoryStep}
 use Rattle.cc_names.specs.declared.steps.StoryStep.TheVariants as story_steps
 use Rattle.cc_names.specs.declared.units.Unit.{Unit}
@@ -26,8 +27,8 @@ use Rattle.legal_history.specs.Stories.Steps.{after, state_of, with_came}
 use Rattle.legal_history.specs.Stories.Lawful.{LawfulStep}
 use Rattle.legal_history.specs.Builds.UnitTurns.{IsOpen, ComesTo}
 use Rattle.legal_history.specs.Builds.Turns.{unreadable}
-use Rattle.clearmake.specs.Calls.{HasScript, WaitsFor}
-use Rattle.clearmake.specs.Going.{GoesOn, HasOutcome}
+use Rattle.clearmake.specs.Calls.{HasScript, IsStarted, WaitsFor}
+use Rattle.clearmake.specs.Going.{GoesOn, HasOutcome, lane_of_step}
 use Rattle.base_core.specs.Calls.Building.{BuildInvariant}
 use Rattle.story_log.specs.Story.Faults.{is_fault}
 use Rattle.base_core.specs.Story.Replying.{replies_by}
@@ -44,6 +45,7 @@ pub record Notes (s : State) (lane n : ℕ) (step : Step) (came : Came) : Type 0
   pub lawful : LawfulStep s step
   pub leaves : after s (story_steps.Other step) ≡ record s { active = put nat_cmp lane (with_came build (Some n) came) s.active }
   pub silent : (other : ℕ) → replies_by s other (story_steps.Other step) ≡ []
+  pub own : lane_of_step step ≡ Some lane
 
 -- unit n of a lane's build has come to this, and the story went on
 pub record Noted (old new : List StoryStep) (lane n : ℕ) (came : Came) : Type 0 where
@@ -69,6 +71,7 @@ pub record MayStart (s : State) (lane n : ℕ) (fault : Option ScriptFault) : Ty
   pub kept : BuildInvariant s lane build
   pub unit : Unit
   pub open_unit : IsOpen s (next_tag s lane) n build unit
+  pub fresh : came_to build n ≡ None
   pub nothing : reusable s.base build n unit ≡ None
   pub fault_is : fault ≡ unreadable unit
 
@@ -92,6 +95,8 @@ StepsTo s lane n (next.Keep id) = MayConclude s lane n (Kept id)
 StepsTo s lane n (next.Wink id) = MayWink s lane n id
 StepsTo s lane n (next.Start script targets) = MayStart s lane n None × HasScript s lane n script targets
 StepsTo s lane n (next.Unreadable fault) = MayStart s lane n (Some fault)
+StepsTo s lane n (next.Run script targets) = IsStarted s lane n script targets
+StepsTo s lane n (next.Fail fault) = MayConclude s lane n (Failed (Script fault))
 
 -- the row of what the run of unit n of a lane's build gave
 pub record IsObjectRow (s : State) (lane n : ℕ) (row : Plain) : Type 0 where

@@ -5,6 +5,7 @@ ghost use Rattle.base_core.specs.Calls.Answering.{append_reply, append_done};
 ghost use Rattle.base_core.specs.Story.Replying.{replied_count, row_reply};
 
 use super::Core;
+use crate::answers::answer;
 use cc_names::commands::{Change, Command, Query};
 use cc_names::copies::Copied;
 use cc_names::memory::{NoMemory, Or};
@@ -15,10 +16,10 @@ use cc_names::rows::{Deed, Row, Tag};
 use cc_names::steps::Step;
 use cc_names::texts::Text;
 use checkout_desk::{decide, view_of};
-use cleartool::{answer, replied_name};
 use disk_model::Disk;
 use std::alloc::Global;
 use story_log::Appended;
+use view_lookup::replied_name;
 
 /// How many things a row of this deed names, where its command is replied their number.
 fn replied_count(deed: &Deed) -> Option<u64>
@@ -138,9 +139,9 @@ impl<D: Disk> Core<D> {
         ensures err { OnErr result (self.new ≡ self.old) }
         ensures counted { KeepsCount self.old self.new }
     {
-        let modeled = refusal.copy(alloc)?;
+        let replied = refusal.copy(alloc)?;
         self.log.tell(Step::Refused { tag, refusal })?;
-        self.lanes.reply(tag.lane, Reply::Refused(modeled));
+        self.lanes.reply(tag.lane, Reply::Refused(replied));
         Ok(())
     }
 
@@ -151,9 +152,9 @@ impl<D: Disk> Core<D> {
         ensures err { OnErr result (self.new ≡ self.old) }
         ensures counted { KeepsCount self.old self.new }
     {
-        let modeled = text.copy(alloc)?;
+        let replied = text.copy(alloc)?;
         self.log.tell(Step::Answer { tag, text })?;
-        self.lanes.reply(tag.lane, Reply::Answer(modeled));
+        self.lanes.reply(tag.lane, Reply::Answer(replied));
         Ok(())
     }
 

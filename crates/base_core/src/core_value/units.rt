@@ -124,7 +124,7 @@ impl<D: Disk> Core<D> {
                 Ok(UnitTurn::End(TurnEnd::Concluded))
             }
             UnitStep::Keep(object) => {
-                self.conclude(alloc, lane, unit, UnitEnd::Preserved(object))?;
+                self.conclude(alloc, lane, unit, UnitEnd::Kept(object))?;
                 Ok(UnitTurn::End(TurnEnd::Concluded))
             }
             UnitStep::Wink(object) => Ok(UnitTurn::End(self.wink(alloc, lane, unit, object)?)),
@@ -136,12 +136,18 @@ impl<D: Disk> Core<D> {
                 self.start(lane, unit, Some(fault))?;
                 Ok(UnitTurn::End(TurnEnd::Concluded))
             }
+            UnitStep::Run(script, targets) => Ok(UnitTurn::Run(script, targets)),
+            UnitStep::Fail(fault) => {
+                self.conclude(alloc, lane, unit, UnitEnd::Failed(UnitFault::Script(fault)))?;
+                Ok(UnitTurn::End(TurnEnd::Concluded))
+            }
         }
     }
 
     /// Tries a unit of a lane's build: it has its outcome already, it waits for another, it ends without a run, it keeps an
-    /// object or the build's view winks one in for it, or its script is started. Where the disk fails the build ends. An `Err`
-    /// changes nothing. A commit and a fault have the disk's counts as `act` says; beside them no device call is made.
+    /// object or the build's view winks one in for it, or its script is started; where it was started already, nothing changes,
+    /// and its script is to be run again. Where the disk fails the build ends. An `Err` changes nothing. A commit and a fault
+    /// have the disk's counts as `act` says; beside them no device call is made.
     ///
     /// Takes look-ups by the paths of the unit's prerequisites and targets, what `reusable` takes, and time linear in the script.
     pub fn try_unit(&mut self, alloc: Global, lane: u32, unit: u32) -> Result<UnitTurn, NoMemory>

@@ -123,19 +123,20 @@ adds_on one two three h k = both_then (Adds may_write) (Adds may_write) (Adds ma
 of_writes : (one two : Option Device) → Both WritesOn one two → Both (Adds may_write) one two
 of_writes one two h = both_map WritesOn (Adds may_write) one two (λ d e w. w.adds) h
 
-step_adds : (step : StoryStep) (old new : DiskState) → CountsStep step old new → Both (Adds may_write) old.modeled new.modeled
-step_adds (story_steps.Commit row tick) old new h = of_writes old.modeled new.modeled h.4
-step_adds (story_steps.Other (steps.Fault tag left before faults tick)) old new h = of_writes old.modeled new.modeled h.6
-step_adds (story_steps.Other (steps.Opened n)) old new h = same_adds old new h
-step_adds (story_steps.Other step) old new h = same_adds old new h
-step_adds (story_steps.Opened rows counts tells) old new h = same_adds old new h
-step_adds (story_steps.PhaseBegun phase moment) old new h = same_adds old new h
-
-steps_add : (more : List StoryStep) (old new : DiskState) → CountsSteps more old new
+step_adds : (s : State) (step : StoryStep) (old new : DiskState) → CountsStep s step old new
     → Both (Adds may_write) old.modeled new.modeled
-steps_add [] old new h = same_adds old new h
-steps_add (step ∷ more) old new h = adds_on old.modeled h.0.modeled new.modeled (step_adds step old h.0 h.1)
-    (steps_add more h.0 new h.2)
+step_adds s (story_steps.Commit row tick) old new h = of_writes old.modeled new.modeled h.4
+step_adds s (story_steps.Other (steps.Fault tag left before faults tick)) old new h = of_writes old.modeled new.modeled h.6
+step_adds s (story_steps.Other (steps.Opened n)) old new h = same_adds old new h
+step_adds s (story_steps.Other step) old new h = same_adds old new h
+step_adds s (story_steps.Opened rows counts tells) old new h = same_adds old new h
+step_adds s (story_steps.PhaseBegun phase moment) old new h = same_adds old new h
+
+steps_add : (s : State) (more : List StoryStep) (old new : DiskState) → CountsSteps s more old new
+    → Both (Adds may_write) old.modeled new.modeled
+steps_add s [] old new h = same_adds old new h
+steps_add s (step ∷ more) old new h = adds_on old.modeled h.0.modeled new.modeled (step_adds s step old h.0 h.1)
+    (steps_add (after s step) more h.0 new h.2)
 
 both_at : (R : Device → Device → Type 0) (old new : Option Device) (d e : Device) → old ≡ Some d → new ≡ Some e → Both R old new
     → R d e
@@ -184,7 +185,7 @@ module _ (old now : DiskState) (d e : Device) (first : IsCounted old) (second : 
 -- the steps of a history, and the calls of the device as it came back
 blames : (e : Device) (handed : ℕ) (s : State) (more : List StoryStep) (old ended now : DiskState) (d : Device)
     → IsNewest handed (reverse e.calls) s.ends d → old.modeled ≡ Some d → now.modeled ≡ Some e → IsCounted old → IsCounted now
-    → CountsSteps more old ended → SettlesJournal (may_be_open (state_from s more).ends) ended now
+    → CountsSteps s more old ended → SettlesJournal (may_be_open (state_from s more).ends) ended now
     → FailsAtFaults (failures d.calls) (reverse e.calls) more × RestsBehind handed (state_from s more).ends (reverse e.calls)
 blames e handed s [] old ended now d newest is be first second h settles = (
   tt,
@@ -193,8 +194,8 @@ blames e handed s [] old ended now d newest is be first second h settles = (
 )
 blames e handed s (story_steps.Commit row tick ∷ more) old ended now d newest is be first second h settles =
     let mid = h.0 in
-    let rest = adds_on mid.modeled ended.modeled now.modeled (steps_add more mid ended h.2)
-    (of_writes ended.modeled now.modeled settles.writes) in
+    let rest = adds_on mid.modeled ended.modeled now.modeled (steps_add (after s (story_steps.Commit row tick)) more mid ended
+    h.2) (of_writes ended.modeled now.modeled settles.writes) in
     let at = modeled_before (Adds may_write) mid.modeled now.modeled e be rest in
     let added = (both_at WritesOn old.modeled mid.modeled d at.0 is at.1 h.1.4).adds in
     let same = same_failed may_write old mid d at.0 first h.1.3 is at.1 added h.1.2 in
@@ -210,7 +211,8 @@ blames e handed s (story_steps.Commit row tick ∷ more) old ended now d newest 
 blames e handed s (story_steps.Other (steps.Fault tag left before faults tick) ∷ more) old ended now d newest is be first second h
     settles =
     let mid = h.0 in
-    let rest = adds_on mid.modeled ended.modeled now.modeled (steps_add more mid ended h.2)
+    let rest = adds_on mid.modeled ended.modeled now.modeled (steps_add
+    (after s (story_steps.Other (steps.Fault tag left before faults tick))) more mid ended h.2)
     (of_writes ended.modeled now.modeled settles.writes) in
     let at = modeled_before (Adds may_write) mid.modeled now.modeled e be rest in
     let added = (both_at WritesOn old.modeled mid.modeled d at.0 is at.1 h.1.6).adds in
@@ -227,13 +229,13 @@ blames e handed s (story_steps.Other (steps.Fault tag left before faults tick) �
     ((meets, subst (λ n. FailsAtFaults n (reverse e.calls) more) (sym failed) on.0), on.1)
 blames e handed s (story_steps.Other step ∷ more) old ended now d newest is be first second h settles =
     blames e handed (after s (story_steps.Other step)) more old ended now d newest is be first second
-    (subst (λ t. CountsSteps more t ended) h.1 h.2) settles
+    (subst (λ t. CountsSteps (after s (story_steps.Other step)) more t ended) h.1 h.2) settles
 blames e handed s (story_steps.Opened rows counts tells ∷ more) old ended now d newest is be first second h settles =
     blames e handed (after s (story_steps.Opened rows counts tells)) more old ended now d newest is be first second
-    (subst (λ t. CountsSteps more t ended) h.1 h.2) settles
+    (subst (λ t. CountsSteps (after s (story_steps.Opened rows counts tells)) more t ended) h.1 h.2) settles
 blames e handed s (story_steps.PhaseBegun phase moment ∷ more) old ended now d newest is be first second h settles =
     blames e handed (after s (story_steps.PhaseBegun phase moment)) more old ended now d newest is be first second
-    (subst (λ t. CountsSteps more t ended) h.1 h.2) settles
+    (subst (λ t. CountsSteps (after s (story_steps.PhaseBegun phase moment)) more t ended) h.1 h.2) settles
 
 -- the calls of the opening come first, and none of them failed
 all_back : (kind : Event → Bool) (calls : List Event) → list_all kind calls ≡ true → list_all kind (reverse calls) ≡ true
@@ -299,8 +301,8 @@ blamed before opened now story rows counts tells was first second sound reads be
     settles = subst (λ s. SettlesJournal (may_be_open (state_of s).ends) from.ended now) story_is from.settled
 
     all : Both (Adds may_write) opened.modeled now.modeled
-    all = adds_on opened.modeled from.ended.modeled now.modeled (steps_add from.steps opened from.ended from.counts)
-        (of_writes from.ended.modeled now.modeled from.settled.writes)
+    all = adds_on opened.modeled from.ended.modeled now.modeled (steps_add (after start from.first) from.steps opened from.ended
+        from.counts) (of_writes from.ended.modeled now.modeled from.settled.writes)
 
     on : (e : Device) → now.modeled ≡ Some e → IsBlamed before.ticks story e
     on e be =
@@ -320,8 +322,9 @@ blamed before opened now story rows counts tells was first second sound reads be
         let failed : failed_by before.ticks (reverse e.calls) ≡ failures d.calls =
         ap (λ n. failed_by n (reverse e.calls)) ticks ∙ failed_before b (reverse e.calls)
         (reverse read.more ++ reverse written.more) split ∙ sym same in
+        let counts_from = subst (λ x. CountsSteps (after start x) from.steps opened from.ended) is_first from.counts in
         let ends = blames e before.ticks (after start (story_steps.Opened rows counts tells)) from.steps opened from.ended now d
-        (sym failed) at.1 be first second from.counts settles in
+        (sym failed) at.1 be first second counts_from settles in
         record {
           opening =
               ap reads_first (ap (λ calls. drop before.ticks calls) split

@@ -38,27 +38,33 @@ same_ghost_state : (old new : DiskState) → new ≡ old → Both SameObjects ol
 same_ghost_state old new e = subst (λ s. Both SameObjects old.modeled s.modeled) (sym e) (objects_idle old.modeled)
 
 -- each step leaves the file of objects
-step_leaves : (step : StoryStep) (old new : DiskState) → CountsStep step old new → Both SameObjects old.modeled new.modeled
-step_leaves (story_steps.Commit row tick) old new h = of_writes old.modeled new.modeled h.4
-step_leaves (story_steps.Other (steps.Fault tag left before faults tick)) old new h = of_writes old.modeled new.modeled h.6
-step_leaves (story_steps.Other (steps.Opened n)) old new h = same_ghost_state old new h
-step_leaves (story_steps.Other step) old new h = same_ghost_state old new h
-step_leaves (story_steps.Opened rows counts tells) old new h = same_ghost_state old new h
-step_leaves (story_steps.PhaseBegun phase moment) old new h = same_ghost_state old new h
+step_leaves : (s : State) (step : StoryStep) (old new : DiskState) → CountsStep s step old new
+    → Both SameObjects old.modeled new.modeled
+step_leaves s (story_steps.Commit row tick) old new h = of_writes old.modeled new.modeled h.4
+step_leaves s (story_steps.Other (steps.Fault tag left before faults tick)) old new h = of_writes old.modeled new.modeled h.6
+step_leaves s (story_steps.Other (steps.Opened n)) old new h = same_ghost_state old new h
+step_leaves s (story_steps.Other step) old new h = same_ghost_state old new h
+step_leaves s (story_steps.Opened rows counts tells) old new h = same_ghost_state old new h
+step_leaves s (story_steps.PhaseBegun phase moment) old new h = same_ghost_state old new h
 
-steps_leave : (more : List StoryStep) (old new : DiskState) → CountsSteps more old new → Both SameObjects old.modeled new.modeled
-steps_leave [] old new h = same_ghost_state old new h
-steps_leave (step ∷ more) old new h = objects_then old.modeled h.0.modeled new.modeled (step_leaves step old h.0 h.1)
-    (steps_leave more h.0 new h.2)
+steps_leave : (s : State) (more : List StoryStep) (old new : DiskState) → CountsSteps s more old new
+    → Both SameObjects old.modeled new.modeled
+steps_leave s [] old new h = same_ghost_state old new h
+steps_leave s (step ∷ more) old new h = objects_then old.modeled h.0.modeled new.modeled (step_leaves s step old h.0 h.1)
+    (steps_leave (after s step) more h.0 new h.2)
 
 -- steps without a commit and a fault make no call on the disk
-calm_rests : (more : List StoryStep) (old new : DiskState) → is_calm more ≡ true → CountsSteps more old new → new ≡ old
-calm_rests [] old new calm h = h
-calm_rests (story_steps.Commit row tick ∷ more) old new calm h = absurd (cc)
-calm_rests (story_steps.Other (steps.Fault tag left before faults tick) ∷ more) old new calm h = absurd (cc)
-calm_rests (story_steps.Other step ∷ more) old new calm h = calm_rests more h.0 new calm h.2 ∙ h.1
-calm_rests (story_steps.Opened rows counts tells ∷ more) old new calm h = calm_rests more h.0 new calm h.2 ∙ h.1
-calm_rests (story_steps.PhaseBegun phase moment ∷ more) old new calm h = calm_rests more h.0 new calm h.2 ∙ h.1
+calm_rests : (s : State) (more : List StoryStep) (old new : DiskState) → is_calm more ≡ true → CountsSteps s more old new
+    → new ≡ old
+calm_rests s [] old new calm h = h
+calm_rests s (story_steps.Commit row tick ∷ more) old new calm h = absurd (cc)
+calm_rests s (story_steps.Other (steps.Fault tag left before faults tick) ∷ more) old new calm h = absurd (cc)
+calm_rests s (story_steps.Other step ∷ more) old new calm h = calm_rests (after s (story_steps.Other step)) more h.0 new calm h.2
+    ∙ h.1
+calm_rests s (story_steps.Opened rows counts tells ∷ more) old new calm h =
+    calm_rests (after s (story_steps.Opened rows counts tells)) more h.0 new calm h.2 ∙ h.1
+calm_rests s (story_steps.PhaseBegun phase moment ∷ more) old new calm h =
+    calm_rests (after s (story_steps.PhaseBegun phase moment)) more h.0 new calm h.2 ∙ h.1
 
 -- and add no end
 calm_ends : (s : State) (more : List StoryStep) → is_calm more ≡ true → (state_from s more).ends ≡ s.ends
@@ -95,11 +101,12 @@ keeps_files disk opened story same counted = record {
   objects =
       objects_then disk.before.modeled opened.modeled disk.after.modeled (of_files disk.before.modeled opened.modeled same)
       (objects_then opened.modeled counted.ended.modeled disk.after.modeled
-      (steps_leave counted.steps opened counted.ended counted.counts)
+      (steps_leave (after start counted.first) counted.steps opened counted.ended counted.counts)
       (of_writes counted.ended.modeled disk.after.modeled counted.settled.writes));
   files = λ calm.
       let parts = calm_story story counted.first counted.steps counted.story_is calm in
-      let rests = counted.settled.rests parts.1 ∙ calm_rests counted.steps opened counted.ended parts.0 counted.counts in
+      let rests = counted.settled.rests parts.1 ∙ calm_rests (after start counted.first) counted.steps opened counted.ended
+      parts.0 counted.counts in
       subst (λ s. Both SameFiles disk.before.modeled s.modeled) (sym rests) same;
 }
 

@@ -18,6 +18,8 @@ use Rattle.legal_history.specs.Stories.Lawful.{Legal, LegalFrom}
 use Rattle.vob_journal.specs.Frames.{frames}
 use Rattle.vob_journal.specs.Reads.{SameFiles}
 use Rattle.vob_journal.proofs.Journals.{stable_image}
+use Rattle.vob_journal.specs.Added.{Adds, may_read}
+use Rattle.vob_journal.proofs.Adding.{adds_none}
 use Rattle.vob_journal.proofs.Staying.{modeled_stay}
 use Rattle.story_log.specs.Stopping.Backed.{IsAccounted, IsSettled}
 use Rattle.story_log.specs.Stopping.Founds.{OpensAgain}
@@ -143,6 +145,7 @@ keeps_prefix before now story begins legal accounted mended again = record {
   };
   on_none = λ closed. absurd (not_closed story begins.first closed);
   files = λ closed. absurd (not_closed story begins.first closed);
+  reads = λ closed. absurd (not_closed story begins.first closed);
 }
   where
     begun : IsBegun story (oldest_first begins.base) begins.handed.counts begins.handed.tells
@@ -178,21 +181,28 @@ first_stable (Some d) h = h.0
 pub journal_stable : (disk : DiskState) → IsHandedIn disk → IfModeled disk.modeled (λ d. file_of 0 d ≡ stable (bytes_now 0 d))
 journal_stable disk h = first_stable disk.modeled h
 
+none_read : (modeled : Option Device) → Both (Adds may_read) modeled modeled
+none_read None = tt
+none_read (Some d) = adds_none may_read d
+
 pub stays_untouched : (disk : DiskState) → IsCounted disk → IsHandedIn disk → IsStopped disk disk []
 stays_untouched disk counted handed = record {
   tells = refl;
   on_base = λ opened. absurd (cc);
   on_none = λ closed. frames_stay disk.modeled disk.ticks counted.modeled (journal_stable disk handed);
   files = λ closed. modeled_stay disk.modeled;
+  reads = λ closed. none_read disk.modeled;
 }
 
 pub stays_closed : (before now : DiskState) (story : List StoryStep) → story ≡ [] → is_some now.modeled ≡ is_some before.modeled
-    → StopKeepsFrames before now → Both SameFiles before.modeled now.modeled → IsStopped before now story
-stays_closed before now story empty tells frames files = record {
+    → StopKeepsFrames before now → Both (Adds may_read) before.modeled now.modeled → Both SameFiles before.modeled now.modeled
+    → IsStopped before now story
+stays_closed before now story empty tells frames reads files = record {
   tells = tells;
   on_base = λ opened. absurd (not_opened story empty opened);
   on_none = λ closed. frames;
   files = λ closed. files;
+  reads = λ closed. reads;
 }
   where
     not_opened : (xs : List StoryStep) → xs ≡ [] → is_opened xs ≡ true → ⊥

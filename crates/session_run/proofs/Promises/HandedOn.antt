@@ -16,6 +16,7 @@ use Rattle.session_run.specs.Promises.HandedOn.{SoundnessIsHandedOn}
 use Rattle.session_run.specs.Promises.Headline.{BeginsOn, IsOneHistory}
 use Rattle.session_run.specs.Story.Begun.{is_opened}
 use Rattle.session_run.specs.declared.statuses.Status.{Status}
+use Rattle.session_run.specs.declared.words.Form.{Form}
 use Rattle.session_run.proofs.Faults.Stopping.{is_begun, opening_of}
 
 -- a story that opened a base has a first step
@@ -28,10 +29,11 @@ modeled_so : (modeled : Option Device) (device : Device) (P : Device → Type 0)
 modeled_so modeled device P is h = subst (λ t. IfModeled t P) is h
 
 -- the base that was opened is the one on which the history begins
-opened_on : (disk : DiskState) (story : List StoryStep) (opened : Opening) (status : Status) (held holds : Option (List ℕ))
-    (history : IsOneHistory status story disk held holds) (is : (state_of story).opened ≡ Some opened) →
+opened_on : (disk : DiskState) (story : List StoryStep) (opened : Opening) (form : Option Form) (status : Status)
+    (held holds : Option (List ℕ)) (history : IsOneHistory form status story disk held holds)
+    (is : (state_of story).opened ≡ Some opened) →
     opened.base ≡ (history.base (has_opened story opened is)).base
-opened_on disk story opened status held holds history is =
+opened_on disk story opened form status held holds history is =
     let begins : BeginsOn disk story = history.base (has_opened story opened is) in
     let begun = is_begun story (oldest_first begins.base) begins.handed.counts begins.handed.tells begins.first history.legal in
     let same : opened ≡ opening_of (oldest_first begins.base) begins.handed.counts begins.handed.tells =
@@ -39,8 +41,8 @@ opened_on disk story opened status held holds history is =
     ap (λ o. o.base) same ∙ reverse-reverse begins.base
 
 pub handed_on : FoundBaseIsSound → SoundnessIsHandedOn
-handed_on law before after next left read k story later status held holds stopped is_open modeled since may next_modeled history
-    sound = record {
+handed_on law before after next left read k story later form status held holds stopped is_open modeled since may next_modeled
+    history sound = record {
       base = λ opened begun.
           let keeps : KeepsPrefix before after story = stopped.on_base is_open in
           let again : OpensAgain keeps.opening.base (frames (bytes_now 0 read)) =
@@ -48,7 +50,7 @@ handed_on law before after next left read k story later status held holds stoppe
           → OpensAgain keeps.opening.base (frames image)) modeled keeps.again k (bytes_now 0 read) since may
           in
           let begins : BeginsOn next later = history.base (has_opened later opened begun) in
-          subst IsSound (sym (opened_on next later opened status held holds history begun))
+          subst IsSound (sym (opened_on next later opened form status held holds history begun))
           (law keeps.opening.base begins.base next read begins.handed next_modeled again begins.on
           (sound.base keeps.opening keeps.opened));
     }

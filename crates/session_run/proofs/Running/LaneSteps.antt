@@ -19,7 +19,7 @@ use Rattle.base_core.proofs.Acting.PlainRows.{change_finishes}
 use Rattle.base_core.proofs.Keeping.Idle.{decided_is_free}
 use Rattle.base_core.specs.Calls.Acting.{Acts, IsStepOf}
 use Rattle.legal_history.specs.Stories.Commanded.{next_command_of}
-use Rattle.clearmake.specs.Going.{SamePhase, Finishes}
+use Rattle.clearmake.specs.Going.{SamePhase, Finishes, lane_of}
 use Rattle.clearmake.specs.Nexts.{next_of_lane, next_by}
 use Rattle.base_model.specs.Rows.{Base, only_where}
 use Rattle.legal_history.specs.Commands.Decisions.{Scene, Decision, Makes, Answers, Begins}
@@ -117,6 +117,15 @@ lane_step s lane Faulted (story_steps.Other (steps.Fault finished left before fa
     }
 lane_step s lane done x ends is = absurd is
 
+-- the step is of the lane
+step_lane : (s : State) (lane : ℕ) (done : Done) (x : StoryStep) → IsStepOf s (next_tag s lane) done x → lane_of x ≡ Some lane
+step_lane s lane Committed (story_steps.Commit row tick) is = ap (λ (t : Tag). Some t.lane) is.0
+step_lane s lane Refused (story_steps.Other (steps.Refused finished refusal)) is = ap (λ (t : Tag). Some t.lane) is.0
+step_lane s lane Answered (story_steps.Other (steps.Answer finished text)) is = ap (λ (t : Tag). Some t.lane) is.0
+step_lane s lane Faulted (story_steps.Other (steps.Fault finished left before faults tick)) is =
+    ap (λ (t : Tag). Some t.lane) is.0
+step_lane s lane done x is = absurd is
+
 -- a lane that acts finishes its command
 pub act_finishes : (old new : List StoryStep) (lane : ℕ) (done : Done) → next_of_lane (state_of old) lane ≡ nexts.Act
     → Acts old new lane done → Finishes old new lane
@@ -128,6 +137,7 @@ act_finishes old new lane done acts by_act =
     record {
       steps = x ∷ [];
       grows = by_act.grows;
+      one = step_lane s lane done x by_act.is;
       phase = subst (SamePhase s) (sym state) step.phase;
       done = ap (λ t. done_of t.done lane) state ∙ ap (λ d. done_of d lane) step.done ∙ done_same s.done lane;
       others = λ other differs. ap (λ t. done_of t.done other) state ∙ ap (λ d. done_of d other) step.done

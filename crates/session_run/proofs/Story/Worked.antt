@@ -1,5 +1,5 @@
 -- Stories and their texts, worked out by hand.
-use Rattle.std.proofs.Common.{◌≡◌, ℕ, false, true, List, [], ◌∷◌, ◌++◌, refl}
+use Rattle.std.proofs.Common.{◌≡◌, ℕ, true, Some, None, List, [], ◌∷◌, ◌++◌, refl}
 use Rattle.std.specs.Fmt.{digits}
 use Rattle.std.specs.Prelude.{codes}
 use Rattle.cc_names.specs.declared.commands.Change.TheVariants.{Mkview, Save}
@@ -12,10 +12,12 @@ use Rattle.cc_names.specs.declared.steps.Step.TheVariants as steps
 use Rattle.cc_names.specs.declared.steps.StoryStep.{StoryStep}
 use Rattle.cc_names.specs.declared.steps.StoryStep.TheVariants as story_steps
 use Rattle.cc_names.specs.declared.steps.Counts.{Counts}
-use Rattle.session_run.specs.Calls.Asked.{is_run}
+use Rattle.session_run.specs.Calls.Asked.{form_of, phases_spelled}
 use Rattle.session_run.specs.Promises.Headline.{clock_moments}
 use Rattle.session_run.specs.Story.Begun.{phases_begun}
 use Rattle.session_run.specs.Story.Rendered.{earlier_text, has_failure, text_of_story}
+use Rattle.session_run.specs.Story.Modeled.{check_line}
+use Rattle.session_run.specs.declared.words.Form.TheVariants as forms
 
 -- a view and a private file, and then the view once more
 saves : Phase
@@ -83,8 +85,55 @@ unfolding two_phases first_phase first_command saves tag again
 refused = refl
 
 -- the words
-run_words : is_run (codes "f" ∷ codes "run" ∷ []) ≡ true
+run_words : form_of (codes "f" ∷ codes "run" ∷ []) ≡ Some forms.Run
 run_words = refl
 
-big_words : is_run (codes "f" ∷ codes "big" ∷ codes "1" ∷ codes "0" ∷ []) ≡ false
+verify_words : form_of (codes "f" ∷ codes "verify" ∷ []) ≡ Some forms.Verify
+verify_words = refl
+
+big_words : form_of (codes "f" ∷ codes "big" ∷ codes "18446744073709551615" ∷ codes "1000" ∷ [])
+    ≡ Some (forms.Big 18446744073709551615 1000)
 big_words = refl
+
+smallest_words : form_of (codes "f" ∷ codes "big" ∷ codes "0" ∷ codes "1" ∷ []) ≡ Some (forms.Big 0 1)
+smallest_words = refl
+
+sites_words : form_of (codes "f" ∷ codes "sites" ∷ []) ≡ Some forms.Sites
+sites_words = refl
+
+no_words : form_of [] ≡ None
+no_words = refl
+
+one_word : form_of (codes "f" ∷ []) ≡ None
+one_word = refl
+
+another_word : form_of (codes "f" ∷ codes "walk" ∷ []) ≡ None
+another_word = refl
+
+words_behind : form_of (codes "f" ∷ codes "verify" ∷ codes "1" ∷ []) ≡ None
+words_behind = refl
+
+no_size : form_of (codes "f" ∷ codes "big" ∷ codes "1" ∷ codes "0" ∷ []) ≡ None
+no_size = refl
+
+a_size_above : form_of (codes "f" ∷ codes "big" ∷ codes "1" ∷ codes "1001" ∷ []) ≡ None
+a_size_above = refl
+
+a_seed_above : form_of (codes "f" ∷ codes "big" ∷ codes "18446744073709551616" ∷ codes "1" ∷ []) ≡ None
+a_seed_above = refl
+
+a_zero_before : form_of (codes "f" ∷ codes "big" ∷ codes "01" ∷ codes "1" ∷ []) ≡ None
+a_zero_before = refl
+
+-- a check runs a session without phases
+no_phases : phases_spelled [] ≡ []
+no_phases = refl
+
+-- the lines of a check
+sound_line : check_line None 12 ≡ codes "sound 12\n"
+unfolding digits
+sound_line = refl
+
+unsound_line : check_line (Some 4) 12 ≡ codes "unsound 4\n"
+unfolding digits
+unsound_line = refl

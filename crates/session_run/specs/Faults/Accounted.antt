@@ -6,8 +6,9 @@ use Rattle.cc_names.specs.declared.steps.StoryStep.{StoryStep}
 use Rattle.cc_names.specs.declared.steps.StoryStep.TheVariants as story_steps
 use Rattle.disk_model.specs.Counting.{next_count}
 use Rattle.disk_model.specs.DiskStates.{DiskState, IfModeled, Both}
-use Rattle.legal_history.specs.Stories.Steps.{state_of}
-use Rattle.vob_journal.specs.Added.{WritesOn}
+use Rattle.legal_history.specs.Stories.States.{start}
+use Rattle.legal_history.specs.Stories.Steps.{after, state_of}
+use Rattle.vob_journal.specs.Added.{Adds, WritesOn, may_read}
 use Rattle.vob_journal.specs.Reads.{SameFiles, SameObjects}
 use Rattle.story_log.specs.Stopping.Backed.{may_be_open}
 use Rattle.base_core.specs.Story.Counted.{CountsSteps}
@@ -25,20 +26,22 @@ pub record SettlesJournal (ajar : Bool) (old new : DiskState) : Type 0 where
 -- The steps of a history behind its first, from the disk as the base was opened to the disk as it came back. The disk was
 -- called within commits and faults alone, and each of these has its counts as its own call began and as it ended. Behind the
 -- last step the journal was settled.
-pub record CountsFrom (opened after : DiskState) (story : List StoryStep) : Type 0 where
+pub record CountsFrom (opened closed : DiskState) (story : List StoryStep) : Type 0 where
   pub first : StoryStep
   pub steps : List StoryStep
   pub ended : DiskState
   pub story_is : story ≡ first ∷ steps
-  pub counts : CountsSteps steps opened ended
-  pub settled : SettlesJournal (may_be_open (state_of story).ends) ended after
+  pub counts : CountsSteps (after start first) steps opened ended
+  pub settled : SettlesJournal (may_be_open (state_of story).ends) ended closed
 
--- *Whose fault*: opening counted no fault, and from then on the count rose at the faults of the history, and once more at most as
--- the journal was settled, by the counts of some disk between one step and the next. Where the disk models its device, the calls
--- that it tells say at which tick each of them failed.
+-- *Whose fault*: opening counted no fault and made calls that read alone, which left both files as they were. From then on the
+-- count rose at the faults of the history, and once more at most as the journal was settled, by the counts of some disk between
+-- one step and the next. Where the disk models its device, the calls that it tells say at which tick each of them failed.
 pub record IsAccountedFor (disk : Change DiskState) (story : List StoryStep) : Type 0 where
   pub opened : DiskState
   pub sound : opened.faults ≡ disk.before.faults
+  pub reads : Both (Adds may_read) disk.before.modeled opened.modeled
+  pub files : Both SameFiles disk.before.modeled opened.modeled
   pub counted : CountsFrom opened disk.after story
   pub calls : IfModeled disk.after.modeled (IsBlamed disk.before.ticks story)
 

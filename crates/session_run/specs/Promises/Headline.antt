@@ -5,15 +5,22 @@
 -- base that was opened is sound, whatever objects were reused; stopped at any device call, the disk holds a prefix of the
 -- history's commits with every acknowledged one.
 --
+-- So it is for FILE `run`. Two other forms of words say the same of another session: FILE `big` SEED SIZE of the large
+-- session, of whose replies it prints the summary, and FILE `verify` of a session without phases, with the line of the base that
+-- was opened. `Asked.session_text_of` has the session of each form, and `Modeled` what it prints of a history. FILE `sites` opens
+-- no
+-- base: it prints the replies to a text of sites, by `Sites`.
+--
 -- A call of the program is seen as plain values: its words, what the source had left and gave, what the sink holds, what the
 -- clock tells, what the disk tells as it was handed in and as it came back, its status, and the story of the base that it
 -- opened, which is empty where it opened none. Each record is one promise of the sentence, `IsStopped` in `Stopped` the last
 -- of them; `HasCause` adds when each status comes, `IsAccountedFor` in `Accounted` between which two ends, of commits
 -- or faults, each failed call on the disk lies, `Objects` which objects a scrub takes and that those that views hold are live,
--- `Reused` which objects builds take in place of runs. What they say of bytes, moments and stops holds where the source, the
--- sink, the clock and the disk tell them.
-use Rattle.std.specs.Prelude.{◌≡◌, ◌≢◌, ◌⊎◌, ℕ, zero, suc, ◌+◌, ◌<◌, min, true, false, Option, Some, IfSome, List, [], ◌∷◌, ◌++◌}
-use Rattle.std.specs.Prelude.{length}
+-- `Reused` which objects builds take in place of runs, `Checked` when `verify` answers that a base is sound. What they say of
+-- bytes,
+-- moments and stops holds where the source, the sink, the clock and the disk tell them.
+use Rattle.std.specs.Prelude.{◌≡◌, ◌≢◌, ◌⊎◌, ℕ, zero, suc, ◌+◌, ◌<◌, ◌≤◌, min, true, false, Option, Some, IfSome, List, [], ◌∷◌}
+use Rattle.std.specs.Prelude.{◌++◌, length}
 use Rattle.std.specs.Io.KnownBytes.{Appends}
 use Rattle.cc_names.specs.declared.rows.Tag.{Tag}
 use Rattle.cc_names.specs.declared.steps.Step.TheVariants as steps
@@ -34,14 +41,18 @@ use Rattle.legal_history.specs.Builds.Active.{Build}
 use Rattle.legal_history.specs.Stories.States.{all_done, build_by}
 use Rattle.legal_history.specs.Stories.Steps.{state_of}
 use Rattle.legal_history.specs.Stories.Lawful.{Legal, last_moment}
-use Rattle.session_run.specs.Calls.Asked.{phases_spelled, is_run, is_session}
-use Rattle.session_run.specs.Calls.Causes.{Change, Intake, HasCause}
-use Rattle.session_run.specs.Calls.Statuses.{is_cut, status_line}
+use Rattle.session_run.specs.Calls.Asked.{is_session, phases_spelled}
+use Rattle.session_run.specs.Calls.Causes.{Change, Intake, HasCause, session_text}
+use Rattle.session_run.specs.Calls.Sites.{text_unopened}
+use Rattle.session_run.specs.Calls.Statuses.{is_cut}
 use Rattle.session_run.specs.Story.Begun.{first_step, is_opened, is_through, phases_begun, moments_begun, IsPrefixOf}
 use Rattle.session_run.specs.Story.FromNothing.{text_from_nothing}
 use Rattle.session_run.specs.Story.Rendered.{text_of_story, earlier_text}
+use Rattle.session_run.specs.Story.Modeled.{text_modeled}
 use Rattle.session_run.specs.declared.statuses.Status.{Status}
 use Rattle.session_run.specs.declared.statuses.Status.TheVariants as statuses
+use Rattle.session_run.specs.declared.words.Form.{Form}
+use Rattle.session_run.specs.declared.words.Form.TheVariants as forms
 
 -- the moments that a clock tells from a reading on, none above the last one of all
 abbrev pub clock_moments : List ℕ → ℕ → ℕ → List ℕ
@@ -63,16 +74,14 @@ pub record ReadsClock (status : Status) (story : List StoryStep) (readings : Cha
   pub once : status ≢ statuses.NoMemory → ReadsTimes (length (phases_begun story)) readings
   pub most : ReadsTimes (length (phases_begun story)) readings ⊎ ReadsTimes (length (phases_begun story) + 1) readings
 
--- *The session*, where the words are those of a run: the phases of the history are the first of the session that the source's
--- bytes spell, and all of them where it was run through; where the bytes spell none the history is empty. Their moments are
--- the clock's, in order, which is read once a phase.
+-- *The session*: the phases of the history are the first of the session that the words ask for, and all of them where it was run
+-- through; where its text spells none the history is empty. Their moments are the clock's, in order, which is read once a phase.
 pub record IsSession (status : Status) (story : List StoryStep) (intake : Intake) (clock : Option (List ℕ))
     (readings : Change ℕ) : Type 0 where
-  pub begun : is_run intake.words ≡ true → IfSome intake.text.before (λ bytes. IsPrefixOf (phases_begun story)
-      (phases_spelled bytes))
-  pub all : is_run intake.words ≡ true → is_through status story ≡ true
-      → IfSome intake.text.before (λ bytes. phases_begun story ≡ phases_spelled bytes)
-  pub none : is_run intake.words ≡ true → IfSome intake.text.before (λ bytes. is_session bytes ≡ false → story ≡ [])
+  pub begun : IfSome (session_text intake) (λ bytes. IsPrefixOf (phases_begun story) (phases_spelled bytes))
+  pub all : is_through intake.form status story ≡ true → IfSome (session_text intake)
+      (λ bytes. phases_begun story ≡ phases_spelled bytes)
+  pub none : IfSome (session_text intake) (λ bytes. is_session bytes ≡ false → story ≡ [])
   pub moments : IfSome clock (λ modeled. moments_begun story ≡ clock_moments modeled readings.before
       (length (moments_begun story)))
   pub read : ReadsClock status story readings
@@ -92,12 +101,15 @@ pub record BeginsOn (disk : DiskState) (story : List StoryStep) : Type 0 where
 
 -- *One legal history*: the story is legal, of the base that the disk stood for, so a phase begins where each command of the
 -- one before is finished. Each command of the last phase is finished too where the session was run through, and where the
--- sink failed.
-pub record IsOneHistory (status : Status) (story : List StoryStep) (disk : DiskState) (old new : Option (List ℕ)) : Type 0 where
+-- sink failed. Of `verify` it has no step but the opening of the base.
+pub record IsOneHistory (form : Option Form) (status : Status) (story : List StoryStep) (disk : DiskState)
+    (old new : Option (List ℕ)) : Type 0 where
   pub legal : Legal story
   pub base : is_opened story ≡ true → BeginsOn disk story
-  pub complete : is_through status story ≡ true → all_done (state_of story) ≡ true
-  pub cut : is_opened story ≡ true → status ≡ statuses.WriteFault → IsCutAtLast story (earlier_text story) old new
+  pub complete : is_through form status story ≡ true → all_done (state_of story) ≡ true
+  pub cut : form ≡ Some forms.Run → is_opened story ≡ true → status ≡ statuses.WriteFault
+      → IsCutAtLast story (earlier_text story) old new
+  pub alone : form ≡ Some forms.Verify → length story ≤ 1
 
 -- *Commanded*: each build of the history that ends is the one of its lane's clearmake, whose build from nothing at the reference
 -- rows, on the versions that the view selects there, has the same units.
@@ -115,21 +127,25 @@ pub record AreFromNothing (story : List StoryStep) : Type 0 where
       → build_by (state_of prefix) tag ≡ Some build → build.faulted ≡ false
       → reply_of (state_of prefix).base build ≡ reply_from_nothing (state_of prefix).base build
 
--- A front of the line of a status was written, whose cause had come. It is one that has a line: want of memory has none, and
--- without a base no call ends well.
+-- A front of what is written without a base was written, for a status whose cause had come. Want of memory is none of these, and
+-- no call ends well without a base but that of `sites`.
 pub record PrintsPrefix (intake : Intake) (faults : Change ℕ) (disk : Change DiskState) (old new : Option (List ℕ)) : Type 0 where
   pub status : Status
   pub cause : HasCause status intake faults disk []
   pub uncut : is_cut status ≡ false
-  pub written : AppendsPrefix old new (status_line status)
+  pub written : IfSome (text_unopened status intake.form intake.text.before) (AppendsPrefix old new)
 
--- *Printed replies*: what the sink holds more is the text of the history, where a base was opened; else it is the
--- status's line. Where the sink failed it is a prefix of the history's text, or of the line of the cause that had come. Where
--- memory ran out it is a prefix of the history's text; where no base was opened, nothing.
+-- *Printed replies*: what the sink holds more is the text that the form tells of the history, where a base was opened; else it is
+-- the status's line, or of `sites` the replies. Where the sink failed it is a prefix of the form's text, or of what is written
+-- without a base for the cause that had come. Where memory ran out it is a prefix of the form's text; where no base was opened,
+-- nothing.
 pub record ArePrinted (status : Status) (story : List StoryStep) (intake : Intake) (faults : Change ℕ) (disk : Change DiskState)
     (old new : Option (List ℕ)) : Type 0 where
-  pub whole : is_opened story ≡ true → is_cut status ≡ false → Appends old new (text_of_story story)
-  pub prefix : is_opened story ≡ true → is_cut status ≡ true → AppendsPrefix old new (text_of_story story)
-  pub line : is_opened story ≡ false → is_cut status ≡ false → Appends old new (status_line status)
+  pub whole : (form : Form) → intake.form ≡ Some form → is_opened story ≡ true → is_cut status ≡ false
+      → Appends old new (text_modeled form story)
+  pub prefix : (form : Form) → intake.form ≡ Some form → is_opened story ≡ true → is_cut status ≡ true
+      → AppendsPrefix old new (text_modeled form story)
+  pub line : is_opened story ≡ false → is_cut status ≡ false → IfSome (text_unopened status intake.form intake.text.before)
+      (Appends old new)
   pub line_prefix : is_opened story ≡ false → status ≡ statuses.WriteFault → PrintsPrefix intake faults disk old new
   pub nothing : is_opened story ≡ false → status ≡ statuses.NoMemory → Appends old new []

@@ -1,4 +1,4 @@
--- What became of a session that was to be run: its base was opened and its phases were run, or no base was opened.
+-- What became of a form that was to be carried out: its base was opened and its session was run, or no base was opened.
 use Rattle.std.specs.Prelude.{◌≡◌, ℕ, Bool, ◌⊎◌, Option, Result, List, []}
 use Rattle.cc_names.specs.declared.commands.Phase.{Phase}
 use Rattle.cc_names.specs.declared.memory.Or.{Or}
@@ -17,20 +17,22 @@ use Rattle.session_run.specs.Calls.Causes.{Change, disk_rose}
 use Rattle.session_run.specs.Faults.Accounted.{CountsFrom}
 use Rattle.session_run.specs.Faults.Stopped.{AllOpenAgain, IsMended}
 use Rattle.session_run.specs.Promises.Headline.{BeginsOn}
-use Rattle.session_run.specs.Running.Runs.{Outside, HasRunSo, OnWriteFault, run_status}
+use Rattle.session_run.specs.Running.Forms.{HasRunSo}
+use Rattle.session_run.specs.Running.Runs.{Outside, OnWriteFault, run_status}
 use Rattle.session_run.specs.Running.Unstarted.{WritesUnstarted, of_unopened}
 use Rattle.session_run.specs.Story.Begun.{first_step}
 use Rattle.session_run.specs.declared.statuses.Status.{Status}
+use Rattle.session_run.specs.declared.words.Form.{Form}
 
--- The phases were run on a base that was opened, or their run was given up, and the disk was handed back: it is seen as the base
--- was opened and as it came back. The story has this first step, and the disk had this count of faults as the call began.
-pub record RunsOpened (phases : List Phase) (status : Status) (first : Option StoryStep) (story : List StoryStep) (before : ℕ)
-    (disk : Change DiskState) (outside : Outside) (faults : Change ℕ) : Type 0 where
+-- What the form asks for was carried out on a base that was opened, or given up, and the disk was handed back: it is seen as the
+-- base was opened and as it came back. The story has this first step, and the disk had this count of faults as the call began.
+pub record RunsOpened (form : Form) (phases : List Phase) (status : Status) (first : Option StoryStep) (story : List StoryStep)
+    (before : ℕ) (disk : Change DiskState) (outside : Outside) (faults : Change ℕ) : Type 0 where
   pub result : Result Bool (Or WriteFault)
   pub status_is : status ≡ run_status result (rises before disk.after.faults)
   pub first_is : first_step story ≡ first
   pub legal : Legal story
-  pub ran : HasRunSo result phases story outside
+  pub ran : HasRunSo form result phases story outside
   pub fault : OnWriteFault result (Rose faults.before faults.after)
   pub accounted : IsAccounted (state_of story) disk.after
   pub mended : IsMended (state_of story) disk.after
@@ -38,8 +40,8 @@ pub record RunsOpened (phases : List Phase) (status : Status) (first : Option St
   pub counted : CountsFrom disk.before disk.after story
 
 -- the base that the disk stood for was opened, by calls that read and of which none failed
-pub record RunsOn (phases : List Phase) (status : Status) (story : List StoryStep) (outside : Outside) (faults : Change ℕ)
-    (disk : Change DiskState) : Type 0 where
+pub record RunsOn (form : Form) (phases : List Phase) (status : Status) (story : List StoryStep) (outside : Outside)
+    (faults : Change ℕ) (disk : Change DiskState) : Type 0 where
   pub begins : BeginsOn disk.before story
   pub first : Option StoryStep
   pub opened : DiskState
@@ -47,7 +49,7 @@ pub record RunsOn (phases : List Phase) (status : Status) (story : List StorySte
   pub fit : IsCounted opened
   pub adds : Both (Adds may_read) disk.before.modeled opened.modeled
   pub files : Both SameFiles disk.before.modeled opened.modeled
-  pub runs : RunsOpened phases status first story disk.before.faults (record { before = opened; after = disk.after }) outside
+  pub runs : RunsOpened form phases status first story disk.before.faults (record { before = opened; after = disk.after }) outside
       faults
 
 -- no base was opened, the line of the cause was written, and the clock was not read
@@ -59,7 +61,7 @@ pub record StaysClosed (status : Status) (story : List StoryStep) (outside : Out
   pub unread : outside.reading ≡ outside.first
   pub wrote : WritesUnstarted (of_unopened because (disk_rose disk)) status outside.held outside.holds faults
 
--- A session was run: its base was opened and the phases carried out, or it could not be opened.
-abbrev pub RunsSession : List Phase → Status → List StoryStep → Outside → Change ℕ → Change DiskState → Type 0
-RunsSession phases status story outside faults disk = RunsOn phases status story outside faults disk
+-- A form was carried out: its base was opened and its session run, or the base could not be opened.
+abbrev pub RunsSession : Form → List Phase → Status → List StoryStep → Outside → Change ℕ → Change DiskState → Type 0
+RunsSession form phases status story outside faults disk = RunsOn form phases status story outside faults disk
     ⊎ StaysClosed status story outside faults disk

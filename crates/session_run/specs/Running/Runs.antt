@@ -96,15 +96,10 @@ OnWriteFault (Ok x) P = Unit {0}
 OnWriteFault (Err NoMemory) P = Unit {0}
 OnWriteFault (Err (Is fault)) P = P
 
--- the status of a run, by whether the disk's faults rose
+-- the status of a call that opened a base, by whether a failure is told and whether the disk's faults rose
 abbrev pub run_status : Result Bool (Or WriteFault) → Bool → Status
 run_status (Ok failed) true = statuses.DiskFault
 run_status (Ok false) false = statuses.Good
 run_status (Ok true) false = statuses.SomeFailed
 run_status (Err NoMemory) rose = statuses.NoMemory
 run_status (Err (Is fault)) rose = statuses.WriteFault
-
--- the phases were run, or their run was given up
-abbrev pub HasRunSo : Result Bool (Or WriteFault) → List Phase → List StoryStep → Outside → Type 0
-HasRunSo (Ok failed) phases story outside = HasRunPhases phases story outside failed
-HasRunSo (Err cut) phases story outside = IsRunGivenUp cut phases story outside

@@ -1,10 +1,12 @@
 -- What of a session has begun in a story: whether a base was opened, and the phases with their moments.
-use Rattle.std.specs.Prelude.{◌≡◌, Bool, true, false, ℕ, Option, Some, None, List, [], ◌∷◌, ◌++◌}
+use Rattle.std.specs.Prelude.{◌≡◌, Bool, true, false, ◌&&◌, ℕ, Option, Some, None, List, [], ◌∷◌, ◌++◌}
 use Rattle.cc_names.specs.declared.commands.Phase.{Phase}
 use Rattle.cc_names.specs.declared.steps.StoryStep.{StoryStep}
 use Rattle.cc_names.specs.declared.steps.StoryStep.TheVariants as story_steps
+use Rattle.session_run.specs.Calls.Asked.{writes_behind}
 use Rattle.session_run.specs.declared.statuses.Status.{Status}
 use Rattle.session_run.specs.declared.statuses.Status.TheVariants as statuses
+use Rattle.session_run.specs.declared.words.Form.{Form}
 
 -- the first step of a story
 abbrev pub first_step : List StoryStep → Option StoryStep
@@ -16,12 +18,14 @@ abbrev pub is_opened : List StoryStep → Bool
 is_opened [] = false
 is_opened (x ∷ story) = true
 
--- whether the session was run through; where the disk failed it was so unless no base could be opened
-abbrev pub is_through : Status → List StoryStep → Bool
-is_through statuses.Good story = true
-is_through statuses.SomeFailed story = true
-is_through statuses.DiskFault story = is_opened story
-is_through status story = false
+-- Whether the session was run through. Where the disk failed it was so unless no base could be opened; where the sink failed,
+-- with a form that writes behind its session and a base that was opened.
+abbrev pub is_through : Option Form → Status → List StoryStep → Bool
+is_through form statuses.Good story = true
+is_through form statuses.SomeFailed story = true
+is_through form statuses.DiskFault story = is_opened story
+is_through form statuses.WriteFault story = writes_behind form && is_opened story
+is_through form status story = false
 
 -- the phases that began
 abbrev pub phases_begun : List StoryStep → List Phase

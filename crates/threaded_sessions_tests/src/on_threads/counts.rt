@@ -54,6 +54,57 @@ fn a_unit_that_is_kept_runs_nothing(rt: HostRuntime) -> Result<(), Fail> {
     assert_counts(&rt, rt.alloc(), &[Runs::new("out")], &[1], BUILT_TWICE)
 }
 
+// A build in one view, and the same build in another one, which sees the same versions.
+const BUILT_IN_TWO_VIEWS: &str = "\
+phase
+lane a
+mkview v
+checkout v .
+mkelem v Makefile
+save v Makefile
+|out: in
+|\tcat in > out
+checkin v Makefile
+mkelem v in
+save v in
+|hi
+checkin v in
+checkin v .
+mkview w
+clearmake v
+clearmake w
+----
+phase 1
+lane a
+1 mkview ok
+2 checkout ok /main/0
+3 mkelem ok
+4 save ok
+5 checkin ok /main/1
+6 mkelem ok
+7 save ok
+8 checkin ok /main/1
+9 checkin ok /main/1
+10 mkview ok
+11 clearmake ok
+  out built 3 98ea6e4f216f2fb4b69fff9b3a44842c38686ca685f3f55dc48c5d3fb1107be4
+12 clearmake ok
+  out winked 3 98ea6e4f216f2fb4b69fff9b3a44842c38686ca685f3f55dc48c5d3fb1107be4
+status 0, 12 rows
+";
+
+/// Nor is it run where an object is winked in for the unit.
+#[test]
+fn a_unit_that_is_winked_in_runs_nothing(rt: HostRuntime) -> Result<(), Fail> {
+    assert_counts(
+        &rt,
+        rt.alloc(),
+        &[Runs::new("out")],
+        &[1],
+        BUILT_IN_TWO_VIEWS,
+    )
+}
+
 // A script that reads two files, and one that includes another.
 const OF_FOUR_FILES: &str = "\
 phase

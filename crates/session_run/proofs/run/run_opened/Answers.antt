@@ -7,13 +7,13 @@ use Rattle.session_run.proofs.run.run_opened.Goals as goal
 pub returns : goal.returns
 returns g c =
     let core = c.settle.new.core in
-    runs_opened c.run_phases-core.result.1 c.args.phases.items c.status_of-status.result _ c.args.core c.run_phases-core.result.0
-    core.story _ c.args.before core.ghost_state _ _ _
-    c.requires.opened c.run_phases-core.ensures.counted c.settle.ensures.settles
+    runs_opened c.carry_out-core.result.1 c.args.given.form c.args.given.phases.items c.status_of-status.result _ c.args.core
+    c.carry_out-core.result.0 core.story _ c.args.before core.ghost_state _ _ _
+    c.requires.opened c.carry_out-core.ensures.counted c.settle.ensures.settles
     c.settle.ensures.same c.into_parts-disk.ensures.history c.into_parts-disk.ensures.disk
-    (c.status_of-status.ensures ∙ ap (run_status c.run_phases-core.result.1) (c.has_risen.ensures
+    (c.status_of-status.ensures ∙ ap (run_status c.carry_out-core.result.1) (c.has_risen.ensures
     ∙ ap (rises c.args.before) c.counts.ensures.faults))
-    c.run_phases-core.ensures.first c.into_parts-disk.ensures.legal c.run_phases-core.ensures.ok c.run_phases-core.ensures.err
-    c.run_phases-core.ensures.fault c.into_parts-disk.ensures.stopped c.settle.ensures.mended
+    c.carry_out-core.ensures.first c.into_parts-disk.ensures.legal c.carry_out-core.ensures.ok c.carry_out-core.ensures.err
+    c.carry_out-core.ensures.fault c.into_parts-disk.ensures.stopped c.settle.ensures.mended
     (λ opening k found is may. c.a_stop_opens_again.ensures core.story opening k found c.into_parts-disk.ensures.legal
     c.into_parts-disk.ensures.formed is may)

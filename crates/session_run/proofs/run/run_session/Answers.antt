@@ -38,7 +38,7 @@ returns-in-Ok g c =
       adds = c.in-Ok.ensures.ok.adds;
       files = c.in-Ok.ensures.ok.files;
       runs =
-          subst (λ n. RunsOpened c.args.phases.items ended.status (first_step core.story) ended.history n
+          subst (λ n. RunsOpened c.args.given.form c.args.given.phases.items ended.status (first_step core.story) ended.history n
           (record { before = core.ghost_state; after = g.D.Disk.ghost_state ended.disk }) outside faults)
           c.counts-before.ensures.faults c.run_opened.ensures;
     })

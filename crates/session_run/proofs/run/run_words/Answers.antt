@@ -1,20 +1,34 @@
 use Rattle.std.proofs.Common.{List, inl, inr, refl, subst, sym}
 use Rattle.cc_names.specs.declared.steps.StoryStep.{StoryStep}
+use Rattle.session_run.specs.Calls.Asked.{form_of}
 use Rattle.session_run.specs.Calls.Causes.{Change, Intake, IsUntouched}
 use Rattle.session_run.specs.Running.Runs.{Outside}
 use Rattle.session_run.proofs.Calls.Exactly.{finds_damage}
+use Rattle.session_run.proofs.Calls.Ready.{is_short}
 use Rattle.session_run.proofs.Faults.Stopping.{journal_stable}
-use Rattle.session_run.proofs.Promises.Headline.{Promised, asked, promised_run, promised_unstarted, untouched}
+use Rattle.session_run.proofs.Promises.Headline.{Promised, asked, promised_run, promised_without, untouched}
 use Rattle.session_run.proofs.run.run_words.Goals as goal
 
 pub run_session-requires-clause-stable : goal.run_session-requires-clause-stable
 run_session-requires-clause-stable g c κs within = journal_stable (g.D.Disk.ghost_state c.args.disk) c.requires
 
+pub run_session-requires-clause-runnable : goal.run_session-requires-clause-runnable
+run_session-requires-clause-runnable g c κs within = c.in-Ok.ensures.gives.runnable
+
+pub run_session-requires-clause-none : goal.run_session-requires-clause-none
+run_session-requires-clause-none g c κs within = c.in-Ok.ensures.gives.none
+
+pub run_session-requires-clause-base : goal.run_session-requires-clause-base
+run_session-requires-clause-base g c κs within = c.in-Ok.ensures.gives.base
+
+pub write_without_base-requires : goal.write_without_base-requires
+write_without_base-requires g c = is_short c.in-Err.without _ c.in-Err.ensures.why
+
 pub returns-in-Ok : goal.returns-in-Ok
 returns-in-Ok g c =
-    let all = promised_run c.in-Ok.phases.items c.run_session.result.status c.run_session.result.history _ _ _ _
-    (c.a_disk_is_counted.ensures c.args.disk) (c.a_disk_is_counted.ensures c.run_session.result.disk) c.in-Ok.ensures.gives
-    c.run_session.ensures in
+    let all = promised_run c.in-Ok.given.form c.in-Ok.given.phases.items c.run_session.result.status c.run_session.result.history
+    _ _ _ _ (c.a_disk_is_counted.ensures c.args.disk) (c.a_disk_is_counted.ensures c.run_session.result.disk)
+    c.in-Ok.ensures.gives c.run_session.ensures in
     record {
       session = all.session;
       history = all.history;
@@ -31,6 +45,7 @@ returns-in-Ok g c =
           c.objects_are_reused_well.ensures.recorded _ all.history.legal;
       sound =
           c.objects_are_reused_well.ensures.sound _ all.history.legal;
+      checked = all.checked;
       scrubs =
           c.objects_are_scrubbed_well.ensures.scrubs _ all.history.legal;
       held =
@@ -43,7 +58,7 @@ returns-in-Ok g c =
       files = all.files;
       damaged = finds_damage _ _ _ _ _ all.cause;
       untouched =
-          record { unless_asked = inl (asked _ c.in-Ok.phases.items c.in-Ok.ensures.gives) };
+          record { unless_asked = inl (asked _ c.in-Ok.given.form c.in-Ok.given.phases.items c.in-Ok.ensures.gives) };
       taken =
           c.session_given.ensures.taken;
     }
@@ -51,7 +66,7 @@ returns-in-Ok g c =
 pub returns-in-Err : goal.returns-in-Err
 returns-in-Err g c =
     let intake : Intake = record {
-      words = c.args.words.now;
+      form = form_of c.args.words.now;
       text = record {
         before = (g.S.Source.ghost_state c.args.source.now).left;
         after = (g.S.Source.ghost_state
@@ -68,7 +83,7 @@ returns-in-Err g c =
     } in
     let outside : Outside = record {
       held = (g.K.Sink.ghost_state c.args.sink.now).held;
-      holds = (g.K.Sink.ghost_state c.write_unstarted.new.sink).held;
+      holds = (g.K.Sink.ghost_state c.write_without_base.new.sink).held;
       moments =
           (g.C.Clock.ghost_state c.args.clock.now).modeled;
       first = (g.C.Clock.ghost_state c.args.clock.now).readings;
@@ -77,13 +92,13 @@ returns-in-Err g c =
     } in
     let faults : Change _ = record {
       before = (g.K.Sink.ghost_state c.args.sink.now).faults;
-      after = (g.K.Sink.ghost_state c.write_unstarted.new.sink).faults;
+      after = (g.K.Sink.ghost_state c.write_without_base.new.sink).faults;
     } in
     let disk = g.D.Disk.ghost_state c.args.disk in
-    let all = subst (λ story. Promised c.write_unstarted.result story intake outside faults
+    let all = subst (λ story. Promised c.write_without_base.result story intake outside faults
     (record { before = disk; after = disk })) (sym c.empty.ensures)
-    (promised_unstarted c.in-Err.unstarted c.write_unstarted.result intake outside faults disk refl
-    (c.a_disk_is_counted.ensures c.args.disk) c.requires c.in-Err.ensures.why c.write_unstarted.ensures) in
+    (promised_without c.in-Err.without c.write_without_base.result intake outside faults disk refl
+    (c.a_disk_is_counted.ensures c.args.disk) c.requires c.in-Err.ensures.why c.write_without_base.ensures) in
     record {
       session = all.session;
       history = all.history;
@@ -100,6 +115,7 @@ returns-in-Err g c =
           c.objects_are_reused_well.ensures.recorded _ all.history.legal;
       sound =
           c.objects_are_reused_well.ensures.sound _ all.history.legal;
+      checked = all.checked;
       scrubs =
           c.objects_are_scrubbed_well.ensures.scrubs _ all.history.legal;
       held =

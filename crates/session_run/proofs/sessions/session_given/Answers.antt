@@ -1,18 +1,40 @@
-use Rattle.std.proofs.Common.{◌≡◌, sym, subst, ◌∙◌, true, arith}
-use Rattle.session_run.specs.Calls.Asked.{is_run}
-use Rattle.session_run.specs.Running.Unstarted.{GivesPhases}
-use Rattle.session_run.proofs.Calls.Ready.{gives_phases}
+-- the words have a form, whose text is a session or one of sites, or none
+use Rattle.std.proofs.Common.{sym, subst}
+use Rattle.session_run.specs.Calls.Causes.{TakesNoMore, intake_by, intake_of}
+use Rattle.session_run.specs.Running.Unstarted.{GivesText, IsUnstarted}
+use Rattle.session_run.proofs.Calls.Ready.{are_said, given_so, not_given_so}
 use Rattle.session_run.proofs.sessions.session_given.Goals as goal
 
-pub returns-in-Ok-into_vec-clause-gives : goal.returns-in-Ok-into_vec-clause-gives
-returns-in-Ok-into_vec-clause-gives g c =
-    let run : is_run c.args.words.now ≡ true = grind arith in
-    let read = c.in-Ok-read.ensures in
-    subst (GivesPhases _) (sym (c.in-Ok-into_vec.ensures ∙ c.into_phases.ensures))
-    (gives_phases c.args.words.now (g.S.Source.ghost_state c.args.source.now).left
-    (g.S.Source.ghost_state c.read_whole.new.source).left (g.S.Source.ghost_state c.args.source.now).given
-    (g.S.Source.ghost_state c.read_whole.new.source).given
-    (g.S.Source.ghost_state c.args.source.now).faults (g.S.Source.ghost_state c.read_whole.new.source).faults c.in-Ok.text
-    c.in-Ok-read.session run
-    c.in-Ok.ensures.bytes c.in-Ok.ensures.end c.in-Ok.ensures.short c.in-Ok.ensures.counted
-    read.session read.formed)
+pub text_given-requires : goal.text_given-requires
+text_given-requires g c = are_said c.args.words.now c.in-Some.form (sym c.in-Some.ensures)
+
+pub returns-in-Ok-clause-gives : goal.returns-in-Ok-clause-gives
+returns-in-Ok-clause-gives g c =
+    given_so (intake_of c.args.words.now (g.S.Source.ghost_state c.args.source.now) (g.S.Source.ghost_state c.text_given.new.source))
+    c.in-Some.form c.in-Ok.text c.session_of.result (sym c.in-Some.ensures)
+    (subst (λ form. GivesText c.in-Some.form (intake_by form (g.S.Source.ghost_state c.args.source.now)
+    (g.S.Source.ghost_state c.text_given.new.source)) c.in-Ok.text) c.in-Some.ensures c.in-Ok.ensures.gives)
+    c.session_of.ensures.gives
+
+pub returns-in-Ok-clause-why : goal.returns-in-Ok-clause-why
+returns-in-Ok-clause-why g c =
+    not_given_so (intake_of c.args.words.now (g.S.Source.ghost_state c.args.source.now) (g.S.Source.ghost_state c.text_given.new.source))
+    c.in-Some.form c.in-Ok.text c.session_of.result (sym c.in-Some.ensures)
+    (subst (λ form. GivesText c.in-Some.form (intake_by form (g.S.Source.ghost_state c.args.source.now)
+    (g.S.Source.ghost_state c.text_given.new.source)) c.in-Ok.text) c.in-Some.ensures c.in-Ok.ensures.gives)
+    c.session_of.ensures.why
+
+pub returns-in-Ok-clause-taken : goal.returns-in-Ok-clause-taken
+returns-in-Ok-clause-taken g c =
+    subst (λ form. TakesNoMore (intake_by form (g.S.Source.ghost_state c.args.source.now)
+    (g.S.Source.ghost_state c.text_given.new.source))) c.in-Some.ensures c.text_given.ensures.taken
+
+pub returns-in-Err-clause-why : goal.returns-in-Err-clause-why
+returns-in-Err-clause-why g c =
+    subst (λ form. IsUnstarted c.in-Err.unstarted (intake_by form (g.S.Source.ghost_state c.args.source.now)
+    (g.S.Source.ghost_state c.text_given.new.source))) c.in-Some.ensures c.in-Err.ensures.why
+
+pub returns-in-Err-clause-taken : goal.returns-in-Err-clause-taken
+returns-in-Err-clause-taken g c =
+    subst (λ form. TakesNoMore (intake_by form (g.S.Source.ghost_state c.args.source.now)
+    (g.S.Source.ghost_state c.text_given.new.source))) c.in-Some.ensures c.text_given.ensures.taken

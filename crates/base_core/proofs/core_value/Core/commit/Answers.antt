@@ -1,6 +1,6 @@
 -- a row is committed, or the disk fails: what is kept then, and how the story went on
 use Rattle.std.proofs.Common.{◌≡◌, ℕ, true, Option, Some, None, Ok, List, ◌++◌, ◌∷◌, [], ap, ap₂, sym, subst, ◌∙◌}
-use Rattle.cleartool.specs.Naming.{replied_name}
+use Rattle.view_lookup.specs.Naming.{replied_name}
 use Rattle.cc_names.specs.Formed.{Plain}
 use Rattle.cc_names.specs.declared.replies.Reply.TheVariants as replies
 use Rattle.cc_names.specs.declared.steps.Step.TheVariants as steps
@@ -16,15 +16,13 @@ use Rattle.base_core.specs.Keeping.Lanes.{LaneState, with_reply}
 use Rattle.story_log.specs.Logging.Appending.{IsCommitted, IsFaulted, Appends}
 use Rattle.base_core.specs.Calls.Answering.{append_reply, append_done}
 use Rattle.story_log.specs.Logging.Logs.{Logged}
-use Rattle.base_core.specs.Story.Counted.{KeepsCount}
 use Rattle.base_core.specs.Story.Replying.{replied_count, row_reply}
-use Rattle.base_core.specs.Story.Shown.{Shown}
 use Rattle.story_log.specs.declared.logs.Appended.{Appended}
 use Rattle.story_log.specs.declared.logs.Appended.TheVariants as appends
 use Rattle.base_core.proofs.Acting.Faulting.{preserved_next_fault, next_faults}
 use Rattle.base_core.proofs.Acting.Finishing.{preserved_next_row}
 use Rattle.base_core.proofs.Keeping.Rooms.{row_has_room}
-use Rattle.base_core.proofs.Story.Counts.{shown_of}
+use Rattle.base_core.proofs.Story.Counts.{counts_so}
 use Rattle.base_core.proofs.core_value.Core.commit.Goals as goal
 
 -- what is kept, whatever became of the row
@@ -65,34 +63,6 @@ acts_so log new story row appends.Faulted same next became =
     next_faults story new.story row done.left done.before done.faults done.tick
     (ap (λ (l : Logged). l.story) done.grows ∙ ap (λ t. t ++ story_steps.Other
     (steps.Fault row.tag done.left done.before done.faults done.tick) ∷ []) same) next
-
--- and that step says what became of the disk's counts
-counts_so : (log new : Logged) (old : Shown) (row : Plain) (appended : Appended) → shown_of log ≡ old
-    → Appends log new row None appended → KeepsCount old (shown_of new)
-counts_so log new old row appends.Committed view became =
-    let done : IsCommitted log new row = became in
-    subst (λ (shown : Shown). KeepsCount shown (shown_of new)) view
-    (record {
-      steps = story_steps.Commit row done.tick ∷ [];
-      grows = ap (λ (l : Logged). l.story) done.grows;
-      counts = (
-        done.ghost_state,
-        (done.at, done.spent, done.faults, done.fit, done.writes, done.calls),
-        ap (λ (l : Logged). l.ghost_state) done.grows,
-      );
-    })
-counts_so log new old row appends.Faulted view became =
-    let done : IsFaulted log new row None = became in
-    subst (λ (shown : Shown). KeepsCount shown (shown_of new)) view
-    (record {
-      steps = story_steps.Other (steps.Fault row.tag done.left done.before done.faults done.tick) ∷ [];
-      grows = ap (λ (l : Logged). l.story) done.grows;
-      counts = (
-        done.ghost_state,
-        (done.counted, done.modeled, done.one, done.at, done.spent, done.fit, done.writes),
-        ap (λ (l : Logged). l.ghost_state) done.grows,
-      );
-    })
 
 pub append-requires-clause-fits : goal.append-requires-clause-fits
 append-requires-clause-fits g c =

@@ -6,6 +6,7 @@ use Rattle.legal_history.specs.Stories.Commanded.{next_command_of}
 use Rattle.legal_history.specs.Stories.States.{next_tag}
 use Rattle.legal_history.specs.Stories.Steps.{state_of}
 use Rattle.story_log.specs.Logging.Appending.{Appends, IsCommitted, IsFaulted}
+use Rattle.story_log.specs.declared.logs.Appended.TheVariants as appends
 use Rattle.clearmake.specs.Going.{GoesOn, HasOutcome, Finishes}
 use Rattle.base_core.specs.Keeping.CoreInvariants.{CoreInvariant}
 use Rattle.story_log.specs.Logging.Logs.{with_step, with_step_on}
@@ -15,6 +16,7 @@ use Rattle.base_core.proofs.Keeping.LaneSlots.{lane_slot, slot_there}
 use Rattle.base_core.proofs.Keeping.Rooms.{build_has_room}
 use Rattle.base_core.proofs.Building.ObjectSteps.{gives_here, preserved_object, object_so, object_fits}
 use Rattle.base_core.proofs.Building.UnitCalls.{builds_waits}
+use Rattle.base_core.proofs.Story.Counts.{counts_ended}
 use Rattle.base_core.proofs.core_value.Core.commit_unit_row.Goals as goal
 
 pub tag-tag-requires : goal.tag-tag-requires
@@ -149,3 +151,15 @@ returns-in-Faulted-clause-ok g c =
     (broken_object_finishes c.self.inside.log c.self.inside.lanes c.self.inside.moment c.args.self.now.story c.args.lane
     c.args.unit c.args.row c.args.object c.tag-tag.result done.left done.before done.faults done.tick done.ghost_state
     (ap (λ v. v.story) c.self.view_is) c.self.invariant gives tagged)
+
+pub returns-in-Committed-clause-counted : goal.returns-in-Committed-clause-counted
+returns-in-Committed-clause-counted g c =
+    counts_ended c.self.inside.log c.append.new.self c.args.self.now c.args.row c.tag-tag.result appends.Committed c.self.view_is
+    (subst (Appends c.self.inside.log c.append.new.self c.args.row (Some (steps.End c.tag-tag.result))) c.in-Committed.is
+    c.in_ok-append.ensures.ok)
+
+pub returns-in-Faulted-clause-counted : goal.returns-in-Faulted-clause-counted
+returns-in-Faulted-clause-counted g c =
+    counts_ended c.self.inside.log c.append.new.self c.args.self.now c.args.row c.tag-tag.result appends.Faulted c.self.view_is
+    (subst (Appends c.self.inside.log c.append.new.self c.args.row (Some (steps.End c.tag-tag.result))) c.in-Faulted.is
+    c.in_ok-append.ensures.ok)

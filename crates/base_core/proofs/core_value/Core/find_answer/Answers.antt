@@ -1,6 +1,6 @@
 -- the answer to a lane's next command is that of its state
 use Rattle.std.proofs.Common.{◌≡◌, None, ap, sym, subst, ◌∙◌}
-use Rattle.cleartool.specs.Answering.{AnswersAs}
+use Rattle.view_lookup.specs.Answering.{AnswersAs}
 use Rattle.legal_history.specs.Builds.Active.{build_of}
 use Rattle.legal_history.specs.Commands.Lines.{query_decision}
 use Rattle.legal_history.specs.Stories.Steps.{state_of}

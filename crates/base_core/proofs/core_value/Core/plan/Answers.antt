@@ -14,8 +14,8 @@ occasion-occasion-requires g c = builds_waits (state_of c.args.self.now.story) c
 pub returns : goal.returns
 returns g c =
     plans_so (state_of c.args.self.now.story) c.args.lane c.occasion-occasion.result.taken c.occasion-occasion.result.tag
-    c.in_ok-asked_build.asked c.in_ok-asked_build.asked.view c.rows.result c.occasion-occasion.result.busy c.plan_build.result
-    c.requires.builds c.requires.free c.in_ok-asked_build.ensures.next c.occasion-occasion.ensures.tag c.rows.ensures
+    c.in_ok-asked.asked c.in_ok-asked.asked.view c.rows.result c.occasion-occasion.result.busy c.plan_build.result
+    c.requires.builds c.requires.free c.in_ok-asked.ensures.next c.occasion-occasion.ensures.tag c.rows.ensures
     (c.occasion-occasion.ensures.busy ∙ ap (building (state_of c.args.self.now.story).active) c.as_bytes.ensures.bytes)
     c.occasion-occasion.ensures.taken (λ scene meets. c.plan_build.ensures.planned scene meets) c.plan_build.ensures.formed
     c.plan_build.ensures.room

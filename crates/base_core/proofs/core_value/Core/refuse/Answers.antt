@@ -22,7 +22,7 @@ pub invariant_of-self-2 : goal.invariant_of-self-2
 invariant_of-self-2 g c =
     subst (λ log. CoreInvariant log c.reply.new.self c.self.inside.moment) (sym c.in_ok-tell.ensures.ok)
     (subst (λ lanes. CoreInvariant (with_step c.self.inside.log (steps.Refused c.args.tag c.args.refusal)) lanes
-    c.self.inside.moment) (sym (c.reply.ensures ∙ ap (λ modeled. with_reply c.self.inside.lanes c.args.tag.lane
-    (replies.Refused modeled)) c.in_ok-modeled.ensures))
+    c.self.inside.moment) (sym (c.reply.ensures ∙ ap (λ replied. with_reply c.self.inside.lanes c.args.tag.lane
+    (replies.Refused replied)) c.in_ok-replied.ensures))
     (preserved_next_refusal c.self.inside.log c.self.inside.lanes c.self.inside.moment c.args.self.now.story c.args.tag
     c.args.refusal (ap (λ v. v.story) c.self.view_is) c.self.invariant c.requires))

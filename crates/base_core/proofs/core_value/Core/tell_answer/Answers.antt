@@ -22,7 +22,7 @@ pub invariant_of-self-2 : goal.invariant_of-self-2
 invariant_of-self-2 g c =
     subst (λ log. CoreInvariant log c.reply.new.self c.self.inside.moment) (sym c.in_ok-tell.ensures.ok)
     (subst (λ lanes. CoreInvariant (with_step c.self.inside.log (steps.Answer c.args.tag c.args.text)) lanes c.self.inside.moment)
-    (sym (c.reply.ensures ∙ ap (λ modeled. with_reply c.self.inside.lanes c.args.tag.lane (replies.Answer modeled))
-    c.in_ok-modeled.ensures))
+    (sym (c.reply.ensures ∙ ap (λ replied. with_reply c.self.inside.lanes c.args.tag.lane (replies.Answer replied))
+    c.in_ok-replied.ensures))
     (preserved_next_answer c.self.inside.log c.self.inside.lanes c.self.inside.moment c.args.self.now.story c.args.tag c.args.text
     (replies.Answer c.args.text) (ap (λ v. v.story) c.self.view_is) c.self.invariant c.requires))
