@@ -28,7 +28,7 @@ fn deciding_rule<'a>(rows: &FirstRows<'a>, view: &Name, picked: Picked) -> Optio
     ensures { option_copied result ≡ deciding_rule rows.now view.now picked }
 {
     rules(rows, view)?
-        .rules()
+        .as_slice()
         .iter()
         .find(|rule| rule.line == picked.line)
 }

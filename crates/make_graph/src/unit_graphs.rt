@@ -157,7 +157,7 @@ impl Graph {
             (λ closure. (n : ℕ) → is_marked closure n ≡ is_in (closure_of self.now unit) n) }
     {
         match self.closures.get(unit as usize) {
-            Some(marks) => Closure::kept(alloc, marks),
+            Some(marks) => Closure::cached_copy(alloc, marks),
             None => of_unit(self, alloc, unit),
         }
     }

@@ -61,7 +61,7 @@ fn no_results(alloc: Global, macros: &MacroTable) -> Results
     ensures apart { HasNamesApart (macros_of macros.now) }
 {
     let count = macros.len();
-    let states = States::untouched(alloc, count);
+    let states = States::none_touched(alloc, count);
     let written = Vec::new(alloc);
     Results { states, written }
 }

@@ -89,7 +89,7 @@ impl<'a> Expanding<'a> {
     {
         Expanding::behind(
             alloc,
-            States::untouched(alloc, count),
+            States::none_touched(alloc, count),
             Vec::new(alloc),
             text,
         )

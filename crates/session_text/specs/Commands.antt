@@ -19,54 +19,54 @@ use Rattle.session_text.specs.Shapes.{has_flag, without_flag, view, only_type, v
 use Rattle.session_text.specs.Shapes.{maybe_path, read_first_name, behind_first, flag_path, flag_below, fits_beside}
 use Rattle.session_text.specs.Clearmake.{clearmake}
 
--- `read_mkview V`
+-- `mkview V`
 abbrev pub read_mkview : List (List ℕ) → Said Change
 read_mkview words = says changes.Mkview (view words)
 
--- `read_rmview V`, `read_rmview -force V`
+-- `rmview V`, `rmview -force V`
 abbrev pub read_rmview : List (List ℕ) → Said Change
 read_rmview words =
     says (λ v. changes.Rmview v (has_flag (codes "-force") words)) (view (without_flag (codes "-force") words))
 
--- `read_setcs V`, with a body
+-- `setcs V`, with a body
 abbrev pub read_setcs : List (List ℕ) → List ℕ → Said Change
 read_setcs words text = says (λ v. changes.Setcs v text) (view words)
 
--- `read_mkelem V [-nco] P`
+-- `mkelem V [-nco] P`
 abbrev pub read_mkelem : List (List ℕ) → Said Change
 read_mkelem words = says (λ at. changes.Mkelem at.0 at.1 at.2) (flag_below (codes "-nco") words)
 
--- `read_mkdir V [-nco] P`
+-- `mkdir V [-nco] P`
 abbrev pub read_mkdir : List (List ℕ) → Said Change
 read_mkdir words = says (λ at. changes.Mkdir at.0 at.1 at.2) (flag_below (codes "-nco") words)
 
--- `read_checkout V [-unreserved] P`
+-- `checkout V [-unreserved] P`
 abbrev pub read_checkout : List (List ℕ) → Said Change
 read_checkout words = says (λ at. changes.Checkout at.0 at.1 at.2) (flag_path (codes "-unreserved") words)
 
--- `read_mkbranch V [-nco] B P`
+-- `mkbranch V [-nco] B P`
 abbrev pub read_mkbranch : List (List ℕ) → Said Change
 read_mkbranch words =
     says (λ at. changes.Mkbranch at.0 (has_flag (codes "-nco") (behind_first words)) at.1.0 at.1.1)
     (both (read_first_name words) (type_path (without_flag (codes "-nco") (behind_first words))))
 
--- `read_save V P`, with a body
+-- `save V P`, with a body
 abbrev pub read_save : List (List ℕ) → List ℕ → Said Change
 read_save words text = says (λ at. changes.Save at.0 at.1 text) (view_below words)
 
--- `read_rm V P`
+-- `rm V P`
 abbrev pub read_rm : List (List ℕ) → Said Change
 read_rm words = says (λ at. changes.Rm at.0 at.1) (view_below words)
 
--- `read_checkin V [-identical] P`
+-- `checkin V [-identical] P`
 abbrev pub read_checkin : List (List ℕ) → Said Change
 read_checkin words = says (λ at. changes.Checkin at.0 at.1 at.2) (flag_path (codes "-identical") words)
 
--- `read_uncheckout V P`
+-- `uncheckout V P`
 abbrev pub read_uncheckout : List (List ℕ) → Said Change
 read_uncheckout words = says (λ at. changes.Uncheckout at.0 at.1) (view_path words)
 
--- `read_rmname V P`
+-- `rmname V P`
 abbrev pub read_rmname : List (List ℕ) → Said Change
 read_rmname words = says (λ at. changes.Rmname at.0 at.1) (view_below words)
 
@@ -74,101 +74,101 @@ read_rmname words = says (λ at. changes.Rmname at.0 at.1) (view_below words)
 abbrev pub moves : (List ℕ × List ℕ) × List ℕ → Said Change
 moves at = where_so (fits_beside at.0.1 at.1) (Ok (changes.Mv at.0.0 at.0.1 at.1))
 
--- `read_mv V P NAME`, where NAME beside P makes a path
+-- `mv V P NAME`, where NAME beside P makes a path
 abbrev pub read_mv : List (List ℕ) → Said Change
 read_mv (v ∷ p ∷ name ∷ []) = and_says moves (both (view_below (v ∷ p ∷ [])) (name_word name))
 read_mv _ = Err BadWord
 
--- `read_mklbtype L`
+-- `mklbtype L`
 abbrev pub read_mklbtype : List (List ℕ) → Said Change
 read_mklbtype words = says changes.Mklbtype (only_type words)
 
--- `read_mkbrtype B`
+-- `mkbrtype B`
 abbrev pub read_mkbrtype : List (List ℕ) → Said Change
 read_mkbrtype words = says changes.Mkbrtype (only_type words)
 
--- `read_mklabel V [-replace] -config P L`, by the words behind `-config`
+-- `mklabel V [-replace] -config P L`, by the words behind `-config`
 abbrev pub by_record : List ℕ → Bool → List (List ℕ) → Said Change
 by_record v replace words = says (λ at. changes.MklabelConfig v replace at.0 at.1) (path_type words)
 
--- `read_mklabel V [-replace] L P`, and with `-config`, by the words behind the flag
+-- `mklabel V [-replace] L P`, and with `-config`, by the words behind the flag
 abbrev pub read_labels : Bool → List (List ℕ) → List ℕ → Said Change
 read_labels replace words v =
     if has_flag (codes "-config") words then by_record v replace (without_flag (codes "-config") words)
     else says (λ at. changes.Mklabel v replace at.0 at.1) (type_path words)
 
--- `read_mklabel V [-replace] L P`, `read_mklabel V [-replace] -config P L`
+-- `mklabel V [-replace] L P`, `mklabel V [-replace] -config P L`
 abbrev pub read_mklabel : List (List ℕ) → Said Change
 read_mklabel words =
     and_says (read_labels (has_flag (codes "-replace") (behind_first words))
     (without_flag (codes "-replace") (behind_first words)))
     (read_first_name words)
 
--- `read_rmlabel V L P`
+-- `rmlabel V L P`
 abbrev pub read_rmlabel : List (List ℕ) → Said Change
 read_rmlabel words =
     says (λ at. changes.Rmlabel at.0 at.1.0 at.1.1) (both (read_first_name words) (type_path (behind_first words)))
 
--- `read_mkarrow V P VERSION`
+-- `mkarrow V P VERSION`
 abbrev pub read_mkarrow : List (List ℕ) → Said Change
 read_mkarrow (v ∷ p ∷ version ∷ []) =
     says (λ at. changes.Mkarrow at.0.0 at.0.1 at.1) (both (view_below (v ∷ p ∷ [])) (version_word version))
 read_mkarrow _ = Err BadWord
 
--- `read_rmdo V P`
+-- `rmdo V P`
 abbrev pub read_rmdo : List (List ℕ) → Said Change
 read_rmdo words = says (λ at. changes.Rmdo at.0 at.1) (view_below words)
 
--- `read_scrub AGE`
+-- `scrub AGE`
 abbrev pub read_scrub : List (List ℕ) → Said Change
 read_scrub (age ∷ []) = says changes.Scrub (age_word age)
 read_scrub _ = Err BadWord
 
--- `read_catcs V`
+-- `catcs V`
 abbrev pub read_catcs : List (List ℕ) → Said Query
 read_catcs words = says queries.Catcs (view words)
 
--- `read_lsdo V`
+-- `lsdo V`
 abbrev pub read_lsdo : List (List ℕ) → Said Query
 read_lsdo words = says queries.Lsdo (view words)
 
--- `read_ls V`, `read_ls V P`
+-- `ls V`, `ls V P`
 abbrev pub read_ls : List (List ℕ) → Said Query
 read_ls words = says (λ at. queries.Ls at.0 at.1) (both (read_first_name words) (maybe_path (behind_first words)))
 
--- `read_cat V P`, `read_cat V P@@VERSION`
+-- `cat V P`, `cat V P@@VERSION`
 abbrev pub read_cat : List (List ℕ) → Said Query
 read_cat (v ∷ p ∷ []) = says (λ at. queries.Cat at.0 at.1.0 at.1.1) (both (name_word v) (cat_word p))
 read_cat _ = Err BadWord
 
--- `read_describe V P`
+-- `describe V P`
 abbrev pub read_describe : List (List ℕ) → Said Query
 read_describe words = says (λ at. queries.Describe at.0 at.1) (view_path words)
 
--- `read_lsvtree V P`
+-- `lsvtree V P`
 abbrev pub read_lsvtree : List (List ℕ) → Said Query
 read_lsvtree words = says (λ at. queries.Lsvtree at.0 at.1) (view_path words)
 
--- `read_lshistory V P`
+-- `lshistory V P`
 abbrev pub read_lshistory : List (List ℕ) → Said Query
 read_lshistory words = says (λ at. queries.Lshistory at.0 at.1) (view_path words)
 
--- `read_catcr V P`
+-- `catcr V P`
 abbrev pub read_catcr : List (List ℕ) → Said Query
 read_catcr words = says (λ at. queries.Catcr at.0 at.1) (view_below words)
 
--- `read_diffcr V P W Q`
+-- `diffcr V P W Q`
 abbrev pub read_diffcr : List (List ℕ) → Said Query
 read_diffcr (v ∷ p ∷ words) =
     says (λ at. queries.Diffcr at.0.0 at.0.1 at.1.0 at.1.1) (both (view_below (v ∷ p ∷ [])) (view_below words))
 read_diffcr _ = Err BadWord
 
--- `read_covers W V P`
+-- `covers W V P`
 abbrev pub read_covers : List (List ℕ) → Said Query
 read_covers words =
     says (λ at. queries.Covers at.0 at.1.0 at.1.1) (both (read_first_name words) (view_path (behind_first words)))
 
--- `read_findmerge V P -fversion .../B/LATEST`
+-- `findmerge V P -fversion .../B/LATEST`
 abbrev pub read_findmerge : List (List ℕ) → Said Query
 read_findmerge (v ∷ p ∷ flag ∷ latest ∷ []) =
     where_so (bytes_eq flag (codes "-fversion"))

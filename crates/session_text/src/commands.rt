@@ -27,7 +27,7 @@ use cc_names::refusals::SessionCause;
 use std::alloc::Global;
 use std::hash::RandomState;
 
-/// `read_mkview V`
+/// `mkview V`
 fn read_mkview(alloc: Global, words: Words<'_>) -> Result<Change, Or<SessionCause>>
     ensures { Gives result (read_mkview words.entry) }
 {
@@ -35,7 +35,7 @@ fn read_mkview(alloc: Global, words: Words<'_>) -> Result<Change, Or<SessionCaus
     Ok(Change::Mkview { view })
 }
 
-/// `read_rmview V`, `read_rmview -force V`
+/// `rmview V`, `rmview -force V`
 fn read_rmview(alloc: Global, mut words: Words<'_>) -> Result<Change, Or<SessionCause>>
     ensures { Gives result (read_rmview words.entry) }
 {
@@ -44,7 +44,7 @@ fn read_rmview(alloc: Global, mut words: Words<'_>) -> Result<Change, Or<Session
     Ok(Change::Rmview { view, force })
 }
 
-/// `read_setcs V`, with a body
+/// `setcs V`, with a body
 fn read_setcs(
     alloc: Global,
     words: Words<'_>,
@@ -57,7 +57,7 @@ fn read_setcs(
     Ok(Change::Setcs { view, text })
 }
 
-/// `read_mkelem V [-nco] P`
+/// `mkelem V [-nco] P`
 fn read_mkelem(alloc: Global, words: Words<'_>) -> Result<Change, Or<SessionCause>>
     ensures { Gives result (read_mkelem words.entry) }
 {
@@ -65,7 +65,7 @@ fn read_mkelem(alloc: Global, words: Words<'_>) -> Result<Change, Or<SessionCaus
     Ok(Change::Mkelem { view, nco, path })
 }
 
-/// `read_mkdir V [-nco] P`
+/// `mkdir V [-nco] P`
 fn read_mkdir(alloc: Global, words: Words<'_>) -> Result<Change, Or<SessionCause>>
     ensures { Gives result (read_mkdir words.entry) }
 {
@@ -73,7 +73,7 @@ fn read_mkdir(alloc: Global, words: Words<'_>) -> Result<Change, Or<SessionCause
     Ok(Change::Mkdir { view, nco, path })
 }
 
-/// `read_checkout V [-unreserved] P`
+/// `checkout V [-unreserved] P`
 fn read_checkout(alloc: Global, words: Words<'_>) -> Result<Change, Or<SessionCause>>
     ensures { Gives result (read_checkout words.entry) }
 {
@@ -85,7 +85,7 @@ fn read_checkout(alloc: Global, words: Words<'_>) -> Result<Change, Or<SessionCa
     })
 }
 
-/// `read_mkbranch V [-nco] B P`
+/// `mkbranch V [-nco] B P`
 fn read_mkbranch(alloc: Global, mut words: Words<'_>) -> Result<Change, Or<SessionCause>>
     ensures { Gives result (read_mkbranch words.entry) }
 {
@@ -100,7 +100,7 @@ fn read_mkbranch(alloc: Global, mut words: Words<'_>) -> Result<Change, Or<Sessi
     })
 }
 
-/// `read_save V P`, with a body
+/// `save V P`, with a body
 fn read_save(alloc: Global, words: Words<'_>, behind: &Rest<'_>) -> Result<Change, Or<SessionCause>>
     ensures { Gives result (read_save words.entry (body_of (kinds_of behind.now.bytes))) }
 {
@@ -109,7 +109,7 @@ fn read_save(alloc: Global, words: Words<'_>, behind: &Rest<'_>) -> Result<Chang
     Ok(Change::Save { view, path, text })
 }
 
-/// `read_rm V P`
+/// `rm V P`
 fn read_rm(alloc: Global, words: Words<'_>) -> Result<Change, Or<SessionCause>>
     ensures { Gives result (read_rm words.entry) }
 {
@@ -117,7 +117,7 @@ fn read_rm(alloc: Global, words: Words<'_>) -> Result<Change, Or<SessionCause>>
     Ok(Change::Rm { view, path })
 }
 
-/// `read_checkin V [-identical] P`
+/// `checkin V [-identical] P`
 fn read_checkin(alloc: Global, words: Words<'_>) -> Result<Change, Or<SessionCause>>
     ensures { Gives result (read_checkin words.entry) }
 {
@@ -129,7 +129,7 @@ fn read_checkin(alloc: Global, words: Words<'_>) -> Result<Change, Or<SessionCau
     })
 }
 
-/// `read_uncheckout V P`
+/// `uncheckout V P`
 fn read_uncheckout(alloc: Global, words: Words<'_>) -> Result<Change, Or<SessionCause>>
     ensures { Gives result (read_uncheckout words.entry) }
 {
@@ -137,7 +137,7 @@ fn read_uncheckout(alloc: Global, words: Words<'_>) -> Result<Change, Or<Session
     Ok(Change::Uncheckout { view, path })
 }
 
-/// `read_rmname V P`
+/// `rmname V P`
 fn read_rmname(alloc: Global, words: Words<'_>) -> Result<Change, Or<SessionCause>>
     ensures { Gives result (read_rmname words.entry) }
 {
@@ -159,7 +159,7 @@ fn fits_beside(alloc: Global, path: &Path, name: &Name) -> Result<bool, NoMemory
     }
 }
 
-/// `read_mv V P NAME`, where NAME beside P makes a path
+/// `mv V P NAME`, where NAME beside P makes a path
 fn read_mv(alloc: Global, mut words: Words<'_>) -> Result<Change, Or<SessionCause>>
     ensures { Gives result (read_mv words.entry) }
 {
@@ -179,7 +179,7 @@ fn read_mv(alloc: Global, mut words: Words<'_>) -> Result<Change, Or<SessionCaus
     Ok(Change::Mv { view, path, name })
 }
 
-/// `read_mklbtype L`
+/// `mklbtype L`
 fn read_mklbtype(alloc: Global, words: Words<'_>) -> Result<Change, Or<SessionCause>>
     ensures { Gives result (read_mklbtype words.entry) }
 {
@@ -187,7 +187,7 @@ fn read_mklbtype(alloc: Global, words: Words<'_>) -> Result<Change, Or<SessionCa
     Ok(Change::Mklbtype { name })
 }
 
-/// `read_mkbrtype B`
+/// `mkbrtype B`
 fn read_mkbrtype(alloc: Global, words: Words<'_>) -> Result<Change, Or<SessionCause>>
     ensures { Gives result (read_mkbrtype words.entry) }
 {
@@ -195,7 +195,7 @@ fn read_mkbrtype(alloc: Global, words: Words<'_>) -> Result<Change, Or<SessionCa
     Ok(Change::Mkbrtype { name })
 }
 
-/// `read_mklabel V [-replace] -config P L`, by the words behind `-config`
+/// `mklabel V [-replace] -config P L`, by the words behind `-config`
 fn read_mklabel_config(
     alloc: Global,
     view: Name,
@@ -213,7 +213,7 @@ fn read_mklabel_config(
     })
 }
 
-/// `read_mklabel V [-replace] L P`, and with `-config`, by the words behind the flag
+/// `mklabel V [-replace] L P`, and with `-config`, by the words behind the flag
 fn read_labels(
     alloc: Global,
     view: Name,
@@ -234,7 +234,7 @@ fn read_labels(
     })
 }
 
-/// `read_mklabel V [-replace] L P`, `read_mklabel V [-replace] -config P L`
+/// `mklabel V [-replace] L P`, `mklabel V [-replace] -config P L`
 fn read_mklabel(alloc: Global, mut words: Words<'_>) -> Result<Change, Or<SessionCause>>
     ensures { Gives result (read_mklabel words.entry) }
 {
@@ -243,7 +243,7 @@ fn read_mklabel(alloc: Global, mut words: Words<'_>) -> Result<Change, Or<Sessio
     read_labels(alloc, view, replace, words)
 }
 
-/// `read_rmlabel V L P`
+/// `rmlabel V L P`
 fn read_rmlabel(alloc: Global, mut words: Words<'_>) -> Result<Change, Or<SessionCause>>
     ensures { Gives result (read_rmlabel words.entry) }
 {
@@ -252,7 +252,7 @@ fn read_rmlabel(alloc: Global, mut words: Words<'_>) -> Result<Change, Or<Sessio
     Ok(Change::Rmlabel { view, label, path })
 }
 
-/// `read_mkarrow V P VERSION`
+/// `mkarrow V P VERSION`
 fn read_mkarrow(alloc: Global, mut words: Words<'_>) -> Result<Change, Or<SessionCause>>
     ensures { Gives result (read_mkarrow words.entry) }
 {
@@ -273,7 +273,7 @@ fn read_mkarrow(alloc: Global, mut words: Words<'_>) -> Result<Change, Or<Sessio
     })
 }
 
-/// `read_rmdo V P`
+/// `rmdo V P`
 fn read_rmdo(alloc: Global, words: Words<'_>) -> Result<Change, Or<SessionCause>>
     ensures { Gives result (read_rmdo words.entry) }
 {
@@ -281,7 +281,7 @@ fn read_rmdo(alloc: Global, words: Words<'_>) -> Result<Change, Or<SessionCause>
     Ok(Change::Rmdo { view, path })
 }
 
-/// `read_scrub AGE`
+/// `scrub AGE`
 fn read_scrub(mut words: Words<'_>) -> Result<Change, Or<SessionCause>>
     ensures { Gives result (read_scrub words.entry) }
 {
@@ -294,7 +294,7 @@ fn read_scrub(mut words: Words<'_>) -> Result<Change, Or<SessionCause>>
     }
 }
 
-/// `read_catcs V`
+/// `catcs V`
 fn read_catcs(alloc: Global, words: Words<'_>) -> Result<Query, Or<SessionCause>>
     ensures { Gives result (read_catcs words.entry) }
 {
@@ -302,7 +302,7 @@ fn read_catcs(alloc: Global, words: Words<'_>) -> Result<Query, Or<SessionCause>
     Ok(Query::Catcs { view })
 }
 
-/// `read_lsdo V`
+/// `lsdo V`
 fn read_lsdo(alloc: Global, words: Words<'_>) -> Result<Query, Or<SessionCause>>
     ensures { Gives result (read_lsdo words.entry) }
 {
@@ -310,7 +310,7 @@ fn read_lsdo(alloc: Global, words: Words<'_>) -> Result<Query, Or<SessionCause>>
     Ok(Query::Lsdo { view })
 }
 
-/// `read_ls V`, `read_ls V P`
+/// `ls V`, `ls V P`
 fn read_ls(alloc: Global, mut words: Words<'_>) -> Result<Query, Or<SessionCause>>
     ensures { Gives result (read_ls words.entry) }
 {
@@ -319,7 +319,7 @@ fn read_ls(alloc: Global, mut words: Words<'_>) -> Result<Query, Or<SessionCause
     Ok(Query::Ls { view, path })
 }
 
-/// `read_cat V P`, `read_cat V P@@VERSION`
+/// `cat V P`, `cat V P@@VERSION`
 fn read_cat(alloc: Global, mut words: Words<'_>) -> Result<Query, Or<SessionCause>>
     ensures { Gives result (read_cat words.entry) }
 {
@@ -335,7 +335,7 @@ fn read_cat(alloc: Global, mut words: Words<'_>) -> Result<Query, Or<SessionCaus
     })
 }
 
-/// `read_describe V P`
+/// `describe V P`
 fn read_describe(alloc: Global, words: Words<'_>) -> Result<Query, Or<SessionCause>>
     ensures { Gives result (read_describe words.entry) }
 {
@@ -343,7 +343,7 @@ fn read_describe(alloc: Global, words: Words<'_>) -> Result<Query, Or<SessionCau
     Ok(Query::Describe { view, path })
 }
 
-/// `read_lsvtree V P`
+/// `lsvtree V P`
 fn read_lsvtree(alloc: Global, words: Words<'_>) -> Result<Query, Or<SessionCause>>
     ensures { Gives result (read_lsvtree words.entry) }
 {
@@ -351,7 +351,7 @@ fn read_lsvtree(alloc: Global, words: Words<'_>) -> Result<Query, Or<SessionCaus
     Ok(Query::Lsvtree { view, path })
 }
 
-/// `read_lshistory V P`
+/// `lshistory V P`
 fn read_lshistory(alloc: Global, words: Words<'_>) -> Result<Query, Or<SessionCause>>
     ensures { Gives result (read_lshistory words.entry) }
 {
@@ -359,7 +359,7 @@ fn read_lshistory(alloc: Global, words: Words<'_>) -> Result<Query, Or<SessionCa
     Ok(Query::Lshistory { view, path })
 }
 
-/// `read_catcr V P`
+/// `catcr V P`
 fn read_catcr(alloc: Global, words: Words<'_>) -> Result<Query, Or<SessionCause>>
     ensures { Gives result (read_catcr words.entry) }
 {
@@ -367,7 +367,7 @@ fn read_catcr(alloc: Global, words: Words<'_>) -> Result<Query, Or<SessionCause>
     Ok(Query::Catcr { view, path })
 }
 
-/// `read_diffcr V P W Q`
+/// `diffcr V P W Q`
 fn read_diffcr(alloc: Global, mut words: Words<'_>) -> Result<Query, Or<SessionCause>>
     ensures { Gives result (read_diffcr words.entry) }
 {
@@ -384,7 +384,7 @@ fn read_diffcr(alloc: Global, mut words: Words<'_>) -> Result<Query, Or<SessionC
     })
 }
 
-/// `read_covers W V P`
+/// `covers W V P`
 fn read_covers(alloc: Global, mut words: Words<'_>) -> Result<Query, Or<SessionCause>>
     ensures { Gives result (read_covers words.entry) }
 {
@@ -393,7 +393,7 @@ fn read_covers(alloc: Global, mut words: Words<'_>) -> Result<Query, Or<SessionC
     Ok(Query::Covers { seer, view, path })
 }
 
-/// `read_findmerge V P -fversion .../B/LATEST`
+/// `findmerge V P -fversion .../B/LATEST`
 fn read_findmerge(alloc: Global, mut words: Words<'_>) -> Result<Query, Or<SessionCause>>
     ensures { Gives result (read_findmerge words.entry) }
 {

@@ -34,7 +34,7 @@ returns-clause-goes c =
     elim c.match-meet.branch [
       | in-Past+in_ok-push-in-Past w ↦
           let pushed : c.match-meet.stack.items ≡ c.args.stack.now.items ++ past_next c.args.top ∷ [] =
-          cc (w.stack-is, w.in_ok-push-in-Past.ensures.items, w.behind.ensures) in
+          cc (w.stack-is, w.in_ok-push-in-Past.ensures.items, w.past_next.ensures) in
           step_past c.args.units.now c.args.stack.now.items c.args.top c.in-Some.path.now c.args.walk.now lt next
           (sym c.meet.ensures ∙ w.in-Past.is)
           ∙ (ap (λ l. resume c.args.units.now 0 l c.args.walk.now) (sym pushed)
@@ -62,7 +62,7 @@ returns-clause-room c =
     elim c.match-meet.branch [
       | in-Past+in_ok-push-in-Past w ↦
           let pushed : c.match-meet.stack.items ≡ c.args.stack.now.items ++ past_next c.args.top ∷ [] =
-          cc (w.stack-is, w.in_ok-push-in-Past.ensures.items, w.behind.ensures) in
+          cc (w.stack-is, w.in_ok-push-in-Past.ensures.items, w.past_next.ensures) in
           let longer = ap length pushed ∙ length-append c.args.stack.now.items (past_next c.args.top ∷ []) in
           let same = ap (λ (v : Walk). news v.marks) w.walk-is in
           omega (arith, longer, same, room)

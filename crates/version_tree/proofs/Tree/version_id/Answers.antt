@@ -13,7 +13,7 @@ returns-in_err-element c =
     let made : change_at c.args.self.now.changes c.args.version ≡ Some change =
     grind (arith, common_steps, c.change_at.ensures, c.in_ok-change_at.was) in
     let none : element_of_branch c.args.self.now.changes (branch_of_change change) ≡ None =
-    grind (arith, common_steps, c.element_of.ensures, c.in_err-element.was, c.branch_of-branch.ensures) in
+    grind (arith, common_steps, c.element_of.ensures, c.in_err-element.was, c.branch_changed-branch.ensures) in
     c.from_residual-in_err-element.ensures ∙ sym (version_id_without_element c.args.self.now.changes c.args.version change made
     none)
 
@@ -24,11 +24,11 @@ returns c =
     let made : change_at c.args.self.now.changes c.args.version ≡ Some change =
     grind (arith, common_steps, c.change_at.ensures, c.in_ok-change_at.was) in
     let belongs : element_of_branch c.args.self.now.changes (branch_of_change change) ≡ Some c.in_ok-element.element =
-    grind (arith, common_steps, c.element_of.ensures, c.in_ok-element.was, c.branch_of-branch.ensures) in
-    let kept : versions_stored c.in_ok-branch_at.field-0.now ≡ versions_on c.args.self.now.changes c.branch_of-branch.result =
+    grind (arith, common_steps, c.element_of.ensures, c.in_ok-element.was, c.branch_changed-branch.ensures) in
+    let kept : versions_stored c.in_ok-branch_at.field-0.now ≡ versions_on c.args.self.now.changes c.branch_changed-branch.result =
     grind (arith, common_steps, c.branch_at.ensures.versions, c.in_ok-branch_at.was) in
     let numbers : option_map number_of_version (find (λ v. eqb v.row c.args.version)
     (versions_on c.args.self.now.changes (branch_of_change change))) ≡ Some c.in_ok-number.number =
-    rw (← c.branch_of-branch.ensures, ← kept) (sym c.number_of.ensures ∙ c.in_ok-number.was) in
-    rw c.branch_of-branch.ensures (sym (version_id_found c.args.self.now.changes c.args.version change made
+    rw (← c.branch_changed-branch.ensures, ← kept) (sym c.number_of.ensures ∙ c.in_ok-number.was) in
+    rw c.branch_changed-branch.ensures (sym (version_id_found c.args.self.now.changes c.args.version change made
     c.in_ok-element.element c.in_ok-number.number belongs numbers))

@@ -13,7 +13,7 @@ returns-in-Ends c total h written part len is =
     let whole = c.step.new.self.written.items in
     let parts = part_of_whole written whole part false (sym went.0 ∙ is) in
     let count = parts.0 ∙ (ap (λ n. length whole - n) len ∙ sym c.written_behind.ensures) in
-    (c.fault_of.ensures part count parts.1, at_end macros automatic c.fault_of.result c.step.new.self went.1)
+    (c.fault_of_expansion.ensures part count parts.1, at_end macros automatic c.fault_of_expansion.result c.step.new.self went.1)
 
 pub returns-in-Loops : goal.returns-in-Loops
 returns-in-Loops c total h written part len is =
@@ -23,8 +23,8 @@ returns-in-Loops c total h written part len is =
     let whole = c.step.new.self.written.items in
     let parts = part_of_whole written whole part true (sym went ∙ is) in
     let count = parts.0 ∙ (ap (λ n. length whole - n) len ∙ sym c.written_behind-in-Loops.ensures) in
-    let fault = c.fault_of-in-Loops.ensures part count parts.1 in
-    (fault, looped_end macros automatic part c.fault_of-in-Loops.result c.step.new.self parts.1 fault)
+    let fault = c.fault_of_expansion-in-Loops.ensures part count parts.1 in
+    (fault, looped_end macros automatic part c.fault_of_expansion-in-Loops.result c.step.new.self parts.1 fault)
 
 pub returns-then-written_behind-gt-EXPANSION_LIMIT : goal.returns-then-written_behind-gt-EXPANSION_LIMIT
 returns-then-written_behind-gt-EXPANSION_LIMIT c total h written part len is =

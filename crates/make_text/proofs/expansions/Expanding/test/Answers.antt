@@ -44,7 +44,7 @@ returns-in-Loops-clause-fault c =
     let whole = c.refer.new.self.written.items in
     let parts = part_of_whole old.written.items whole part true (sym went ∙ total_is macros automatic old.written.items name) in
     let start = sym (c.len-start.ensures ∙ old.written.ok.0) in
-    c.fault_of-in-Loops.ensures part (parts.0 ∙ (ap (λ n. length whole - n) start ∙ sym c.written_behind.ensures)) parts.1
+    c.fault_of_expansion-in-Loops.ensures part (parts.0 ∙ (ap (λ n. length whole - n) start ∙ sym c.written_behind.ensures)) parts.1
 
 pub returns-in_default-2 : goal.returns-in_default-2
 returns-in_default-2 c =
@@ -77,7 +77,7 @@ returns-in-Some c =
     in
     let named = c.requires.named in
     record {
-      fault = c.fault_of.ensures (refer macros automatic (length macros) [] (macro_at macros c.args.index).name) known.0 known.1
+      fault = c.fault_of_expansion.ensures (refer macros automatic (length macros) [] (macro_at macros c.args.index).name) known.0 known.1
           ∙ ap (macro_fault_of macros automatic) named;
-      ended = at_end macros automatic c.fault_of.result old c.requires.ended;
+      ended = at_end macros automatic c.fault_of_expansion.result old c.requires.ended;
     }
