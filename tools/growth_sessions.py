@@ -348,7 +348,7 @@ ROWS = {
     "links": Row("n links of 100 objects that each list n versions", "a listing is made when it is asked for, and shared", 50, links),
     "links-opening": Row("opening that base", "a listing is made when it is asked for", 50, links_opening),
     "shared-inputs": Row("opening a base in which n units read an object that lists n versions", "a few bytes for each entry of a record", 400, shared_inputs),
-    "histories": Row("n/10 times lshistory of a file, beside 10 labels of n places", "what bears on the element alone", 300, histories),
+    "histories": Row("n/10 times lshistory of a file, beside 10 labels of n places", "what affects the element alone", 2400, histories),
     "config-labels": Row("opening n labels of 1,000 places each", "at most 48 bytes a place", 50, config_labels, things=1000, bytes_each=48),
     "specs": Row("opening a base after n times setcs with 1,000 bytes", "only specs of live views are parsed", 500, specs, things=1000, bytes_each=2.5),
     "view-lives": Row("opening a base after n lives of a view", "only specs of live views are parsed; 2.5 times the journal's bytes, which are 64 a life", 10_000, view_lives, bytes_each=160),
