@@ -296,7 +296,7 @@ MISSING = (
     Missing("`ln`", "no links", NONE),
     Missing("`mkeltype`, checkin of an object", "elements are texts and directories", NONE),
     Missing("UCM: `mkproject`, `mkstream`, `mkactivity`, `deliver`, `rebase`, `mkbl`", "not in scope", "branch types and labels"),
-    Missing("`multitool`", "there is one base", NONE),
+    Missing("`multitool`", "there is one base; `ccbase FILE sites` runs a text of replicas and packets, by itself", NONE),
     Missing("`-c`, `-cq`, `-nc`", "rows have no comments", NONE),
     Missing("`clearmake -n`, `-q`, `-d`, `-p`", "there are no dry runs", "`covers`; `catcr`"),
     Missing("`clearmake -O`, `-T`, `-F`, `-M`, `-R`", "reuse always compares the whole record", NONE),
