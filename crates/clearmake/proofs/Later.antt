@@ -9,6 +9,7 @@ use Rattle.cc_names.specs.declared.occasions.Next.TheVariants as nexts
 use Rattle.cc_names.specs.declared.rows.Tag.{Tag}
 use Rattle.cc_names.specs.declared.steps.StoryStep.{StoryStep}
 use Rattle.cc_names.specs.declared.units.Unit.{Unit}
+use Rattle.cc_names.proofs.Common.{same_before}
 use Rattle.script_grammar.specs.Run.{Ran}
 use Rattle.script_grammar.specs.Standings.{Standing}
 use Rattle.base_model.specs.Rows.{Base}
@@ -35,9 +36,6 @@ use Rattle.clearmake.proofs.Nexts.{done_stays, next_stays, tag_is_next}
 later : (old new : List StoryStep) → IsPrefix old new → Legal new → GoesLater (state_of old) (state_of new)
 later old new p legal = subst (λ t. GoesLater (state_of old) (state_of t)) p.1 (story_later old p.0 (subst Legal (sym p.1) legal))
 
-no_more : (m n : ℕ) → m + 1 ≡ n + 1 → m ≡ n
-no_more m n h = omega (arith, h)
-
 -- the build of a command that is still its lane's next goes on
 pub goes_on : (old new : List StoryStep) (tag : Tag) (build : Build) → next_of_lane (state_of old) tag.lane ≡ nexts.Build tag
     → IsPrefix old new → Legal new →
@@ -49,7 +47,7 @@ goes_on old new tag build next p legal still active =
     let tags : next_tag t tag.lane ≡ next_tag s tag.lane = tag_is_next t tag.lane tag still
     ∙ sym (tag_is_next s tag.lane tag next) in
     (later old new p legal).builds (ap (λ (tag : Tag). tag.phase) tags) tag.lane build active
-    (no_more (done_of t.done tag.lane) (done_of s.done tag.lane) (ap (λ (tag : Tag). tag.command) tags))
+    (same_before (done_of t.done tag.lane) (done_of s.done tag.lane) (ap (λ (tag : Tag). tag.command) tags))
 
 pub still_builds : (old new : List StoryStep) (tag : Tag) (count : ℕ) → Builds old tag count → IsPrefix old new → Legal new →
     next_of_lane (state_of new) tag.lane ≡ nexts.Build tag → Builds new tag count

@@ -1,8 +1,9 @@
+mod Begun
 mod Driving
 mod Joins
 mod Laning
 mod Later
-mod Nexts
+pub mod Nexts
 mod Outcomes
 mod Rereads
 mod Steps

@@ -9,6 +9,7 @@ use Rattle.cc_names.specs.declared.occasions.Next.TheVariants as nexts
 use Rattle.cc_names.specs.declared.rows.Tag.{Tag}
 use Rattle.cc_names.specs.declared.steps.StoryStep.{StoryStep}
 use Rattle.cc_names.specs.declared.units.Unit as units
+use Rattle.cc_names.proofs.Common.{same_inside}
 use Rattle.legal_history.specs.Builds.Active.{Build, build_of, came_to, is_outcome}
 use Rattle.legal_history.specs.Builds.Turns.{all_over}
 use Rattle.legal_history.specs.Stories.Lawful.{Legal}
@@ -78,13 +79,10 @@ done_more new tag count n h builds outcome m below =
     dite (dec_le (m + 1) n) (λ earlier. h m (omega arith)) (λ no. let last : m ≡ n = omega arith in
     (builds, subst (λ k. HasOutcome (state_of new) tag.lane k) (sym last) outcome))
 
-some_same : {A : Type 0} {a b : A} → Some a ≡ Some b → a ≡ b
-some_same h = cc
-
 -- the outcome of a lane's unit, of the build that is there
 outcome_of : (s : State) (lane n : ℕ) (build : Build) → build_of s.active lane ≡ Some build → HasOutcome s lane n
     → is_outcome (came_to build n) ≡ true
-outcome_of s lane n build active h = subst (λ b. is_outcome (came_to b n) ≡ true) (some_same (sym h.active ∙ active)) h.outcome
+outcome_of s lane n build active h = subst (λ b. is_outcome (came_to b n) ≡ true) (same_inside (sym h.active ∙ active)) h.outcome
 
 -- nobody waits for a unit that has its outcome
 pub waits_for_none : (s : State) (lane n m : ℕ) → WaitsFor s lane n m → HasOutcome s lane m → ⊥

@@ -15,7 +15,7 @@ use Rattle.legal_history.specs.Stories.States.{State}
 use Rattle.legal_history.specs.Stories.Steps.{state_of}
 use Rattle.turn_lock.specs.PassState.{LockId, PassState}
 use Rattle.clearmake.specs.Calls.{IsRunOfUnit, WasStarted}
-use Rattle.clearmake.specs.Passes.{Builds, IsLater, IsCommandPast, Knows}
+use Rattle.clearmake.specs.Passes.{Builds, IsLater, IsCommandPast}
 
 -- files that are read through a lock: the pass, the story that it had seen as the run began, the build's command and its number
 -- of units, the unit that is run, and how many reads found the build over
@@ -32,12 +32,11 @@ abbrev pub pass_or : LockId → Option (PassState StoryStep) → PassState Story
 pass_or lock None = record { lock = lock; seen = []; weight = 0 }
 pass_or lock (Some pass) = pass
 
--- The pass is one of the lock, and has seen no less than as the run began, when the unit had been started in a build found begun
--- earlier. Where a read found the build over, its command is past.
-pub record IsReading (lock : LockId) (begun : List StoryStep) (pass : Option (PassState StoryStep)) (r : Reading) : Type 0 where
+-- The pass is one of the lock, and has seen no less than as the run began, when the unit had been started in a build that had
+-- begun. Where a read found the build over, its command is past.
+pub record IsReading (lock : LockId) (pass : Option (PassState StoryStep)) (r : Reading) : Type 0 where
   pub there : pass ≡ Some r.pass
   pub own : r.pass.lock ≡ lock
-  pub knows : Knows begun r.start r.tag r.count
   pub begins : IsPrefix r.start r.pass.seen
   pub builds : Builds r.start r.tag r.count
   pub started : WasStarted (state_of r.start) r.tag.lane r.unit

@@ -17,8 +17,15 @@ pub record Builds (story : List StoryStep) (tag : Tag) (count : ℕ) : Type 0 wh
   pub next : next_of_lane (state_of story) tag.lane ≡ nexts.Build tag
   pub building : IsBuilding (state_of story) tag.lane count
 
--- a story that begins with one in which the build had been found begun
-pub record Knows (begun story : List StoryStep) (tag : Tag) (count : ℕ) : Type 0 where
+-- this story goes on from one in which the command of this tag was its lane's next, and to be built
+pub record WasNext (story : List StoryStep) (tag : Tag) : Type 0 where
+  pub seen : List StoryStep
+  pub begins : IsPrefix seen story
+  pub next : next_of_lane (state_of seen) tag.lane ≡ nexts.Build tag
+
+-- this story goes on from one in which the build of this tag, of so many units, had begun
+pub record HasBegun (story : List StoryStep) (tag : Tag) (count : ℕ) : Type 0 where
+  pub begun : List StoryStep
   pub begins : IsPrefix begun story
   pub builds : Builds begun tag count
 
@@ -31,6 +38,18 @@ pub record IsLater (old new : PassState StoryStep) : Type 0 where
   pub lock : new.lock ≡ old.lock
   pub weight : new.weight ≡ old.weight
   pub begins : IsPrefix old.seen new.seen
+
+-- what contracts see of a builder's pass: the pass, the tag of its build's command, and how many units the build has
+pub record BuilderState : Type 0 where
+  pub pass : PassState StoryStep
+  pub tag : Tag
+  pub count : ℕ
+
+-- a later pass of the same builder
+pub record IsLaterOfBuilder (old new : BuilderState) : Type 0 where
+  pub later : IsLater old.pass new.pass
+  pub tag : new.tag ≡ old.tag
+  pub count : new.count ≡ old.count
 
 -- the first n units of the build all have their outcomes
 abbrev pub AreDone : List StoryStep → Tag → ℕ → ℕ → Type 0

@@ -7,12 +7,11 @@ ghost use Rattle.cc_names.specs.declared.occasions.Next.TheVariants as nexts;
 ghost use Rattle.legal_history.specs.Stories.Steps.{state_of};
 ghost use Rattle.clearmake.specs.Building.{IsBuildOpened, opened_of};
 ghost use Rattle.clearmake.specs.Nexts.{next_of_lane};
-ghost use Rattle.clearmake.specs.Passes.{AreDone, IsLater, IsCommandPast, Knows};
+ghost use Rattle.clearmake.specs.Passes.{AreDone, HasBegun, IsCommandPast, IsLater, IsLaterOfBuilder, WasNext};
 
-use crate::builders::build_units;
+use crate::builder_passes::BuilderPass;
 use crate::contexts::{BuildContext, PhaseContext, is_next};
 use crate::services::BuildService;
-use crate::sweeps::sweep;
 use crate::turns::TurnEnd;
 use cc_names::memory::NoMemory;
 use cc_names::occasions::Begun;
@@ -53,25 +52,19 @@ fn opened_of(begun: Result<Begun, NoMemory>) -> Opened
 }
 
 /// Begins the build of a command that was found to be built, in a turn at the service.
-fn begin_at<T: BuildService>(
-    service: &mut T,
-    alloc: Global,
-    seen: &Snapshot<Pass<T>>,
-    tag: Tag,
-) -> Opened
-    requires begins { IsPrefix seen.now.value.seen (T.story service.old) }
-    requires next { next_of_lane (state_of seen.now.value.seen) tag.lane ≡ nexts.Build tag }
+fn begin_at<T: BuildService>(service: &mut T, alloc: Global, tag: Tag) -> Opened
+    requires { WasNext (T.story service.old) tag }
     ensures begins { IsPrefix (T.story service.old) (T.story service.new) }
     ensures opened { IsBuildOpened result (T.story service.new) tag }
 {
-    if !is_next(service, seen, tag) {
+    if !is_next(service, tag) {
         return Opened::Over;
     }
     opened_of(service.begin(alloc, tag.lane))
 }
 
 /// Takes a turn to begin the build of a command that was found to be built.
-#[tactic(auto, using(crate::proofs::Steps::taken_grown))]
+#[tactic(auto, using(crate::proofs::Steps::taken_grown, crate::proofs::Begun::was_next))]
 fn begin_once<R: Wait, T: BuildService, G: Hook>(
     context: &PhaseContext<'_, R, T, G>,
     pass: Pass<T>,
@@ -82,9 +75,8 @@ fn begin_once<R: Wait, T: BuildService, G: Hook>(
     ensures pass { IsLater pass result.0 }
     ensures opened { IsBuildOpened result.1 result.0.seen tag }
 {
-    let seen = Snapshot::of(&pass);
     let (held, mut service) = context.lock.take(context.rt, pass);
-    let opened = begin_at(&mut service, context.alloc, &seen, tag);
+    let opened = begin_at(&mut service, context.alloc, tag);
     (context.lock.give(held, service), opened)
 }
 
@@ -94,8 +86,7 @@ fn end_at<R, T: BuildService, G>(
     service: &mut T,
     seen: &Snapshot<Pass<T>>,
 ) -> bool
-    requires knows { Knows context.now.begun.now.value.seen (T.story service.old) context.now.tag
-        context.now.count }
+    requires begun { HasBegun (T.story service.old) context.now.tag context.now.count }
     requires begins { IsPrefix seen.now.value.seen (T.story service.old) }
     requires done { AreDone seen.now.value.seen context.now.tag context.now.count
         context.now.count }
@@ -108,49 +99,36 @@ fn end_at<R, T: BuildService, G>(
     service.end(context.alloc, context.tag.lane).is_ok()
 }
 
-/// Takes a turn to end a build whose units all have their outcomes. False where memory ran out.
-#[tactic(auto, using(crate::proofs::Steps::taken_grown))]
-fn end_once<R: Wait, T: BuildService, G: Hook>(
-    context: &BuildContext<'_, R, T, G>,
-    pass: Pass<T>,
-) -> (Pass<T>, bool)
-    requires own { pass.lock ≡ context.now.lock.now.id }
-    requires knows { Knows context.now.begun.now.value.seen pass.seen context.now.tag
-        context.now.count }
-    requires done { AreDone pass.seen context.now.tag context.now.count context.now.count }
-    ensures pass { IsLater pass result.0 }
-    ensures ended { OnTrue result.1 (IsCommandPast (state_of result.0.seen) context.now.tag) }
-{
-    let seen = Snapshot::of(&pass);
-    let (held, mut service) = context.lock.take(context.rt, pass);
-    let ended = end_at(context, &mut service, &seen);
-    (context.lock.give(held, service), ended)
+impl<R: Wait, T: BuildService, G: Hook> BuilderPass<'_, R, T, G> {
+    /// Takes a turn to end the build, whose units all have their outcomes. False where memory ran out.
+    fn end_once(self) -> (Self, bool)
+        requires { AreDone self.pass.seen self.tag self.count self.count }
+        ensures pass { IsLaterOfBuilder self.entry result.0 }
+        ensures ended { OnTrue result.1
+            (IsCommandPast (state_of result.0.pass.seen) result.0.tag) }
+    {
+        let BuilderPass { context, pass } = self;
+        let seen = Snapshot::of(&pass);
+        let (held, mut service) = context.lock.take(context.rt, pass);
+        let ended = end_at(context, &mut service, &seen);
+        let pass = context.lock.give(held, service);
+        (BuilderPass { context, pass }, ended)
+    }
 }
 
-/// Carries out a build that is active: by builders, and what they leave one unit after the other.
-fn build_begun<R: Threads + Wait + Sync, T: BuildService + Send, G: Hook + Sync>(
-    context: &BuildContext<'_, R, T, G>,
-    pass: Pass<T>,
-    jobs: u32,
-) -> Built<T>
-    requires own { pass.lock ≡ context.now.lock.now.id }
-    requires knows { Knows context.now.begun.now.value.seen pass.seen context.now.tag
-        context.now.count }
-    requires jobs { jobs ≤ pass.weight }
-    ensures pass { IsLater pass result.pass }
-    ensures built { OnTrue result.done (IsCommandPast (state_of result.pass.seen) context.now.tag) }
-{
-    let pass = build_units(context, pass, jobs);
-    let (pass, swept) = sweep(context, pass);
-    match swept {
-        Ok(TurnEnd::Concluded) => {
-            let (pass, ended) = end_once(context, pass);
-            Built { pass, done: ended }
+impl<R: Threads + Wait + Sync, T: BuildService + Send, G: Hook + Sync> BuilderPass<'_, R, T, G> {
+    /// Carries out the build: by so many builders, and what they leave one unit after the other. False where memory ran out.
+    fn carry_out(self, jobs: u32) -> (Self, bool)
+        requires { jobs ≤ self.pass.weight }
+        ensures pass { IsLaterOfBuilder self.entry result.0 }
+        ensures built { OnTrue result.1
+            (IsCommandPast (state_of result.0.pass.seen) result.0.tag) }
+    {
+        let (pass, swept) = self.build_units(jobs).sweep();
+        match swept {
+            Ok(TurnEnd::Concluded) => pass.end_once(),
+            left => (pass, left.is_ok()),
         }
-        left => Built {
-            pass,
-            done: left.is_ok(),
-        },
     }
 }
 
@@ -161,6 +139,7 @@ fn build_begun<R: Threads + Wait + Sync, T: BuildService + Send, G: Hook + Sync>
 ///
 /// The hook is asked outside the lock, before and after each run of a script and before each of its reads. Names are found
 /// by the hashing.
+#[tactic(auto, using(crate::proofs::Begun::begun_here))]
 pub(crate) fn build<R: Threads + Wait + Sync, T: BuildService + Send, G: Hook + Sync>(
     context: &PhaseContext<'_, R, T, G>,
     pass: Pass<T>,
@@ -178,18 +157,24 @@ pub(crate) fn build<R: Threads + Wait + Sync, T: BuildService + Send, G: Hook + 
         Opened::Over => Built { pass, done: true },
         Opened::OutOfMemory => Built { pass, done: false },
         Opened::Units(count) => {
-            let begun = Snapshot::of(&pass);
             let context = BuildContext {
                 rt: context.rt,
                 alloc: context.alloc,
                 hashing: context.hashing,
                 lock: context.lock,
                 hook: context.hook,
-                begun: &begun,
                 tag,
                 count,
             };
-            build_begun(&context, pass, jobs)
+            let pass = BuilderPass {
+                context: &context,
+                pass,
+            };
+            let (pass, done) = pass.carry_out(jobs);
+            Built {
+                pass: pass.into_pass(),
+                done,
+            }
         }
     }
 }

@@ -1,16 +1,16 @@
 //! A unit of a build is driven to its outcome: a turn at the service to try it, its run outside the lock, and a turn to finish
 //! it.
 
-ghost use Rattle.std.specs.Prelude.{◌≡◌, ◌<◌, IfOk};
+ghost use Rattle.std.specs.Prelude.{◌<◌, IfOk};
 ghost use mathlib.Core.List.{IsPrefix};
 ghost use Rattle.build_script.specs.Ended.{ran_of};
 ghost use Rattle.legal_history.specs.Stories.Steps.{state_of};
 ghost use Rattle.clearmake.specs.Calls.{IsRunOfUnit, IsStarted};
 ghost use Rattle.clearmake.specs.Driving.{IsDriven, IsTried};
-ghost use Rattle.clearmake.specs.Passes.{Builds, IsLater, Knows};
+ghost use Rattle.clearmake.specs.Passes.{Builds, HasBegun, IsLaterOfBuilder};
 
+use crate::builder_passes::BuilderPass;
 use crate::contexts::BuildContext;
-use crate::runs::run_outside;
 use crate::script_runs::ScriptRuns;
 use crate::services::BuildService;
 use crate::turns::{TurnEnd, UnitTurn};
@@ -30,8 +30,7 @@ pub(crate) fn try_at<R, T: BuildService, G>(
     service: &mut T,
     unit: u32,
 ) -> Result<UnitTurn, NoMemory>
-    requires knows { Knows context.now.begun.now.value.seen (T.story service.old) context.now.tag
-        context.now.count }
+    requires begun { HasBegun (T.story service.old) context.now.tag context.now.count }
     requires unit { unit < context.now.count }
     ensures begins { IsPrefix (T.story service.old) (T.story service.new) }
     ensures tried { IfOk result
@@ -46,6 +45,7 @@ pub(crate) fn try_at<R, T: BuildService, G>(
 }
 
 /// Finishes a unit whose script was run, in a turn at the service.
+#[tactic(auto, using(crate::proofs::Begun::has_begun))]
 fn finish_at<R, T: BuildService, G>(
     context: &BuildContext<'_, R, T, G>,
     service: &mut T,
@@ -53,8 +53,6 @@ fn finish_at<R, T: BuildService, G>(
     unit: u32,
     ended: Ended,
 ) -> Result<TurnEnd, NoMemory>
-    requires knows { Knows context.now.begun.now.value.seen start.now.value.seen context.now.tag
-        context.now.count }
     requires begins { IsPrefix start.now.value.seen (T.story service.old) }
     requires builds { Builds start.now.value.seen context.now.tag context.now.count }
     requires ran { IsRunOfUnit (state_of start.now.value.seen) context.now.tag.lane unit
@@ -71,105 +69,82 @@ fn finish_at<R, T: BuildService, G>(
     end
 }
 
-/// Takes a turn to try a unit.
-#[tactic(auto, using(crate::proofs::Steps::taken_grown))]
-fn try_once<R: Wait, T: BuildService, G: Hook>(
-    context: &BuildContext<'_, R, T, G>,
-    pass: Pass<T>,
-    unit: u32,
-) -> (Pass<T>, Result<UnitTurn, NoMemory>)
-    requires own { pass.lock ≡ context.now.lock.now.id }
-    requires knows { Knows context.now.begun.now.value.seen pass.seen context.now.tag
-        context.now.count }
-    requires unit { unit < context.now.count }
-    ensures pass { IsLater pass result.0 }
-    ensures tried { IfOk result.1
-        (λ turn. IsTried turn result.0.seen context.now.tag context.now.count unit) }
-{
-    let (held, mut service) = context.lock.take(context.rt, pass);
-    let turn = try_at(context, &mut service, unit);
-    (context.lock.give(held, service), turn)
-}
-
-/// Takes a turn to finish a unit.
-#[tactic(auto, using(crate::proofs::Steps::taken_grown))]
-fn finish_once<R: Wait, T: BuildService, G: Hook>(
-    context: &BuildContext<'_, R, T, G>,
-    pass: Pass<T>,
-    start: &Snapshot<Pass<T>>,
-    unit: u32,
-    ended: Ended,
-) -> (Pass<T>, Result<TurnEnd, NoMemory>)
-    requires own { pass.lock ≡ context.now.lock.now.id }
-    requires knows { Knows context.now.begun.now.value.seen start.now.value.seen context.now.tag
-        context.now.count }
-    requires begins { IsPrefix start.now.value.seen pass.seen }
-    requires builds { Builds start.now.value.seen context.now.tag context.now.count }
-    requires ran { IsRunOfUnit (state_of start.now.value.seen) context.now.tag.lane unit
-        (ran_of ended) }
-    ensures pass { IsLater pass result.0 }
-    ensures driven { IfOk result.1
-        (λ end. IsDriven end result.0.seen context.now.tag context.now.count unit) }
-{
-    let (held, mut service) = context.lock.take(context.rt, pass);
-    let end = finish_at(context, &mut service, start, unit, ended);
-    (context.lock.give(held, service), end)
-}
-
-/// Runs the script of a unit that was started, outside the lock, and finishes the unit. The runs of its builder, where it is
-/// one of several, tell the others that it is at a script.
-pub(crate) fn run_started<R: Wait, T: BuildService, G: Hook>(
-    context: &BuildContext<'_, R, T, G>,
-    pass: Pass<T>,
-    unit: u32,
-    script: &Script,
-    targets: &[Path],
-    runs: Option<&ScriptRuns>,
-) -> (Pass<T>, Result<TurnEnd, NoMemory>)
-    requires own { pass.lock ≡ context.now.lock.now.id }
-    requires knows { Knows context.now.begun.now.value.seen pass.seen context.now.tag
-        context.now.count }
-    requires builds { Builds pass.seen context.now.tag context.now.count }
-    requires started { IsStarted (state_of pass.seen) context.now.tag.lane unit script.now
-        targets.now }
-    ensures pass { IsLater pass result.0 }
-    ensures driven { IfOk result.1
-        (λ end. IsDriven end result.0.seen context.now.tag context.now.count unit) }
-{
-    let start = Snapshot::of(&pass);
-    let (pass, ran) = run_outside(&*context, pass, &start, unit, script, &*targets, runs);
-    match ran {
-        Ok(ended) => finish_once(context, pass, &start, unit, ended),
-        Err(Or::Is(GivenUp::Broken)) => (pass, Ok(TurnEnd::Over)),
-        Err(Or::NoMemory) => (pass, Err(NoMemory)),
+impl<R: Wait, T: BuildService, G: Hook> BuilderPass<'_, R, T, G> {
+    /// Takes a turn to try a unit.
+    fn try_once(self, unit: u32) -> (Self, Result<UnitTurn, NoMemory>)
+        requires { unit < self.count }
+        ensures pass { IsLaterOfBuilder self.entry result.0 }
+        ensures tried { IfOk result.1
+            (λ turn. IsTried turn result.0.pass.seen result.0.tag result.0.count unit) }
+    {
+        let BuilderPass { context, pass } = self;
+        let (held, mut service) = context.lock.take(context.rt, pass);
+        let turn = try_at(context, &mut service, unit);
+        let pass = context.lock.give(held, service);
+        (BuilderPass { context, pass }, turn)
     }
-}
 
-/// Drives a unit as far as it goes by itself.
-pub(crate) fn drive<R: Wait, T: BuildService, G: Hook>(
-    context: &BuildContext<'_, R, T, G>,
-    pass: Pass<T>,
-    unit: u32,
-) -> (Pass<T>, Result<TurnEnd, NoMemory>)
-    requires own { pass.lock ≡ context.now.lock.now.id }
-    requires knows { Knows context.now.begun.now.value.seen pass.seen context.now.tag
-        context.now.count }
-    requires unit { unit < context.now.count }
-    ensures pass { IsLater pass result.0 }
-    ensures driven { IfOk result.1
-        (λ end. IsDriven end result.0.seen context.now.tag context.now.count unit) }
-{
-    let (pass, turn) = try_once(context, pass, unit);
-    match turn {
-        Ok(UnitTurn::Run(script, targets)) => run_started(
-            context,
-            pass,
-            unit,
-            &script,
-            targets.as_slice(),
-            None,
-        ),
-        Ok(UnitTurn::End(end)) => (pass, Ok(end)),
-        Err(NoMemory) => (pass, Err(NoMemory)),
+    /// Takes a turn to finish a unit.
+    fn finish_once(
+        self,
+        start: &Snapshot<Pass<T>>,
+        unit: u32,
+        ended: Ended,
+    ) -> (Self, Result<TurnEnd, NoMemory>)
+        requires begins { IsPrefix start.now.value.seen self.pass.seen }
+        requires builds { Builds start.now.value.seen self.tag self.count }
+        requires ran { IsRunOfUnit (state_of start.now.value.seen) self.tag.lane unit
+            (ran_of ended) }
+        ensures pass { IsLaterOfBuilder self.entry result.0 }
+        ensures driven { IfOk result.1
+            (λ end. IsDriven end result.0.pass.seen result.0.tag result.0.count unit) }
+    {
+        let BuilderPass { context, pass } = self;
+        let (held, mut service) = context.lock.take(context.rt, pass);
+        let end = finish_at(context, &mut service, start, unit, ended);
+        let pass = context.lock.give(held, service);
+        (BuilderPass { context, pass }, end)
+    }
+
+    /// Runs the script of a unit that was started, outside the lock, and finishes the unit. The runs of its builder, where it is
+    /// one of several, tell the others that it is at a script.
+    pub(crate) fn run_started(
+        self,
+        unit: u32,
+        script: &Script,
+        targets: &[Path],
+        runs: Option<&ScriptRuns>,
+    ) -> (Self, Result<TurnEnd, NoMemory>)
+        requires builds { Builds self.pass.seen self.tag self.count }
+        requires started { IsStarted (state_of self.pass.seen) self.tag.lane unit script.now
+            targets.now }
+        ensures pass { IsLaterOfBuilder self.entry result.0 }
+        ensures driven { IfOk result.1
+            (λ end. IsDriven end result.0.pass.seen result.0.tag result.0.count unit) }
+    {
+        let start = self.snapshot();
+        let (pass, ran) = self.run_outside(&start, unit, script, targets, runs);
+        match ran {
+            Ok(ended) => pass.finish_once(&start, unit, ended),
+            Err(Or::Is(GivenUp::Broken)) => (pass, Ok(TurnEnd::Over)),
+            Err(Or::NoMemory) => (pass, Err(NoMemory)),
+        }
+    }
+
+    /// Drives a unit as far as it goes by itself.
+    pub(crate) fn drive(self, unit: u32) -> (Self, Result<TurnEnd, NoMemory>)
+        requires { unit < self.count }
+        ensures pass { IsLaterOfBuilder self.entry result.0 }
+        ensures driven { IfOk result.1
+            (λ end. IsDriven end result.0.pass.seen result.0.tag result.0.count unit) }
+    {
+        let (pass, turn) = self.try_once(unit);
+        match turn {
+            Ok(UnitTurn::Run(script, targets)) => {
+                pass.run_started(unit, &script, targets.as_slice(), None)
+            }
+            Ok(UnitTurn::End(end)) => (pass, Ok(end)),
+            Err(NoMemory) => (pass, Err(NoMemory)),
+        }
     }
 }

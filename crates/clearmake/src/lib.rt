@@ -14,6 +14,7 @@
 #![tactic(auto)]
 
 mod before_threads;
+mod builder_passes;
 mod builders;
 mod builds;
 mod contexts;

@@ -6,7 +6,7 @@ ghost use Rattle.legal_history.specs.Stories.Lawful.{Legal};
 ghost use Rattle.legal_history.specs.Stories.Steps.{state_of};
 ghost use Rattle.clearmake.specs.Calls.{WasStarted};
 ghost use Rattle.clearmake.specs.Outside.{ReadsStanding};
-ghost use Rattle.clearmake.specs.Passes.{Builds, Knows};
+ghost use Rattle.clearmake.specs.Passes.{Builds};
 ghost use Rattle.clearmake.specs.FoundTexts.{sees};
 
 use crate::contexts::BuildContext;
@@ -48,7 +48,7 @@ impl<'s, 'a, R: Wait, T: BuildService, G: Hook> Model for LockedFiles<'s, 'a, R,
         } };
 
     ghost invariant = { λ f.
-        IsReading f.context.now.lock.now.id f.context.now.begun.now.value.seen f.pass
+        IsReading f.context.now.lock.now.id f.pass
         (record {
           pass = pass_or f.context.now.lock.now.id f.pass;
           start = f.start.now.value.seen;
@@ -60,7 +60,7 @@ impl<'s, 'a, R: Wait, T: BuildService, G: Hook> Model for LockedFiles<'s, 'a, R,
 }
 
 /// What a unit that was started finds at a path, in a turn at the service. Broken where the build is over.
-#[tactic(auto, using(crate::proofs::Rereads::reads_same, crate::proofs::Rereads::started_now, crate::proofs::Rereads::knows_on))]
+#[tactic(auto, using(crate::proofs::Rereads::reads_same, crate::proofs::Rereads::started_now, crate::proofs::Begun::has_begun))]
 fn read_at<R: Wait, T: BuildService, G: Hook>(
     context: &BuildContext<'_, R, T, G>,
     service: &T,
@@ -68,14 +68,13 @@ fn read_at<R: Wait, T: BuildService, G: Hook>(
     unit: u32,
     path: &Path,
 ) -> Got
-    requires knows { Knows context.now.begun.now.value.seen start.now.value.seen context.now.tag
-        context.now.count }
     requires begins { IsPrefix start.now.value.seen (T.story service.now) }
     requires builds { Builds start.now.value.seen context.now.tag context.now.count }
     requires started { WasStarted (state_of start.now.value.seen) context.now.tag.lane unit }
     ensures legal { Legal (T.story service.now) }
     ensures read { ReadsStanding result
-        (sees (state_of start.now.value.seen) context.now.tag.lane unit path.now) (T.story service.now)
+        (sees (state_of start.now.value.seen) context.now.tag.lane unit path.now)
+        (T.story service.now)
         context.now.tag }
 {
     if !context.goes_on(service) {

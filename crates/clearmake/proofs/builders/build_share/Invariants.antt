@@ -1,5 +1,0 @@
-use Rattle.clearmake.specs.Passes.{IsLater}
-use Rattle.clearmake.proofs.builders.build_share.Given as goal
-
-abbrev pub invariant-loop : goal.invariant-loop
-invariant-loop g l = IsLater l.fn.pass l.pass
