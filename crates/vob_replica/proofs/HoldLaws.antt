@@ -9,7 +9,7 @@ use Rattle.std.specs.declared.cmp.Ordering.TheVariants.{Less, Equal, Greater}
 use Rattle.std.proofs.lemmas.Bool.Decides.{nat_tests}
 use Rattle.std.proofs.lemmas.Slice.Eq.{bytes_eq-Decides}
 use Rattle.vob_replica.specs.declared.events.Identity.{Identity}
-use Rattle.vob_replica.specs.Tables.{first_gap, holds, number_in, with_operation, Ascends}
+use Rattle.vob_replica.specs.Tables.{first_gap, holds, number_in, with_operation, Ascends, IsWithin}
 use Rattle.vob_replica.specs.Trees.{is_same_identity}
 use Rattle.vob_replica.proofs.TableLaws.{order, raised_by_order, equal-same, behind-differs}
 use Rattle.vob_replica.proofs.LogLaws.{at_most, number_in-most}
@@ -33,10 +33,6 @@ lacks-parts number has above = grind (arith, nat_tests)
 
 pub lacks-from : (table : List Identity) (i : Identity) → number_in table i.site < i.number → holds table i ≡ false
 lacks-from table i above = lacks-parts i.number (number_in table i.site) above
-
--- each number of a table is at most that of another
-abbrev pub IsWithin : List Identity → List Identity → Type 0
-IsWithin table other = (site : List ℕ) → number_in table site ≤ number_in other site
 
 pub holds-within : (table other : List Identity) (i : Identity) → IsWithin table other → holds table i ≡ true
     → holds other i ≡ true

@@ -25,7 +25,7 @@ abbrev number_found : Option Identity → ℕ
 number_found found = option_map_or (λ (entry : Identity). entry.number) found 0
 
 -- a site before all others has no number
-number_in-before : (site : List ℕ) (table : List Identity) → IsBeforeSites site table → number_in table site ≡ 0
+pub number_in-before : (site : List ℕ) (table : List Identity) → IsBeforeSites site table → number_in table site ≡ 0
 number_in-before site [] before = refl
 number_in-before site (entry ∷ others) before =
     let differs : bytes_eq entry.site site ≡ false = behind-differs entry.site site (turned site entry.site Less before.0) in

@@ -20,7 +20,8 @@ use Rattle.vob_replica.specs.Trees.{after_deed, after_operation}
 use Rattle.vob_replica.proofs.Commuting.{differ-turned, same-is, tree_at-put, tree_at-other, tree_at-changed, add_version}
 use Rattle.vob_replica.proofs.Commuting.{add_master}
 use Rattle.vob_replica.proofs.BranchLaws.{KeepsIdentity}
-use Rattle.vob_replica.proofs.HoldLaws.{IsWithin, holds-within, holds-other, holds-own, lacks-next, whole-within, more-within}
+use Rattle.vob_replica.specs.Tables.{IsWithin}
+use Rattle.vob_replica.proofs.HoldLaws.{holds-within, holds-other, holds-own, lacks-next, whole-within, more-within}
 use Rattle.vob_replica.proofs.HoldLaws.{other-number, own-number, next-number}
 use Rattle.vob_replica.proofs.HistoryLaws.{Made, operations_of, table_behind, trees_behind, IsPaired, IsClosed, IsMade, kept}
 use Rattle.vob_replica.proofs.HistoryLaws.{adds, made-differs, HoldsSame}

@@ -1,6 +1,5 @@
 pub mod BranchLaws
 pub mod Commuting
-pub mod EstimateLaws
 pub mod GrowthLaws
 pub mod HistoryLaws
 pub mod HoldLaws
@@ -9,9 +8,14 @@ pub mod KnowLaws
 pub mod LogLaws
 pub mod MakeLaws
 pub mod MasterLaws
+pub mod NeedLaws
+pub mod PeerLaws
+pub mod PlaceLaws
 pub mod ReplicaLaws
 pub mod SiteLaws
 pub mod SoundLaws
 pub mod StepLaws
 pub mod TableLaws
+pub mod VersionLaws
+pub mod WholeLaws
 pub mod WorkedReplicas

@@ -12,7 +12,7 @@ use Rattle.std.proofs.lemmas.Bool.Decides.{nat_tests}
 use Rattle.std.proofs.lemmas.Slice.Eq.{bytes_eq-Decides}
 use Rattle.vob_replica.specs.declared.events.Identity.{Identity}
 use Rattle.vob_replica.specs.declared.operations.Operation.{Operation}
-use Rattle.vob_replica.specs.Logs.{HasNextNumber, IsTableOf}
+use Rattle.vob_replica.specs.Logs.{HasNextNumber, HaveNextNumbers, IsLog, IsWhole}
 use Rattle.vob_replica.specs.Replicas.{operations_after_import, unless_gap}
 use Rattle.vob_replica.specs.Tables.{first_gap, holds, number_in, with_operation, raised_by, identity_of, table_of}
 use Rattle.vob_replica.proofs.TableLaws.{order, raised_by_order, equal-same}
@@ -111,11 +111,25 @@ few-by true table operation site count same few next whole =
     omega arith
 few-by false table operation site count same few next whole = omega arith
 
+-- one operation more needs nothing that is missing
+IsWhole-push : (table : List Identity) (known : List Operation) (operation : Operation) → IsWhole table known
+    → first_gap operation.needs (raised_by table (map identity_of known)) ≡ None → IsWhole table (known ++ operation ∷ [])
+IsWhole-push table [] operation whole enough = (enough, tt)
+IsWhole-push table (first ∷ known) operation whole enough = (
+  whole.0,
+  IsWhole-push (with_operation table first.identity) known operation whole.1 enough,
+)
+
+HaveNextNumbers-push : (known : List Operation) (operation : Operation) → HaveNextNumbers known → HasNextNumber operation
+    → HaveNextNumbers (known ++ operation ∷ [])
+HaveNextNumbers-push [] operation have next = (next, tt)
+HaveNextNumbers-push (first ∷ known) operation have next = (have.0, HaveNextNumbers-push known operation have.1 next)
+
 -- the table of a log with one operation more
-pub IsTableOf-push : (table table' : List Identity) (known known' : List Operation) (operation : Operation)
-    → IsTableOf table known → HasNextNumber operation → first_gap operation.needs table ≡ None
-    → table' ≡ with_operation table operation.identity → known' ≡ known ++ operation ∷ [] → IsTableOf table' known'
-IsTableOf-push table table' known known' operation is next whole raises more = record {
+pub IsLog-push : (table table' : List Identity) (known known' : List Operation) (operation : Operation)
+    → IsLog table known → HasNextNumber operation → first_gap operation.needs table ≡ None
+    → table' ≡ with_operation table operation.identity → known' ≡ known ++ operation ∷ [] → IsLog table' known'
+IsLog-push table table' known known' operation is next whole raises more = record {
   same =
       raises ∙ ap (λ (t : List Identity). with_operation t operation.identity) is.same ∙ sym (table_of-push known operation)
       ∙ ap table_of (sym more);
@@ -127,26 +141,30 @@ IsTableOf-push table table' known known' operation is next whole raises more = r
       let new : number_in table' site ≡ number_in (with_operation table operation.identity) site =
       ap (λ (t : List Identity). number_in t site) raises in
       omega arith;
+  whole =
+      subst (IsWhole []) (sym more) (IsWhole-push [] known operation is.whole
+      (subst (λ (t : List Identity). first_gap operation.needs t ≡ None) is.same whole));
+  next = subst HaveNextNumbers (sym more) (HaveNextNumbers-push known operation is.next next);
 }
 
 -- a log stays in step with its table whether there was memory or not
 pub in_step-after : {T E : Type 0} (r : Result T E) (known known' before : List Operation) (table table' : List Identity)
     (operation : Operation)
-    → IsTableOf table known → known ≡ before → first_gap operation.needs (table_of before) ≡ None
+    → IsLog table known → known ≡ before → first_gap operation.needs (table_of before) ≡ None
     → OnOk r (HasNextNumber operation) → OnOk r (known' ≡ known ++ operation ∷ [])
     → OnOk r (table' ≡ with_operation table operation.identity) → OnErr r (known' ≡ known) → OnErr r (table' ≡ table)
-    → IsTableOf table' known'
+    → IsLog table' known'
 in_step-after (Ok x) known known' before table table' operation is view whole next pushed raises kept same =
     let here : table ≡ table_of before = is.same ∙ ap table_of view in
-    IsTableOf-push table table' known known' operation is next (subst (λ (t : List Identity). first_gap operation.needs t ≡ None)
+    IsLog-push table table' known known' operation is next (subst (λ (t : List Identity). first_gap operation.needs t ≡ None)
     (sym here) whole) raises pushed
 in_step-after (Err e) known known' before table table' operation is view whole next pushed raises kept same =
-    subst (λ (t : List Identity). IsTableOf t known') (sym same) (subst (IsTableOf table) (sym kept) is)
+    subst (λ (t : List Identity). IsLog t known') (sym same) (subst (IsLog table) (sym kept) is)
 
 -- some operations were looked at: these are the new ones, the table holds them, and what is left of the operations comes to the
 -- same
 pub record IsOn (known : List Operation) (table : List Identity) (news rest operations : List Operation) : Type 0 where
-  pub held : IsTableOf table (known ++ news)
+  pub held : IsLog table (known ++ news)
   pub same : operations_after_import (known ++ news) rest ≡ operations_after_import known operations
 
 -- what is behind a place, by its length
@@ -166,7 +184,7 @@ IsOn-next known news news' rest operations table table' operation on next new wh
     let enough : first_gap operation.needs (table_of (known ++ news)) ≡ None = ap (first_gap operation.needs) (sym on.held.same)
     ∙ whole in
     record {
-      held = IsTableOf-push table table' (known ++ news) (known ++ news') operation on.held next whole raises all;
+      held = IsLog-push table table' (known ++ news) (known ++ news') operation on.held next whole raises all;
       same =
           ap (λ (l : List Operation). operations_after_import l rest) all
           ∙ sym (ap (λ (g : Option Identity). unless_gap g (operations_after_import ((known ++ news) ++ operation ∷ []) rest))

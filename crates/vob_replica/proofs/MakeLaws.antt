@@ -19,15 +19,18 @@ use Rattle.vob_replica.specs.Trees.{Tree, is_same_identity, element_of_branch, t
 use Rattle.vob_replica.specs.Trees.{next_number}
 use Rattle.vob_replica.specs.World.{with_site}
 use Rattle.vob_replica.proofs.Commuting.{same-is, same-self, branch_of, branch_in, is_change, differ-turned}
-use Rattle.vob_replica.proofs.HoldLaws.{IsWithin, holds-within, holds-own, lacks-next, lacks-from, more-within, other-number}
+use Rattle.vob_replica.specs.Tables.{IsWithin}
+use Rattle.vob_replica.proofs.HoldLaws.{holds-within, holds-own, lacks-next, lacks-from, more-within, other-number}
 use Rattle.vob_replica.proofs.HoldLaws.{next-number}
-use Rattle.vob_replica.proofs.HistoryLaws.{trees_behind, Made, Precedes, AllPrecede, IsPaired, IsMade, table_behind, operations_of, paired-push}
+use Rattle.vob_replica.proofs.HistoryLaws.{trees_behind, Made, Precedes, AllPrecede, IsPaired, IsMade}
+use Rattle.vob_replica.proofs.HistoryLaws.{table_behind, operations_of, paired-push}
 use Rattle.vob_replica.proofs.GrowthLaws.{Labels, Labelled, labelled, grown, known-there, none-named, named-true, behind-none}
 use Rattle.vob_replica.proofs.ImportLaws.{ascends_of}
 use Rattle.vob_replica.proofs.KnowLaws.{there-some, some-there, Knows, AreNext, knows-more, knows-still, made-last}
 use Rattle.vob_replica.proofs.KnowLaws.{made-split, table_behind-push}
 use Rattle.vob_replica.proofs.LogLaws.{table_of-push}
-use Rattle.vob_replica.proofs.MasterLaws.{NumberIs, LabelIs, NameIs, IsOwn, IsMaster, Unused, IsLegal, AreLegal, legal-push, lacks-differs}
+use Rattle.vob_replica.proofs.MasterLaws.{NumberIs, LabelIs, NameIs, IsOwn, IsMaster, Unused}
+use Rattle.vob_replica.proofs.MasterLaws.{IsLegal, AreLegal, legal-push, lacks-differs}
 use Rattle.vob_replica.proofs.MasterLaws.{unused, branch-is}
 use Rattle.vob_replica.proofs.ReplicaLaws.{first_gap-own}
 

@@ -4,6 +4,7 @@ use Rattle.std.proofs.Common.{length, get_or, set, refl, sym, ap, ◌∙◌, ari
 use Rattle.std.specs.Map.{lookup}
 use Rattle.std.specs.Str.{bytes_eq}
 use Rattle.std.proofs.lemmas.Slice.Eq.{bytes_eq-Decides}
+use Rattle.cc_names.proofs.Common.{bytes_swapped}
 use Rattle.vob_replica.specs.Replicas.{Site, Packet}
 use Rattle.vob_replica.specs.Sites.{sent_as, sents_of, place_in}
 use Rattle.vob_replica.specs.World.{Sent, site_in, with_site, packet_in}
@@ -37,18 +38,6 @@ pub site_in-none : (name : List ℕ) (sites : List Site) → length sites ≤ pl
 site_in-none name [] past = refl
 site_in-none name (site ∷ sites) past = none-by (bytes_eq site.name name) name site sites past (site_in-none name sites)
 
--- the same names the other way round
-turned : (x y : List ℕ) (b : Bool) → bytes_eq x y ≡ b → bytes_eq y x ≡ b
-turned x y true same = let is : x ≡ y = (bytes_eq-Decides x y).0 same in (bytes_eq-Decides y x).1 (sym is)
-turned x y false differs = by (bytes_eq y x) refl
-  where
-    by : (b : Bool) → bytes_eq y x ≡ b → b ≡ false
-    by true same =
-        let is : y ≡ x = (bytes_eq-Decides y x).0 same in
-        let back : bytes_eq x y ≡ true = (bytes_eq-Decides x y).1 (sym is) in
-        cc (back, differs)
-    by false other = refl
-
 set-by : (b : Bool) (name : List ℕ) (site first : Site) (sites : List Site) → bytes_eq first.name name ≡ b → site.name ≡ name
     → place_by b name sites < length (first ∷ sites)
     → (place_in name sites < length sites → with_site site sites ≡ set sites (place_in name sites) site)
@@ -77,7 +66,7 @@ pub packet-found : (entries : List (List ℕ × Packet)) (name : List ℕ) → l
     ≡ packet_in (sents_of entries) name
 packet-found [] name = refl
 packet-found (entry ∷ entries) name =
-    ap (λ (b : Bool). cond b (Some entry.1) (lookup (bytes_eq name) entries)) (turned entry.0 name (bytes_eq entry.0 name) refl)
+    ap (λ (b : Bool). cond b (Some entry.1) (lookup (bytes_eq name) entries)) (bytes_swapped entry.0 name (bytes_eq entry.0 name) refl)
     ∙ ap (λ (found : Option Packet). cond (bytes_eq entry.0 name) (Some entry.1) found) (packet-found entries name)
 
 -- one packet more

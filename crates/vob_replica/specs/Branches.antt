@@ -1,5 +1,5 @@
 -- Branches as a site keeps them: by identity, each once. A branch and a version are read off the operations that made them.
-use Rattle.std.specs.Prelude.{◌≡◌, ℕ, suc, Bool, false, nat_lt, List, [], ◌∷◌, ◌++◌, codes, slice_get, if◌then◌else◌}
+use Rattle.std.specs.Prelude.{◌≡◌, ℕ, suc, ◌≤◌, Bool, false, nat_lt, List, [], ◌∷◌, ◌++◌, codes, slice_get, if◌then◌else◌}
 use Rattle.std.specs.Option.{option_map_or}
 use Rattle.std.specs.Ordering.{is_lt}
 use Rattle.std.specs.declared.cmp.Ordering.TheVariants.{Less}
@@ -41,6 +41,16 @@ with_master tree operation = record tree { masters = tree.masters ++ operation �
 abbrev pub version_place : ℕ → List VersionMade → ℕ
 version_place number [] = 0
 version_place number (version ∷ versions) = if nat_lt number version.number then 0 else suc (version_place number versions)
+
+-- a number is at most that of each version
+abbrev pub IsBelowVersions : ℕ → List VersionMade → Type 0
+IsBelowVersions number [] = Unit {0}
+IsBelowVersions number (version ∷ versions) = (number ≤ version.number) × IsBelowVersions number versions
+
+-- versions stand by number
+abbrev pub AreByNumber : List VersionMade → Type 0
+AreByNumber [] = Unit {0}
+AreByNumber (version ∷ versions) = IsBelowVersions version.number versions × AreByNumber versions
 
 -- whether a branch stands before an identity
 abbrev pub is_branch_before : Identity → Tree → Bool

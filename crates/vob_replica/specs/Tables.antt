@@ -1,6 +1,6 @@
 -- Epoch tables: of each site the highest number of its operations that is known, in byte order of sites, without the sites of
 -- which none is known.
-use Rattle.std.specs.Prelude.{ℕ, suc, ◌+◌, max, Bool, false, ◌&&◌, nat_lt, nat_le, Option, Some, None, List, [], ◌∷◌, fold, map}
+use Rattle.std.specs.Prelude.{ℕ, suc, ◌+◌, ◌≤◌, max, Bool, false, ◌&&◌, nat_lt, nat_le, Option, Some, None, List, [], ◌∷◌, fold, map}
 use Rattle.std.specs.Prelude.{find, slice_get, ◌≡◌, if◌then◌else◌}
 use Rattle.std.specs.Option.{option_map_or}
 use Rattle.std.specs.Str.{bytes_eq}
@@ -45,6 +45,10 @@ first_gap [] table = None
 first_gap (need ∷ needs) table =
     if nat_le need.number (number_in table need.site) then first_gap needs table
     else Some (record { site = need.site; number = number_in table need.site + 1 })
+
+-- each number of a table is at most that of another
+abbrev pub IsWithin : List Identity → List Identity → Type 0
+IsWithin table other = (site : List ℕ) → number_in table site ≤ number_in other site
 
 -- whether the site of an entry stands before a site
 abbrev pub is_below : List ℕ → Identity → Bool

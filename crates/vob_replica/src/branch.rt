@@ -2,14 +2,13 @@
 
 ghost use Rattle.std.specs.List.{list_any};
 ghost use Rattle.std.specs.Prelude.{◌≡◌, ◌==◌, ◌≤◌, ◌||◌, [], find, length, option_copied, OnOk, OnErr};
-ghost use Rattle.vob_replica.specs.Branches.{branch_made_by, name_in, word_in, version_by, version_place, with_master, with_version_by};
+ghost use Rattle.vob_replica.specs.Branches.{branch_made_by, name_in, word_in, version_by, version_place, with_master, with_version_by, AreByNumber};
 ghost use Rattle.vob_replica.specs.Tables.{holds};
 ghost use Rattle.vob_replica.specs.Trees.{is_same_identity, needs_all_others, given_to, master_of, next_number, has_version};
 
 use crate::events::Identity;
 use crate::operations::{Operation, SiteDeed};
 use crate::shared::Shared;
-use crate::tables::is_in_table;
 use cc_names::memory::NoMemory;
 use cc_names::names::Name;
 use std::alloc::Global;
@@ -89,8 +88,8 @@ impl Version {
     }
 }
 
-/// How many versions stand before a new one of this number.
-fn version_place(versions: &[Version], number: u64) -> usize
+/// How many versions stand before the first one of a greater number.
+fn first_above(versions: &[Version], number: u64) -> usize
     ensures place { result ≡ version_place number versions.now }
     ensures within { result ≤ length versions.now }
 {
@@ -102,6 +101,19 @@ fn version_place(versions: &[Version], number: u64) -> usize
         place += 1;
     }
     place
+}
+
+/// How many versions stand before a new one of this number. Takes constant time where it is the greatest, else time linear in
+/// the versions.
+fn version_place(versions: &[Version], number: u64) -> usize
+    requires { AreByNumber versions.now }
+    ensures place { result ≡ version_place number versions.now }
+    ensures within { result ≤ length versions.now }
+{
+    match versions.last() {
+        Some(last) if number < last.number() => first_above(versions, number),
+        _ => versions.len(),
+    }
 }
 
 /// Whether one of some versions has a number.
@@ -122,8 +134,7 @@ fn is_or_needs(operation: &Operation, other: &Operation) -> bool
         ≡ (is_same_identity other.now.identity operation.now.identity
         || holds operation.now.needs other.now.identity) }
 {
-    is_same_identity(&other.identity, &operation.identity)
-        || is_in_table(operation.needs.as_slice(), &other.identity)
+    is_same_identity(&other.identity, &operation.identity) || operation.needs.holds(&other.identity)
 }
 
 /// Whether an operation needs all others of some.
@@ -172,11 +183,13 @@ pub struct Branch {
 
 impl Model for Branch {
     ghost use Rattle.vob_replica.specs.Trees.{Tree};
-    ghost use Rattle.vob_replica.specs.Branches.{branch_made_by};
+    ghost use Rattle.vob_replica.specs.Branches.{branch_made_by, AreByNumber};
 
     ghost Value = { Tree };
 
     ghost view = { λ branch. branch_made_by branch.made branch.element branch.masters.items branch.versions.items };
+
+    ghost invariant = { λ branch. AreByNumber branch.versions.items };
 }
 
 impl Branch {
@@ -220,7 +233,7 @@ impl Branch {
         self.versions.as_slice()
     }
 
-    /// The site that has the mastership.
+    /// The site that has the mastership. Takes time quadratic in the operations that gave it away, and in the sites for each two.
     pub fn master(&self) -> &Name
         ensures { result.now ≡ master_of self.now }
     {
@@ -238,7 +251,7 @@ impl Branch {
         self.versions.len() as u64 + 1
     }
 
-    /// Whether it has a version of this number.
+    /// Whether it has a version of this number. Takes time linear in the versions.
     pub fn has_version(&self, number: u64) -> bool
         ensures { result ≡ has_version self.now number }
     {
@@ -254,7 +267,7 @@ impl Branch {
         Ok(())
     }
 
-    /// Puts the version of a number that an operation made among its versions.
+    /// Puts the version of a number that an operation made among its versions. Takes constant time where it is the greatest.
     pub(crate) fn put_version(&mut self, number: u64, made: Shared) -> Result<(), NoMemory>
         ensures ok { OnOk result (self.new ≡ with_version_by self.old number made) }
         ensures err { OnErr result (self.new ≡ self.old) }

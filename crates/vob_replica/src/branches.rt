@@ -18,6 +18,8 @@ use std::marker::Model;
 #[derive(Drop)]
 pub struct Branches {
     trees: Vec<Branch>,
+    /// The place of the branch that was changed last: the next one is often the same.
+    near: usize,
 }
 
 impl Model for Branches {
@@ -65,6 +67,18 @@ fn is_branch_at(trees: &[Branch], place: usize, identity: &Identity) -> bool
         Some(tree) => is_same_identity(tree.identity(), identity),
         None => false,
     }
+}
+
+/// The same place. Takes constant time where the branch is at the place `near`.
+fn branch_near(trees: &[Branch], near: usize, identity: &Identity) -> usize
+    requires { IsInOrder trees.now }
+    ensures place { result ≡ branch_place_in identity.now trees.now }
+    ensures within { result ≤ length trees.now }
+{
+    if is_branch_at(trees, near, identity) {
+        return near;
+    }
+    branch_place(trees, identity)
 }
 
 /// The branch of an identity.
@@ -123,20 +137,21 @@ fn push_master_at(trees: &mut Vec<Branch>, place: usize, operation: Shared) -> R
     trees[place].push_master(operation)
 }
 
-/// Puts a version on a branch, where that is there.
+/// Puts a version on a branch, where that is there. The place is that of the branch.
 fn put_on_branch(
     trees: &mut Vec<Branch>,
+    place: usize,
     branch: &Identity,
     number: u64,
     made: Shared,
 ) -> Result<(), NoMemory>
-    requires { IsInOrder trees.old.items }
+    requires order { IsInOrder trees.old.items }
+    requires place { place ≡ branch_place_in branch.now trees.old.items }
     ensures ok { OnOk result
         (trees.new.items
         ≡ with_branch_changed branch.now (λ tree. with_version_by tree number made) trees.old.items) }
     ensures err { OnErr result (trees.new.items ≡ trees.old.items) }
 {
-    let place = branch_place(trees, branch);
     if is_branch_at(trees, place, branch) {
         return put_version_at(trees, place, number, made);
     }
@@ -181,6 +196,7 @@ fn element_of_branch(
 fn take_operation(
     alloc: Global,
     trees: &mut Vec<Branch>,
+    near: &mut usize,
     operation: &Shared,
 ) -> Result<(), NoMemory>
     requires { IsInOrder trees.old.items }
@@ -197,7 +213,11 @@ fn take_operation(
             let element = element_of_branch(alloc, trees, branch)?;
             put_branch(trees, Branch::new(alloc, made, element))
         }
-        SiteDeed::Version(branch, number, _) => put_on_branch(trees, branch, *number, made),
+        SiteDeed::Version(branch, number, _) => {
+            let place = branch_near(trees, *near, branch);
+            *near = place;
+            put_on_branch(trees, place, branch, *number, made)
+        }
         SiteDeed::Master(branch, _) => push_master(trees, branch, made),
     }
 }
@@ -229,6 +249,7 @@ impl Branches {
     {
         Branches {
             trees: Vec::new(alloc),
+            near: 0,
         }
     }
 
@@ -262,6 +283,6 @@ impl Branches {
         ensures ok { OnOk result (self.new ≡ after_operation self.old operation.now) }
         ensures err { OnErr result (self.new ≡ self.old) }
     {
-        take_operation(alloc, &mut self.trees, operation)
+        take_operation(alloc, &mut self.trees, &mut self.near, operation)
     }
 }

@@ -1,6 +1,7 @@
 //! Why a site may not make a change, and what the change does.
 
 ghost use Rattle.std.specs.Prelude.{◌≡◌, IfOk};
+ghost use Rattle.vob_replica.specs.Needs.{own_before, IsSharedBy};
 ghost use Rattle.vob_replica.specs.Replicas.{branch_fault, master_fault, branch_name_fault, change_fault, site_deed_of, operation_of};
 ghost use Rattle.vob_replica.specs.Trees.{next_number, tree_at};
 ghost use Rattle.std.specs.Option.{option_map_or};
@@ -10,11 +11,14 @@ use crate::branch::Branch;
 use crate::branches::Branches;
 use crate::events::Identity;
 use crate::logs::Log;
+use crate::needs::Needs;
 use crate::operations::{Change, Operation, SiteDeed, SiteFault};
 use crate::shared::Shared;
+use crate::tables::Table;
 use cc_names::memory::NoMemory;
 use cc_names::names::Name;
 use std::alloc::Global;
+use std::rc::Rc;
 
 /// V5: another site has the mastership of a branch.
 fn master_fault(alloc: Global, site: &Name, tree: &Branch) -> Result<Option<SiteFault>, NoMemory>
@@ -135,21 +139,35 @@ fn deed_of(alloc: Global, branches: &Branches, change: &Change) -> Result<SiteDe
     }
 }
 
-/// The operation by which the site of a name, which knows these operations and branches, makes a change. Takes time linear in the
-/// sites that it knows of.
+/// The last of so many operations of a site, if any.
+fn own_before(alloc: Global, site: &Name, number: u64) -> Result<Option<Identity>, NoMemory>
+    ensures { IfOk result (λ own. own ≡ own_before site.now number) }
+{
+    if number > 0 {
+        let site = site.copy(alloc)?;
+        return Ok(Some(Identity { site, number }));
+    }
+    Ok(None)
+}
+
+/// The operation by which the site of a name, which knows these operations and branches, makes a change. Its needs are shared, but
+/// for its own operations. Takes time linear in the sites that it knows of.
 pub(crate) fn operation_of(
     alloc: Global,
     name: &Name,
     log: &Log,
+    shared: Rc<Table>,
     branches: &Branches,
     change: &Change,
 ) -> Result<Shared, NoMemory>
+    requires { IsSharedBy name.now log.now shared.value }
     ensures { IfOk result
         (λ operation. operation ≡ operation_of name.now log.now branches.now change.now) }
 {
     let site = name.copy(alloc)?;
     let number = log.next_number(name);
-    let needs = log.table().copy_entries(alloc)?;
+    let own = own_before(alloc, name, log.table().number(name))?;
+    let needs = Needs::new(shared, own);
     let deed = deed_of(alloc, branches, change)?;
     let identity = Identity { site, number };
     Shared::new(

@@ -1,8 +1,7 @@
 //! What a site thinks that others know.
 
-ghost use Rattle.std.specs.Prelude.{◌≡◌, ◌≤◌, [], length, unwrap_or, option_copied, OnOk, OnErr};
-ghost use Rattle.vob_replica.specs.Replicas.{estimate_in, with_estimate};
-ghost use Rattle.vob_replica.specs.Estimates.{estimate_place_in};
+ghost use Rattle.std.specs.Prelude.{◌≡◌, ◌≤◌, length, option_copied, OnOk, OnErr};
+ghost use Rattle.vob_replica.specs.Estimates.{peer_in, peer_place_in, with_peer};
 
 use crate::tables::Table;
 use cc_names::memory::NoMemory;
@@ -16,26 +15,33 @@ pub struct Estimate {
     pub table: Table,
 }
 
-/// What is thought that a site knows, where it is thought to know anything. Takes time linear in the estimates.
-pub fn table_for<'a>(estimates: &'a [Estimate], site: &Name) -> Option<&'a Table>
-    ensures { unwrap_or (option_copied result) [] ≡ estimate_in estimates.now site.now }
+/// A site of which something is thought. It is thought to know the first `told` operations of the log.
+#[derive(Debug, Drop)]
+pub struct Peer {
+    pub estimate: Estimate,
+    pub told: usize,
+}
+
+/// What is thought of a site, where anything is. Takes time linear in the peers.
+pub fn peer_for<'a>(peers: &'a [Peer], site: &Name) -> Option<&'a Peer>
+    ensures { option_copied result ≡ peer_in peers.now site.now }
 {
-    for estimate in estimates {
-        if estimate.site == *site {
-            return Some(&estimate.table);
+    for peer in peers {
+        if peer.estimate.site == *site {
+            return Some(peer);
         }
     }
     None
 }
 
-/// How many estimates stand before that of a site.
-fn estimate_place(estimates: &[Estimate], site: &Name) -> usize
-    ensures place { result ≡ estimate_place_in estimates.now site.now }
-    ensures within { result ≤ length estimates.now }
+/// How many peers stand before a site.
+fn peer_place(peers: &[Peer], site: &Name) -> usize
+    ensures place { result ≡ peer_place_in peers.now site.now }
+    ensures within { result ≤ length peers.now }
 {
     let mut place = 0;
-    for estimate in estimates {
-        if estimate.site == *site {
+    for peer in peers {
+        if peer.estimate.site == *site {
             break;
         }
         place += 1;
@@ -43,24 +49,27 @@ fn estimate_place(estimates: &[Estimate], site: &Name) -> usize
     place
 }
 
-/// Thinks that a site knows what a table holds. Takes time linear in the estimates, and memory for a new one. An `Err` changes
-/// nothing.
-pub fn set_table(
+/// Thinks that a site knows what a table holds, and the first `told` operations. Takes time linear in the peers, and memory for a
+/// new one. An `Err` changes nothing.
+pub fn set_peer(
     alloc: Global,
-    estimates: &mut Vec<Estimate>,
+    peers: &mut Vec<Peer>,
     site: &Name,
     table: Table,
+    told: usize,
 ) -> Result<(), NoMemory>
-    ensures ok { OnOk result
-        (estimates.new.items ≡ with_estimate estimates.old.items site.now table) }
-    ensures err { OnErr result (estimates.new.items ≡ estimates.old.items) }
+    ensures ok { OnOk result (peers.new.items ≡ with_peer peers.old.items site.now table told) }
+    ensures err { OnErr result (peers.new.items ≡ peers.old.items) }
 {
-    let place = estimate_place(estimates, site);
-    if place < estimates.len() {
-        estimates[place].table = table;
+    let place = peer_place(peers, site);
+    if place < peers.len() {
+        let peer = &mut peers[place];
+        peer.estimate.table = table;
+        peer.told = told;
         return Ok(());
     }
     let site = site.copy(alloc)?;
-    estimates.push(Estimate { site, table })?;
+    let estimate = Estimate { site, table };
+    peers.push(Peer { estimate, told })?;
     Ok(())
 }

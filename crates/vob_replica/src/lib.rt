@@ -6,7 +6,7 @@
 //! prints what a site knows.
 //!
 //! What it promises: the reader answers exactly the events of a text, or its first line that says nothing; a log takes a packet
-//! in as the definitions say, or answers the first operation that is missing. README.md says what is not written yet.
+//! in as the definitions say, or answers the first operation that is missing. README.md says which contract promises what.
 //!
 //! What it stands on: `cc_names`.
 #![tactic(auto)]
@@ -18,6 +18,7 @@ pub mod estimates;
 pub mod events;
 pub mod laws;
 pub mod logs;
+pub mod needs;
 pub mod operations;
 pub mod packets;
 pub mod reading;

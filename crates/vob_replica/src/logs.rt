@@ -1,10 +1,11 @@
 //! The operations that a site knows.
 
-ghost use Rattle.std.specs.Prelude.{◌≡◌, ◌++◌, ◌∷◌, [], ◌+◌, ◌-◌, ◌≤◌, drop, true, not, None, if◌then◌else◌, List, Ok, IfOk, IfErr, OnOk, OnErr, length};
+ghost use Rattle.std.specs.Prelude.{◌≡◌, ◌++◌, ◌∷◌, [], ◌+◌, ◌-◌, ◌≤◌, take, true, not, None, if◌then◌else◌, List, Ok, IfOk, IfErr, OnOk, OnErr, length};
 ghost use Rattle.cc_names.specs.Answers.{FaultIs};
-ghost use Rattle.vob_replica.specs.Logs.{IsGap, HasNextNumber, TakesNews, IsTableOf};
-ghost use Rattle.vob_replica.specs.Tables.{first_gap, holds, number_in, with_operation, table_of};
+ghost use Rattle.vob_replica.specs.Logs.{IsGap, HasNextNumber, TakesNews, TakesWhole, IsLog, IsWhole};
+ghost use Rattle.vob_replica.specs.Tables.{first_gap, holds, number_in, with_operation, table_of, IsWithin};
 ghost use Rattle.vob_replica.specs.Replicas.{above, operations_after_import};
+ghost use Rattle.vob_replica.specs.declared.events.Identity.{Identity};
 ghost use Rattle.vob_replica.specs.declared.operations.Operation.{Operation};
 
 use crate::events::Identity;
@@ -26,13 +27,13 @@ pub struct Log {
 impl Model for Log {
     ghost use Rattle.std.specs.Prelude.{List};
     ghost use Rattle.vob_replica.specs.declared.operations.Operation.{Operation};
-    ghost use Rattle.vob_replica.specs.Logs.{IsTableOf};
+    ghost use Rattle.vob_replica.specs.Logs.{IsLog};
 
     ghost Value = { List Operation };
 
     ghost view = { λ log. log.operations.items };
 
-    ghost invariant = { λ log. IsTableOf log.table log.operations.items };
+    ghost invariant = { λ log. IsLog log.table log.operations.items };
 }
 
 /// Puts one operation more behind others, and into their table.
@@ -56,8 +57,13 @@ fn push_shared(
 }
 
 /// Whether an operation is new to a site that knows what a table holds. It is taken into the table then, unless it needs an
-/// operation that is missing.
-fn take_one(alloc: Global, table: &mut Table, operation: &Shared) -> Result<bool, Or<Identity>>
+/// operation that is missing. `near` is where its site may stand in the table.
+fn take_one(
+    alloc: Global,
+    table: &mut Table,
+    near: &mut usize,
+    operation: &Shared,
+) -> Result<bool, Or<Identity>>
     ensures next { HasNextNumber operation.now }
     ensures known { IfOk result (λ new. holds table.old operation.now.identity ≡ not new) }
     ensures whole { IfOk result
@@ -68,10 +74,11 @@ fn take_one(alloc: Global, table: &mut Table, operation: &Shared) -> Result<bool
     ensures gap { IfErr result (λ fault. IsGap fault operation.now table.old) }
 {
     let operation = operation.operation();
-    if table.holds(&operation.identity) {
+    if table.holds_near(near, &operation.identity) {
         return Ok(false);
     }
-    if let Some(gap) = table.first_gap(alloc, operation.needs.as_slice())? {
+    let needs = operation.needs.table(alloc)?;
+    if let Some(gap) = table.first_gap(alloc, needs.entries())? {
         return Err(Or::Is(gap));
     }
     table.raise(alloc, &operation.identity)?;
@@ -86,17 +93,64 @@ fn news_of(
     operations: &[Shared],
 ) -> Result<Vec<Shared>, Or<Identity>>
     ensures { (known : List Operation)
-        → IsTableOf table.old known
+        → IsLog table.old known
         → TakesNews result known operations.now table.new }
 {
     let mut news = Vec::new(alloc);
+    let mut near = 0;
     for operation in operations {
-        if !take_one(alloc, table, operation)? {
+        if !take_one(alloc, table, &mut near, operation)? {
             continue;
         }
         news.push(operation.copy()?)?;
     }
     Ok(news)
+}
+
+/// Those of some operations that are new to a site that knows what a table holds, in order, which are taken into the table. They
+/// need nothing that the table, or an operation before them, lacks.
+fn news_of_whole(
+    alloc: Global,
+    table: &mut Table,
+    operations: &[Shared],
+) -> Result<Vec<Shared>, NoMemory>
+    ensures { (known : List Operation)
+        → (floor : List Identity)
+        → IsLog table.old known
+        → IsWhole floor operations.now
+        → IsWithin floor table.old
+        → TakesWhole result known operations.now table.new }
+{
+    let mut news = Vec::new(alloc);
+    let mut near = 0;
+    for operation in operations {
+        let identity = &operation.operation().identity;
+        if table.holds_near(&mut near, identity) {
+            continue;
+        }
+        table.raise(alloc, identity)?;
+        news.push(operation.copy()?)?;
+    }
+    Ok(news)
+}
+
+/// The same, where they need nothing that a floor, or an operation before them, lacks. Where the table holds the floor, no need is
+/// looked up.
+fn news_above(
+    alloc: Global,
+    table: &mut Table,
+    floor: &Table,
+    operations: &[Shared],
+) -> Result<Vec<Shared>, Or<Identity>>
+    requires { IsWhole floor.now operations.now }
+    ensures { (known : List Operation)
+        → IsLog table.old known
+        → TakesNews result known operations.now table.new }
+{
+    if table.covers(floor.entries()) {
+        return Ok(news_of_whole(alloc, table, operations)?);
+    }
+    news_of(alloc, table, operations)
 }
 
 /// Those of some operations that a table does not hold.
@@ -105,8 +159,9 @@ fn not_held(alloc: Global, operations: &[Shared], table: &Table) -> Result<Vec<S
         (λ shared. shared.items ≡ above table.now operations.now) }
 {
     let mut shared = Vec::new(alloc);
+    let mut near = 0;
     for operation in operations {
-        if table.holds(&operation.operation().identity) {
+        if table.holds_near(&mut near, &operation.operation().identity) {
             continue;
         }
         shared.push(operation.copy()?)?;
@@ -127,7 +182,8 @@ impl Log {
 
     /// The epoch table of the operations.
     pub fn table(&self) -> &Table
-        ensures { result.now ≡ table_of self.now }
+        ensures table { result.now ≡ table_of self.now }
+        ensures all { above (table_of self.now) self.now ≡ [] }
     {
         &self.table
     }
@@ -139,13 +195,15 @@ impl Log {
         self.operations.as_slice()
     }
 
-    /// Those behind the first `from` operations that a table does not hold, in order. Takes time linear in what stands there, and
-    /// in the sites for each.
+    /// The operations that a table does not hold, in order, where it holds the first `from` ones. Takes time linear in those
+    /// behind them, and for each whose site is not that of the one before also linear in the sites.
     pub fn above(&self, alloc: Global, from: usize, table: &Table) -> Result<Vec<Shared>, NoMemory>
-        requires { from ≤ length self.now }
-        ensures { IfOk result
-            (λ shared. shared.items ≡ above table.now (drop from self.now)) }
+        requires within { from ≤ length self.now }
+        requires first { above table.now (take from self.now) ≡ [] }
+        ensures above { IfOk result (λ shared. shared.items ≡ above table.now self.now) }
+        ensures whole { IfOk result (λ shared. IsWhole table.now shared.items) }
     {
+        let _order = table.entries();
         not_held(alloc, &self.operations[from..], table)
     }
 
@@ -166,13 +224,16 @@ impl Log {
     }
 
     /// Takes in the operations of a packet that are not known yet, and answers how many; or answers the first operation that is
-    /// missing. An `Err` changes nothing. Takes time linear in the sites for each operation of the packet, and for each new one
-    /// the time of `first_gap`.
+    /// missing. They need nothing that the floor, or an operation before them, lacks. An `Err` changes nothing. Where the floor is
+    /// known, takes time linear in the operations, and in the sites for each whose site is not that of the one before. Else each
+    /// new one also takes the time of `first_gap`.
     pub fn import_operations(
         &mut self,
         alloc: Global,
+        floor: &Table,
         operations: &[Shared],
     ) -> Result<u64, Or<Identity>>
+        requires { IsWhole floor.now operations.now }
         ensures ok { OnOk result (operations_after_import self.old operations.now ≡ Ok self.new) }
         ensures count { IfOk result (λ count. count ≡ length self.new - length self.old) }
         ensures err { OnErr result (self.new ≡ self.old) }
@@ -180,7 +241,7 @@ impl Log {
             (λ fault. FaultIs fault (operations_after_import self.old operations.now)) }
     {
         let mut table = self.table.copy(alloc)?;
-        let mut news = news_of(alloc, &mut table, operations)?;
+        let mut news = news_above(alloc, &mut table, floor, operations)?;
         let count = news.len() as u64;
         self.operations.append(&mut news)?;
         self.table = table;

@@ -1,7 +1,7 @@
 //! What sites make and hand on, as plain data.
 
 use crate::events::Identity;
-use cc_names::lists::List;
+use crate::needs::Needs;
 use cc_names::names::Name;
 use cc_names::texts::Text;
 
@@ -23,7 +23,7 @@ pub enum SiteDeed {
 #[derive(Drop)]
 pub struct Operation {
     pub identity: Identity,
-    pub needs: List<Identity>,
+    pub needs: Needs,
     pub deed: SiteDeed,
 }
 

@@ -1,15 +1,18 @@
 //! A site: the operations that it knows, and what it thinks that others know.
 
-ghost use Rattle.std.specs.Prelude.{◌≡◌, [], IfOk, OnOk, OnErr};
-ghost use Rattle.vob_replica.specs.Replicas.{new_site, above, estimate_in, made, imported, packet_for, thinking, gap_fault, with_estimate, AreBranchesOf, Comes};
+ghost use Rattle.std.specs.Prelude.{◌≡◌, [], List, IfOk, IfSome, OnOk, OnErr};
+ghost use Rattle.vob_replica.specs.declared.operations.Operation.{Operation};
+ghost use Rattle.vob_replica.specs.Estimates.{estimates_of, told_in, with_peer, AreTold};
+ghost use Rattle.vob_replica.specs.Logs.{IsWhole};
+ghost use Rattle.vob_replica.specs.Needs.{IsSharedBy};
+ghost use Rattle.vob_replica.specs.Replicas.{new_site, above, estimate_in, made, imported, packet_for, thinking, gap_fault, AreBranchesOf, Comes};
 ghost use Rattle.vob_replica.specs.Tables.{raised_by, table_of};
 ghost use Rattle.vob_replica.specs.Trees.{trees_of};
 ghost use Rattle.vob_replica.specs.Showing.{show_text};
-ghost use Rattle.vob_replica.specs.declared.estimates.Estimate.{Estimate};
 
 use crate::branches::Branches;
 use crate::changes::{change_fault, operation_of};
-use crate::estimates::{Estimate, set_table, table_for};
+use crate::estimates::{Peer, peer_for, set_peer};
 use crate::events::Identity;
 use crate::logs::Log;
 use crate::operations::{Change, SiteFault};
@@ -22,6 +25,7 @@ use cc_names::names::Name;
 use cc_names::texts::Text;
 use std::alloc::Global;
 use std::marker::Model;
+use std::rc::Rc;
 
 /// A site. Contracts see its name, the operations that it knows in the order in which it came to know them, and what it thinks
 /// that others know.
@@ -32,17 +36,22 @@ pub struct Replica {
     branches: Branches,
     /// The branches are those of so many operations, the first ones. They are fewer than all where memory ran out.
     taken: usize,
-    estimates: Vec<Estimate>,
+    peers: Vec<Peer>,
+    /// A table that the site's next operations share, until a packet is taken in.
+    shared: Option<Rc<Table>>,
 }
 
 impl Model for Replica {
+    ghost use Rattle.std.specs.Prelude.{IfSome};
+    ghost use Rattle.vob_replica.specs.Estimates.{estimates_of, AreTold};
+    ghost use Rattle.vob_replica.specs.Needs.{IsSharedBy};
     ghost use Rattle.vob_replica.specs.Replicas.{Site, AreBranchesOf};
 
     ghost Value = { Site };
 
-    ghost view = { λ replica. record { name = replica.name; known = replica.log; estimates = replica.estimates.items } };
+    ghost view = { λ replica. record { name = replica.name; known = replica.log; estimates = estimates_of replica.peers.items } };
 
-    ghost invariant = { λ replica. AreBranchesOf replica.branches replica.taken replica.log };
+    ghost invariant = { λ replica. AreBranchesOf replica.branches replica.taken replica.log × AreTold replica.log replica.peers.items × IfSome replica.shared (λ shared. IsSharedBy replica.name replica.log shared.value) };
 }
 
 /// Takes the operations in that the branches are not of yet.
@@ -64,47 +73,76 @@ fn catch_up(
 }
 
 /// Those of the operations of a log that an estimate does not hold.
-fn news_for(
-    alloc: Global,
-    log: &Log,
-    estimates: &[Estimate],
-    to: &Name,
-) -> Result<Vec<Shared>, NoMemory>
-    ensures { IfOk result
-        (λ news. news.items ≡ above (estimate_in estimates.now to.now) log.now) }
+fn news_for(alloc: Global, log: &Log, peers: &[Peer], to: &Name) -> Result<Vec<Shared>, NoMemory>
+    requires { AreTold log.now peers.now }
+    ensures above { IfOk result
+        (λ news. news.items ≡ above (estimate_in (estimates_of peers.now) to.now) log.now) }
+    ensures whole { IfOk result
+        (λ news. IsWhole (estimate_in (estimates_of peers.now) to.now) news.items) }
 {
-    match table_for(estimates, to) {
-        Some(table) => log.above(alloc, 0, table),
+    match peer_for(peers, to) {
+        Some(peer) => log.above(alloc, peer.told, &peer.estimate.table),
         None => log.above(alloc, 0, &Table::new(alloc)),
     }
 }
 
 /// What is thought that a site knows, as a table of its own.
-fn estimate_of(alloc: Global, estimates: &[Estimate], site: &Name) -> Result<Table, NoMemory>
-    ensures { IfOk result (λ table. table ≡ estimate_in estimates.now site.now) }
+fn estimate_of(alloc: Global, peers: &[Peer], site: &Name) -> Result<Table, NoMemory>
+    ensures { IfOk result (λ table. table ≡ estimate_in (estimates_of peers.now) site.now) }
 {
-    match table_for(estimates, site) {
-        Some(table) => table.copy(alloc),
+    match peer_for(peers, site) {
+        Some(peer) => peer.estimate.table.copy(alloc),
         None => Ok(Table::new(alloc)),
     }
+}
+
+/// How many operations of the log a site was told of.
+fn told_of(peers: &[Peer], site: &Name) -> usize
+    ensures { result ≡ told_in peers.now site.now }
+{
+    match peer_for(peers, site) {
+        Some(peer) => peer.told,
+        None => 0,
+    }
+}
+
+/// A table that the operations of a site share which it makes next. Where there is none yet, it takes time and memory linear in the
+/// sites.
+fn shared_table(
+    alloc: Global,
+    name: &Name,
+    log: &Log,
+    shared: &Option<Rc<Table>>,
+) -> Result<Rc<Table>, NoMemory>
+    requires { IfSome shared.now (λ shared. IsSharedBy name.now log.now shared.value) }
+    ensures { IfOk result (λ shared. IsSharedBy name.now log.now shared.value) }
+{
+    if let Some(shared) = shared {
+        return Ok(shared.clone()?);
+    }
+    let table = log.table().copy(alloc)?;
+    Ok(Rc::new(alloc, table)?)
 }
 
 /// Thinks that a site knows what a table holds too.
 fn raise_estimate(
     alloc: Global,
-    estimates: &mut Vec<Estimate>,
+    peers: &mut Vec<Peer>,
     site: &Name,
     table: &Table,
 ) -> Result<(), NoMemory>
     ensures ok { OnOk result
-        (estimates.new.items
-        ≡ with_estimate estimates.old.items site.now
-        (raised_by (estimate_in estimates.old.items site.now) table.now)) }
-    ensures err { OnErr result (estimates.new.items ≡ estimates.old.items) }
+        (peers.new.items
+        ≡ with_peer peers.old.items site.now
+        (raised_by (estimate_in (estimates_of peers.old.items) site.now) table.now)
+        (told_in peers.old.items site.now)) }
+    ensures told { (known : List Operation) → AreTold known peers.old.items → AreTold known peers.new.items }
+    ensures err { OnErr result (peers.new.items ≡ peers.old.items) }
 {
-    let mut estimate = estimate_of(alloc, estimates, site)?;
+    let mut estimate = estimate_of(alloc, peers, site)?;
     estimate.raise_all(alloc, table.entries())?;
-    set_table(alloc, estimates, site, estimate)
+    let told = told_of(peers, site);
+    set_peer(alloc, peers, site, estimate, told)
 }
 
 /// The fault of a packet that was not added.
@@ -127,7 +165,8 @@ impl Replica {
             log: Log::new(alloc),
             branches: Branches::new(alloc),
             taken: 0,
-            estimates: Vec::new(alloc),
+            peers: Vec::new(alloc),
+            shared: None,
         }
     }
 
@@ -152,9 +191,12 @@ impl Replica {
         if let Some(fault) = change_fault(alloc, &self.name, &self.branches, change)? {
             return Err(Or::Is(fault));
         }
-        let operation = operation_of(alloc, &self.name, &self.log, &self.branches, change)?;
+        let shared = shared_table(alloc, &self.name, &self.log, &self.shared)?;
+        let next = shared.clone()?;
+        let operation = operation_of(alloc, &self.name, &self.log, shared, &self.branches, change)?;
         let identity = operation.operation().identity.copy(alloc)?;
         self.log.push(alloc, operation)?;
+        self.shared = Some(next);
         catch_up(
             alloc,
             &mut self.branches,
@@ -165,27 +207,36 @@ impl Replica {
     }
 
     /// A packet for another site, with what that is not thought to know, which it is thought to know from then on. An `Err`
-    /// changes nothing. Takes time linear in the operations, and in the sites for each.
+    /// changes nothing. Takes time linear in the sites and in the operations that the site was not told of. Each of these whose
+    /// site is not that of the one before takes time linear in the sites.
     pub fn export(&mut self, alloc: Global, to: &Name) -> Result<Packet, NoMemory>
         ensures packet { IfOk result (λ packet. packet ≡ packet_for self.old to.now) }
         ensures ok { OnOk result (self.new ≡ thinking self.old to.now (table_of self.old.known)) }
         ensures err { OnErr result (self.new ≡ self.old) }
     {
-        let operations = news_for(alloc, &self.log, &self.estimates, to)?;
+        let operations = news_for(alloc, &self.log, &self.peers, to)?;
+        let floor = estimate_of(alloc, &self.peers, to)?;
         let sender = self.name.copy(alloc)?;
         let table = self.log.table().copy(alloc)?;
         let estimate = self.log.table().copy(alloc)?;
-        set_table(alloc, &mut self.estimates, to, estimate)?;
-        Ok(Packet::new(sender, operations, table))
+        let told = self.log.operations().len();
+        set_peer(alloc, &mut self.peers, to, estimate, told)?;
+        Ok(Packet::new(sender, operations, table, floor))
     }
 
     /// Takes in the operations of a packet that are not known yet, and answers how many; or answers the first operation that is
-    /// missing, and changes nothing. Without memory some may be added. Takes time linear in the sites for each operation of the
-    /// packet, and for each new one also logarithmic in the branches.
+    /// missing, and changes nothing. Without memory some may be added. Takes time linear in the sites, each with each, and in the
+    /// operations. An operation whose site is not that of the one before takes time linear in the sites. A new one on another
+    /// branch takes time logarithmic in the branches. Where the packet's floor is not known, each new one takes the time of
+    /// `Table::first_gap`.
     pub fn import(&mut self, alloc: Global, packet: &Packet) -> Result<u64, Or<SiteFault>>
         ensures { Comes result self.new (imported self.old packet.now) }
     {
-        let count = match self.log.import_operations(alloc, packet.operations()) {
+        self.shared = None;
+        let count = match self
+            .log
+            .import_operations(alloc, packet.floor(), packet.operations())
+        {
             Ok(count) => count,
             Err(fault) => return Err(gap_fault(fault)),
         };
@@ -195,7 +246,7 @@ impl Replica {
             &mut self.taken,
             self.log.operations(),
         )?;
-        raise_estimate(alloc, &mut self.estimates, packet.sender(), packet.table())?;
+        raise_estimate(alloc, &mut self.peers, packet.sender(), packet.table())?;
         Ok(count)
     }
 
@@ -204,7 +255,7 @@ impl Replica {
         ensures ok { OnOk result (self.new ≡ thinking self.old to.now []) }
         ensures err { OnErr result (self.new ≡ self.old) }
     {
-        set_table(alloc, &mut self.estimates, to, Table::new(alloc))
+        set_peer(alloc, &mut self.peers, to, Table::new(alloc), 0)
     }
 
     /// What it knows, as lines. There is no memory for it either where there was none for the last change or packet.

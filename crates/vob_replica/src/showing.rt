@@ -1,6 +1,6 @@
 //! What replies say.
 
-ghost use Rattle.std.specs.Prelude.{◌≡◌, ◌++◌, codes, IfOk, OnOk, flat_map};
+ghost use Rattle.std.specs.Prelude.{◌≡◌, ◌++◌, IfOk, OnOk, flat_map};
 ghost use Rattle.std.specs.Fmt.{decimal};
 ghost use Rattle.vob_replica.specs.Showing.{identity_text, epoch_line, version_line, branch_line, tree_lines, known_lines, fault_name, fault_argument, fault_text, event_word, behind_ok, with_bars, done_text, answer_text, reply_text};
 

@@ -1,6 +1,6 @@
 //! All sites, and all packets.
 
-ghost use Rattle.std.specs.Prelude.{◌≡◌, ◌≤◌, ◌<◌, ◌++◌, ◌∷◌, [], None, length, vec_len, slice_index_or, slice_set, option_copied, is_some, List, IfOk, OnOk, IfSome, IfNone};
+ghost use Rattle.std.specs.Prelude.{◌≡◌, ◌≤◌, ◌<◌, ◌++◌, ◌∷◌, [], None, length, vec_len, slice_index_or, slice_set, option_copied, is_some, IfOk, OnOk, IfSome, IfNone};
 ghost use Rattle.std.specs.Fmt.{decimal};
 ghost use Rattle.vob_replica.specs.Replicas.{Site, Packet, made, imported, packet_for, thinking};
 ghost use Rattle.vob_replica.specs.Showing.{show_text};

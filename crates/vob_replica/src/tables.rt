@@ -1,11 +1,10 @@
 //! Epoch tables.
 
-ghost use Rattle.std.specs.Prelude.{◌≡◌, [], ◌<◌, ◌≤◌, length, vec_len, insert, slice_index_or, slice_set, IsTrue, IfOk, OnOk, OnErr};
+ghost use Rattle.std.specs.Prelude.{◌≡◌, [], ◌<◌, ◌≤◌, length, vec_len, insert, slice_index_or, slice_set, is_none, IsTrue, IfOk, OnOk, OnErr};
 ghost use Rattle.vob_replica.specs.declared.events.Identity.{Identity};
-ghost use Rattle.vob_replica.specs.Tables.{is_below, is_entry_at, higher_entry, entry_place_in, number_in, holds, with_operation, raised_by, first_gap};
+ghost use Rattle.vob_replica.specs.Tables.{is_below, is_entry_at, higher_entry, entry_place_in, number_in, holds, with_operation, raised_by, first_gap, Ascends, IsWithin};
 
 use crate::events::Identity;
-use cc_names::lists::List;
 use cc_names::memory::NoMemory;
 use cc_names::names::Name;
 use std::alloc::Global;
@@ -16,6 +15,8 @@ use std::marker::Model;
 #[derive(Debug, Drop)]
 pub struct Table {
     entries: Vec<Identity>,
+    /// The place of the site that was raised last: the next one is often the same.
+    near: usize,
 }
 
 impl Model for Table {
@@ -36,19 +37,13 @@ fn is_below(site: &Name, entry: &Identity) -> bool
     entry.site.cmp(site).is_lt()
 }
 
-/// How many entries have a site below a site: these are the first ones.
+/// How many entries have a site below a site: these are the first ones. Takes time logarithmic in them.
 fn entry_place(entries: &[Identity], site: &Name) -> usize
+    requires { Ascends entries.now }
     ensures place { result ≡ entry_place_in site.now entries.now }
     ensures within { result ≤ length entries.now }
 {
-    let mut place = 0;
-    for entry in entries {
-        if !is_below(site, entry) {
-            break;
-        }
-        place += 1;
-    }
-    place
+    entries.partition_point(|entry| is_below(site, entry))
 }
 
 /// The number of a site among entries.
@@ -72,6 +67,30 @@ fn is_entry_at(entries: &[Identity], place: usize, site: &Name) -> bool
         Some(entry) => entry.site == *site,
         None => false,
     }
+}
+
+/// The place of a site. Takes constant time where its entry is at the place `near`, else time logarithmic in the entries.
+fn place_near(entries: &[Identity], near: usize, site: &Name) -> usize
+    requires { Ascends entries.now }
+    ensures place { result ≡ entry_place_in site.now entries.now }
+    ensures within { result ≤ length entries.now }
+{
+    if is_entry_at(entries, near, site) {
+        return near;
+    }
+    entry_place(entries, site)
+}
+
+/// The number of a site whose entry, where it has one, is at a place.
+fn number_at(entries: &[Identity], place: usize, site: &Name) -> u64
+    requires order { Ascends entries.now }
+    requires place { place ≡ entry_place_in site.now entries.now }
+    ensures { result ≡ number_in entries.now site.now }
+{
+    if is_entry_at(entries, place, site) {
+        return entries[place].number;
+    }
+    0
 }
 
 /// Raises the number of the entry at a place, where it is lower.
@@ -101,16 +120,18 @@ fn put_entry(
     Ok(())
 }
 
-/// Takes an operation in among entries.
+/// Takes an operation in among entries, at the place of its site.
 fn put_operation(
     alloc: Global,
     entries: &mut Vec<Identity>,
+    place: usize,
     identity: &Identity,
 ) -> Result<(), NoMemory>
+    requires place { place ≡ entry_place_in identity.now.site entries.old.items }
+    requires within { place ≤ vec_len entries.old }
     ensures ok { OnOk result (entries.new.items ≡ with_operation entries.old.items identity.now) }
     ensures err { OnErr result (entries.new.items ≡ entries.old.items) }
 {
-    let place = entry_place(entries, &identity.site);
     if is_entry_at(entries, place, &identity.site) {
         raise_entry(entries, place, identity.number);
         return Ok(());
@@ -128,13 +149,6 @@ fn copies_of(alloc: Global, entries: &[Identity]) -> Result<Vec<Identity>, NoMem
     Ok(copies)
 }
 
-/// Whether an operation is among those of a table, by its entries.
-pub(crate) fn is_in_table(entries: &[Identity], identity: &Identity) -> bool
-    ensures { result ≡ holds entries.now identity.now }
-{
-    identity.number > 0 && identity.number <= number_of(entries, &identity.site)
-}
-
 impl Table {
     /// The table of no operations. Takes no memory.
     pub fn new(alloc: Global) -> Table
@@ -142,12 +156,14 @@ impl Table {
     {
         Table {
             entries: Vec::new(alloc),
+            near: 0,
         }
     }
 
     /// The entries, in byte order of sites.
     pub fn entries(&self) -> &[Identity]
-        ensures { result.now ≡ self.now }
+        ensures entries { result.now ≡ self.now }
+        ensures order { Ascends self.now }
     {
         self.entries.as_slice()
     }
@@ -159,25 +175,35 @@ impl Table {
         number_of(&self.entries, site)
     }
 
-    /// Whether an operation is among those of the table. Takes time linear in the sites.
-    pub fn holds(&self, identity: &Identity) -> bool
+    /// Whether an operation is among those of the table. `near` is where its site may stand, and is then where it stands: there
+    /// it is found in constant time, else in time linear in the sites.
+    pub(crate) fn holds_near(&self, near: &mut usize, identity: &Identity) -> bool
         ensures { result ≡ holds self.now identity.now }
     {
-        is_in_table(&self.entries, identity)
+        let place = place_near(&self.entries, *near, &identity.site);
+        *near = place;
+        let known = number_at(&self.entries, place, &identity.site);
+        identity.number > 0 && identity.number <= known
     }
 
-    /// Takes an operation in. Takes time linear in the sites, and memory for a new one.
+    /// Takes an operation in. Takes constant time where its site is the one that was raised last, else time linear in the sites,
+    /// and memory for a new one.
     pub fn raise(&mut self, alloc: Global, identity: &Identity) -> Result<(), NoMemory>
         ensures ok { OnOk result (self.new ≡ with_operation self.old identity.now) }
+        ensures risen { OnOk result (IsWithin self.old self.new) }
         ensures err { OnErr result (self.new ≡ self.old) }
     {
-        put_operation(alloc, &mut self.entries, identity)
+        let place = place_near(&self.entries, self.near, &identity.site);
+        put_operation(alloc, &mut self.entries, place, identity)?;
+        self.near = place;
+        Ok(())
     }
 
     /// Takes the operations of another table in. An `Err` leaves it with some of them. Takes time linear in the sites of both,
     /// each with each.
     pub fn raise_all(&mut self, alloc: Global, others: &[Identity]) -> Result<(), NoMemory>
-        ensures { OnOk result (self.new ≡ raised_by self.old others.now) }
+        ensures ok { OnOk result (self.new ≡ raised_by self.old others.now) }
+        ensures risen { OnOk result (IsWithin self.old self.new) }
     {
         for other in others {
             self.raise(alloc, other)?;
@@ -185,19 +211,24 @@ impl Table {
         Ok(())
     }
 
-    /// The entries as a value, in time linear in them.
-    pub fn copy_entries(&self, alloc: Global) -> Result<List<Identity>, NoMemory>
-        ensures { IfOk result (λ entries. entries ≡ self.now) }
-    {
-        Ok(List::of(copies_of(alloc, &self.entries)?))
-    }
-
     /// A copy, in time linear in it.
     pub fn copy(&self, alloc: Global) -> Result<Table, NoMemory>
         ensures { IfOk result (λ table. table ≡ self.now) }
     {
         let entries = copies_of(alloc, &self.entries)?;
-        Ok(Table { entries })
+        Ok(Table { entries, near: 0 })
+    }
+
+    /// Whether the table holds all that another does. Takes time linear in the sites of both, each with each.
+    pub(crate) fn covers(&self, others: &[Identity]) -> bool
+        ensures { result ≡ is_none (first_gap others.now self.now) }
+    {
+        for other in others {
+            if self.number(&other.site) < other.number {
+                return false;
+            }
+        }
+        true
     }
 
     /// The first operation that the table lacks of those that are needed. Takes time linear in the sites of both, each with each.

@@ -1,5 +1,5 @@
 use Rattle.std.proofs.Common.{◌≡◌, true, false, rules}
-use Rattle.vob_replica.specs.Tables.{entry_place_in, is_entry_at}
+use Rattle.vob_replica.specs.Tables.{is_entry_at}
 use Rattle.vob_replica.proofs.TableLaws.{put-present, put-absent_ok}
 use Rattle.vob_replica.proofs.tables.put_operation.Goals as goal
 
@@ -7,16 +7,14 @@ pub returns-then-is_entry_at-clause-ok : goal.returns-then-is_entry_at-clause-ok
 returns-then-is_entry_at-clause-ok c =
     let entries = c.args.entries.now.items in
     let site = c.args.identity.now.site in
-    let at : c.entry_place-place.result ≡ entry_place_in site entries = search rules in
-    let there : is_entry_at entries c.entry_place-place.result site ≡ true = search rules in
-    put-present entries c.raise_entry.new.entries.items c.entry_place-place.result c.args.identity.now
-    (λ d. c.raise_entry.ensures d) at there
+    let there : is_entry_at entries c.args.place site ≡ true = search rules in
+    put-present entries c.raise_entry.new.entries.items c.args.place c.args.identity.now
+    (λ d. c.raise_entry.ensures d) c.requires.place there
 
 pub returns-clause-ok : goal.returns-clause-ok
 returns-clause-ok c =
     let entries = c.args.entries.now.items in
     let site = c.args.identity.now.site in
-    let at : c.entry_place-place.result ≡ entry_place_in site entries = search rules in
-    let none : is_entry_at entries c.entry_place-place.result site ≡ false = search rules in
-    put-absent_ok c.put_entry.result entries c.put_entry.new.entries.items c.entry_place-place.result c.args.identity.now
-    c.put_entry.ensures.ok at none
+    let none : is_entry_at entries c.args.place site ≡ false = search rules in
+    put-absent_ok c.put_entry.result entries c.put_entry.new.entries.items c.args.place c.args.identity.now
+    c.put_entry.ensures.ok c.requires.place none

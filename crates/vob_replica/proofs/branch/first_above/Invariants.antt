@@ -1,6 +1,6 @@
 use Rattle.std.proofs.Common.{◌≡◌, ◌+◌, drop}
 use Rattle.vob_replica.specs.Branches.{version_place}
-use Rattle.vob_replica.proofs.branch.version_place.Given as goal
+use Rattle.vob_replica.proofs.branch.first_above.Given as goal
 
 abbrev pub invariant-loop-version : goal.invariant-loop-version
 invariant-loop-version l = record {

@@ -1,0 +1,89 @@
+//! What operations need.
+
+ghost use Rattle.std.specs.Prelude.{◌≡◌, IfOk};
+ghost use Rattle.vob_replica.specs.Needs.{needs_of};
+ghost use Rattle.vob_replica.specs.Tables.{holds, number_in, with_operation};
+
+use crate::events::Identity;
+use crate::tables::Table;
+use cc_names::memory::NoMemory;
+use cc_names::names::Name;
+use std::alloc::Global;
+use std::marker::Model;
+use std::rc::Rc;
+
+/// What an operation needs: the epoch table of its maker before it. That is a table which the maker's operations share, with the
+/// one before this taken in. Contracts see the whole table.
+#[derive(Drop)]
+pub struct Needs {
+    shared: Rc<Table>,
+    own: Option<Identity>,
+}
+
+impl Model for Needs {
+    ghost use Rattle.std.specs.Prelude.{List};
+    ghost use Rattle.vob_replica.specs.declared.events.Identity.{Identity};
+
+    ghost Value = { List Identity };
+
+    ghost use Rattle.vob_replica.specs.Needs.{needs_of};
+
+    ghost view = { λ needs. needs_of needs.shared.value needs.own };
+}
+
+/// The number of a site in a table that an operation is taken into. Takes time linear in the sites.
+fn number_with(table: &Table, own: &Identity, site: &Name) -> u64
+    ensures { result ≡ number_in (with_operation table.now own.now) site.now }
+{
+    let _order = table.entries();
+    let number = table.number(site);
+    if own.site == *site {
+        return number.max(own.number);
+    }
+    number
+}
+
+/// A copy of a table that an operation is taken into. Takes time linear in the sites.
+fn copy_with(alloc: Global, table: &Table, own: &Identity) -> Result<Table, NoMemory>
+    ensures { IfOk result (λ copy. copy ≡ with_operation table.now own.now) }
+{
+    let mut copy = table.copy(alloc)?;
+    copy.raise(alloc, own)?;
+    Ok(copy)
+}
+
+impl Needs {
+    /// What a table holds, with an operation taken in. Takes no memory.
+    pub(crate) fn new(shared: Rc<Table>, own: Option<Identity>) -> Needs
+        ensures { result ≡ needs_of shared.value own }
+    {
+        Needs { shared, own }
+    }
+
+    /// The number of a site. Takes time linear in the sites.
+    fn number(&self, site: &Name) -> u64
+        ensures { result ≡ number_in self.now site.now }
+    {
+        match &self.own {
+            None => self.shared.number(site),
+            Some(own) => number_with(&self.shared, own, site),
+        }
+    }
+
+    /// Whether an operation is needed. Takes time linear in the sites.
+    pub fn holds(&self, identity: &Identity) -> bool
+        ensures { result ≡ holds self.now identity.now }
+    {
+        identity.number > 0 && identity.number <= self.number(&identity.site)
+    }
+
+    /// A table of its own. Takes time and memory linear in the sites.
+    pub fn table(&self, alloc: Global) -> Result<Table, NoMemory>
+        ensures { IfOk result (λ table. table ≡ self.now) }
+    {
+        match &self.own {
+            None => self.shared.copy(alloc),
+            Some(own) => copy_with(alloc, &self.shared, own),
+        }
+    }
+}
