@@ -1,55 +1,43 @@
 -- What a unit stands on, by what those that make its prerequisites stand on.
-use Rattle.std.proofs.Common.{◌≡◌, refl, sym, subst, ◌∙◌, ℕ, ◌<◌, ◌==◌, nat_lt, Bool, true, false, ◌||◌, ◌&&◌, inl, inr, List}
+use Rattle.std.proofs.Common.{◌≡◌, refl, sym, subst, ◌∙◌, ℕ, ◌<◌, ◌==◌, nat_lt, Bool, true, ◌||◌, ◌&&◌, inl, inr, List}
 use Rattle.std.proofs.Common.{[], ◌∷◌, arith}
-use Rattle.std.proofs.lemmas.Bool.{ltb-true, lt-ltb}
+use Rattle.std.proofs.lemmas.Bool.{ltb-true, lt-ltb, and_parts, and_from, or_cases, or_left, or_right}
 use Rattle.std.specs.List.{list_any}
 use Rattle.cc_names.specs.declared.units.Unit.{Unit}
-use Rattle.make_graph.specs.Standing.{Needs}
-use Rattle.make_graph.specs.Standing.Needs.{Directly, Through}
+use Rattle.cc_names.proofs.Common.{same_test, same_number}
+use Rattle.make_graph.proofs.Standing.{Needs}
+use Rattle.make_graph.proofs.Standing.Needs.{Directly, Through}
 use Rattle.make_graph.specs.Waits.{makes_one, makers_of, prerequisites_at, closure_of, is_in}
 use Rattle.make_graph.proofs.MakerLemmas.{is_maker}
-use Rattle.make_graph.proofs.NeedLemmas.{same_number, itself, either, left_is, right_is}
+use Rattle.make_graph.proofs.NeedLemmas.{itself}
 use Rattle.make_graph.proofs.StandingLaws.{closure_is}
 
 -- whether a unit below a number is another, or stands on it
 abbrev pub brings : List Unit → ℕ → ℕ → ℕ → Bool
 brings units below n m = nat_lt m below && ((n == m) || is_in (closure_of units m) n)
 
-both : (a b : Bool) → (a && b) ≡ true → (a ≡ true) × (b ≡ true)
-both true b h = (refl, h)
-both false b h = absurd (cc)
-
-both_are : (a b : Bool) → a ≡ true → b ≡ true → (a && b) ≡ true
-both_are true b h k = k
-both_are false b h k = absurd (cc)
-
-same_truth : (a b : Bool) → (a ≡ true → b ≡ true) → (b ≡ true → a ≡ true) → a ≡ b
-same_truth true b f g = sym (f refl)
-same_truth false true f g = g refl
-same_truth false false f g = refl
-
 -- one of the numbers that has a test
 one_of : (test : ℕ → Bool) (numbers : List ℕ) → list_any test numbers ≡ true → (m : ℕ)
     × ((is_in numbers m ≡ true) × (test m ≡ true))
 one_of test [] h = absurd (cc)
 one_of test (k ∷ numbers) h =
-    elim (either (test k) (list_any test numbers) h) [
-      | inl first ↦ (k, (left_is (k == k) _ (itself k k refl), first))
-      | inr later ↦ let found = one_of test numbers later in (found.0, (right_is (found.0 == k) _ found.1.0, found.1.1))
+    elim (or_cases (test k) (list_any test numbers) h) [
+      | inl first ↦ (k, (or_left (k == k) _ (itself k k refl), first))
+      | inr later ↦ let found = one_of test numbers later in (found.0, (or_right (found.0 == k) _ found.1.0, found.1.1))
     ]
 
 any_of : (test : ℕ → Bool) (numbers : List ℕ) (m : ℕ) → is_in numbers m ≡ true → test m ≡ true → list_any test numbers ≡ true
 any_of test [] m h is = absurd (cc)
 any_of test (k ∷ numbers) m h is =
-    elim (either (m == k) (is_in numbers m) h) [
-      | inl same ↦ left_is (test k) _ (subst (λ (j : ℕ). test j ≡ true) (same_number m k same) is)
-      | inr later ↦ right_is (test k) _ (any_of test numbers m later is)
+    elim (or_cases (m == k) (is_in numbers m) h) [
+      | inl same ↦ or_left (test k) _ (subst (λ (j : ℕ). test j ≡ true) (same_number m k same) is)
+      | inr later ↦ or_right (test k) _ (any_of test numbers m later is)
     ]
 
 -- a unit is stood on by one that a maker brings
 pub closure_step : (units : List Unit) (unit n : ℕ) →
     is_in (closure_of units unit) n ≡ list_any (brings units unit n) (makers_of units (prerequisites_at units unit))
-closure_step units unit n = same_truth (is_in (closure_of units unit) n)
+closure_step units unit n = same_test (is_in (closure_of units unit) n)
     (list_any (brings units unit n) (makers_of units (prerequisites_at units unit))) down up
   where
     down : is_in (closure_of units unit) n ≡ true → list_any (brings units unit n) (makers_of units (prerequisites_at units unit))
@@ -61,11 +49,11 @@ closure_step units unit n = same_truth (is_in (closure_of units unit) n)
         by (Directly lt makes) =
             any_of (brings units unit n) (makers_of units (prerequisites_at units unit)) n
             (is_maker units (prerequisites_at units unit) n ∙ makes)
-            (both_are (nat_lt n unit) _ (lt-ltb _ _ lt) (left_is (n == n) _ (itself n n refl)))
+            (and_from (nat_lt n unit) _ (lt-ltb _ _ lt) (or_left (n == n) _ (itself n n refl)))
         by (Through {m = m} lt makes more) =
             any_of (brings units unit n) (makers_of units (prerequisites_at units unit)) m
             (is_maker units (prerequisites_at units unit) m ∙ makes)
-            (both_are (nat_lt m unit) _ (lt-ltb _ _ lt) (right_is (n == m) _ ((closure_is units m n).1 more)))
+            (and_from (nat_lt m unit) _ (lt-ltb _ _ lt) (or_right (n == m) _ ((closure_is units m n).1 more)))
 
     up : list_any (brings units unit n) (makers_of units (prerequisites_at units unit)) ≡ true
         → is_in (closure_of units unit) n ≡ true
@@ -74,9 +62,9 @@ closure_step units unit n = same_truth (is_in (closure_of units unit) n)
         let m = found.0 in
         let makes : makes_one units (prerequisites_at units unit) m ≡ true = sym (is_maker units (prerequisites_at units unit) m)
         ∙ found.1.0 in
-        let parts = both (nat_lt m unit) ((n == m) || is_in (closure_of units m) n) found.1.1 in
+        let parts = and_parts (nat_lt m unit) ((n == m) || is_in (closure_of units m) n) found.1.1 in
         let lt : m < unit = ltb-true _ _ parts.0 in
-        elim (either (n == m) (is_in (closure_of units m) n) parts.1) [
+        elim (or_cases (n == m) (is_in (closure_of units m) n) parts.1) [
           | inl same ↦
               let at = same_number n m same in
               (closure_is units unit n).1 (Directly (omega (arith, at, lt))

@@ -1,20 +1,17 @@
 -- Units named among the dependants of others.
-use Rattle.std.proofs.Common.{◌≡◌, refl, sym, ap, ◌∙◌, ℕ, zero, suc, ◌+◌, ◌-◌, ◌<◌, ◌≤◌, ◌==◌, Bool, true, false, cond, ◌||◌}
-use Rattle.std.proofs.Common.{◌&&◌, ◌⊎◌, inl, inr, Option, Some, None, List, [], ◌∷◌, ◌++◌, length, get_or, take, arith}
-use Rattle.std.proofs.Common.{zero-add, add-one}
-use Rattle.std.proofs.lemmas.Bool.{cases_lt, ne_eqb}
+use Rattle.std.proofs.Common.{◌≡◌, refl, sym, ap, ◌∙◌, ℕ, zero, suc, ◌+◌, ◌-◌, ◌<◌, ◌==◌, Bool, true, false, cond, ◌||◌}
+use Rattle.std.proofs.Common.{Option, Some, None, List, [], ◌∷◌, ◌++◌, length, get_or, take, arith, zero-add, add-one}
+use Rattle.std.proofs.lemmas.Bool.{ne_eqb}
 use Rattle.std.proofs.lemmas.List.{append-nil, get_or_at, length_push}
 use Rattle.std.proofs.lemmas.List.Elements.{filter-append}
-use Rattle.std.proofs.lemmas.List.Folds.{list_any_more, list_any_at}
-use Rattle.std.proofs.lemmas.List.FromFn.{length-range_with_len, get_or-range_with_len}
-use Rattle.std.proofs.lemmas.Map.Views.{any-filter_same}
-use Rattle.std.proofs.lemmas.Option.{slice_get-get_or, slice_get_past}
+use Rattle.std.proofs.lemmas.List.Folds.{list_any_more}
+use Rattle.std.proofs.lemmas.Option.{slice_get-get_or}
 use Rattle.std.specs.List.{filter, range_with_len, slice_get}
 use Rattle.cc_names.specs.Versions.{is_number}
 use Rattle.cc_names.specs.declared.units.Unit.{Unit}
 use Rattle.make_graph.specs.Dependants.{is_last, with_last, named_if, NamesDependant}
-use Rattle.make_graph.specs.Waits.{is_in, makes_one, makers_of, prerequisites_of, prerequisites_at, dependants_of}
-use Rattle.make_graph.proofs.NeedLemmas.{same_number, itself}
+use Rattle.make_graph.specs.Waits.{is_in, makes_one, makers_of, prerequisites_at}
+use Rattle.make_graph.proofs.NeedLemmas.{itself}
 use Rattle.make_graph.proofs.MakerLemmas.{is_maker}
 
 -- ---- a number put behind others
@@ -125,35 +122,3 @@ dependants_more units k made old new is before names m within =
     ∙ is_maker units (prerequisites_at units k) m)
     ∙ (named_behind test k (test k)
     ∙ sym (filter_more test k))))
-
--- ---- who is a dependant
-
-both_false : (a b : Bool) → a ≡ false → (a && b) ≡ false
-both_false true b h = absurd (cc)
-both_false false b h = refl
-
-both_true : (a b : Bool) → b ≡ true → (a && b) ≡ a
-both_true true b h = h
-both_true false b h = refl
-
-pub dependants_are : (units : List Unit) (m n : ℕ) → is_in (dependants_of units m) n
-    ≡ is_in (makers_of units (prerequisites_at units n)) m
-dependants_are units m n =
-    any-filter_same (λ k. n == k) test (test n) (λ k same. ap test (sym (same_number n k same))) all
-    ∙ (by (cases_lt n (length units)) ∙ sym (is_maker units (prerequisites_at units n) m))
-  where
-    test : ℕ → Bool
-    test k = makes_one units (prerequisites_at units k) m
-
-    all : List ℕ
-    all = range_with_len 0 (length units)
-
-    by : (n < length units) ⊎ (length units ≤ n) → (test n && is_in all n) ≡ test n
-    by (inl within) =
-        both_true (test n) (is_in all n)
-        (list_any_at (λ k. n == k) all n 0 (omega (arith, within, length-range_with_len 0 (length units)))
-        (itself n _ (sym (get_or-range_with_len 0 (length units) n 0 within ∙ zero-add n))))
-    by (inr past) =
-        let none : test n ≡ false = ap (λ (o : Option Unit). makes_one units (prerequisites_of o) m) (slice_get_past units n past)
-        in
-        both_false (test n) (is_in all n) none ∙ sym none

@@ -2,6 +2,7 @@ mod WalkedLemmas
 mod VisitLemmas
 mod ServingLemmas
 mod SuffixLemmas
+pub mod Standing
 pub mod NeedLemmas
 mod MakerLemmas
 mod MarkLemmas

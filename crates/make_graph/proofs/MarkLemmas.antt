@@ -3,24 +3,14 @@ use Rattle.std.proofs.Common.{◌≡◌, inl, inr, refl, sym, ap, ◌∙◌, ℕ
 use Rattle.std.proofs.Common.{◌||◌, ◌&&◌, List, ◌++◌, arith}
 use Rattle.std.proofs.Math.Nat.{eq-or-lt_of_le}
 use Rattle.std.proofs.lemmas.Bool.Decides.{nat_tests}
+use Rattle.std.proofs.lemmas.Bool.{cases_Bool}
 use Rattle.cc_names.specs.declared.units.Unit.{Unit}
+use Rattle.cc_names.proofs.Common.{or_true, or_false, and_false, same_number}
 use Rattle.make_graph.specs.Marks.{AddsMarks, IsEndBelow}
 use Rattle.make_graph.specs.Waits.{makes_one, makers_of, needed_units, closure_of, prerequisites_at, is_in, is_marked}
 use Rattle.make_graph.proofs.MakerLemmas.{is_maker}
-use Rattle.make_graph.proofs.NeedLemmas.{same_number, makes_more, true_or_false}
+use Rattle.make_graph.proofs.NeedLemmas.{makes_more}
 use Rattle.make_graph.proofs.StandingLaws.{when_made, when_not}
-
-or_true : (x : Bool) → (x || true) ≡ true
-or_true true = refl
-or_true false = refl
-
-or_false : (x : Bool) → (x || false) ≡ x
-or_false true = refl
-or_false false = refl
-
-and_false : (t : Bool) → (t && false) ≡ false
-and_false true = refl
-and_false false = refl
 
 less : (n k : ℕ) → n < k → nat_lt n k ≡ true
 less n k h = grind (arith, nat_tests)
@@ -73,7 +63,7 @@ none_behind units wanted end (suc k) le ends =
     elim (eq-or-lt_of_le {n = end} {m = suc k} le) [
       | inl same ↦ ap (λ m. needed_units units m wanted) (sym same)
       | inr below ↦
-          elim (true_or_false (makes_one units wanted k)) [
+          elim (cases_Bool (makes_one units wanted k)) [
             | inl made ↦ absurd (omega (arith, below, ends k (omega arith) (is_maker units wanted k ∙ made)))
             | inr not ↦ when_not units k wanted not ∙ none_behind units wanted end k (omega (arith, below))
                 (λ n lt is. ends n (omega (arith, lt)) is)

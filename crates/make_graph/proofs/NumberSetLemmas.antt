@@ -2,7 +2,7 @@
 use Rattle.std.proofs.Common.{◌≡◌, ◌≢◌, inl, inr, refl, sym, ap, ◌∙◌, ℕ, zero, suc, ◌+◌, ◌-◌, ◌*◌, ◌/◌, ◌%◌, ◌<◌, ◌≤◌, ◌==◌, ◌↔◌}
 use Rattle.std.proofs.Common.{nat_lt, Bool, true, false, ◌||◌, List, [], ◌∷◌, ◌++◌, length, get_or, set, take, replicate}
 use Rattle.std.proofs.Common.{length-append, arith}
-use Rattle.std.proofs.lemmas.Bool.{ltb-true}
+use Rattle.std.proofs.lemmas.Bool.{ltb-true, cases_Bool}
 use Rattle.std.proofs.lemmas.Bool.Decides.{nat_tests}
 use Rattle.std.proofs.lemmas.List.{get_or-set_same, get_or-set_other, get_or_append_left, get_or-append-add, get_or_past}
 use Rattle.std.proofs.lemmas.List.{length-replicate, length-take-le, take_more}
@@ -12,9 +12,9 @@ use Rattle.std.proofs.lemmas.Option.{unwrap_or-slice_get, get_or_from_slice_get,
 use Rattle.std.specs.Int.{bit_at}
 use Rattle.std.specs.Int.RustNames.{bit_or}
 use Rattle.std.specs.Prelude.{max, IsTrue}
+use Rattle.cc_names.proofs.Common.{or_true, or_false}
 use Rattle.make_graph.specs.NumberSets.{word_bits, bits_of, has_number}
 use Rattle.make_graph.specs.Waits.{is_marked}
-use Rattle.make_graph.proofs.NeedLemmas.{true_or_false}
 
 length_word : (k word : ℕ) → length (word_bits k word) ≡ k
 unfolding word_bits
@@ -60,22 +60,13 @@ bits_at : (words : List ℕ) (n : ℕ) → get_or (bits_of words) n false ≡ ha
 unfolding bits_of
 bits_at [] n = ap (λ b. b == 1) (sym (bit_at-zero (n % 64)))
 bits_at (word ∷ words) n =
-    elim (true_or_false (nat_lt n 64)) [
+    elim (cases_Bool (nat_lt n 64)) [
       | inl h ↦ first_word word words n (ltb-true _ _ h)
       | inr h ↦ let ge : 64 ≤ n = grind (arith, nat_tests) in other_words word words n ge (bits_at words (n - 64))
     ]
 
 pub marked : (words : List ℕ) (n : ℕ) → is_marked (bits_of words) n ≡ has_number words n
 marked words n = unwrap_or-slice_get (bits_of words) n false ∙ bits_at words n
-
--- one number more
-or_true : (x : Bool) → (x || true) ≡ true
-or_true true = refl
-or_true false = refl
-
-or_false : (x : Bool) → (x || false) ≡ x
-or_false true = refl
-or_false false = refl
 
 pub number_added : (words : List ℕ) (number word n : ℕ) → number / 64 < length words → bit_at word (number % 64) ≡ 1 →
     ((i : ℕ) → i ≢ number % 64 → bit_at word i ≡ bit_at (get_or words (number / 64) 0) i) →

@@ -1,11 +1,14 @@
 -- The units that are listed as needed are those that are.
 use Rattle.std.proofs.Common.{◌≡◌, ℕ, zero, suc, ◌==◌, true, false, List, ◌∷◌, ◌++◌, ◌⊎◌, inl, inr, sym, ap, subst, ◌∙◌, arith}
+use Rattle.std.proofs.Common.{◌↔◌}
 use Rattle.std.proofs.Math.Nat.{eq-or-lt_of_le}
+use Rattle.std.proofs.lemmas.Bool.{cases_Bool, or_cases, or_left, or_right}
 use Rattle.cc_names.specs.declared.units.Unit.{Unit}
-use Rattle.make_graph.specs.Waits.{makes_one, needed_units, prerequisites_at, is_in}
-use Rattle.make_graph.specs.Standing.{Needs, ClosureStands}
-use Rattle.make_graph.specs.Standing.Needs.{Directly, Through}
-use Rattle.make_graph.proofs.NeedLemmas.{true_or_false, same_number, itself, either, left_is, right_is, more_units, more_left}
+use Rattle.cc_names.proofs.Common.{same_number}
+use Rattle.make_graph.specs.Waits.{makes_one, needed_units, prerequisites_at, closure_of, is_in}
+use Rattle.make_graph.proofs.Standing.{Needs}
+use Rattle.make_graph.proofs.Standing.Needs.{Directly, Through}
+use Rattle.make_graph.proofs.NeedLemmas.{itself, more_units, more_left}
 use Rattle.make_graph.proofs.NeedLemmas.{more_right, split}
 
 pub when_made : (units : List Unit) (k : ℕ) (paths : List (List ℕ)) → makes_one units paths k ≡ true →
@@ -32,9 +35,9 @@ found : (units : List Unit) (k : ℕ) (paths : List (List ℕ)) (n : ℕ) → is
     → Needs units k paths n
 found units zero paths n h = absurd (cc)
 found units (suc k) paths n h =
-    elim (true_or_false (makes_one units paths k)) [
+    elim (cases_Bool (makes_one units paths k)) [
       | inl made ↦
-          elim (either (n == k) (is_in (needed_units units k (paths ++ prerequisites_at units k)) n)
+          elim (or_cases (n == k) (is_in (needed_units units k (paths ++ prerequisites_at units k)) n)
           (sym (ap (λ l. is_in l n) (when_made units k paths made)) ∙ h)) [
             | inl same ↦
                 let at = same_number n k same in
@@ -78,20 +81,21 @@ listed units zero paths n needs = absurd (nothing_below units paths n needs)
 listed units (suc k) paths n needs =
     let behind = λ (made : makes_one units paths k ≡ true) (h : is_in (needed_units units k (paths ++ prerequisites_at units k)) n
     ≡ true).
-    ap (λ l. is_in l n) (when_made units k paths made) ∙ right_is (n == k) _ h in
+    ap (λ l. is_in l n) (when_made units k paths made) ∙ or_right (n == k) _ h in
     elim (peel units k paths n needs) [
       | inl before ↦
-          elim (true_or_false (makes_one units paths k)) [
+          elim (cases_Bool (makes_one units paths k)) [
             | inl made ↦ behind made (listed units k (paths ++ prerequisites_at units k) n
                 (more_left units k paths (prerequisites_at units k) n before))
             | inr not ↦ ap (λ l. is_in l n) (when_not units k paths not) ∙ listed units k paths n before
           ]
-      | inr (made, inl same) ↦ ap (λ l. is_in l n) (when_made units k paths made) ∙ left_is (n == k) _ (itself n k same)
+      | inr (made, inl same) ↦ ap (λ l. is_in l n) (when_made units k paths made) ∙ or_left (n == k) _ (itself n k same)
       | inr (made, inr by_unit) ↦ behind made (listed units k (paths ++ prerequisites_at units k) n
           (more_right units k paths (prerequisites_at units k) n by_unit))
     ]
 
--- the law of the closure
-pub closure_is : ClosureStands
+-- the closure of a unit has the units before it that its prerequisites need, and no others
+pub closure_is : (units : List Unit) (number n : ℕ) → is_in (closure_of units number) n ≡ true
+    ↔ Needs units number (prerequisites_at units number) n
 closure_is units number n =
     (λ h. found units number (prerequisites_at units number) n h, λ h. listed units number (prerequisites_at units number) n h)

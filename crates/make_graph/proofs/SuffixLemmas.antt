@@ -8,6 +8,7 @@ use Rattle.std.proofs.lemmas.Slice.Eq.{bytes_eq-Decides, ends_is}
 use Rattle.std.specs.List.{ends_with}
 use Rattle.std.specs.Option.{is_some}
 use Rattle.std.specs.Str.{bytes_eq}
+use Rattle.cc_names.proofs.Common.{and_first, and_second}
 use Rattle.make_grammar.specs.Contents.{Contents}
 use Rattle.make_grammar.specs.Rules.{SuffixRule, Inference}
 use Rattle.make_grammar.specs.Serving.{first_inference, inference_at, stem_of}
@@ -55,19 +56,11 @@ no_stem dotted to path h other = by (ends_with nat_eq path to) refl
 abbrev pub AreDotted : Bool → List SuffixRule → Type 0
 AreDotted dotted rules = dotted ≡ true → are_dotted rules ≡ true
 
-first_so : (a b : Bool) → (a && b) ≡ true → a ≡ true
-first_so true b h = refl
-first_so false b h = h
-
-second_so : (a b : Bool) → (a && b) ≡ true → b ≡ true
-second_so true b h = h
-second_so false b h = absurd (cc)
-
 pub drop_dotted : (dotted : Bool) (n : ℕ) (rules : List SuffixRule) → AreDotted dotted rules → AreDotted dotted (drop n rules)
 drop_dotted dotted zero rules h = h
 drop_dotted dotted (suc n) [] h = h
 drop_dotted dotted (suc n) (rule ∷ rules) h = drop_dotted dotted n rules
-    (λ e. second_so (is_dotted rule.to) (are_dotted rules) (h e))
+    (λ e. and_second (is_dotted rule.to) (are_dotted rules) (h e))
 
 -- what a rule found, or else what the rules behind it find
 abbrev passed : Contents → (List ℕ → Bool) → List ℕ → Option Inference → List SuffixRule → Option Inference
@@ -81,7 +74,7 @@ pub first_found : (make : Contents) (is_file : List ℕ → Bool) (path : List �
 first_found make is_file path dotted [] h = refl
 first_found make is_file path dotted (rule ∷ rules) h =
     by (bytes_eq (suffix_key dotted rule.to) (suffix_key dotted path)) refl
-    (first_found make is_file path dotted rules (λ d. second_so (is_dotted rule.to) (are_dotted rules) (h d)))
+    (first_found make is_file path dotted rules (λ d. and_second (is_dotted rule.to) (are_dotted rules) (h d)))
   where
     by : (t : Bool) → bytes_eq (suffix_key dotted rule.to) (suffix_key dotted path) ≡ t →
         first_inference make is_file path (drop (rule_place dotted (suffix_key dotted path) rules) rules)
@@ -92,7 +85,7 @@ first_found make is_file path dotted (rule ∷ rules) h =
     by false e more =
         more
         ∙ sym (ap (λ stem. passed make is_file path (inference_at make is_file rule stem) rules)
-        (no_stem dotted rule.to path (λ d. first_so (is_dotted rule.to) (are_dotted rules) (h d)) e))
+        (no_stem dotted rule.to path (λ d. and_first (is_dotted rule.to) (are_dotted rules) (h d)) e))
 
 -- a rule that does not serve a path is passed over, and those with other keys behind it
 pub next_found : (make : Contents) (is_file : List ℕ → Bool) (path : List ℕ) (dotted : Bool) (rules : List SuffixRule) (place : ℕ)

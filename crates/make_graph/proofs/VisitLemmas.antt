@@ -1,6 +1,7 @@
 -- Steps of a walk that keeps its own stack.
 use Rattle.std.proofs.Common.{◌≡◌, refl, sym, ap, ◌∙◌, subst, ℕ, zero, suc, ◌+◌, ◌-◌, ◌<◌, ◌≤◌, Option, Some, None, Result, Ok}
 use Rattle.std.proofs.Common.{Err, List, [], ◌∷◌, ◌++◌, length, drop, set, slice_get, arith, add-zero}
+use Rattle.cc_names.proofs.Common.{drop_past}
 use Rattle.make_grammar.specs.Walks.{Walk, number_of, prerequisites_at, with_open_unit, with_done_unit, walk_then, each_of}
 use Rattle.make_grammar.specs.Walks.{take_path}
 use Rattle.make_grammar.specs.Rules.{Serving}
@@ -17,12 +18,6 @@ pub set_out : {A : Type 0} (xs : List A) (n : ℕ) (x : A) → length xs ≤ n �
 set_out [] n x h = refl
 set_out (y ∷ xs) zero x h = absurd (omega (arith, h))
 set_out (y ∷ xs) (suc n) x h = ap (λ l. y ∷ l) (set_out xs n x (omega (arith, h)))
-
-pub drop_none : {A : Type 0} (xs : List A) (n : ℕ) → slice_get xs n ≡ None → drop n xs ≡ []
-drop_none [] zero h = refl
-drop_none [] (suc n) h = refl
-drop_none (x ∷ xs) zero h = absurd (cc)
-drop_none (x ∷ xs) (suc n) h = drop_none xs n h
 
 pub drop_some : {A : Type 0} (xs : List A) (n : ℕ) (x : A) → slice_get xs n ≡ Some x → drop n xs ≡ x ∷ drop (suc n) xs
 drop_some [] n x h = absurd (cc)
@@ -131,7 +126,7 @@ append_nil (x ∷ xs) = ap (λ l. x ∷ l) (append_nil xs)
 pub step_close : (units : List Serving) (stack : List Visit) (top : Visit) (w : Walk) → next_of top ≡ None
     → resume units 0 (stack ++ top ∷ []) w ≡ resume units 0 stack (with_done_unit top.unit w)
 step_close units stack top w none =
-    let rest = drop_none top.paths top.next none in
+    let rest = drop_past top.paths top.next none in
     let depth = length units - (0 + length stack) in
     let here : resume units (0 + length stack) (top ∷ []) w ≡ resume units (0 + length stack) [] (with_done_unit top.unit w) =
     ap (λ paths. walk_then (each_of (take_path depth units) paths w) (λ later. Ok (with_done_unit top.unit later))) rest in

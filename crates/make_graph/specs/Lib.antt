@@ -1,6 +1,5 @@
 pub mod Waits
 pub mod Marks
-pub mod Standing
 pub mod Numbered
 pub mod Visits
 pub mod UnitNumbers

@@ -1,7 +1,6 @@
 //! The units that a unit stands on.
 
 ghost use Rattle.std.specs.Prelude.{◌≡◌, ◌≤◌, ◌<◌, ◌∷◌, [], ℕ, length, IfOk};
-ghost use Rattle.make_graph.specs.Standing.{ClosureStands};
 ghost use Rattle.make_graph.specs.Waits.{is_in, is_marked, closure_of};
 ghost use Rattle.make_graph.specs.Marks.{AddsMarks, IsEndBelow};
 
@@ -101,8 +100,3 @@ pub(crate) fn of_unit(graph: &Graph, alloc: Global, unit: u32) -> Result<Closure
     }
     Ok(Closure { marks })
 }
-
-/// The closure of a unit has the units that it stands on, and no others.
-pub fn closure_stands()
-    ensures { ClosureStands }
-{}

@@ -4,7 +4,6 @@ ghost use Rattle.std.specs.Prelude.{◌≡◌, ◌==◌, ◌<◌, ◌^◌, [], �
 ghost use Rattle.std.specs.List.{range_with_len};
 ghost use Rattle.cc_names.specs.declared.units.Unit as units;
 ghost use Rattle.make_graph.specs.Dependants.{NamesDependant, is_last, with_last};
-ghost use Rattle.make_graph.specs.Standing.{DependantsStand};
 ghost use Rattle.make_graph.specs.Waits.{dependants_of, is_in, makers_of};
 
 use cc_names::lists::List;
@@ -113,8 +112,3 @@ pub(crate) fn all_dependants(
     }
     Ok(all)
 }
-
-/// A unit is a dependant of another where that one is among the makers of its prerequisites, and nowhere else.
-pub fn dependants_stand()
-    ensures { DependantsStand }
-{}

@@ -5,8 +5,8 @@
 //! for it, and `ready` says whether none of those that it waits for is left.
 //!
 //! What it promises: the units, or the fault in their place, are those of the definition of the units of a build;
-//! `closure` gives the units that a unit stands on, by law all of them and no others, `dependants` those that have a
-//! prerequisite of its making, and `ready` says whether those of its own prerequisites are done.
+//! `closure` gives the units that a unit stands on, `dependants` those that have a prerequisite of its making, and `ready`
+//! says whether those of its own prerequisites are done.
 //!
 //! What it stands on: `make_grammar` for the definition of units, `make_text` for makefiles, `cc_names` for paths, units and
 //! faults, `indexmap` for paths without a rule in their order, each once.
@@ -14,7 +14,7 @@
 
 mod cached_closures;
 pub mod closures;
-pub mod dependants;
+mod dependants;
 pub mod goals;
 mod makers;
 mod number_sets;

@@ -132,14 +132,19 @@ part_of_whole written whole part loops h =
     (omega (arith, len), sym (ap (λ (e : Expansion). e.loops) h))
 
 -- a part is too long where so much was written behind
-pub part_too_long : (written prefix : List ℕ) (total part : Expansion) → total ≡ one_after_other (plain written) part
-    → length prefix ≤ length total.bytes → 65536 < length prefix - length written → Some LineTooLong ≡ expansion_fault part
-part_too_long written prefix total part h prefix_le long =
+pub long_behind : (written prefix : List ℕ) (total part : Expansion) → total ≡ one_after_other (plain written) part →
+    length prefix ≤ length total.bytes → 65536 < length prefix - length written → is_too_long part ≡ true
+long_behind written prefix total part h prefix_le long =
     let len : length total.bytes ≡ length written + length part.bytes = ap (λ (e : Expansion). length e.bytes) h
     ∙ length-append written part.bytes in
     let more : 65536 < length part.bytes = omega (arith, len) in
+    lt-ltb 65536 (length part.bytes) more
+
+pub part_too_long : (written prefix : List ℕ) (total part : Expansion) → total ≡ one_after_other (plain written) part
+    → length prefix ≤ length total.bytes → 65536 < length prefix - length written → Some LineTooLong ≡ expansion_fault part
+part_too_long written prefix total part h prefix_le long =
     sym (ap (λ b. if b then Some LineTooLong else if part.loops then Some MacroLoop else None)
-    (lt-ltb 65536 (length part.bytes) more))
+    (long_behind written prefix total part h prefix_le long))
 
 -- a part that loops has a fault, so nothing is owed of the expansion
 pub looped_end : (macros : List Macro) (automatic : ℕ → List ℕ) (part : Expansion) (cause : Option MakeCause) (e : Expanding)

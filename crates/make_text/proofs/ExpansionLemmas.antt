@@ -5,7 +5,7 @@ use Rattle.std.specs.Prelude.{if◌then◌else◌}
 use Rattle.std.specs.Str.{bytes_eq}
 use Rattle.std.proofs.lemmas.List.{append-nil, take-append-drop, take_all, drop_all, drop-append-le, take-append-le}
 use Rattle.std.proofs.lemmas.Slice.Eq.{bytes_eq-Decides}
-use Rattle.std.proofs.lemmas.Bool.{false_from_ne_true}
+use Rattle.std.proofs.lemmas.Bool.{false_from_ne_true, or_parts}
 use Rattle.cc_names.specs.declared.commands.Macro.{Macro}
 use Rattle.std.specs.List.{position}
 use Rattle.make_grammar.specs.Lines.{is_dollar}
@@ -78,10 +78,6 @@ none_or_some memo name x bytes h k e = let l : memo name ≡ Some bytes = ap mem
 pub none_or_defined : (macros : List Macro) (name x value : List ℕ) → value_in macros name ≡ Some value → value_in macros x ≡ None
     → x ≡ name → ⊥
 none_or_defined macros name x value h k e = let l : value_in macros name ≡ None = ap (value_in macros) (sym e) ∙ k in cc
-
-pub neither : (a b : Bool) → (a || b) ≡ false → (a ≡ false) × (b ≡ false)
-neither true b h = absurd cc
-neither false b h = (refl, h)
 
 -- ---- pieces
 
@@ -211,7 +207,7 @@ module _ (macros : List Macro) (automatic : ℕ → List ℕ) where
       ps rest opened
   all_more memo size written ps rest [] other bytes h apart = tt
   all_more memo size written ps rest (o ∷ opened) other bytes h apart =
-      let both = neither (bytes_eq other o.name) (is_among (opened_names opened) other) apart in (
+      let both = or_parts (bytes_eq other o.name) (is_among (opened_names opened) other) apart in (
         gives_more memo size o.name (drop o.start written) (ps ++ pieces_of rest) other bytes h.0 both.0,
         h.1,
         h.2,

@@ -4,8 +4,9 @@ use Rattle.std.proofs.Common.{List, [], ◌∷◌, ◌++◌, filter, flat_map, f
 use Rattle.std.proofs.Common.{if◌then◌else◌, arith}
 use Rattle.std.proofs.Math.ListN.{set}
 use Rattle.std.proofs.lemmas.List.Sums.{fold-append}
+use Rattle.std.proofs.lemmas.Bool.{cases_eq}
 use Rattle.make_text.proofs.OnceLemmas.{not_none, with_again, still_included, with_joined}
-use Rattle.make_grammar.proofs.Places.{same_or_not, from_other}
+use Rattle.make_grammar.proofs.Places.{from_other}
 use Rattle.make_grammar.specs.Contents.{RuleLine, rule_without, is_suffix_rule}
 use Rattle.make_text.specs.Gathering.{prerequisites_in, prerequisites_at, HasPut}
 use Rattle.make_text.specs.Joining.{joined_with, joined_at, joined_rule}
@@ -48,7 +49,7 @@ put_more lines marks paths n has =
     (with_again paths (prerequisites_at lines n)))
     (λ other. still_included paths (prerequisites_at lines n) (prerequisites_at lines m)
     (has m (from_other marks n m true true other at)))
-    (same_or_not m n)
+    (cases_eq m n)
 
 -- suffix rules are made of nothing
 suffix_bare : (suffixes : List (List ℕ)) (groups : List (List (List ℕ))) (rule : MakeRule)

@@ -17,3 +17,5 @@ pub mod NumberLemmas
 pub mod JoinLemmas
 pub mod GatherLemmas
 pub mod ResultLemmas
+pub mod PairLemmas
+pub mod IncludeLemmas

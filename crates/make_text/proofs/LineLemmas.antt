@@ -1,6 +1,7 @@
 -- Logical lines, one line of the text after the other.
-use Rattle.std.proofs.Common.{◌≡◌, ◌≢◌, ℕ, ◌+◌, ◌<◌, Bool, true, false, cond, Some, None, List, [], ◌∷◌, ◌++◌, length, take}
-use Rattle.std.proofs.Common.{drop, refl, sym, ap, ◌∙◌, subst, append_assoc, arith}
+use Rattle.std.proofs.Common.{◌≡◌, ◌≢◌, ℕ, ◌+◌, ◌<◌, Bool, true, false, Some, None, List, [], ◌∷◌, ◌++◌, length, take, drop}
+use Rattle.std.proofs.Common.{refl, sym, ap, ◌∙◌, subst, append_assoc, arith}
+use Rattle.make_text.proofs.PieceLemmas.{some_given, none_given}
 use Rattle.std.specs.Prelude.{nat_lt}
 use Rattle.std.specs.List.{slice_split, position, position_or_len}
 use Rattle.std.proofs.lemmas.List.{append-nil}
@@ -15,14 +16,6 @@ use Rattle.make_text.specs.JoinedLines.{joined_onto}
 use Rattle.make_grammar.specs.declared.logical_lines.LogicalLine.{LogicalLine}
 
 -- ---- cutting at the first newline
-
-some_given : (b : Bool) (n i : ℕ) → cond b (Some n) None ≡ Some i → (b ≡ true) × (n ≡ i)
-some_given true n i h = (refl, cc)
-some_given false n i h = cc
-
-none_given : (b : Bool) (n : ℕ) → cond b (Some n) None ≡ None → b ≡ false
-none_given true n h = cc
-none_given false n h = refl
 
 -- where the first byte that passes stands at a place, the first part ends there
 pub split_at : (p : ℕ → Bool) (xs : List ℕ) (i : ℕ) → position p xs ≡ Some i

@@ -1,6 +1,7 @@
 -- Paths that are put together, each once.
-use Rattle.std.proofs.Common.{◌≡◌, refl, sym, ap, ◌∙◌, ℕ, zero, suc, ◌≤◌, ◌==◌, Bool, true, false, ◌||◌, List, [], ◌∷◌, ◌++◌}
-use Rattle.std.proofs.Common.{length, get_or, drop, map, ◌<◌, fold, if◌then◌else◌, arith, length-append}
+use Rattle.std.proofs.Common.{◌≡◌, refl, sym, ap, ◌∙◌, ℕ, zero, suc, ◌≤◌, ◌==◌, Bool, true, false, List, [], ◌∷◌, ◌++◌, length}
+use Rattle.std.proofs.Common.{get_or, drop, map, ◌<◌, fold, if◌then◌else◌, arith, length-append}
+use Rattle.std.proofs.lemmas.Bool.{or_left, or_right}
 use Rattle.std.proofs.Math.Dec.{eqb-suc-zero}
 use Rattle.std.proofs.Math.Seq.{drop-cons}
 use Rattle.std.proofs.lemmas.List.Sums.{fold-append}
@@ -10,30 +11,23 @@ use Rattle.make_grammar.specs.Macros.{is_among}
 use Rattle.make_grammar.specs.WordPaths.{with_path_once, once_joined}
 use Rattle.make_text.proofs.ReaderLemmas.{among_all}
 
-or_second : (a b : Bool) → b ≡ true → (a || b) ≡ true
-or_second true b h = refl
-or_second false b h = h
-
-or_first : (a b : Bool) → a ≡ true → (a || b) ≡ true
-or_first a b h = ap (λ t. t || b) h
-
 -- paths that are there change nothing
 pub with_included : (paths more : List (List ℕ)) → ((path : List ℕ) → is_among more path ≡ true → is_among paths path ≡ true)
     → fold with_path_once paths more ≡ paths
 with_included paths [] h = refl
 with_included paths (path ∷ more) h =
     let itself : bytes_eq path path ≡ true = (bytes_eq-Decides path path).1 refl in
-    let there : is_among paths path ≡ true = h path (or_first (bytes_eq path path) (is_among more path) itself) in
+    let there : is_among paths path ≡ true = h path (or_left (bytes_eq path path) (is_among more path) itself) in
     let kept : with_path_once paths path ≡ paths = ap (λ (t : Bool). if t then paths else paths ++ path ∷ []) there in
     ap (λ (l : List (List ℕ)). fold with_path_once l more) kept
-    ∙ with_included paths more (λ other among. h other (or_second (bytes_eq other path) (is_among more other) among))
+    ∙ with_included paths more (λ other among. h other (or_right (bytes_eq other path) (is_among more other) among))
 
 -- paths that were put are there
 pub with_again : (paths more : List (List ℕ)) → fold with_path_once (fold with_path_once paths more) more
     ≡ fold with_path_once paths more
 with_again paths more =
     with_included (fold with_path_once paths more) more
-    (λ path among. among_all paths more path ∙ or_second (is_among paths path) (is_among more path) among)
+    (λ path among. among_all paths more path ∙ or_right (is_among paths path) (is_among more path) among)
 
 -- what changes nothing goes on to change nothing
 pub still_included : (paths others more : List (List ℕ)) → fold with_path_once paths more ≡ paths
@@ -42,8 +36,8 @@ still_included paths others more h =
     with_included (fold with_path_once paths others) more
     (λ path among.
     let there : is_among paths path ≡ true = ap (λ (l : List (List ℕ)). is_among l path) (sym h)
-    ∙ (among_all paths more path ∙ or_second (is_among paths path) (is_among more path) among) in
-    among_all paths others path ∙ or_first (is_among paths path) (is_among others path) there)
+    ∙ (among_all paths more path ∙ or_right (is_among paths path) (is_among more path) among) in
+    among_all paths others path ∙ or_left (is_among paths path) (is_among others path) there)
 
 -- paths put one after the other, and put together first
 pub with_joined : (paths others more : List (List ℕ)) → fold with_path_once paths (fold with_path_once others more)
@@ -58,7 +52,7 @@ with_joined paths others (path ∷ more) =
     by true is =
         let kept : with_path_once others path ≡ others = ap (λ (t : Bool). if t then others else others ++ path ∷ []) is in
         let there : is_among (fold with_path_once paths others) path ≡ true = among_all paths others path
-        ∙ or_second (is_among paths path) (is_among others path) is in
+        ∙ or_right (is_among paths path) (is_among others path) is in
         ap (fold with_path_once paths) kept
         ∙ sym (ap (λ (t : Bool). if t then fold with_path_once paths others else fold with_path_once paths others ++ path ∷ [])
         there)

@@ -1,6 +1,7 @@
 -- A makefile that is being read, line by line.
 use Rattle.std.proofs.Common.{◌≡◌, refl, sym, ap, ◌∙◌, subst, ℕ, zero, suc, ◌-◌, arith, Bool, true, false, ◌&&◌, ◌||◌, Option}
 use Rattle.std.proofs.Common.{Some, None, Result, Ok, Err, List, [], ◌∷◌, ◌++◌, is_some, fold, OnOk, if◌then◌else◌, slice_get}
+use Rattle.std.proofs.Math.Bool.{or-false, or_assoc, or_comm}
 use Rattle.std.specs.List.{list_any}
 use Rattle.std.specs.Str.{bytes_eq}
 use Rattle.std.proofs.lemmas.Slice.Eq.{bytes_eq-Decides}
@@ -18,7 +19,7 @@ use Rattle.make_grammar.specs.Lines.{is_blank_line}
 use Rattle.make_grammar.specs.LogicalLines.{logical_lines}
 use Rattle.make_grammar.specs.Macros.{is_among, has_bad_dollar}
 use Rattle.make_grammar.specs.WordPaths.{with_path_once}
-use Rattle.make_text.specs.ReadingSteps.{LeavesReading, counted_file, with_newest_line, newest_with}
+use Rattle.make_text.specs.ReadingSteps.{counted_file, with_newest_line, newest_with}
 use Rattle.make_text.specs.Readers.{KeepsScripted, older_of, open_rule, script_tested}
 use Rattle.make_grammar.specs.Statements.{Reading, reading_fault, if_no_fault, unless_cause, cause_or, cause_where, has_twice}
 use Rattle.make_grammar.specs.Statements.{is_scripted, is_second_script, include_paths, script_line, script_line_of}
@@ -27,7 +28,7 @@ use Rattle.make_text.proofs.ExpansionLemmas.{same_bytes}
 
 -- ---- paths among others
 
-same_ways : (a b : Bool) → (a ≡ true → b ≡ true) → (b ≡ true → a ≡ true) → a ≡ b
+pub same_ways : (a b : Bool) → (a ≡ true → b ≡ true) → (b ≡ true → a ≡ true) → a ≡ b
 same_ways true b h k = sym (h refl)
 same_ways false true h k = k refl
 same_ways false false h k = refl
@@ -40,10 +41,6 @@ bytes_eq_swapped x y =
     same_ways (bytes_eq x y) (bytes_eq y x)
     (λ h. (bytes_eq-Decides y x).1 (sym (same_bytes x y h))) (λ h. (bytes_eq-Decides x y).1 (sym (same_bytes y x h)))
 
-or_false : (a : Bool) → (a || false) ≡ a
-or_false true = refl
-or_false false = refl
-
 or_swap : (a b c d : Bool) → ((a || b) || (c || d)) ≡ ((a || c) || (b || d))
 or_swap true b c d = refl
 or_swap false true true d = refl
@@ -51,21 +48,11 @@ or_swap false true false d = refl
 or_swap false false true d = refl
 or_swap false false false d = refl
 
-or_assoc : (a b c : Bool) → ((a || b) || c) ≡ (a || (b || c))
-or_assoc true b c = refl
-or_assoc false b c = refl
-
-or_comm : (a b : Bool) → (a || b) ≡ (b || a)
-or_comm true true = refl
-or_comm true false = refl
-or_comm false true = refl
-or_comm false false = refl
-
 -- among paths with one behind them
 pub among_behind : (paths : List (List ℕ)) (path x : List ℕ) → is_among (paths ++ path ∷ []) x
     ≡ (is_among paths x || bytes_eq x path)
-among_behind paths path x = list_any-append (bytes_eq x) paths (path ∷ [])
-    ∙ ap (λ b. is_among paths x || b) (or_false (bytes_eq x path))
+among_behind paths path x =
+    list_any-append (bytes_eq x) paths (path ∷ []) ∙ ap (λ b. is_among paths x || b) (or-false (bytes_eq x path))
 
 among_there : (t : Bool) (paths : List (List ℕ)) (path x : List ℕ) → is_among paths path ≡ t →
     is_among (if t then paths else paths ++ path ∷ []) x ≡ (is_among paths x || bytes_eq x path)
@@ -86,7 +73,7 @@ among_with paths path x = among_there (is_among paths path) paths path x refl
 -- among paths with others
 pub among_all : (paths others : List (List ℕ)) (x : List ℕ) → is_among (fold with_path_once paths others) x
     ≡ (is_among paths x || is_among others x)
-among_all paths [] x = sym (or_false (is_among paths x))
+among_all paths [] x = sym (or-false (is_among paths x))
 among_all paths (other ∷ others) x =
     among_all (with_path_once paths other) others x
     ∙ (ap (λ b. b || is_among others x) (among_with paths other x)
@@ -142,12 +129,10 @@ on_ok (Err e) P Q h next = tt
 -- ---- what a line leaves
 
 -- where a line makes this or has a fault, what holds of the rule lines of this holds of those that it leaves
-pub left_preserved : {U : Type 0} (result : Result U (Or MakeError)) (left made : Reading) (file : List ℕ) (n : ℕ)
-    (cause : Option MakeCause) (P : List RuleLine → Type 0) →
-    LeavesReading result left (unless_cause file n cause made) → P made.rules → OnOk result (P left.rules)
-left_preserved (Err fault) left made file n cause P h holds = tt
-left_preserved (Ok done) left made file n (Some cause) P h holds = absurd (cc)
-left_preserved (Ok done) left made file n None P h holds =
+pub made_keeps : (left made : Reading) (file : List ℕ) (n : ℕ) (cause : Option MakeCause) (P : List RuleLine → Type 0) →
+    unless_cause file n cause made ≡ Ok left → P made.rules → P left.rules
+made_keeps left made file n (Some cause) P h holds = absurd (cc)
+made_keeps left made file n None P h holds =
     let same : made ≡ left = cc in
     subst (λ (r : Reading). P r.rules) same holds
 
@@ -200,6 +185,31 @@ script_line_is file n line rule reading open_ blank = by reading.takes_script re
         ap (λ b. if b then Ok reading else script_line_of file n line newest older reading) blank
         ∙ (script_tests file n line newest older reading is
         ∙ ap (λ (r : RuleLine). if_no_fault (script_tested file n line r older reading) (λ r. Ok (with_newest_line line r))) same)
+
+-- a script line keeps that no script of an older line is the newest's, where its test found so
+pub keeps_scripted : (scripted : List (List ℕ)) (reading left : Reading) (file : List ℕ) (n : ℕ) (line : List ℕ)
+    (rule : RuleLine) →
+    Some rule ≡ open_rule reading.takes_script reading.rules → KeepsScripted scripted reading.rules →
+    script_tested file n line rule (older_of reading.rules) reading ≡ Ok reading → left ≡ with_newest_line line reading →
+    KeepsScripted scripted left.rules
+keeps_scripted scripted reading left file n line rule open_ h tested is =
+    subst (λ (r : Reading). KeepsScripted scripted r.rules) (sym is)
+    (by reading.takes_script reading.rules open_ h (apart (is_second_script rule (older_of reading.rules)) tested))
+  where
+    apart : (second : Bool) → (if second then reading_fault rule.file rule.line TwoScripts
+        else unless_cause file n (cause_or (cause_where rule.is_special BadLine) (cause_where (has_bad_dollar line) BadMacro))
+        reading) ≡ Ok reading → second ≡ false
+    apart true h = absurd (cc)
+    apart false h = refl
+
+    by : (takes : Bool) (rules : List RuleLine) → Some rule ≡ open_rule takes rules → KeepsScripted scripted rules →
+        is_second_script rule (older_of rules) ≡ false →
+        KeepsScripted scripted (newest_with line rules)
+    by false rules h k second = absurd (cc)
+    by true [] h k second = absurd (cc)
+    by true (newest ∷ older) h k second =
+        let same : newest ≡ rule = cc in
+        record { scripts = k.scripts; single = ap (λ (r : RuleLine). is_second_script r older) same ∙ second }
 
 -- ---- included files
 

@@ -1,7 +1,8 @@
 -- What is known of macros from one text to the next.
-use Rattle.std.proofs.Common.{◌≡◌, refl, sym, ap, ◌∙◌, subst, ℕ, ◌+◌, ◌-◌, ◌<◌, ◌≤◌, Bool, true, List, [], ◌∷◌, ◌++◌, length}
-use Rattle.std.proofs.Common.{drop, replicate, arith, length-append}
-use Rattle.std.proofs.lemmas.Bool.{lt-ltb}
+use Rattle.std.proofs.Common.{◌≡◌, refl, sym, ap, ◌∙◌, subst, ℕ, ◌+◌, ◌-◌, ◌<◌, ◌≤◌, Bool, true, List, [], ◌++◌, length, drop}
+use Rattle.std.proofs.Common.{replicate, arith, length-append}
+use Rattle.make_text.proofs.CheckLemmas.{long_behind}
+use Rattle.std.proofs.Math.Seq.{drop-append_seam}
 use Rattle.cc_names.specs.declared.commands.Macro.{Macro}
 use Rattle.make_grammar.specs.Macros.{Expansion, plain, one_after_other, is_too_long, no_automatic}
 use Rattle.make_grammar.specs.Statements.{expanded_by}
@@ -52,10 +53,6 @@ pub left_known : (macros : List Macro) (e : Expanding) → IsAtEnd macros no_aut
 left_known macros e h = runs_same macros no_automatic (plain e.written.items) [] h.rest refl (ap (macros_opened macros) h.opened)
     refl h.running.runs
 
-dropped : (prefix rest : List ℕ) → drop (length prefix) (prefix ++ rest) ≡ rest
-dropped [] rest = refl
-dropped (b ∷ prefix) rest = dropped prefix rest
-
 -- what follows so many bytes, by the whole
 pub fewer : (written whole : List ℕ) (part : Expansion) (loops : Bool) (start : ℕ)
     → record { bytes = whole; loops = loops } ≡ one_after_other (plain written) part → start ≡ length written
@@ -70,15 +67,12 @@ pub part_is : (written whole : List ℕ) (part : Expansion) (loops : Bool) (star
 part_is written whole part loops start h at =
     let bytes : whole ≡ written ++ part.bytes = ap (λ (e : Expansion). e.bytes) h in
     let rest : drop start whole ≡ part.bytes = ap (λ n. drop n whole) at
-    ∙ (ap (drop (length written)) bytes ∙ dropped written part.bytes) in
+    ∙ (ap (drop (length written)) bytes ∙ drop-append_seam written part.bytes) in
     ap (λ (b : List ℕ). record { bytes = b; loops = loops }) rest
     ∙ ap (λ (l : Bool). record { bytes = part.bytes; loops = l }) (ap (λ (e : Expansion). e.loops) h)
 
 -- a part is too long where so much was written behind
 pub part_is_long : (written prefix : List ℕ) (total part : Expansion) (start : ℕ) → total ≡ one_after_other (plain written) part
     → length prefix ≤ length total.bytes → start ≡ length written → 65536 < length prefix - start → is_too_long part ≡ true
-part_is_long written prefix total part start h prefix_le at long =
-    let len : length total.bytes ≡ length written + length part.bytes = ap (λ (e : Expansion). length e.bytes) h
-    ∙ length-append written part.bytes in
-    let more : 65536 < length part.bytes = omega (arith, len, at) in
-    lt-ltb 65536 (length part.bytes) more
+part_is_long written prefix total part start h prefix_le at long = long_behind written prefix total part h prefix_le
+    (omega (arith, at, long))

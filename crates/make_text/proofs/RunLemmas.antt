@@ -7,7 +7,7 @@ use Rattle.std.specs.Str.{bytes_eq}
 use Rattle.std.proofs.lemmas.List.{append-nil, take_rest, drop-append-le, take-append-le, get_or-set_same, get_or-set_other}
 use Rattle.std.proofs.lemmas.List.{get_or-replicate, length-drop, length-replicate}
 use Rattle.std.proofs.lemmas.List.Sums.{sum_by-cons, sum_by-set}
-use Rattle.std.proofs.lemmas.Bool.{cases_eq}
+use Rattle.std.proofs.lemmas.Bool.{cases_eq, or_parts}
 use Rattle.std.proofs.lemmas.Slice.Eq.{bytes_eq-Decides}
 use Rattle.cc_names.specs.declared.commands.Macro.{Macro}
 use Rattle.make_grammar.specs.Macros.{Piece, Byte, Reference, Automatic, Bad, Expansion, plain, one_after_other, pieces_of}
@@ -17,7 +17,7 @@ use Rattle.make_text.specs.Runs.{macro_at, HasNamesApart, result_in, EndsIn, is_
 use Rattle.make_text.specs.States.{state_at}
 use Rattle.make_text.specs.declared.states.State.{State}
 use Rattle.make_text.specs.declared.states.State.TheVariants.{Untouched, Begun, Expanded}
-use Rattle.make_text.proofs.ExpansionLemmas.{neither, other_bytes, with_result, one_of, not_with, none_or_some, none_or_defined}
+use Rattle.make_text.proofs.ExpansionLemmas.{other_bytes, with_result, one_of, not_with, none_or_some, none_or_defined}
 use Rattle.make_text.proofs.ExpansionLemmas.{known_expansion, undefined_expansion, loop_expansion, bytes_expansion, all_cut}
 use Rattle.make_text.proofs.ExpansionLemmas.{all_step, all_begun, all_finished, still_cut, still_begun, followed_assoc}
 
@@ -237,8 +237,8 @@ module _ (macros : List Macro) (automatic : ℕ → List ℕ) where
             ∙ r.begun j m ∙ sym (ap is_begun (get_or-set_other states i j ended Untouched d)));
         apart = λ x bytes h. one_of name (drop start written) r.memo x bytes h
             (λ e w. ap (is_among (opened_names opened)) (sym e) ∙ here)
-            (λ d old. (neither (bytes_eq x name) (is_among (opened_names opened) x) (r.apart x bytes old)).1);
-        defined = λ x h. (neither (bytes_eq x name) (is_among (opened_names opened) x) (r.defined x h)).1;
+            (λ d old. (or_parts (bytes_eq x name) (is_among (opened_names opened) x) (r.apart x bytes old)).1);
+        defined = λ x h. (or_parts (bytes_eq x name) (is_among (opened_names opened) x) (r.defined x h)).1;
         counted = omega arith;
       }
 

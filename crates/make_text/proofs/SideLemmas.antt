@@ -1,7 +1,8 @@
 -- A rule line by its two sides.
 use Rattle.std.proofs.Common.{◌≡◌, refl, sym, ap, ◌∙◌, ℕ, Bool, true, false, Option, Some, None, Result, Ok, Err, List, [], ◌++◌}
-use Rattle.std.proofs.Common.{◌||◌, ◌+◌, ◌<◌, length, nat_lt, if◌then◌else◌, length-append, arith}
-use Rattle.std.proofs.lemmas.Bool.{ltb-true, lt-ltb}
+use Rattle.std.proofs.Common.{◌||◌, ◌+◌, ◌<◌, length, nat_lt, if◌then◌else◌, length-append, arith, subst, not, ◌&&◌}
+use Rattle.std.specs.List.{list_all}
+use Rattle.std.proofs.lemmas.Bool.{ltb-true, lt-ltb, or_parts}
 use Rattle.std.proofs.lemmas.List.{append-nil}
 use Rattle.cc_names.specs.Answers.{FaultIs}
 use Rattle.cc_names.specs.Cuts.{words_of}
@@ -9,11 +10,12 @@ use Rattle.cc_names.specs.declared.commands.Macro.{Macro}
 use Rattle.cc_names.specs.declared.memory.Or.{Or}
 use Rattle.cc_names.specs.declared.memory.Or.TheVariants.{NoMemory, Is}
 use Rattle.cc_names.specs.declared.refusals.MakeCause.{MakeCause}
-use Rattle.cc_names.specs.declared.refusals.MakeCause.TheVariants.{LineTooLong, MacroLoop}
-use Rattle.make_grammar.specs.Macros.{Expansion, plain, one_after_other, is_too_long}
-use Rattle.make_text.specs.RuleLines.{rule_of_sides, expanded_sides}
+use Rattle.cc_names.specs.declared.refusals.MakeCause.TheVariants.{LineTooLong, MacroLoop, BadLine}
+use Rattle.make_grammar.specs.Macros.{Expansion, plain, one_after_other, is_too_long, is_among}
+use Rattle.make_text.specs.RuleLines.{rule_of_sides, expanded_sides, AreSaid}
 use Rattle.make_grammar.specs.Statements.{or_cause, cause_or, expansion_fault, expanded_by, before_mark, mark_of, is_grouped}
-use Rattle.make_grammar.specs.Statements.{rule_expansion, rule_bytes_fault, rule_words_fault, rule_words}
+use Rattle.make_grammar.specs.Statements.{rule_expansion, rule_bytes_fault, rule_words_fault, rule_words, rule_fault}
+use Rattle.make_grammar.specs.Statements.{line_words_fault, cause_where, is_suffix, suffixes_name}
 use Rattle.make_grammar.specs.declared.rule_lines.RuleWords.{RuleWords}
 
 -- where there is something, there was no cause
@@ -128,3 +130,34 @@ line_words macros before behind first second none h =
     ap (λ (b : Option MakeCause). or_cause (cause_or b (cause_or o words)) made) (sym none)
     ∙ ap (λ (p : Option MakeCause). or_cause (cause_or p words) made) fine.0
     ∙ ap (λ (x : List ℕ × List ℕ). rule_of_sides (is_grouped before) x.0 x.1) (sym fine.1)
+
+-- ---- what is said behind `.SUFFIXES`
+
+first_none : (one other : Option MakeCause) → cause_or one other ≡ None → (one ≡ None) × (other ≡ None)
+first_none None other h = (refl, h)
+first_none (Some cause) other h = absurd (cc)
+
+not_so : (b : Bool) (cause : MakeCause) → cause_where b cause ≡ None → b ≡ false
+not_so false cause h = refl
+not_so true cause h = absurd (cc)
+
+implied : (a b : Bool) → (a && not b) ≡ false → a ≡ true → b ≡ true
+implied a true h is = refl
+implied true false h is = absurd (cc)
+implied false false h is = absurd (cc)
+
+-- the words of a rule line that was read are suffixes behind `.SUFFIXES`
+pub words_said : (macros : List Macro) (before behind : List ℕ) (words : RuleWords) →
+    rule_words macros before behind ≡ Ok words → AreSaid words
+words_said macros before behind words h =
+    let targets = words_of (expanded_by macros (before_mark before)).bytes in
+    let prerequisites = words_of (expanded_by macros behind).bytes in
+    let read : RuleWords = record { is_group = is_grouped before; targets = targets; prerequisites = prerequisites } in
+    let none = no_cause (rule_fault macros before behind) read words (sym h) in
+    let expanded = (first_none (rule_bytes_fault before behind) _ none.0).1 in
+    let worded = (first_none (expansion_fault (rule_expansion macros before behind)) _ expanded).1 in
+    let line = (first_none (line_words_fault (is_grouped before) targets prerequisites) _ worded).0 in
+    let last = (or_parts _ (is_among targets suffixes_name && not (list_all is_suffix prerequisites))
+    (not_so _ BadLine line)).1 in
+    subst (λ (w : RuleWords). AreSaid w) (sym none.1)
+    (λ named. implied (is_among targets suffixes_name) (list_all is_suffix prerequisites) last named)

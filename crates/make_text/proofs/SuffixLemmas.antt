@@ -1,36 +1,24 @@
 -- Bytes that begin with others.
 use Rattle.std.proofs.Common.{◌≡◌, refl, sym, ap, ◌∙◌, ℕ, ◌+◌, ◌<◌, Bool, true, false, ◌||◌, ◌&&◌, Some, None, List, [], ◌∷◌}
 use Rattle.std.proofs.Common.{◌++◌, length, take, drop, filter, flat_map, unwrap_or, if◌then◌else◌, arith, length-append}
+use Rattle.std.proofs.Math.Seq.{take-append_seam, drop-append_seam}
 use Rattle.std.proofs.lemmas.List.{take-append-drop}
 use Rattle.std.proofs.lemmas.Slice.Eq.{bytes_eq-Decides}
-use Rattle.std.proofs.lemmas.Bool.{false_from_ne_true}
+use Rattle.std.proofs.lemmas.Bool.{false_from_ne_true, or_parts}
 use Rattle.std.specs.Str.{bytes_eq}
 use Rattle.std.specs.List.{list_any}
 use Rattle.make_grammar.specs.Contents.{suffix_rule_of}
 use Rattle.make_grammar.specs.Macros.{is_among}
-use Rattle.make_text.specs.SuffixRules.{begins_with, behind_prefix, begins_from, is_pair_from, suffix_rules_from}
+use Rattle.make_text.specs.SuffixRules.{begins_with, behind_prefix, begins_from, suffix_rules_from}
 use Rattle.make_grammar.specs.Rules.{MakeRule, SuffixRule}
-use Rattle.make_text.proofs.ExpansionLemmas.{same_bytes, neither}
-use Rattle.make_text.proofs.ReaderLemmas.{bytes_eq_swapped}
+use Rattle.make_text.proofs.ExpansionLemmas.{same_bytes}
+use Rattle.make_text.proofs.ReaderLemmas.{same_ways, bytes_eq_swapped}
 
 -- bytes that begin with others are these and the rest
 fronted : (bytes prefix : List ℕ) → begins_with bytes prefix ≡ true → bytes ≡ prefix ++ drop (length prefix) bytes
 fronted bytes prefix h =
     sym (take-append-drop (length prefix) bytes) ∙ ap (λ (f : List ℕ). f ++ drop (length prefix) bytes)
     (same_bytes (take (length prefix) bytes) prefix h)
-
-same_ways : (a b : Bool) → (a ≡ true → b ≡ true) → (b ≡ true → a ≡ true) → a ≡ b
-same_ways true b h k = sym (h refl)
-same_ways false true h k = k refl
-same_ways false false h k = refl
-
-taken : (prefix rest : List ℕ) → take (length prefix) (prefix ++ rest) ≡ prefix
-taken [] rest = refl
-taken (b ∷ prefix) rest = ap (λ (l : List ℕ). b ∷ l) (taken prefix rest)
-
-dropped : (prefix rest : List ℕ) → drop (length prefix) (prefix ++ rest) ≡ rest
-dropped [] rest = refl
-dropped (b ∷ prefix) rest = dropped prefix rest
 
 -- too few bytes begin with nothing longer
 pub too_few : (bytes prefix : List ℕ) → length bytes < length prefix → begins_with bytes prefix ≡ false
@@ -49,9 +37,9 @@ pair_is bytes from to =
     (λ h.
     let same = same_bytes bytes (from ++ to) h in
     let one : begins_with bytes from ≡ true = (bytes_eq-Decides (take (length from) bytes) from).1 (ap (take (length from)) same
-    ∙ taken from to) in
+    ∙ take-append_seam from to) in
     let two : bytes_eq (drop (length from) bytes) to ≡ true = (bytes_eq-Decides (drop (length from) bytes) to).1
-    (ap (drop (length from)) same ∙ dropped from to) in
+    (ap (drop (length from)) same ∙ drop-append_seam from to) in
     ap (λ b. b && bytes_eq (drop (length from) bytes) to) one ∙ two)
     (λ h. both (begins_with bytes from) refl h)
   where
@@ -61,15 +49,6 @@ pair_is bytes from to =
     both true is h =
         (bytes_eq-Decides bytes (from ++ to)).1 (fronted bytes from is
         ∙ ap (λ (l : List ℕ). from ++ l) (same_bytes (drop (length from) bytes) to h))
-
--- bytes that do not begin with a suffix are not it and another
-pub not_begun : (suffixes : List (List ℕ)) (bytes from : List ℕ) → begins_with bytes from ≡ false
-    → is_pair_from suffixes bytes from ≡ false
-not_begun [] bytes from h = refl
-not_begun (to ∷ suffixes) bytes from h =
-    ap (λ b. b || is_pair_from suffixes bytes from) (pair_is bytes from to
-    ∙ ap (λ b. b && bytes_eq (drop (length from) bytes) to) h)
-    ∙ not_begun suffixes bytes from h
 
 pub pair_some : (bytes from to rest : List ℕ) → Some rest ≡ behind_prefix bytes from
     → bytes_eq rest to ≡ bytes_eq bytes (from ++ to)
@@ -113,7 +92,7 @@ targets_begin : (from to : List ℕ) (targets : List (List ℕ)) → list_any (�
     → is_among targets (from ++ to) ≡ false
 targets_begin from to [] h = refl
 targets_begin from to (target ∷ targets) h =
-    let both = neither (begins_with target from) (list_any (λ target. begins_with target from) targets) h in
+    let both = or_parts (begins_with target from) (list_any (λ target. begins_with target from) targets) h in
     let other : bytes_eq (from ++ to) target ≡ false =
     sym (bytes_eq_swapped target (from ++ to)) ∙ pair_is target from to
     ∙ ap (λ b. b && bytes_eq (drop (length from) target) to) both.0 in

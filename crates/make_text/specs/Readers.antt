@@ -37,9 +37,9 @@ script_tested file n line rule older reading =
     if is_second_script rule older then reading_fault rule.file rule.line TwoScripts
     else unless_cause file n (cause_or (cause_where rule.is_special BadLine) (cause_where (has_bad_dollar line) BadMacro)) reading
 
--- an include line gave paths, and ended the rule above it; or it has a fault, whichever files there are
-abbrev pub OpensInclude : List ℕ → ℕ → List ℕ → Reading → Result (List (List ℕ)) (Or MakeError) → Reading → Type 0
-OpensInclude file n behind old (Ok paths) new =
-    (include_words (macros_of old.macros) behind ≡ Ok paths) × (within_limits file n (ended_rule old) ≡ Ok new)
-OpensInclude file n behind old (Err fault) new =
+-- an include line ended the rule above it, and gave paths; or it has a fault, whichever files there are
+abbrev pub OpensInclude : List ℕ → ℕ → List ℕ → Reading → Result (Reading × List (List ℕ)) (Or MakeError) → Type 0
+OpensInclude file n behind old (Ok opened) =
+    (include_words (macros_of old.macros) behind ≡ Ok opened.1) × (within_limits file n (ended_rule old) ≡ Ok opened.0)
+OpensInclude file n behind old (Err fault) =
     (include : Reading → List ℕ → Result Reading MakeError) → FaultIs fault (include_line include file n behind old)

@@ -1,12 +1,13 @@
 -- The words of rule lines and include lines as they are read.
-use Rattle.std.specs.Prelude.{ℕ, Bool, not, ◌&&◌, Result, List}
+use Rattle.std.specs.Prelude.{◌≡◌, ℕ, Bool, true, not, ◌&&◌, Result, List}
 use Rattle.std.specs.List.{list_all}
 use Rattle.cc_names.specs.declared.commands.Macro.{Macro}
 use Rattle.cc_names.specs.Cuts.{words_of}
 use Rattle.cc_names.specs.declared.refusals.MakeCause.{MakeCause}
 use Rattle.cc_names.specs.declared.refusals.MakeCause.TheVariants.{BadPath}
-use Rattle.make_grammar.specs.Statements.{or_cause, cause_where, is_path, expanded_by, before_mark, rule_expansion}
-use Rattle.make_grammar.specs.Statements.{expansion_fault, rule_words_fault}
+use Rattle.make_grammar.specs.Macros.{is_among}
+use Rattle.make_grammar.specs.Statements.{or_cause, cause_where, is_path, is_suffix, suffixes_name, expanded_by, before_mark}
+use Rattle.make_grammar.specs.Statements.{rule_expansion, expansion_fault, rule_words_fault}
 use Rattle.make_grammar.specs.declared.rule_lines.RuleWords.{RuleWords}
 
 -- words that are paths below the root, or that one is none
@@ -34,3 +35,7 @@ abbrev pub expanded_sides : List Macro → List ℕ → List ℕ → Result (Lis
 expanded_sides macros before behind =
     or_cause (expansion_fault (rule_expansion macros before behind))
     ((expanded_by macros (before_mark before)).bytes, (expanded_by macros behind).bytes)
+
+-- the words of a rule line are suffixes behind `.SUFFIXES`
+abbrev pub AreSaid : RuleWords → Type 0
+AreSaid words = is_among words.targets suffixes_name ≡ true → list_all is_suffix words.prerequisites ≡ true

@@ -1,5 +1,6 @@
 -- The suffix rules of a makefile, one suffix after the other.
-use Rattle.std.specs.Prelude.{ℕ, Bool, ◌&&◌, not, Option, Some, None, List, ◌++◌, length, take, drop, flat_map, if◌then◌else◌}
+use Rattle.std.specs.Prelude.{ℕ, suc, ◌==◌, Bool, ◌&&◌, not, Option, Some, None, List, [], ◌∷◌, length, take, drop, flat_map}
+use Rattle.std.specs.Prelude.{if◌then◌else◌}
 use Rattle.std.specs.List.{list_any}
 use Rattle.std.specs.Str.{bytes_eq}
 use Rattle.make_grammar.specs.Contents.{is_pair_of, suffix_rule_of}
@@ -13,10 +14,6 @@ begins_with bytes prefix = bytes_eq (take (length prefix) bytes) prefix
 -- what follows a prefix, where bytes begin with it
 abbrev pub behind_prefix : List ℕ → List ℕ → Option (List ℕ)
 behind_prefix bytes prefix = if begins_with bytes prefix then Some (drop (length prefix) bytes) else None
-
--- whether bytes are this suffix and then another
-abbrev pub is_pair_from : List (List ℕ) → List ℕ → List ℕ → Bool
-is_pair_from suffixes bytes from = list_any (λ to. bytes_eq bytes (from ++ to)) suffixes
 
 -- whether a target is of a group
 abbrev pub is_in_group : List (List (List ℕ)) → List ℕ → Bool
@@ -33,3 +30,13 @@ begins_from from rule = list_any (λ target. begins_with target from) rule.targe
 -- the suffix rules that begin from a suffix
 abbrev pub suffix_rules_from : List (List ℕ) → List MakeRule → List ℕ → List SuffixRule
 suffix_rules_from suffixes rules from = flat_map (λ to. flat_map (suffix_rule_of from to) rules) suffixes
+
+-- how many bytes stand before the first `.`
+abbrev pub before_period : List ℕ → ℕ
+before_period [] = 0
+before_period (b ∷ bytes) = if b == 46 then 0 else suc (before_period bytes)
+
+-- how many bytes stand before the first `.` behind the first byte
+abbrev pub first_length : List ℕ → ℕ
+first_length [] = 0
+first_length (b ∷ bytes) = suc (before_period bytes)

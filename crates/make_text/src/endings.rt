@@ -20,6 +20,7 @@ use crate::readings::{Parts, Reading, reading_fault};
 use crate::rules::MakeRule;
 use crate::special_targets::has_some;
 use crate::suffix_rules::{is_suffix_rule, suffix_rules};
+use crate::suffixes::Suffixes;
 use cc_names::memory::{NoMemory, Or};
 use cc_names::paths::Path;
 use cc_names::refusals::{MakeCause, MakeError};
@@ -61,7 +62,7 @@ fn test_phony(
 /// The rules apart from the suffix rules.
 fn part_rules(
     alloc: Global,
-    suffixes: &IndexSet<Path, RandomState>,
+    suffixes: &Suffixes,
     lines: &[RuleLine],
     groups: &Numbers,
     joined: Vec<JoinedRule>,
@@ -70,19 +71,19 @@ fn part_rules(
     ensures rules { IfOk result
         (λ parted.
         parted.rules.items
-        ≡ filter (λ rule. not (is_suffix_rule suffixes.now.keys (groups_of lines.now) rule))
+        ≡ filter (λ rule. not (is_suffix_rule suffixes.now (groups_of lines.now) rule))
         (rules_of lines.now joined.items)) }
     ensures suffix_rules { IfOk result
         (λ parted.
         parted.suffix_rules.items
-        ≡ filter (is_suffix_rule suffixes.now.keys (groups_of lines.now))
+        ≡ filter (is_suffix_rule suffixes.now (groups_of lines.now))
         (rules_of lines.now joined.items)) }
 {
     let mut rules = Vec::new(alloc);
     let mut suffix_rules = Vec::new(alloc);
     for joined_rule in joined {
         let rule = joined_rule.into_rule(alloc, lines)?;
-        if is_suffix_rule(suffixes.as_slice(), lines, groups, &rule) {
+        if is_suffix_rule(alloc, suffixes, lines, groups, &rule)? {
             suffix_rules.push(rule)?;
         } else {
             rules.push(rule)?;
@@ -98,18 +99,18 @@ fn part_rules(
 fn rules_of(
     alloc: Global,
     hashing: RandomState,
-    suffixes: &IndexSet<Path, RandomState>,
+    suffixes: &Suffixes,
     lines: &[RuleLine],
 ) -> Result<Ruled, NoMemory>
     ensures rules { IfOk result
         (λ ruled.
         ruled.parted.rules.items
-        ≡ filter (λ rule. not (is_suffix_rule suffixes.now.keys (groups_of lines.now) rule))
+        ≡ filter (λ rule. not (is_suffix_rule suffixes.now (groups_of lines.now) rule))
         (joined_rules lines.now)) }
     ensures suffix_rules { IfOk result
         (λ ruled.
         ruled.parted.suffix_rules.items
-        ≡ filter (is_suffix_rule suffixes.now.keys (groups_of lines.now))
+        ≡ filter (is_suffix_rule suffixes.now (groups_of lines.now))
         (joined_rules lines.now)) }
     ensures prerequisites { IfOk result
         (λ ruled.

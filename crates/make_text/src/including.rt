@@ -1,11 +1,10 @@
 //! The lines of a makefile one after the other, with the files that it includes read in place.
 
-ghost use Rattle.std.specs.Prelude.{◌≡◌, OnOk};
+ghost use Rattle.std.specs.Prelude.{◌≡◌, IfOk};
 ghost use Rattle.cc_names.specs.Answers.{Gives};
 ghost use Rattle.make_grammar.specs.Grammar.{lines_behind, lines_read};
 ghost use Rattle.make_grammar.specs.LogicalLines.{logical_lines};
-ghost use Rattle.make_text.specs.ReadingSteps.{LeavesReading, counted_line_read};
-ghost use Rattle.make_text.specs.Readers.{KeepsScripted};
+ghost use Rattle.make_text.specs.ReadingSteps.{counted_line_read};
 ghost use Rattle.make_grammar.specs.Statements.{reading_of_include, include_line, read_line, read_lines};
 
 use crate::contents::Texts;
@@ -15,7 +14,7 @@ use crate::readers::Reader;
 use crate::readings::{Reading, reading_fault};
 use crate::words::is_script_line;
 use cc_names::commands::Macro;
-use cc_names::memory::Or;
+use cc_names::memory::{NoMemory, Or};
 use cc_names::paths::Path;
 use cc_names::refusals::{MakeCause, MakeError};
 use make_grammar::logical_lines::LogicalLine;
@@ -26,34 +25,39 @@ use std::rc::Rc;
 /// The most files that are included inside each other.
 const DEPTH_LIMIT: u32 = 16;
 
+/// A copy of a path that may be shared.
+fn shared_copy(alloc: Global, path: &Path) -> Result<Rc<Path>, NoMemory>
+    ensures { IfOk result (λ copy. copy.value ≡ path.now) }
+{
+    Ok(Rc::new(alloc, path.copy(alloc)?)?)
+}
+
 /// Reads the file at a path, which a line of another file includes, in place. So many files can still be included inside
 /// each other.
 #[cycle(files)]
 fn reading_of_include<X: Texts>(
-    reader: &mut Reader,
+    reader: Reader,
     alloc: Global,
     texts: &X,
     left: u32,
     file: &Rc<Path>,
     line: u32,
     path: &Path,
-) -> Result<(), Or<MakeError>>
-    requires { KeepsScripted reader.old.scripted.keys reader.old.reading.rules }
-    ensures read { LeavesReading result reader.new.reading
-        (reading_of_include (X.texts texts.now) left file.now.value line reader.old.reading path.now) }
-    ensures kept { OnOk result (KeepsScripted reader.new.scripted.keys reader.new.reading.rules) }
+) -> Result<Reader, Or<MakeError>>
+    ensures { Gives result
+        (reading_of_include (X.texts texts.now) left file.now.value line reader path.now) }
 {
     let Some(text) = texts.text(path) else {
-        return Err(reading_fault(alloc, file, line, MakeCause::IncludeAbsent));
+        return reader.refuse(reading_fault(alloc, file, line, MakeCause::IncludeAbsent));
     };
     if left == 0 {
-        return Err(reading_fault(alloc, file, line, MakeCause::IncludeDepth));
+        return reader.refuse(reading_fault(alloc, file, line, MakeCause::IncludeDepth));
     }
     match reader.open_file(alloc, file, line) {
-        Ok(()) => {
-            let path = Rc::new(alloc, path.copy(alloc)?)?;
-            read_lines(reader, alloc, texts, left - 1, &path, text)
-        }
+        Ok(reader) => match shared_copy(alloc, path) {
+            Ok(path) => read_lines(reader, alloc, texts, left - 1, &path, text),
+            Err(NoMemory) => reader.refuse(Or::NoMemory),
+        },
         Err(fault) => Err(fault),
     }
 }
@@ -61,48 +65,44 @@ fn reading_of_include<X: Texts>(
 /// Reads the lines of a text, which stands at this path.
 #[cycle(files)]
 pub(crate) fn read_lines<X: Texts>(
-    reader: &mut Reader,
+    reader: Reader,
     alloc: Global,
     texts: &X,
     left: u32,
     file: &Rc<Path>,
     text: &[u8],
-) -> Result<(), Or<MakeError>>
-    requires { KeepsScripted reader.old.scripted.keys reader.old.reading.rules }
-    ensures read { LeavesReading result reader.new.reading
+) -> Result<Reader, Or<MakeError>>
+    ensures { Gives result
         (read_lines (reading_of_include (X.texts texts.now) left file.now.value) file.now.value
-        (logical_lines text.now) reader.old.reading) }
-    ensures kept { OnOk result (KeepsScripted reader.new.scripted.keys reader.new.reading.rules) }
+        (logical_lines text.now) reader) }
 {
+    let mut reader = reader;
     let mut lines = LogicalLines::of(text);
     'lines: while let Some(line) = lines.next(alloc)? {
-        match counted_line(reader, alloc, texts, left, file, &line) {
-            Ok(()) => {}
+        reader = match counted_line(reader, alloc, texts, left, file, &line) {
+            Ok(reader) => reader,
             Err(fault) => return Err(fault),
-        }
+        };
     }
-    Ok(())
+    Ok(reader)
 }
 
 /// Counts and reads a line, and tests the counts behind it.
 #[cycle(files)]
 fn counted_line<X: Texts>(
-    reader: &mut Reader,
+    reader: Reader,
     alloc: Global,
     texts: &X,
     left: u32,
     file: &Rc<Path>,
     line: &LogicalLine,
-) -> Result<(), Or<MakeError>>
-    requires { KeepsScripted reader.old.scripted.keys reader.old.reading.rules }
-    ensures read { LeavesReading result reader.new.reading
+) -> Result<Reader, Or<MakeError>>
+    ensures { Gives result
         (counted_line_read (reading_of_include (X.texts texts.now) left file.now.value) file.now.value
-        line.now reader.old.reading) }
-    ensures kept { OnOk result (KeepsScripted reader.new.scripted.keys reader.new.reading.rules) }
+        line.now reader) }
 {
-    reader.reading.count_line()?;
-    match read_line(reader, alloc, texts, left, file, line) {
-        Ok(()) => reader.within_limits(alloc, file, line.number),
+    match read_line(reader.count_line()?, alloc, texts, left, file, line) {
+        Ok(reader) => reader.within_limits(alloc, file, line.number),
         Err(fault) => Err(fault),
     }
 }
@@ -110,25 +110,23 @@ fn counted_line<X: Texts>(
 /// Reads a line.
 #[cycle(files)]
 fn read_line<X: Texts>(
-    reader: &mut Reader,
+    reader: Reader,
     alloc: Global,
     texts: &X,
     left: u32,
     file: &Rc<Path>,
     line: &LogicalLine,
-) -> Result<(), Or<MakeError>>
-    requires { KeepsScripted reader.old.scripted.keys reader.old.reading.rules }
-    ensures read { LeavesReading result reader.new.reading
+) -> Result<Reader, Or<MakeError>>
+    ensures { Gives result
         (read_line (reading_of_include (X.texts texts.now) left file.now.value) file.now.value line.now
-        reader.old.reading) }
-    ensures kept { OnOk result (KeepsScripted reader.new.scripted.keys reader.new.reading.rules) }
+        reader) }
 {
     let (number, bytes) = (line.number, line.bytes.as_bytes());
     if is_script_line(bytes) {
         return reader.script_line(alloc, file, number, bytes);
     }
     match line_kind(without_comment(bytes)) {
-        Kind::Blank => Ok(()),
+        Kind::Blank => Ok(reader),
         Kind::Include(behind) => include_line(reader, alloc, texts, left, file, number, behind),
         Kind::Assignment(before, behind) => {
             reader.assign(
@@ -140,57 +138,54 @@ fn read_line<X: Texts>(
             )
         }
         Kind::Rule(before, behind) => reader.rule_line(alloc, file, number, before, behind),
-        Kind::Unclosed => Err(reading_fault(alloc, file, number, MakeCause::BadMacro)),
-        Kind::Neither => Err(reading_fault(alloc, file, number, MakeCause::BadLine)),
+        Kind::Unclosed => reader.refuse(reading_fault(alloc, file, number, MakeCause::BadMacro)),
+        Kind::Neither => reader.refuse(reading_fault(alloc, file, number, MakeCause::BadLine)),
     }
 }
 
 /// Reads an include line, each file in place before the next is looked for.
 #[cycle(files)]
 fn include_line<X: Texts>(
-    reader: &mut Reader,
+    reader: Reader,
     alloc: Global,
     texts: &X,
     left: u32,
     file: &Rc<Path>,
     line: u32,
     behind: &[u8],
-) -> Result<(), Or<MakeError>>
-    requires { KeepsScripted reader.old.scripted.keys reader.old.reading.rules }
-    ensures read { LeavesReading result reader.new.reading
+) -> Result<Reader, Or<MakeError>>
+    ensures { Gives result
         (include_line (reading_of_include (X.texts texts.now) left file.now.value line) file.now.value
-        line behind.now reader.old.reading) }
-    ensures kept { OnOk result (KeepsScripted reader.new.scripted.keys reader.new.reading.rules) }
+        line behind.now reader) }
 {
-    let paths = match reader.open_include(alloc, file, line, behind) {
-        Ok(paths) => paths,
+    let (mut reader, paths) = match reader.open_include(alloc, file, line, behind) {
+        Ok(opened) => opened,
         Err(fault) => return Err(fault),
     };
     for path in paths.as_slice() {
-        match reading_of_include(reader, alloc, texts, left, file, line, path) {
-            Ok(()) => {}
+        reader = match reading_of_include(reader, alloc, texts, left, file, line, path) {
+            Ok(reader) => reader,
             Err(fault) => return Err(fault),
-        }
+        };
     }
-    Ok(())
+    Ok(reader)
 }
 
 /// Reads the macros of the command line, and then the lines of a makefile.
 fn read_behind<X: Texts>(
-    reader: &mut Reader,
+    reader: Reader,
     alloc: Global,
     texts: &X,
     file: &Rc<Path>,
     text: &[u8],
     overrides: &[Macro],
-) -> Result<(), Or<MakeError>>
-    requires { KeepsScripted reader.old.scripted.keys reader.old.reading.rules }
-    ensures { LeavesReading result reader.new.reading
+) -> Result<Reader, Or<MakeError>>
+    ensures { Gives result
         (lines_behind (X.texts texts.now) file.now.value text.now overrides.now
-        reader.old.reading) }
+        reader) }
 {
     match reader.fix_all(alloc, file, overrides) {
-        Ok(()) => read_lines(reader, alloc, texts, DEPTH_LIMIT, file, text),
+        Ok(reader) => read_lines(reader, alloc, texts, DEPTH_LIMIT, file, text),
         Err(fault) => Err(fault),
     }
 }
@@ -208,9 +203,9 @@ pub(crate) fn read_all<X: Texts>(
     ensures { Gives result
         (lines_read (X.texts texts.now) file.now.value text.now overrides.now) }
 {
-    let mut reader = Reader::new(alloc, hashing)?;
-    match read_behind(&mut reader, alloc, texts, file, text, overrides) {
-        Ok(()) => Ok(reader.into_reading()),
+    let reader = Reader::new(alloc, hashing)?;
+    match read_behind(reader, alloc, texts, file, text, overrides) {
+        Ok(reader) => Ok(reader.into_reading()),
         Err(fault) => Err(fault),
     }
 }

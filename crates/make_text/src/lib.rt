@@ -31,5 +31,6 @@ pub mod rules;
 mod special_targets;
 mod states;
 mod suffix_rules;
+mod suffixes;
 pub mod word_paths;
 mod words;

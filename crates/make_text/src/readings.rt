@@ -5,6 +5,7 @@ ghost use Rattle.cc_names.specs.Answers.{FaultIs, Gives};
 ghost use Rattle.make_grammar.specs.Grammar.{nothing_read};
 ghost use Rattle.make_text.specs.MacroEntries.{definition_in};
 ghost use Rattle.make_text.specs.Readers.{open_rule};
+ghost use Rattle.make_text.specs.RuleLines.{AreSaid};
 ghost use Rattle.make_text.specs.ReadingSteps.{LeavesReading, counted_line, counted_file, with_defined, ended_rule, with_special, with_newest_line, rule_line_of_words, with_next_rule};
 ghost use Rattle.make_grammar.specs.Statements.{reading_fault, assignment, include_words, macros_of, override, rule_words, with_rule, within_limits};
 
@@ -12,9 +13,8 @@ use crate::expanded_macros::ExpandedMacros;
 use crate::line_cache::RuleLine;
 use crate::macros::{Defined, MacroTable};
 use crate::rule_lines::{macro_fault, read_include_line, read_rule_line};
-use crate::special_targets::{
-    first_suffixes, has_special_target, is_target_named, plain_targets, put_paths, put_suffixes,
-};
+use crate::special_targets::{has_special_target, is_target_named, plain_targets, put_paths};
+use crate::suffixes::Suffixes;
 use cc_names::commands::Macro;
 use cc_names::lists::List;
 use cc_names::memory::{NoMemory, Or};
@@ -42,7 +42,7 @@ pub(crate) struct Reading {
     targets: u64,
     files: u64,
     macros: ExpandedMacros,
-    suffixes: IndexSet<Path, RandomState>,
+    suffixes: Suffixes,
     phony: IndexSet<Path, RandomState>,
     rules: Vec<RuleLine>,
     takes_script: bool,
@@ -60,7 +60,7 @@ impl Model for Reading {
           targets = r.targets;
           files = r.files;
           macros = r.macros;
-          suffixes = r.suffixes.keys;
+          suffixes = r.suffixes;
           phony = r.phony.keys;
           rules = reverse r.rules.items;
           takes_script = r.takes_script;
@@ -71,7 +71,7 @@ impl Model for Reading {
 #[derive(Drop)]
 pub(crate) struct Parts {
     pub(crate) macros: MacroTable,
-    pub(crate) suffixes: IndexSet<Path, RandomState>,
+    pub(crate) suffixes: Suffixes,
     pub(crate) phony: IndexSet<Path, RandomState>,
     pub(crate) lines: Vec<RuleLine>,
 }
@@ -127,14 +127,12 @@ impl Reading {
     pub(crate) fn new(alloc: Global, hashing: RandomState) -> Result<Reading, NoMemory>
         ensures { IfOk result (λ reading. reading ≡ nothing_read) }
     {
-        let mut suffixes = IndexSet::with_hasher(alloc, hashing);
-        put_paths(alloc, &mut suffixes, first_suffixes(alloc)?.as_slice())?;
         Ok(Reading {
             lines: 0,
             targets: 0,
             files: 0,
             macros: ExpandedMacros::new(alloc, hashing),
-            suffixes,
+            suffixes: Suffixes::first(alloc, hashing)?,
             phony: IndexSet::with_hasher(alloc, hashing),
             rules: Vec::new(alloc),
             takes_script: false,
@@ -191,7 +189,7 @@ impl Reading {
     /// Its parts.
     pub(crate) fn into_parts(self) -> Parts
         ensures macros { result.macros ≡ self.macros }
-        ensures suffixes { result.suffixes.keys ≡ self.suffixes }
+        ensures suffixes { result.suffixes ≡ self.suffixes }
         ensures phony { result.phony.keys ≡ self.phony }
         ensures lines { result.lines.items ≡ reverse self.rules }
     {
@@ -249,12 +247,12 @@ impl Reading {
 
     /// Tests that there is no more than there may be.
     pub(crate) fn within_limits(
-        &mut self,
+        &self,
         alloc: Global,
         file: &Path,
         line: u32,
     ) -> Result<(), Or<MakeError>>
-        ensures { LeavesReading result self.new (within_limits file.now line self.old) }
+        ensures { LeavesReading result self.now (within_limits file.now line self.now) }
     {
         if self.lines > LINE_LIMIT || self.targets > TARGET_LIMIT || self.files > FILE_LIMIT {
             return Err(reading_fault(alloc, file, line, MakeCause::TooMany));
@@ -320,11 +318,12 @@ impl Reading {
 
     /// Takes what the special targets of a rule line say.
     fn take_special(&mut self, alloc: Global, words: &RuleWords) -> Result<(), NoMemory>
+        requires { AreSaid words.now }
         ensures { OnOk result (self.new ≡ with_special words.now self.old) }
     {
         let (targets, prerequisites) = (words.targets.as_slice(), words.prerequisites.as_slice());
         if is_target_named(targets, b".SUFFIXES") {
-            put_suffixes(alloc, &mut self.suffixes, prerequisites)?;
+            self.suffixes.take(alloc, prerequisites)?;
         }
         if is_target_named(targets, b".PHONY") {
             put_paths(alloc, &mut self.phony, prerequisites)?;
@@ -341,6 +340,7 @@ impl Reading {
         line: u32,
         words: RuleWords,
     ) -> Result<(), NoMemory>
+        requires { AreSaid words }
         ensures { OnOk result (self.new ≡ with_rule file.now.value line words self.old) }
     {
         self.take_special(alloc, &words)?;

@@ -5,7 +5,7 @@ ghost use Rattle.std.specs.List.{list_any};
 ghost use Rattle.make_grammar.specs.Grammar.{first_suffixes};
 ghost use Rattle.make_grammar.specs.Macros.{is_among};
 ghost use Rattle.make_grammar.specs.WordPaths.{with_path_once};
-ghost use Rattle.make_grammar.specs.Statements.{is_special, plain_targets, with_suffixes};
+ghost use Rattle.make_grammar.specs.Statements.{is_special, plain_targets};
 
 use crate::rule_lines::is_special;
 use crate::word_paths::{each_once, read_paths_below_root};
@@ -31,21 +31,6 @@ pub(crate) fn put_paths(
         }
     }
     Ok(())
-}
-
-/// The suffixes with these behind them, or none where there are none of these.
-pub(crate) fn put_suffixes(
-    alloc: Global,
-    set: &mut IndexSet<Path, RandomState>,
-    paths: &[Path],
-) -> Result<(), NoMemory>
-    ensures { OnOk result (set.new.keys ≡ with_suffixes set.old.keys paths.now) }
-{
-    if paths.is_empty() {
-        set.clear();
-        return Ok(());
-    }
-    put_paths(alloc, set, paths)
 }
 
 /// The suffixes of a makefile that says nothing of them.

@@ -3,15 +3,16 @@
 ghost use Rattle.std.specs.Prelude.{◌≡◌, ◌++◌, [], IfOk, OnOk, filter, flat_map, map, option_copied, unwrap_or};
 ghost use Rattle.std.specs.List.{list_any};
 ghost use Rattle.std.specs.Str.{bytes_eq};
-ghost use Rattle.make_grammar.specs.Contents.{groups_of, is_pair_of, is_suffix_rule, suffix_rule_of, suffix_rules_of};
+ghost use Rattle.make_grammar.specs.Contents.{groups_of, is_suffix_rule, suffix_rule_of, suffix_rules_of};
 ghost use Rattle.make_text.specs.Joining.{KnowsGroups};
-ghost use Rattle.make_text.specs.SuffixRules.{is_pair_from, is_in_group, is_suffix_target, behind_prefix, begins_from, begins_with, suffix_rules_from};
+ghost use Rattle.make_text.specs.SuffixRules.{is_in_group, is_suffix_target, behind_prefix, begins_from, begins_with, suffix_rules_from};
 ghost use Rattle.make_grammar.specs.Macros.{is_among};
 
 use crate::joining::group;
 use crate::line_cache::RuleLine;
 use crate::numbers::Numbers;
 use crate::rules::{MakeRule, SuffixRule};
+use crate::suffixes::Suffixes;
 use cc_names::memory::NoMemory;
 use cc_names::paths::Path;
 use cc_names::texts::Text;
@@ -39,40 +40,6 @@ fn is_pair(bytes: &[u8], from: &[u8], to: &[u8]) -> bool
     }
 }
 
-/// Whether bytes are a suffix and then another, by the first.
-fn is_pair_from(suffixes: &[Path], from: &Path, bytes: &[u8]) -> bool
-    ensures { result ≡ is_pair_from suffixes.now bytes.now from.now }
-{
-    for to in suffixes {
-        if is_pair(bytes, from.as_bytes(), to.as_bytes()) {
-            return true;
-        }
-    }
-    false
-}
-
-/// The same, where the second is looked for only if bytes begin with the first.
-fn begins_and_ends(suffixes: &[Path], from: &Path, bytes: &[u8]) -> bool
-    ensures { result ≡ is_pair_from suffixes.now bytes.now from.now }
-{
-    match cut_prefix(bytes, from.as_bytes()) {
-        Some(_) => is_pair_from(suffixes, from, bytes),
-        None => false,
-    }
-}
-
-/// Whether bytes are two suffixes put together.
-fn is_pair_of(suffixes: &[Path], bytes: &[u8]) -> bool
-    ensures { result ≡ is_pair_of suffixes.now bytes.now }
-{
-    for from in suffixes {
-        if begins_and_ends(suffixes, from, bytes) {
-            return true;
-        }
-    }
-    false
-}
-
 /// Whether a target is of a group that has a script, in constant time.
 fn is_in_group(lines: &[RuleLine], groups: &Numbers, target: &Path) -> bool
     requires { KnowsGroups groups.now lines.now }
@@ -84,46 +51,69 @@ fn is_in_group(lines: &[RuleLine], groups: &Numbers, target: &Path) -> bool
     }
 }
 
+/// Whether a target is two suffixes put together, and of no group. Takes time linear in it.
+fn is_suffix_target(
+    alloc: Global,
+    suffixes: &Suffixes,
+    lines: &[RuleLine],
+    groups: &Numbers,
+    target: &Path,
+) -> Result<bool, NoMemory>
+    requires { KnowsGroups groups.now lines.now }
+    ensures { IfOk result
+        (λ found. found ≡ is_suffix_target suffixes.now (groups_of lines.now) target.now) }
+{
+    if !suffixes.has_pair(alloc, target.as_bytes())? {
+        return Ok(false);
+    }
+    Ok(!is_in_group(lines, groups, target))
+}
+
 /// Whether a target of a rule is two suffixes put together, and of no group.
 fn has_suffix_target(
-    suffixes: &[Path],
+    alloc: Global,
+    suffixes: &Suffixes,
     lines: &[RuleLine],
     groups: &Numbers,
     targets: &[Path],
-) -> bool
+) -> Result<bool, NoMemory>
     requires { KnowsGroups groups.now lines.now }
-    ensures { result ≡ list_any (is_suffix_target suffixes.now (groups_of lines.now)) targets.now }
+    ensures { IfOk result
+        (λ found.
+        found ≡ list_any (is_suffix_target suffixes.now (groups_of lines.now)) targets.now) }
 {
     for target in targets {
-        if is_pair_of(suffixes, target.as_bytes()) && !is_in_group(lines, groups, target) {
-            return true;
+        if is_suffix_target(alloc, suffixes, lines, groups, target)? {
+            return Ok(true);
         }
     }
-    false
+    Ok(false)
 }
 
-/// Whether a rule is a suffix rule. Takes time linear in the suffixes, for each of its targets.
+/// Whether a rule is a suffix rule. Takes time linear in its targets.
 pub(crate) fn is_suffix_rule(
-    suffixes: &[Path],
+    alloc: Global,
+    suffixes: &Suffixes,
     lines: &[RuleLine],
     groups: &Numbers,
     rule: &MakeRule,
-) -> bool
+) -> Result<bool, NoMemory>
     requires { KnowsGroups groups.now lines.now }
-    ensures { result ≡ is_suffix_rule suffixes.now (groups_of lines.now) rule.now }
+    ensures { IfOk result
+        (λ found. found ≡ is_suffix_rule suffixes.now (groups_of lines.now) rule.now) }
 {
-    rule.has_only_script() && has_suffix_target(suffixes, lines, groups, rule.targets())
+    Ok(rule.has_only_script() && has_suffix_target(alloc, suffixes, lines, groups, rule.targets())?)
 }
 
 /// Whether two suffixes put together are this target.
-fn are_target(target: &Path, from: &Path, to: &Path) -> bool
+fn are_target(target: &Path, from: &Text, to: &Text) -> bool
     ensures { result ≡ bytes_eq (from.now ++ to.now) target.now }
 {
     is_pair(target.as_bytes(), from.as_bytes(), to.as_bytes())
 }
 
 /// Whether a rule makes two suffixes put together.
-fn makes_pair(rule: &MakeRule, from: &Path, to: &Path) -> bool
+fn makes_pair(rule: &MakeRule, from: &Text, to: &Text) -> bool
     ensures { result ≡ is_among rule.now.targets (from.now ++ to.now) }
 {
     for target in rule.targets() {
@@ -137,8 +127,8 @@ fn makes_pair(rule: &MakeRule, from: &Path, to: &Path) -> bool
 /// The suffix rule that makes one suffix from another, by the rule that it is.
 fn suffix_rule(
     alloc: Global,
-    from: &Path,
-    to: &Path,
+    from: &Text,
+    to: &Text,
     rule: &MakeRule,
 ) -> Result<SuffixRule, NoMemory>
     ensures { IfOk result
@@ -150,17 +140,15 @@ fn suffix_rule(
         Some(script) => script,
         None => Rc::new(alloc, Vec::new(alloc))?,
     };
-    let from = Text::from_bytes(alloc, from.as_bytes())?;
-    let to = Text::from_bytes(alloc, to.as_bytes())?;
-    Ok(SuffixRule::of(from, to, script))
+    Ok(SuffixRule::of(from.copy(alloc)?, to.copy(alloc)?, script))
 }
 
 /// Puts the suffix rules that make one suffix from another behind others.
 fn put_pair_rules(
     alloc: Global,
     made: &mut Vec<SuffixRule>,
-    from: &Path,
-    to: &Path,
+    from: &Text,
+    to: &Text,
     rules: &[&MakeRule],
 ) -> Result<(), NoMemory>
     ensures { OnOk result
@@ -177,7 +165,7 @@ fn put_pair_rules(
 }
 
 /// Whether a target begins with a suffix.
-fn begins_with(target: &Path, from: &Path) -> bool
+fn begins_with(target: &Path, from: &Text) -> bool
     ensures { result ≡ begins_with target.now from.now }
 {
     match cut_prefix(target.as_bytes(), from.as_bytes()) {
@@ -187,7 +175,7 @@ fn begins_with(target: &Path, from: &Path) -> bool
 }
 
 /// Whether a target of a rule begins with a suffix.
-fn begins_from(from: &Path, rule: &MakeRule) -> bool
+fn begins_from(from: &Text, rule: &MakeRule) -> bool
     ensures { result ≡ begins_from from.now rule.now }
 {
     for target in rule.targets() {
@@ -201,7 +189,7 @@ fn begins_from(from: &Path, rule: &MakeRule) -> bool
 /// The rules of which a target begins with a suffix.
 fn rules_from<'a>(
     alloc: Global,
-    from: &Path,
+    from: &Text,
     rules: &'a [MakeRule],
 ) -> Result<Vec<&'a MakeRule>, NoMemory>
     ensures { IfOk result
@@ -220,8 +208,8 @@ fn rules_from<'a>(
 fn put_pairs(
     alloc: Global,
     made: &mut Vec<SuffixRule>,
-    suffixes: &[Path],
-    from: &Path,
+    suffixes: &[Text],
+    from: &Text,
     rules: &[&MakeRule],
 ) -> Result<(), NoMemory>
     ensures { OnOk result
@@ -240,8 +228,8 @@ fn put_pairs(
 fn put_from(
     alloc: Global,
     made: &mut Vec<SuffixRule>,
-    suffixes: &[Path],
-    from: &Path,
+    suffixes: &[Text],
+    from: &Text,
     rules: &[MakeRule],
 ) -> Result<(), NoMemory>
     ensures { OnOk result
@@ -259,7 +247,7 @@ fn put_from(
 /// each suffix, and in the suffixes for each suffix and each of the rules that begin with it.
 pub(crate) fn suffix_rules(
     alloc: Global,
-    suffixes: &[Path],
+    suffixes: &[Text],
     rules: &[MakeRule],
 ) -> Result<Vec<SuffixRule>, NoMemory>
     ensures { IfOk result (λ made. made.items ≡ suffix_rules_of suffixes.now rules.now) }

@@ -13,7 +13,7 @@ of_parts-requires c =
     let rules = joined_rules c.as_slice.result.now in
     c.in_ok-ruled.ensures.prerequisites
     ∙ ap each_once
-    (sym (preserved_prerequisites c.into_parts-macros.result.suffixes.keys (groups_of c.as_slice.result.now) rules)
+    (sym (preserved_prerequisites c.into_parts-macros.result.suffixes (groups_of c.as_slice.result.now) rules)
     ∙ ap (flat_map prerequisites_of) (sym c.in_ok-ruled.ensures.rules))
 
 pub returns : goal.returns
@@ -38,7 +38,7 @@ returns c =
     let made : c.in_ok-suffix_rules.suffix_rules.items ≡ suffix_rules_of reading.suffixes
     (filter (is_suffix_rule reading.suffixes (groups_of lines)) (joined_rules lines)) =
     c.in_ok-suffix_rules.ensures
-    ∙ (ap (λ (s : List (List ℕ)). suffix_rules_of s c.as_slice-3.result.now) (c.as_slice-2.ensures.keys ∙ given.suffixes)
+    ∙ (ap (λ (s : List (List ℕ)). suffix_rules_of s c.as_slice-3.result.now) (c.as_slice-2.ensures ∙ given.suffixes)
     ∙ ap (suffix_rules_of reading.suffixes) (c.as_slice-3.ensures.value ∙ parts)) in
     let phony = c.into_parts-macros.result.phony.keys in
     let macros : List Macro = macros_of c.into_parts-macros.result.macros in

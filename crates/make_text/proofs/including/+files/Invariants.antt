@@ -1,6 +1,5 @@
 use Rattle.std.proofs.Common.{◌≡◌, ◌+◌, ◌*◌, Ok, drop, length}
 use Rattle.make_grammar.specs.LogicalLines.{logical_lines}
-use Rattle.make_text.specs.Readers.{KeepsScripted}
 use Rattle.make_grammar.specs.Statements.{reading_of_include, include_line, include_paths, read_lines}
 use Rattle.make_text.proofs.including.+files.Given as goal
 
@@ -21,24 +20,16 @@ decreases-read_lines g l = 5 * l.left + 4
 
 abbrev pub invariant-include_line-loop-path : goal.invariant-include_line-loop-path
 invariant-include_line-loop-path g l =
-    record {
-      reads :
-          include_paths (reading_of_include (g.X.Texts.texts l.texts) l.left l.file.value l.line) (drop l.path-index l.path-items)
-          (Ok l.reader.reading)
-          ≡ include_line (reading_of_include (g.X.Texts.texts l.texts) l.left l.file.value l.line) l.file.value l.line l.behind
-          l.fn.reader.reading;
-      kept : KeepsScripted l.reader.scripted.keys l.reader.reading.rules;
-    }
+    include_paths (reading_of_include (g.X.Texts.texts l.texts) l.left l.file.value l.line) (drop l.path-index l.path-items)
+    (Ok l.reader)
+    ≡ include_line (reading_of_include (g.X.Texts.texts l.texts) l.left l.file.value l.line) l.file.value l.line l.behind
+    l.fn.reader
 
 abbrev pub invariant-read_lines-lines : goal.invariant-read_lines-lines
 invariant-read_lines-lines g l =
-    record {
-      reads :
-          read_lines (reading_of_include (g.X.Texts.texts l.texts) l.left l.file.value) l.file.value l.lines l.reader.reading
-          ≡ read_lines (reading_of_include (g.X.Texts.texts l.texts) l.left l.file.value) l.file.value (logical_lines l.text)
-          l.fn.reader.reading;
-      kept : KeepsScripted l.reader.scripted.keys l.reader.reading.rules;
-    }
+    read_lines (reading_of_include (g.X.Texts.texts l.texts) l.left l.file.value) l.file.value l.lines l.reader
+    ≡ read_lines (reading_of_include (g.X.Texts.texts l.texts) l.left l.file.value) l.file.value (logical_lines l.text)
+    l.fn.reader
 
 abbrev pub decreases-read_lines-lines : goal.decreases-read_lines-lines
 decreases-read_lines-lines g l = length l.lines

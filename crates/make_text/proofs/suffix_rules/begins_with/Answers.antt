@@ -6,11 +6,11 @@ use Rattle.make_text.proofs.suffix_rules.begins_with.Goals as goal
 pub returns-in-Some : goal.returns-in-Some
 returns-in-Some c =
     let same = ap (λ (t : List ℕ). behind_prefix t c.as_bytes-2.result.now) c.as_bytes.ensures.bytes
-    ∙ ap (behind_prefix c.args.target.now) c.as_bytes-2.ensures.bytes in
+    ∙ ap (behind_prefix c.args.target.now) c.as_bytes-2.ensures in
     fronted_so c.args.target.now c.args.from.now _ (c.in-Some.ensures ∙ same)
 
 pub returns-in-None : goal.returns-in-None
 returns-in-None c =
     let same = ap (λ (t : List ℕ). behind_prefix t c.as_bytes-2.result.now) c.as_bytes.ensures.bytes
-    ∙ ap (behind_prefix c.args.target.now) c.as_bytes-2.ensures.bytes in
+    ∙ ap (behind_prefix c.args.target.now) c.as_bytes-2.ensures in
     sym (not_fronted c.args.target.now c.args.from.now (c.in-None.ensures ∙ same))
