@@ -1,5 +1,5 @@
 -- What stands at an index of a list, and what is left behind it.
-use Rattle.std.proofs.Common.{◌≡◌, ℕ, zero, suc, ◌+◌, ◌<◌, Some, None, List, [], ◌∷◌, length, drop, refl, ap, ◌∙◌, arith}
+use Rattle.std.proofs.Common.{◌≡◌, ℕ, zero, suc, ◌+◌, ◌<◌, Some, List, [], ◌∷◌, length, drop, ap, ◌∙◌, arith}
 use Rattle.std.specs.List.{slice_get}
 
 -- something stands within the list
@@ -14,9 +14,3 @@ drop_at (first ∷ rest) zero x is = let same : first ≡ x = cc in ap (λ a. a 
 drop_at (first ∷ rest) (suc i) x is =
     let more : suc i + 1 ≡ suc (i + 1) = omega arith in
     drop_at rest i x is ∙ ap (λ n. x ∷ drop n (first ∷ rest)) (let less : suc (i + 1) ≡ suc i + 1 = omega arith in less)
-
-pub drop_past : {A : Type 0} (xs : List A) (i : ℕ) → slice_get xs i ≡ None → drop i xs ≡ []
-drop_past [] zero is = refl
-drop_past [] (suc i) is = refl
-drop_past (first ∷ rest) zero is = absurd (cc)
-drop_past (first ∷ rest) (suc i) is = drop_past rest i is

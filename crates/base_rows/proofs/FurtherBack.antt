@@ -6,12 +6,9 @@ use Rattle.std.proofs.lemmas.List.{reverse-reverse, reverse-append, length-rever
 use Rattle.std.proofs.Math.ListN.{get_or-append}
 use Rattle.std.proofs.Math.Seq.{get_or-append_seam}
 use Rattle.cc_names.specs.Versions.{put_if}
-use Rattle.base_rows.specs.Marked.{is_place, rows_from, AreLinked, AreAtMost, IsEnd, LeadsOn, Sink, rows_below}
+use Rattle.base_rows.specs.Marked.{rows_from, AreLinked, AreAtMost, IsEnd, LeadsOn, Sink, rows_below}
 use Rattle.base_rows.specs.declared.marks.Link.{Link}
-
-not_last : (next : Option ℕ) (n : ℕ) → IfSome next (λ place. place < n) → is_place next n ≡ false
-not_last None n within = refl
-not_last (Some p) n within = grind (arith, nat_tests)
+use Rattle.base_rows.proofs.Chains.{not_last}
 
 -- a newer link leads nowhere that older ones do not
 pub rows_stay : (link : Link) (older : List Link) (next : Option ℕ) → IfSome next (λ place. place < length older)

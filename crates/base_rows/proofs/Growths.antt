@@ -42,7 +42,7 @@ pub tree_by_change : (row : Plain) (older : Base) → tree (row ∷ older)
     ≡ with_change (tree_change older row.moment row.deed) (tree older)
 tree_by_change row older = deed_by_change older row.moment row.deed
 
-above_next : (n : ℕ) (rows : List ℕ) → IsAbove n rows → IsAbove (suc n) rows
+pub above_next : (n : ℕ) (rows : List ℕ) → IsAbove n rows → IsAbove (suc n) rows
 above_next n [] above = tt
 above_next n (row ∷ rows) above = (omega (arith, above.0), above_next n rows above.1)
 

@@ -1,57 +1,36 @@
 -- What a view holds at a path, given by the last rows that affect it.
 use Rattle.std.proofs.Common.{◌≡◌, ℕ, Bool, true, false, ◌&&◌, ◌||◌, cond, Option, Some, List, [], ◌∷◌, refl, ap, ap₂, sym, ◌∙◌}
 use Rattle.std.proofs.Common.{bytes_eq, not, None}
-use Rattle.std.specs.declared.cmp.Ordering.{Ordering}
-use Rattle.std.specs.declared.cmp.Ordering.TheVariants.{Less, Equal, Greater}
-use Rattle.std.specs.Ordering.{nat_cmp, is_eq, ordering_then, eq_by_cmp}
+use Rattle.std.specs.declared.cmp.Ordering.TheVariants.{Equal}
+use Rattle.std.specs.Ordering.{nat_cmp, is_eq, eq_by_cmp}
 use Rattle.std.specs.Cmp.Lexicographic.{slice_cmp}
 use Rattle.std.specs.FinMap.Entries.{put, find-put, find-where_key}
 use Rattle.std.proofs.lemmas.Slice.Eq.{bytes_eq-Decides}
-use Rattle.std.specs.Cmp.{IsTotalOrder}
-use Rattle.std.proofs.lemmas.Cmp.{then_total, on_total, nat_list_cmp_total, nat_list_eq_equiv}
+use Rattle.std.proofs.lemmas.Cmp.{nat_list_eq_equiv}
 use Rattle.std.proofs.lemmas.Map.Text.{is_eq-slice_cmp}
+use Rattle.std.proofs.lemmas.Bool.{and_parts}
 use Rattle.cc_names.specs.Last.{Keeps, Ends, Sets, only_if, value_after}
 use Rattle.cc_names.specs.References.{ViewPath, ReferencesByPath, is_view_path, view_path_cmp, won, without_reference, view_gone}
 use Rattle.cc_names.specs.References.{held_at, references}
 use Rattle.cc_names.specs.declared.rows.Deed.{Deed}
 use Rattle.cc_names.specs.declared.rows.Deed.TheVariants as deeds
+use Rattle.cc_names.proofs.Common.{is_eq_then}
 use Rattle.base_model.specs.Rows.{Base, size}
 use Rattle.base_model.specs.Changes.{objects_held, holdings, holdings_after, targets_of}
+use Rattle.base_model.proofs.HeldObjects.{view_paths_total}
+use Rattle.base_model.proofs.HeldPaths.{one_more, no_target, tied_views}
 use Rattle.base_rows.specs.Effects.{gone_effect, object_effect}
 use Rattle.base_rows.specs.Lifetimes.{ended_or}
 use Rattle.base_rows.specs.Made.{is_target}
 use Rattle.base_rows.specs.LookUps.{Deeds, last_of}
-use Rattle.base_rows.proofs.Prefixes.{both}
-
-pub view_paths_total : IsTotalOrder view_path_cmp
-view_paths_total = then_total (on_total (λ (view_path : ViewPath). view_path.0) nat_list_cmp_total)
-    (on_total (λ (view_path : ViewPath). view_path.1) nat_list_cmp_total)
-
--- both of two orders tie
-ties : (one two : Ordering) → is_eq (ordering_then one two) ≡ (is_eq one && is_eq two)
-ties Less two = refl
-ties Equal two = refl
-ties Greater two = refl
 
 -- two view paths are one where their views and their paths are
 pub same_view_path : (v path w target : List ℕ) → eq_by_cmp view_path_cmp (v, path) (w, target)
     ≡ (bytes_eq w v && bytes_eq target path)
 same_view_path v path w target =
-    ties (slice_cmp nat_cmp v w) (slice_cmp nat_cmp path target)
+    is_eq_then (slice_cmp nat_cmp v w) (slice_cmp nat_cmp path target)
     ∙ ap₂ ◌&&◌ (is_eq-slice_cmp v w ∙ nat_list_eq_equiv.symm v w) (is_eq-slice_cmp path target
     ∙ nat_list_eq_equiv.symm path target)
-
--- one target more
-one_more : (view here later : Bool) (id before : Option ℕ) → cond (view && later) id (cond (view && here) id before)
-    ≡ cond (view && (here || later)) id before
-one_more false here later id before = refl
-one_more true true true id before = refl
-one_more true true false id before = refl
-one_more true false later id before = refl
-
-no_target : (view : Bool) (id before : Option ℕ) → before ≡ cond (view && false) id before
-no_target true id before = refl
-no_target false id before = refl
 
 -- what a view holds at a path after one has won targets
 pub held_after_won : (v path w : List ℕ) (id : ℕ) (targets : List (List ℕ)) (objects_held : ReferencesByPath)
@@ -71,14 +50,11 @@ tied_parts : (v path : List ℕ) (view_path : ViewPath) → view_path_cmp (v, pa
     × (path ≡ view_path.1)
 tied_parts v path view_path same =
     let parts : (is_eq (slice_cmp nat_cmp v view_path.0) && is_eq (slice_cmp nat_cmp path view_path.1)) ≡ true =
-    sym (ties (slice_cmp nat_cmp v view_path.0) (slice_cmp nat_cmp path view_path.1)) ∙ ap is_eq same in
-    let each = both (is_eq (slice_cmp nat_cmp v view_path.0)) (is_eq (slice_cmp nat_cmp path view_path.1)) parts in (
+    sym (is_eq_then (slice_cmp nat_cmp v view_path.0) (slice_cmp nat_cmp path view_path.1)) ∙ ap is_eq same in
+    let each = and_parts (is_eq (slice_cmp nat_cmp v view_path.0)) (is_eq (slice_cmp nat_cmp path view_path.1)) parts in (
       (bytes_eq-Decides v view_path.0).0 (sym (is_eq-slice_cmp v view_path.0) ∙ each.0),
       (bytes_eq-Decides path view_path.1).0 (sym (is_eq-slice_cmp path view_path.1) ∙ each.1),
     )
-
-tied : (v path : List ℕ) (view_path : ViewPath) → view_path_cmp (v, path) view_path ≡ Equal → v ≡ view_path.0
-tied v path view_path same = (tied_parts v path view_path same).0
 
 tied_view_path : (v path : List ℕ) (view_path : ViewPath) → view_path_cmp (v, path) view_path ≡ Equal → (v, path) ≡ view_path
 tied_view_path v path view_path same = ap₂ (λ one two. (one, two)) (tied_parts v path view_path same).0
@@ -95,7 +71,7 @@ held_after_gone v path w objects_held =
     find-where_key view_path_cmp (λ view_path. not (bytes_eq view_path.0 w)) (
       v,
       path,
-    ) (λ view_path same. sym (ap (λ name. not (bytes_eq name w)) (tied v path view_path same))) objects_held
+    ) (λ view_path same. sym (ap (λ name. not (bytes_eq name w)) (tied_views v path view_path same))) objects_held
     ∙ turned (bytes_eq v w) (held_at objects_held v path)
     ∙ ap (λ is. cond is None (held_at objects_held v path)) (nat_list_eq_equiv.symm v w)
 

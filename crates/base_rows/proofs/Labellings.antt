@@ -21,6 +21,7 @@ use Rattle.label_book.proofs.Pairs.{same_holder}
 use Rattle.base_model.specs.Rows.{Base, size}
 use Rattle.base_model.specs.Changes.{labels, labels_after, all_placed}
 use Rattle.base_rows.specs.Labelling.{AreLabels}
+use Rattle.base_rows.proofs.Growths.{above_next}
 
 -- the same changes, twice
 pub same_twice : (one two three : List LabelChange) → AreLabels one two → AreLabels two three → AreLabels one three
@@ -47,10 +48,6 @@ after_same n (deeds.Label label e version) xs ys same = one_more (Put n label e 
 after_same n (deeds.Unlabel label e) xs ys same = one_more (Taken n label e) xs ys same
 after_same n (deeds.Labels label placed) xs ys same = places_same n label placed xs ys same
 after_same n deed xs ys same = same
-
-above_next : (n : ℕ) (rows : List ℕ) → IsAbove n rows → IsAbove (suc n) rows
-above_next n [] above = tt
-above_next n (row ∷ rows) above = (omega (arith, above.0), above_next n rows above.1)
 
 places_under : (n : ℕ) (label : List ℕ) (placed : List Placed) (changes : List LabelChange)
     → IsAbove (suc n) (map row_of_label_change changes) → IsAbove (suc n)

@@ -1,3 +1,4 @@
+pub mod AmongAscending
 pub mod AtIndex
 pub mod Chains
 pub mod ChangingRows

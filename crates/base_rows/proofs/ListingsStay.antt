@@ -16,6 +16,7 @@ use Rattle.cc_names.specs.Versions.{version_id_of, row_of_change, versions_on}
 use Rattle.cc_names.specs.declared.changes.VersionId.{VersionId}
 use Rattle.cc_names.specs.declared.changes.TreeChange.{TreeChange}
 use Rattle.cc_names.specs.declared.rows.ReadOf.{ReadOf}
+use Rattle.cc_names.proofs.Common.{and_first, and_second}
 use Rattle.base_model.specs.Changes.{tree}
 use Rattle.base_model.specs.Closures.{Input, Inputs, closure, entries_of_deed, is_publish, joined_inputs, listing, listing_of}
 use Rattle.base_model.specs.Closures.{input_cmp, inputs_of, inputs_of_entry, version_listed, with_version_at}
@@ -23,7 +24,7 @@ use Rattle.base_model.specs.Conditions.{is_entry}
 use Rattle.base_model.specs.Fits.{deed_fits, is_base}
 use Rattle.base_model.specs.Rows.{Base, first_rows, size}
 use Rattle.base_model.proofs.Below.{Within, older_change, within}
-use Rattle.base_model.proofs.Owned.{and_first, and_second, row_fits, rows_below}
+use Rattle.base_model.proofs.Owned.{row_fits, rows_below}
 use Rattle.base_model.proofs.TreesStay.{Adds, Nothing, One, adds_row}
 use Rattle.base_model.proofs.VersionsStay.{apart_below, find_older}
 use Rattle.base_model.proofs.EntriesBelow.{entries_fit, entry_below}

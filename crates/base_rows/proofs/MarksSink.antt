@@ -1,6 +1,6 @@
 -- The rows that are marked for a key stand newest first, and the first ones below a bound tell all that any of them does.
 use Rattle.std.proofs.Common.{◌≡◌, ℕ, suc, ◌≤◌, ◌==◌, Bool, true, false, List, [], ◌∷◌, nat_lt, Option, None, refl, sym, ap, ◌∙◌}
-use Rattle.std.proofs.Common.{arith}
+use Rattle.std.proofs.Common.{arith, le_refl}
 use Rattle.std.specs.Option.{option_or}
 use Rattle.std.specs.declared.random_state.RandomState.{RandomState}
 use Rattle.std.proofs.lemmas.Bool.Decides.{nat_tests}
@@ -10,9 +10,6 @@ use Rattle.base_rows.specs.LookUps.{Deeds, Update, update_by_deed, update_at, fi
 use Rattle.base_rows.specs.Marked.{AreAtMost, Sink, marked_rows, rows_below, with_marks}
 use Rattle.base_rows.specs.Subjects.{keys_of}
 use Rattle.base_rows.proofs.Newest.{no_later}
-
-at_most_itself : (n : ℕ) → n ≤ n
-at_most_itself n = omega arith
 
 later_too : (n : ℕ) (rows : List ℕ) → AreAtMost n rows → AreAtMost (suc n) rows
 later_too n [] most = tt
@@ -24,7 +21,7 @@ with_sinks n key [] rows most sinks = (most, sinks)
 with_sinks n key (k ∷ keys) rows most sinks =
     elim (k == key) as (λ is. AreAtMost n (with_marks n key keys (put_if is n rows))
     × Sink (with_marks n key keys (put_if is n rows))) [
-      | true ↦ with_sinks n key keys (n ∷ rows) (at_most_itself n, most) (most, sinks)
+      | true ↦ with_sinks n key keys (n ∷ rows) (le_refl n, most) (most, sinks)
       | false ↦ with_sinks n key keys rows most sinks
     ]
 
@@ -34,7 +31,8 @@ marked_both hashing key [] = (tt, tt)
 marked_both hashing key (row ∷ older) =
     let before = marked_both hashing key older in
     let both = with_sinks (size older) key (keys_of hashing older row.deed) (marked_rows hashing key older) before.0 before.1 in (
-      later_too (size older) (with_marks (size older) key (keys_of hashing older row.deed) (marked_rows hashing key older)) both.0,
+      later_too (size older) (with_marks (size older) key (keys_of hashing older row.deed) (marked_rows hashing key older))
+          both.0,
       both.1,
     )
 

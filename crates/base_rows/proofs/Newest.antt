@@ -1,10 +1,9 @@
 -- The first marked row that does something to a thing is the newest row of the base that does.
 use Rattle.std.proofs.Common.{◌≡◌, ℕ, suc, ◌<◌, ◌≤◌, ◌==◌, Bool, true, false, ◌&&◌, ◌||◌, List, [], ◌∷◌, ◌++◌, length, Option}
-use Rattle.std.proofs.Common.{Some, None, IfSome, map, nat_lt, refl, ap, ap₂, sym, ◌∙◌, arith, bytes_eq}
+use Rattle.std.proofs.Common.{Some, None, IfSome, map, nat_lt, refl, ap, ap₂, sym, ◌∙◌, arith, bytes_eq, le_refl}
 use Rattle.std.specs.List.{list_any}
 use Rattle.std.specs.Option.{option_or}
 use Rattle.std.proofs.lemmas.Bool.Decides.{nat_tests, Decides-eqb}
-use Rattle.std.proofs.lemmas.Slice.Eq.{bytes_eq-Decides}
 use Rattle.cc_names.specs.Last.{Effect, Keeps, Ends, Sets, value_after}
 use Rattle.cc_names.specs.Formed.{Plain}
 use Rattle.cc_names.specs.Versions.{put_if}
@@ -19,6 +18,9 @@ use Rattle.base_rows.specs.Subjects.{Living, Winked, Merge, Merged, History, Cha
 use Rattle.base_rows.specs.Subjects.{Given, is_same_subject, key, affects, catalog_subjects, keys_of, plain_subjects, Pool}
 use Rattle.base_rows.specs.Marked.{with_marks, marked_rows}
 use Rattle.std.specs.declared.random_state.RandomState.{RandomState}
+use Rattle.std.proofs.lemmas.Bool.{and_parts, or_left, or_right}
+use Rattle.base_rows.proofs.KeysAdded.{keys_parted}
+use Rattle.cc_names.proofs.Common.{or_either, same_bytes, same_number}
 
 -- the same twice is the same once
 or_twice : {A : Type 0} (x y : Option A) → option_or x (option_or x y) ≡ option_or x y
@@ -55,120 +57,97 @@ module _ {A : Type 0} (at : ℕ → Option (Update A)) (n key : ℕ) where
         | false ↦ λ h. counted keys rest h
       ] has
 
-both : (a b : Bool) → (a && b) ≡ true → (a ≡ true) × (b ≡ true)
-both true b h = (refl, h)
-both false b h = absurd (cc)
-
-or_first : (b c : Bool) → b ≡ true → (b || c) ≡ true
-or_first true c h = refl
-or_first false c h = absurd (cc)
-
-or_last : (b c : Bool) → c ≡ true → (b || c) ≡ true
-or_last true c h = refl
-or_last false c h = h
-
-or_cases : (b c : Bool) (P : Type 0) → (b || c) ≡ true → (b ≡ true → P) → (c ≡ true → P) → P
-or_cases true c P h one two = one refl
-or_cases false c P h one two = two h
-
-same_text : (a b : List ℕ) → bytes_eq a b ≡ true → a ≡ b
-same_text a b is = (bytes_eq-Decides a b).0 is
-
-same_number : (a b : ℕ) → (a == b) ≡ true → a ≡ b
-same_number a b is = (Decides-eqb a b).0 is
-
 same_paths : (one two : List (List ℕ)) → are_same_paths one two ≡ true → one ≡ two
 same_paths [] [] is = refl
 same_paths (p ∷ ps) (q ∷ qs) is =
-    let parts = both (bytes_eq p q) (are_same_paths ps qs) is in
-    ap₂ (λ path paths. path ∷ paths) (same_text p q parts.0) (same_paths ps qs parts.1)
+    let parts = and_parts (bytes_eq p q) (are_same_paths ps qs) is in
+    ap₂ (λ path paths. path ∷ paths) (same_bytes p q parts.0) (same_paths ps qs parts.1)
 same_paths one two is = absurd (cc)
 
 -- subjects that are one have one key
 same_key : (hashing : RandomState) (one two : Subject) → is_same_subject one two ≡ true → key hashing two ≡ key hashing one
-same_key hashing (Life v) (Life w) is = ap (λ name. key hashing (Life name)) (same_text w v is)
-same_key hashing (Spec v) (Spec w) is = ap (λ name. key hashing (Spec name)) (same_text w v is)
-same_key hashing (AllCheckedOut v) (AllCheckedOut w) is = ap (λ name. key hashing (AllCheckedOut name)) (same_text w v is)
+same_key hashing (Life v) (Life w) is = ap (λ name. key hashing (Life name)) (same_bytes w v is)
+same_key hashing (Spec v) (Spec w) is = ap (λ name. key hashing (Spec name)) (same_bytes w v is)
+same_key hashing (AllCheckedOut v) (AllCheckedOut w) is = ap (λ name. key hashing (AllCheckedOut name)) (same_bytes w v is)
 same_key hashing (File v path) (File w q) is =
-    let parts = both (bytes_eq w v) (bytes_eq q path) is in
-    ap₂ (λ name place. key hashing (File name place)) (same_text w v parts.0) (same_text q path parts.1)
+    let parts = and_parts (bytes_eq w v) (bytes_eq q path) is in
+    ap₂ (λ name place. key hashing (File name place)) (same_bytes w v parts.0) (same_bytes q path parts.1)
 same_key hashing (Object v path) (Object w q) is =
-    let parts = both (bytes_eq w v) (bytes_eq q path) is in
-    ap₂ (λ name place. key hashing (Object name place)) (same_text w v parts.0) (same_text q path parts.1)
+    let parts = and_parts (bytes_eq w v) (bytes_eq q path) is in
+    ap₂ (λ name place. key hashing (Object name place)) (same_bytes w v parts.0) (same_bytes q path parts.1)
 same_key hashing (Out v e) (Out w f) is =
-    let parts = both (bytes_eq w v) (f == e) is in
-    ap₂ (λ name element. key hashing (Out name element)) (same_text w v parts.0) (same_number f e parts.1)
+    let parts = and_parts (bytes_eq w v) (f == e) is in
+    ap₂ (λ name element. key hashing (Out name element)) (same_bytes w v parts.0) (same_number f e parts.1)
 same_key hashing (Saved v e) (Saved w f) is =
-    let parts = both (bytes_eq w v) (f == e) is in
-    ap₂ (λ name element. key hashing (Saved name element)) (same_text w v parts.0) (same_number f e parts.1)
-same_key hashing (NameIn d name) (NameIn f other) is =
-    let parts = both (f == d) (bytes_eq other name) is in
-    ap₂ (λ directory text. key hashing (NameIn directory text)) (same_number f d parts.0) (same_text other name parts.1)
+    let parts = and_parts (bytes_eq w v) (f == e) is in
+    ap₂ (λ name element. key hashing (Saved name element)) (same_bytes w v parts.0) (same_number f e parts.1)
+same_key hashing (NameIn v d name) (NameIn w f other) is =
+    let parts = and_parts (bytes_eq w v && (f == d)) (bytes_eq other name) is in
+    let own = and_parts (bytes_eq w v) (f == d) parts.0 in
+    ap (λ text. key hashing (NameIn w f text)) (same_bytes other name parts.1)
+    ∙ ap₂ (λ view directory. key hashing (NameIn view directory name)) (same_bytes w v own.0) (same_number f d own.1)
 same_key hashing (Reserved branch) (Reserved other) is = ap (λ it. key hashing (Reserved it)) (sym (same_number branch other is))
-same_key hashing (Named v) (Named w) is = ap (λ name. key hashing (Named name)) (same_text w v is)
+same_key hashing (Named v) (Named w) is = ap (λ name. key hashing (Named name)) (same_bytes w v is)
 same_key hashing (Living id) (Living other) is = ap (λ object. key hashing (Living object)) (same_number other id is)
 same_key hashing (Winked id) (Winked other) is = ap (λ object. key hashing (Winked object)) (same_number other id is)
 same_key hashing (Pool targets) (Pool others) is = ap (λ paths. key hashing (Pool paths)) (same_paths others targets is)
 same_key hashing (Merge e tail head) (Merge f one two) is =
-    let parts = both ((f == e) && (one == tail)) (two == head) is in
-    let ends = both (f == e) (one == tail) parts.0 in
+    let parts = and_parts ((f == e) && (one == tail)) (two == head) is in
+    let ends = and_parts (f == e) (one == tail) parts.0 in
     ap (λ into. key hashing (Merge f one into)) (same_number two head parts.1)
     ∙ ap₂ (λ element from. key hashing (Merge element from head)) (same_number f e ends.0) (same_number one tail ends.1)
 same_key hashing (Merged head) (Merged other) is = ap (λ into. key hashing (Merged into)) (same_number other head is)
 same_key hashing (History e) (History f) is = ap (λ element. key hashing (History element)) (same_number f e is)
 same_key hashing (Leaving version) (Leaving other) is = ap (λ origin. key hashing (Leaving origin)) (same_number other version is)
 same_key hashing (BranchNamed e name) (BranchNamed f own) is =
-    let parts = both (e == f) (bytes_eq name own) is in
+    let parts = and_parts (e == f) (bytes_eq name own) is in
     ap₂ (λ element text. key hashing (BranchNamed element text)) (sym (same_number e f parts.0))
-    (sym (same_text name own parts.1))
-same_key hashing (Owned v) (Owned w) is = ap (λ name. key hashing (Owned name)) (same_text w v is)
+    (sym (same_bytes name own parts.1))
+same_key hashing (Owned v) (Owned w) is = ap (λ name. key hashing (Owned name)) (same_bytes w v is)
 same_key hashing (Given d) (Given f) is = ap (λ directory. key hashing (Given directory)) (same_number f d is)
 same_key hashing (Changing began) (Changing other) is = ap (λ it. key hashing (Changing it)) (sym (same_number began other is))
 same_key hashing (Altered branch name) (Altered other one) is =
-    let parts = both (other == branch) (bytes_eq one name) is in
-    ap₂ (λ on text. key hashing (Altered on text)) (same_number other branch parts.0) (same_text one name parts.1)
+    let parts = and_parts (other == branch) (bytes_eq one name) is in
+    ap₂ (λ on text. key hashing (Altered on text)) (same_number other branch parts.0) (same_bytes one name parts.1)
 same_key hashing one two is = absurd (cc)
 
 -- a deed is marked for the key of each subject on which it bears
 has_key : (hashing : RandomState) (subject : Subject) (all : List Subject) → list_any (is_same_subject subject) all ≡ true
     → list_any (λ k. k == key hashing subject) (map (key hashing) all) ≡ true
 has_key hashing subject [] is = absurd (cc)
-has_key hashing subject (first ∷ rest) is = or_cases (is_same_subject subject first) (list_any (is_same_subject subject) rest) _
+has_key hashing subject (first ∷ rest) is = or_either (is_same_subject subject first) (list_any (is_same_subject subject) rest) _
     is
-    (λ here. or_first (key hashing first == key hashing subject) (list_any (λ k. k == key hashing subject)
+    (λ here. or_left (key hashing first == key hashing subject) (list_any (λ k. k == key hashing subject)
     (map (key hashing) rest)) ((Decides-eqb (key hashing first) (key hashing subject)).1
     (same_key hashing subject first here)))
-    (λ later. or_last (key hashing first == key hashing subject) (list_any (λ k. k == key hashing subject)
+    (λ later. or_right (key hashing first == key hashing subject) (list_any (λ k. k == key hashing subject)
     (map (key hashing) rest)) (has_key hashing subject rest later))
 
 any_prefix : (test : ℕ → Bool) (xs ys : List ℕ) → list_any test xs ≡ true → list_any test (xs ++ ys) ≡ true
 any_prefix test [] ys h = absurd (cc)
-any_prefix test (x ∷ xs) ys h = or_cases (test x) (list_any test xs) _ h
-    (λ here. or_first (test x) (list_any test (xs ++ ys)) here) (λ later. or_last (test x) (list_any test (xs ++ ys))
+any_prefix test (x ∷ xs) ys h = or_either (test x) (list_any test xs) _ h
+    (λ here. or_left (test x) (list_any test (xs ++ ys)) here) (λ later. or_right (test x) (list_any test (xs ++ ys))
     (any_prefix test xs ys later))
 
 any_back : (test : ℕ → Bool) (xs ys : List ℕ) → list_any test ys ≡ true → list_any test (xs ++ ys) ≡ true
 any_back test [] ys h = h
-any_back test (x ∷ xs) ys h = or_last (test x) (list_any test (xs ++ ys)) (any_back test xs ys h)
-
-map_both : (hashing : RandomState) (xs ys : List Subject) → map (key hashing) (xs ++ ys) ≡ map (key hashing) xs
-    ++ map (key hashing) ys
-map_both hashing [] ys = refl
-map_both hashing (x ∷ xs) ys = ap (λ rest. key hashing x ∷ rest) (map_both hashing xs ys)
+any_back test (x ∷ xs) ys h = or_right (test x) (list_any test (xs ++ ys)) (any_back test xs ys h)
 
 -- the next row is marked for the key of each subject on which it bears
 module _ (hashing : RandomState) (subject : Subject) (older : Base) (deed : Deed) where
   of_catalogs : list_any (is_same_subject subject) (catalog_subjects older deed) ≡ true
       → list_any (λ k. k == key hashing subject) (keys_of hashing older deed) ≡ true
   of_catalogs is =
-      ap (list_any (λ k. k == key hashing subject)) (map_both hashing (catalog_subjects older deed) (plain_subjects older deed))
+      ap (list_any (λ k. k == key hashing subject)) (keys_parted hashing (catalog_subjects older deed)
+      (plain_subjects older deed))
       ∙ any_prefix (λ k. k == key hashing subject) (map (key hashing) (catalog_subjects older deed))
       (map (key hashing) (plain_subjects older deed)) (has_key hashing subject (catalog_subjects older deed) is)
 
   of_others : list_any (is_same_subject subject) (plain_subjects older deed) ≡ true
       → list_any (λ k. k == key hashing subject) (keys_of hashing older deed) ≡ true
   of_others is =
-      ap (list_any (λ k. k == key hashing subject)) (map_both hashing (catalog_subjects older deed) (plain_subjects older deed))
+      ap (list_any (λ k. k == key hashing subject)) (keys_parted hashing (catalog_subjects older deed)
+      (plain_subjects older deed))
       ∙ any_back (λ k. k == key hashing subject) (map (key hashing) (catalog_subjects older deed))
       (map (key hashing) (plain_subjects older deed)) (has_key hashing subject (plain_subjects older deed) is)
 
@@ -234,15 +213,12 @@ no_later (row ∷ older) n behind =
     let apart : (size older == n) ≡ false = grind (arith, nat_tests) in
     ap (λ is. elim is [ true ↦ Some row | false ↦ row_at older n ]) apart ∙ no_later older n (omega arith)
 
-le_same : (n : ℕ) → n ≤ n
-le_same n = omega arith
-
 -- the first rows are no more than all
 pub first_shorter : (t : ℕ) (b : Base) → length (first_rows t b) ≤ length b
 first_shorter t [] = omega arith
 first_shorter t (row ∷ older) = elim (nat_lt (size older) t) as (λ within. length
     (elim within as (λ _. Base) [ true ↦ row ∷ older | false ↦ first_rows t older ]) ≤ suc (length older)) [
-      | true ↦ le_same (suc (length older))
+      | true ↦ le_refl (suc (length older))
       | false ↦ omega (arith, first_shorter t older)
     ]
 

@@ -1,18 +1,14 @@
 -- The first rows of a base: which part of the list of rows they are, how many, and that they are a base too.
-use Rattle.std.proofs.Common.{◌≡◌, ℕ, suc, ◌-◌, ◌<◌, ◌≤◌, Bool, true, false, ◌&&◌, nat_lt, min, [], ◌∷◌, ◌++◌, length, reverse}
+use Rattle.std.proofs.Common.{◌≡◌, ℕ, suc, ◌-◌, ◌<◌, ◌≤◌, true, false, ◌&&◌, nat_lt, min, [], ◌∷◌, ◌++◌, length, reverse}
 use Rattle.std.proofs.Common.{take, refl, ap, sym, ◌∙◌, arith}
 use Rattle.std.proofs.lemmas.Bool.Decides.{nat_tests}
 use Rattle.std.proofs.lemmas.List.{length-reverse, reverse-append, reverse-reverse, take_all, take-append-le, length-append}
 use Rattle.std.proofs.lemmas.List.{length-take, length-take-le, take-take}
+use Rattle.std.proofs.lemmas.Bool.{and_parts}
 use Rattle.cc_names.specs.Formed.{Plain}
 use Rattle.base_model.specs.Rows.{Base, size, first_rows}
 use Rattle.base_model.specs.Fits.{deed_fits, fits, is_base, row_limit}
 use Rattle.base_rows.specs.BasePrefix.{IsBasePrefix}
-
--- both of two tests
-pub both : (a b : Bool) → (a && b) ≡ true → (a ≡ true) × (b ≡ true)
-both true b h = (refl, h)
-both false b h = absurd (cc)
 
 reverse_more : (row : Plain) (older : Base) → reverse (row ∷ older) ≡ reverse older ++ row ∷ []
 reverse_more row older = reverse-append (row ∷ []) older
@@ -63,7 +59,7 @@ fitting_first t (row ∷ older) fitting =
           first_rows t older
     ]) ≡ true) [
       | true ↦ fitting
-      | false ↦ fitting_first t older (both (fits older row.deed) (is_base older) fitting).1
+      | false ↦ fitting_first t older (and_parts (fits older row.deed) (is_base older) fitting).1
     ]
 
 -- all rows are a prefix
@@ -102,6 +98,6 @@ shorter_prefix b count cut fitting within less = record { within = omega arith; 
 pub base_short : (b : Base) → is_base b ≡ true → length b < row_limit
 base_short [] fitting = omega arith
 base_short (row ∷ older) fitting =
-    let below = both (nat_lt (size older) row_limit) (deed_fits older row.deed)
-    (both (fits older row.deed) (is_base older) fitting).0 in
+    let below = and_parts (nat_lt (size older) row_limit) (deed_fits older row.deed)
+    (and_parts (fits older row.deed) (is_base older) fitting).0 in
     grind (arith, nat_tests, below.0)

@@ -1,14 +1,14 @@
 -- A view's config spec, by the row that gave it.
 use Rattle.std.proofs.Common.{◌≡◌, ℕ, suc, ◌<◌, ◌==◌, true, false, Option, Some, None, IfSome, List, [], ◌∷◌, bytes_eq, refl, ap}
-use Rattle.std.proofs.Common.{sym, ◌∙◌, arith}
+use Rattle.std.proofs.Common.{sym, ◌∙◌, arith, lt-suc_self}
 use Rattle.std.specs.Prelude.{option_and_then}
-use Rattle.std.proofs.lemmas.Bool.Decides.{nat_tests, Decides-eqb}
 use Rattle.cc_names.specs.Last.{Keeps, Ends, Sets, only_if, value_after}
 use Rattle.cc_names.specs.declared.rows.Deed.{Deed}
 use Rattle.cc_names.specs.declared.rows.Deed.TheVariants as deeds
 use Rattle.cc_names.specs.Formed.{Plain}
-use Rattle.base_model.specs.Rows.{Base, size, row_at, deed_at, deed_of}
+use Rattle.base_model.specs.Rows.{Base, size, deed_at}
 use Rattle.base_model.specs.Views.{default_spec, spec_effect, spec_text}
+use Rattle.base_model.proofs.VersionRows.{newest_deed, deed_stays}
 use Rattle.base_rows.specs.Effects.{spec_row_effect}
 use Rattle.base_rows.specs.Lifetimes.{or_else}
 use Rattle.base_rows.specs.LookUps.{last_of}
@@ -18,39 +18,27 @@ use Rattle.base_rows.specs.Made.{spec_made}
 abbrev pub spec_at : Base → ℕ → Option (List ℕ)
 spec_at b n = option_and_then spec_made (deed_at b n)
 
-here : (row : Plain) (older : Base) → deed_at (row ∷ older) (size older) ≡ Some row.deed
-here row older = ap (λ is. deed_of (elim is [ true ↦ Some row | false ↦ row_at older (size older) ]))
-    ((Decides-eqb (size older) (size older)).1 refl)
-
-there : (row : Plain) (older : Base) (n : ℕ) → n < size older → deed_at (row ∷ older) n ≡ deed_at older n
-there row older n below =
-    let apart : (size older == n) ≡ false = grind (arith, nat_tests) in
-    ap (λ is. deed_of (elim is [ true ↦ Some row | false ↦ row_at older n ])) apart
-
 older_spec : (row : Plain) (older : Base) (n : Option ℕ) → IfSome n (λ m. m < size older)
     → option_and_then (spec_at older) n ≡ option_and_then (spec_at (row ∷ older)) n
 older_spec row older None below = refl
-older_spec row older (Some n) below = ap (option_and_then spec_made) (sym (there row older n below))
+older_spec row older (Some n) below = ap (option_and_then spec_made) (sym (deed_stays row older n below))
 
-weaker : (row : Option ℕ) (n : ℕ) → IfSome row (λ m. m < n) → IfSome row (λ m. m < suc n)
+pub weaker : (row : Option ℕ) (n : ℕ) → IfSome row (λ m. m < n) → IfSome row (λ m. m < suc n)
 weaker None n h = tt
 weaker (Some m) n h = omega arith
-
-just_below : (n : ℕ) → n < suc n
-just_below n = omega arith
 
 below_step : (v : List ℕ) (older : Base) (deed : Deed) (row : Option ℕ) → IfSome row (λ m. m < size older)
     → IfSome (value_after (spec_row_effect v older deed) row) (λ m. m < suc (size older))
 below_step v older (deeds.Mkview w) row h =
     elim (bytes_eq w v) as (λ is. IfSome (value_after (or_else (only_if is (Sets (size older))) Keeps) row)
-    (λ m. m < suc (size older))) [ true ↦ just_below (size older) | false ↦ weaker row (size older) h ]
+    (λ m. m < suc (size older))) [ true ↦ lt-suc_self (size older) | false ↦ weaker row (size older) h ]
 below_step v older (deeds.Rmview w) row h =
     elim (bytes_eq w v) as (λ is. IfSome (value_after (or_else (only_if {A = ℕ} is Ends) Keeps) row)
     (λ m. m < suc (size older))) [ true ↦ tt | false ↦ weaker row (size older) h ]
 below_step v older (deeds.Setcs w text) row h =
     elim (bytes_eq w v) as (λ is. IfSome (value_after (only_if is (Sets (size older))) row) (λ m. m < suc (size older))) [
       | true ↦
-          just_below (size older)
+          lt-suc_self (size older)
       | false ↦ weaker row (size older) h
     ]
 below_step v older deed row h = weaker row (size older) h
@@ -79,5 +67,5 @@ pub text_by_row : (b : Base) (v : List ℕ) → spec_text b v ≡ option_and_the
 text_by_row [] v = refl
 text_by_row (row ∷ older) v =
     text_step v older row.deed (spec_text older v) (last_of (spec_row_effect v) older) (spec_at (row ∷ older))
-    (ap (option_and_then spec_made) (here row older))
+    (ap (option_and_then spec_made) (newest_deed row older))
     (text_by_row older v ∙ older_spec row older (last_of (spec_row_effect v) older) (row_below v older))

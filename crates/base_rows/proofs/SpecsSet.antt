@@ -20,6 +20,7 @@ use Rattle.base_rows.specs.SetSpecs.{if_read, parsed_rules, rules_set, rules_set
 use Rattle.base_rows.specs.SetSpecs.{row_of_parsed, rules_at}
 use Rattle.base_rows.specs.declared.view_specs.Parsed.{Parsed}
 use Rattle.base_rows.proofs.SpecRows.{spec_at, text_by_row}
+use Rattle.base_rows.proofs.Growths.{above_next}
 
 -- the text of a row is short
 pub set_short : (deed : Deed) → IsDeedFormed deed → rules_set_if_short deed ≡ rules_set deed
@@ -31,10 +32,6 @@ set_short deed formed = refl
 
 abbrev pub rows_of_specs : List Parsed → List ℕ
 rows_of_specs specs = map row_of_parsed specs
-
-above_next : (n : ℕ) (rows : List ℕ) → IsAbove n rows → IsAbove (suc n) rows
-above_next n [] above = tt
-above_next n (row ∷ rows) above = (omega (arith, above.0), above_next n rows above.1)
 
 above_more : (n : ℕ) (rules : Option (List Rule)) (specs : List Parsed) → IsAbove n (rows_of_specs specs)
     → IsAbove (suc n) (rows_of_specs (with_spec n rules specs))

@@ -1,5 +1,5 @@
 -- What the record of an object lists is, as it is kept, the listing itself.
-use Rattle.std.proofs.Common.{◌≡◌, refl, ap, sym, subst, ◌∙◌, ℕ, Bool, true, false, cond, ◌&&◌, Some, None, [], ◌∷◌}
+use Rattle.std.proofs.Common.{◌≡◌, refl, ap, sym, subst, ◌∙◌, ℕ, cond, ◌&&◌, Some, None, [], ◌∷◌}
 use Rattle.std.proofs.lemmas.Cmp.{nat_cmp_total}
 use Rattle.std.specs.BTreeMap.{is_at}
 use Rattle.std.specs.FinMap.Entries.{below_all, find, is_sorted, same_entries}
@@ -9,15 +9,12 @@ use Rattle.std.specs.Map.{keys_of, lookup}
 use Rattle.std.specs.Ordering.{is_eq, is_lt, nat_cmp}
 use Rattle.std.specs.Prelude.{T}
 use Rattle.std.specs.declared.cmp.Ordering.TheVariants.{Less}
+use Rattle.cc_names.proofs.Common.{test_both}
 use Rattle.base_model.specs.Closures.{closure, listing}
 use Rattle.base_model.specs.Rows.{Base}
 use Rattle.base_model.proofs.Listings.{in_order}
 use Rattle.base_model.proofs.Tables.{tied}
 use Rattle.base_rows.specs.Listings.{HasListing, Versions}
-
-both : (a b : Bool) → T a → T b → T (a && b)
-both true b p q = q
-both false b p q = p
 
 found_same : (e : ℕ) (versions : Versions) → lookup (is_at (nat_cmp e)) versions ≡ find nat_cmp e versions
 found_same e [] = refl
@@ -26,14 +23,14 @@ found_same e (one ∷ others) = ap (cond (is_eq (nat_cmp e one.0)) (Some one.1))
 all_below : (e : ℕ) (versions : Versions) → AllByRecursion (λ y. nat_cmp e y ≡ Less) (keys_of versions)
     → T (below_all nat_cmp e versions)
 all_below e [] h = tt
-all_below e (one ∷ others) h = both (is_lt (nat_cmp e one.0)) (below_all nat_cmp e others) (subst T (sym (ap is_lt h.0)) tt)
+all_below e (one ∷ others) h = test_both (is_lt (nat_cmp e one.0)) (below_all nat_cmp e others) (subst T (sym (ap is_lt h.0)) tt)
     (all_below e others h.1)
 
 -- keys that ascend are in order
 ascend : (versions : Versions) → IsStrictlySortedBy nat_cmp (keys_of versions) → T (is_sorted nat_cmp versions)
 unfolding IsStrictlySortedBy
 ascend [] h = tt
-ascend (one ∷ others) h = both (below_all nat_cmp one.0 others) (is_sorted nat_cmp others) (all_below one.0 others h.0)
+ascend (one ∷ others) h = test_both (below_all nat_cmp one.0 others) (is_sorted nat_cmp others) (all_below one.0 others h.0)
     (ascend others h.1)
 
 same_in_order : (versions : Versions) (b : Base) (id : ℕ) → T (is_sorted nat_cmp versions)

@@ -1,6 +1,6 @@
 -- The marked rows that do something to a thing are all rows of the base that do, however often each is marked.
 use Rattle.std.proofs.Common.{◌≡◌, ℕ, ◌<◌, ◌≤◌, ◌==◌, Bool, true, false, ◌&&◌, ◌||◌, List, [], ◌∷◌, length, Option, nat_lt, min}
-use Rattle.std.proofs.Common.{refl, ap, ap₂, sym, ◌∙◌, arith}
+use Rattle.std.proofs.Common.{refl, ap, ap₂, sym, ◌∙◌, arith, le_refl}
 use Rattle.std.specs.Prelude.{is_some}
 use Rattle.std.specs.List.{list_any}
 use Rattle.std.proofs.lemmas.Bool.Decides.{nat_tests}
@@ -14,9 +14,6 @@ use Rattle.base_rows.specs.Marked.{with_marks, marked_rows}
 use Rattle.base_rows.specs.Subjects.{Subject, key, affects, keys_of}
 use Rattle.base_rows.specs.Walks.{updating_rows, updating_rows_below}
 use Rattle.base_rows.proofs.Newest.{affected_key, first_shorter, newest_at, older_at}
-
-at_most_itself : (n : ℕ) → n ≤ n
-at_most_itself n = omega arith
 
 module _ {A : Type 0} (at : ℕ → Option (Update A)) (n key : ℕ) where
   -- a number that does not lie below the bound is passed
@@ -50,7 +47,7 @@ module _ {A : Type 0} (at : ℕ → Option (Update A)) (n key : ℕ) where
   once (k ∷ keys) bound rest within =
       elim (k == key) as (λ is. updating_rows_below at bound (with_marks n key keys (put_if is n (n ∷ rest)))
       ≡ put_if (is_some (at n)) n (updating_rows_below at n rest)) [
-        | true ↦ once keys bound (n ∷ rest) within ∙ ap (put_if (is_some (at n)) n) (passed_one n rest (at_most_itself n))
+        | true ↦ once keys bound (n ∷ rest) within ∙ ap (put_if (is_some (at n)) n) (passed_one n rest (le_refl n))
         | false ↦ once keys bound rest within
       ]
 
@@ -104,7 +101,7 @@ marks_walk hashing subject effect affecting at (row ∷ older) bound within agre
       | true ↦ λ e.
           counted at n k keys bound rest (omega (arith, within)) e
           ∙ ap₂ (λ one more. put_if (is_some one) n more) here (marks_walk hashing subject effect affecting at older n
-          (at_most_itself n) below)
+          (le_refl n) below)
       | false ↦ λ e.
           let nothing : effect older row.deed ≡ Keeps = affecting older row.deed (not_affected hashing subject older row.deed e)
           in

@@ -9,23 +9,22 @@ use Rattle.cc_names.specs.declared.rows.Deed.{Deed}
 use Rattle.cc_names.specs.declared.rows.Deed.TheVariants as deeds
 use Rattle.cc_names.specs.declared.rows.Out.TheVariants as outs
 use Rattle.cc_names.specs.declared.rows.Placed.{Placed}
+use Rattle.base_model.specs.Catalogs.{is_out}
 use Rattle.base_model.specs.Changes.{targets_of, tree}
 use Rattle.base_model.specs.Rows.{Base, size}
 use Rattle.base_model.specs.Objects.{are_same_paths}
 use Rattle.base_rows.specs.Changed.{changing, checked_in_on, checked_in_rows, names_by}
-use Rattle.base_rows.specs.NumberKeys.{key_by, key_by_paths, key_with}
+use Rattle.base_rows.specs.NumberKeys.{key_by, key_by_paths, key_in, key_with}
 use Rattle.base_rows.specs.declared.subjects.Subject as code
 use Rattle.base_rows.specs.declared.subjects.Subject.TheVariants as codes
 
 -- A view's life, its config spec, and all that it takes out; a view's private file at a path, and the object that it holds
--- there; a view's checkout of an element, and the texts that it saves there; a name in a directory; the reserved checkouts on a
--- branch; the type of a name; an object, its winks, and the objects of a list of targets; a merge of two versions of an element,
--- and the merges into a version; what is done to an element and to its labels; the branches that leave a version, and the
--- branches
--- of an element that have a name; what a view puts or comes to hold, at whatever paths; the names that are given in a directory;
--- the names that are changed in the checkout that a row began; and the versions of a branch that are made from a checkout in
--- which
--- a name was changed.
+-- there; a view's checkout of an element, the texts that it saves there, and a name that it changes there; the reserved
+-- checkouts on a branch; the type of a name; an object, its winks, and the objects of a list of targets; a merge of two versions
+-- of an element, and the merges into a version; what is done to an element and to its labels; the branches that leave a version,
+-- and the branches of an element that have a name; what a view puts or comes to hold, at whatever paths; the names that are given
+-- in a directory; the names that are changed in the checkout that a row began; and the versions of a branch that are made from a
+-- checkout in which a name was changed.
 pub data Subject : Type 0 where
   Life : List ℕ → Subject
   Spec : List ℕ → Subject
@@ -34,7 +33,7 @@ pub data Subject : Type 0 where
   Object : List ℕ → List ℕ → Subject
   Out : List ℕ → ℕ → Subject
   Saved : List ℕ → ℕ → Subject
-  NameIn : ℕ → List ℕ → Subject
+  NameIn : List ℕ → ℕ → List ℕ → Subject
   Reserved : ℕ → Subject
   Named : List ℕ → Subject
   Living : ℕ → Subject
@@ -55,18 +54,23 @@ abbrev pub reserved_subjects : Option ℕ → List Subject
 reserved_subjects None = []
 reserved_subjects (Some branch) = Reserved branch ∷ []
 
+-- what a checkout of an element by a view affects, where a deed makes one and where it reserves a branch
+abbrev pub taken_subjects : Bool → List ℕ → ℕ → Option ℕ → List Subject
+taken_subjects false v e branch = []
+taken_subjects true v e branch = Out v e ∷ AllCheckedOut v ∷ reserved_subjects branch
+
 -- what a deed that makes row n takes out, changes or gives back, where its checkout reserves this branch
 abbrev pub checkout_subjects : ℕ → Option ℕ → Deed → List Subject
 checkout_subjects n branch (deeds.Mkelem v directory name kind out) =
-    Out v n ∷ AllCheckedOut v ∷ NameIn directory name ∷ History n ∷ Given directory ∷ reserved_subjects branch
-checkout_subjects n branch (deeds.Checkout v e origin reserved) = Out v e ∷ AllCheckedOut v ∷ reserved_subjects branch
+    NameIn v directory name ∷ History n ∷ Given directory ∷ taken_subjects out v n branch
+checkout_subjects n branch (deeds.Checkout v e origin reserved) = taken_subjects true v e branch
 checkout_subjects n branch (deeds.Branch v e origin name out) =
-    Out v e ∷ AllCheckedOut v ∷ History e ∷ Leaving origin ∷ BranchNamed e name ∷ reserved_subjects branch
+    History e ∷ Leaving origin ∷ BranchNamed e name ∷ taken_subjects (is_out out) v e branch
 checkout_subjects n branch (deeds.Save v e text) = Saved v e ∷ []
 checkout_subjects n branch (deeds.Checkin v e) = Out v e ∷ History e ∷ []
 checkout_subjects n branch (deeds.Uncheckout v e) = Out v e ∷ []
-checkout_subjects n branch (deeds.Rmname v directory name) = NameIn directory name ∷ []
-checkout_subjects n branch (deeds.Mv v directory from_name to_name) = NameIn directory from_name ∷ NameIn directory to_name
+checkout_subjects n branch (deeds.Rmname v directory name) = NameIn v directory name ∷ []
+checkout_subjects n branch (deeds.Mv v directory from_name to_name) = NameIn v directory from_name ∷ NameIn v directory to_name
     ∷ Given directory ∷ []
 checkout_subjects n branch deed = []
 
@@ -143,7 +147,7 @@ is_same_subject (File v path) (File w q) = bytes_eq w v && bytes_eq q path
 is_same_subject (Object v path) (Object w q) = bytes_eq w v && bytes_eq q path
 is_same_subject (Out v e) (Out w f) = bytes_eq w v && (f == e)
 is_same_subject (Saved v e) (Saved w f) = bytes_eq w v && (f == e)
-is_same_subject (NameIn directory name) (NameIn other one) = (other == directory) && bytes_eq one name
+is_same_subject (NameIn v directory name) (NameIn w other one) = bytes_eq w v && (other == directory) && bytes_eq one name
 is_same_subject (Reserved branch) (Reserved other) = branch == other
 is_same_subject (Named name) (Named other) = bytes_eq other name
 is_same_subject (Living id) (Living other) = other == id
@@ -173,7 +177,7 @@ key hashing (Named name) = key_of hashing 7 name
 key hashing (Living id) = key_by hashing 8 (id ∷ [])
 key hashing (Merge e tail head) = key_by hashing 9 (e ∷ tail ∷ head ∷ [])
 key hashing (Merged head) = key_by hashing 15 (head ∷ [])
-key hashing (NameIn directory name) = key_with hashing 10 directory name
+key hashing (NameIn v directory name) = key_in hashing 10 directory v name
 key hashing (Reserved branch) = key_by hashing 11 (branch ∷ [])
 key hashing (Pool targets) = key_by_paths hashing 12 targets
 key hashing (Winked id) = key_by hashing 13 (id ∷ [])
@@ -204,7 +208,7 @@ plain (codes.File v path) = File v.now path.now
 plain (codes.Object v path) = Object v.now path.now
 plain (codes.Out v e) = Out v.now e
 plain (codes.Saved v e) = Saved v.now e
-plain (codes.NameIn directory name) = NameIn directory name.now
+plain (codes.NameIn v directory name) = NameIn v.now directory name.now
 plain (codes.Reserved branch) = Reserved branch
 plain (codes.Named name) = Named name.now
 plain (codes.Living id) = Living id

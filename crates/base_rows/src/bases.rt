@@ -105,9 +105,8 @@ impl Rows {
     }
 
     /// Makes room for one more row of this deed, for which this is at hand. Takes for each label that it changes on an element
-    /// the
-    /// time to find the label there and, where it is new there, to copy its name, and time logarithmic in the branches; a list
-    /// that is full is doubled, in time linear in it.
+    /// the time to find the label there and, where it is new there, to copy its name, and time logarithmic in the branches; a
+    /// list that is full is doubled, in time linear in it.
     pub fn reserve(&mut self, deed: &Deed, prepared: &Prepared) -> Result<(), NoMemory>
         requires { IsPrepared prepared.now self.old.hashing self.old.base deed.now }
         ensures same { self.new.base ≡ self.old.base }
@@ -124,8 +123,7 @@ impl Rows {
     }
 
     /// Adds a row that fits and is made ready. Takes time linear in its keys, for each label that it changes on an element the
-    /// time
-    /// to find the label there, and time logarithmic in the branches; no memory.
+    /// time to find the label there, and time logarithmic in the branches; no memory.
     pub fn push(&mut self, row: Row, prepared: Prepared)
         requires fits { fits self.old.base row.deed ≡ true }
         requires room { HasRoom self.old row.deed prepared }

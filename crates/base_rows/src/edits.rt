@@ -36,7 +36,8 @@ fn edit_where<'a>(test: bool, edit: Edit<'a>) -> Edit<'a>
     if test { edit } else { Edit::Same }
 }
 
-fn is_out(out: Out) -> bool
+/// Whether a new branch is checked out.
+pub(crate) fn is_out(out: Out) -> bool
     ensures { result ≡ model.is_out out }
 {
     match out {
@@ -201,7 +202,7 @@ impl LookUp for ChangedOf<'_> {
 
     ghost effect = { λ it. changed_effect it.view.now it.directory it.name.now };
 
-    ghost about = { λ it. subjects.NameIn it.directory it.name.now };
+    ghost about = { λ it. subjects.NameIn it.view.now it.directory it.name.now };
 
     fn effect(&self, older: &FirstRows<'_>, deed: &Deed) -> Does<u64> {
         let number = older.size();
@@ -212,7 +213,7 @@ impl LookUp for ChangedOf<'_> {
     }
 
     fn subject(&self) -> Subject<'_> {
-        Subject::NameIn(self.directory, self.name)
+        Subject::NameIn(self.view, self.directory, self.name)
     }
 
     ghost affects = { λ it. changed_affects it.view.now it.directory it.name.now };

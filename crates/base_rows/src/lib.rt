@@ -2,15 +2,13 @@
 //! records list, and files that views were seen to have.
 //!
 //! What it is for: `Rows` is the base, `FirstRows` what its first rows were; `prepared` makes the next row ready, and a `LookUp`
-//! tells
-//! what rows do to a thing, so that `newest` finds it. What views select is looked up over these in `view_lookup`.
+//! tells what rows do to a thing, so that `newest` finds it. What views select is looked up over these in `view_lookup`.
 //!
 //! What it promises: `Rows` and `FirstRows` are bases of the model, the newest row first, by their types. Each answer is that of
 //! the model's definition over the base, with no condition on it.
 //!
 //! What it stands on: `cc_names` for rows, `base_model` for the definitions, `version_tree` and `label_book` for the trees and
-//! the
-//! labels.
+//! the labels.
 #![tactic(auto)]
 
 pub mod bases;

@@ -76,6 +76,7 @@ pub trait LookUp {
     type Item: Copy;
 
     ghost use Rattle.std.specs.Prelude.{◌≡◌};
+    ghost use Rattle.cc_names.specs.Formed.{IsDeedFormed};
     ghost use Rattle.base_rows.specs.LookUps.{Deeds, ActsBySubject, effect_of};
     ghost use Rattle.base_rows.specs.Subjects as model;
 
@@ -85,6 +86,7 @@ pub trait LookUp {
 
     /// What the row of this deed does to it, which comes behind the older rows.
     fn effect(&self, older: &FirstRows<'_>, deed: &Deed) -> Does<Self::Item>
+        requires { IsDeedFormed deed.now }
         ensures { effect_of result ≡ effect self.now older.now deed.now };
 
     /// Its subject.

@@ -2,7 +2,7 @@
 
 ghost use Rattle.std.specs.Prelude.{◌≡◌, ◌∷◌, []};
 ghost use Rattle.cc_names.specs.Keys.{key_at};
-ghost use Rattle.base_rows.specs.NumberKeys.{key_by, key_by_paths, key_with};
+ghost use Rattle.base_rows.specs.NumberKeys.{key_by, key_by_paths, key_in, key_with};
 
 use cc_names::names::Name;
 use cc_names::paths::Path;
@@ -50,6 +50,19 @@ pub(crate) fn key_within(hashing: RandomState, number: u64, name: &Name, path: &
     hasher.write_usize(name.as_bytes().len());
     hasher.write(name.as_bytes());
     hasher.write(path);
+    hasher.finish()
+}
+
+/// The key of two numbers, a name and the bytes of another one. Takes time linear in both names.
+pub(crate) fn key_in(hashing: RandomState, number: u64, other: u64, view: &Name, name: &[u8]) -> u64
+    ensures { result ≡ key_in hashing number other view.now name.now }
+{
+    let mut hasher = hashing.build_hasher();
+    hasher.write_u64(number);
+    hasher.write_u64(other);
+    hasher.write_usize(view.as_bytes().len());
+    hasher.write(view.as_bytes());
+    hasher.write(name);
     hasher.finish()
 }
 

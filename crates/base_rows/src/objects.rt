@@ -2,6 +2,8 @@
 
 ghost use Rattle.std.specs.Prelude.{◌≡◌, ◌==◌, option_map};
 ghost use Rattle.std.specs.List.{AllByRecursion, list_any};
+ghost use Rattle.std.specs.List.Sorted.{IsStrictlySortedBy};
+ghost use Rattle.std.specs.Ordering.{nat_cmp};
 ghost use Rattle.cc_names.specs.Formed.{IsBelowRoot};
 ghost use Rattle.cc_names.specs.References.{held_at};
 ghost use Rattle.base_model.specs.Changes.{objects_held, live_row, targets_of};
@@ -151,10 +153,12 @@ impl LookUp for LivingOf {
     ghost affects = { λ it. living_affects it.object };
 }
 
+/// Whether a list that ascends has an object. Takes time logarithmic in it.
 fn is_among(object: u64, objects: &[u64]) -> bool
+    requires { IsStrictlySortedBy nat_cmp objects.now }
     ensures { result ≡ list_any (λ other. other == object) objects.now }
 {
-    objects.iter().any(|other| *other == object)
+    objects.binary_search(&object).is_ok()
 }
 
 /// The last row with which the view ended.
@@ -174,8 +178,7 @@ pub fn held_object(rows: &FirstRows<'_>, view: &Name, path: &Path) -> Option<u64
 }
 
 /// Whether the view holds the object at each of these paths. Takes the time of `held_object` for each path, as far as the first
-/// where
-/// it doesn't.
+/// where it doesn't.
 fn is_held_at_each(rows: &FirstRows<'_>, view: &Name, paths: &[Path], object: u64) -> bool
     ensures { result ≡ held_at_each rows.now view.now paths.now object }
 {
@@ -185,8 +188,7 @@ fn is_held_at_each(rows: &FirstRows<'_>, view: &Name, paths: &[Path], object: u6
 }
 
 /// The object that the view holds at each of these paths, where it is one and there are paths. Takes the time of `held_object`
-/// for
-/// each path, as far as the first where the view holds another object or none.
+/// for each path, as far as the first where the view holds another object or none.
 pub fn held_at_all(rows: &FirstRows<'_>, view: &Name, paths: &[Path]) -> Option<u64>
     ensures { result ≡ held_at_all rows.now view.now paths.now }
 {
@@ -201,8 +203,8 @@ pub fn held_at_all(rows: &FirstRows<'_>, view: &Name, paths: &[Path]) -> Option<
     }
 }
 
-/// The object's row, where it is live: from its publish until a scrub takes it. Takes the time of `newest`, and time linear in
-/// the objects of the scrub.
+/// The object's row, where it is live: from its publish until a scrub takes it. Takes the time of `newest`, and time logarithmic
+/// in the objects of the scrub.
 pub fn live_row(rows: &FirstRows<'_>, object: u64) -> Option<u64>
     ensures { result ≡ live_row rows.now object }
 {

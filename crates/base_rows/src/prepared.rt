@@ -27,9 +27,10 @@ pub struct Prepared {
     pub(crate) listing: Option<Versions>,
 }
 
-/// What the next row needs, where it is of this deed and gives these rules to its view. Takes time linear in what the deed names,
-/// for each entry of a record time linear in what it stands for, times logarithmic in what the record lists, for each row that
-/// changed names in a checkout that ends the time of some look-ups, and time logarithmic in the branches.
+/// What the next row needs, where it is of this deed and gives these rules to its view. Takes time linear in what the
+/// operation names; for each entry of a record linear in the versions that the entry's object lists, times the
+/// logarithm of the record's; for each row that changed names in a checkout that it ends, a few look-ups; logarithmic in the
+/// branches.
 pub fn prepare_with(
     alloc: Global,
     hashing: RandomState,

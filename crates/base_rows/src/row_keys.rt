@@ -36,8 +36,7 @@ fn push_subjects(
 }
 
 /// The keys of all on which the next row bears, where it is of this deed. Takes the time of `catalog_keys`, and time linear in
-/// the
-/// names that the deed has and in the targets of the object that it names.
+/// the names that the deed has and in the targets of the object that it names.
 #[tactic(auto, using(crate::proofs::KeysAdded::keys_parted))]
 pub(crate) fn keys_of(
     alloc: Global,

@@ -5,7 +5,8 @@ ghost use Rattle.std.specs.List.{slice_get};
 ghost use Rattle.base_rows.specs.Subjects as model;
 
 use crate::bases::FirstRows;
-use crate::number_keys::{key_by_one, key_by_paths, key_by_three, key_with, key_within};
+use crate::edits::is_out;
+use crate::number_keys::{key_by_one, key_by_paths, key_by_three, key_in, key_with, key_within};
 use crate::objects::targets_of;
 use crate::trees::branch_of_version;
 use cc_names::keys::{key_at, key_of};
@@ -31,8 +32,8 @@ pub enum Subject<'a> {
     Out(&'a Name, u64),
     /// The texts that a view saves in its checkout of an element.
     Saved(&'a Name, u64),
-    /// A name in a directory.
-    NameIn(u64, &'a [u8]),
+    /// A name that a view changes in its checkout of a directory.
+    NameIn(&'a Name, u64, &'a [u8]),
     /// The reserved checkouts on a branch.
     Reserved(u64),
     /// The type of a name.
@@ -115,19 +116,21 @@ fn reserved_at<'a>(branch: Option<u64>, index: usize) -> Option<Subject<'a>>
     }
 }
 
-/// What a checkout of an element by a view affects.
+/// What a checkout of an element by a view affects, where there is one.
 fn taken_at<'a>(
+    is_out: bool,
     view: &'a Name,
     element: u64,
     branch: Option<u64>,
     index: usize,
 ) -> Option<Subject<'a>>
     ensures subject { option_map model.plain result
-        ≡ slice_get
-        (model.Out view.now element ∷ model.AllCheckedOut view.now ∷ model.reserved_subjects branch)
-        index }
+        ≡ slice_get (model.taken_subjects is_out view.now element branch) index }
     ensures within { IfSome result (λ _. index ≤ 2 ^ 33) }
 {
+    if !is_out {
+        return None;
+    }
     match index {
         0 => Some(Subject::Out(view, element)),
         1 => Some(Subject::AllCheckedOut(view)),
@@ -135,8 +138,9 @@ fn taken_at<'a>(
     }
 }
 
-/// What the making of an element in a directory affects.
+/// What the making of an element in a directory affects, and what the checkout does that comes with it, where one does.
 fn element_at<'a>(
+    is_out: bool,
     view: &'a Name,
     number: u64,
     directory: u64,
@@ -146,23 +150,23 @@ fn element_at<'a>(
 ) -> Option<Subject<'a>>
     ensures subject { option_map model.plain result
         ≡ slice_get
-        (model.Out view.now number ∷ model.AllCheckedOut view.now ∷ model.NameIn directory name.now
-        ∷ model.History number ∷ model.Given directory ∷ model.reserved_subjects branch)
+        (model.NameIn view.now directory name.now ∷ model.History number ∷ model.Given directory
+        ∷ model.taken_subjects is_out view.now number branch)
         index }
-    ensures within { IfSome result (λ _. index ≤ 2 ^ 33) }
+    ensures within { IfSome result (λ _. index ≤ 2 ^ 34) }
 {
     match index {
-        0 => Some(Subject::Out(view, number)),
-        1 => Some(Subject::AllCheckedOut(view)),
-        2 => Some(Subject::NameIn(directory, name.as_bytes())),
-        3 => Some(Subject::History(number)),
-        4 => Some(Subject::Given(directory)),
-        _ => reserved_at(branch, index - 5),
+        0 => Some(Subject::NameIn(view, directory, name.as_bytes())),
+        1 => Some(Subject::History(number)),
+        2 => Some(Subject::Given(directory)),
+        _ => taken_at(is_out, view, number, branch, index - 3),
     }
 }
 
-/// What the making of a branch of an element by a view affects, where it leaves a version and has a name.
+/// What the making of a branch of an element by a view affects, where it leaves a version and has a name, and what the checkout
+/// does that comes with it, where one does.
 fn branch_at<'a>(
+    is_out: bool,
     view: &'a Name,
     element: u64,
     origin: u64,
@@ -172,19 +176,16 @@ fn branch_at<'a>(
 ) -> Option<Subject<'a>>
     ensures subject { option_map model.plain result
         ≡ slice_get
-        (model.Out view.now element ∷ model.AllCheckedOut view.now ∷ model.History element
-        ∷ model.Leaving origin ∷ model.BranchNamed element name.now
-        ∷ model.reserved_subjects branch)
+        (model.History element ∷ model.Leaving origin ∷ model.BranchNamed element name.now
+        ∷ model.taken_subjects is_out view.now element branch)
         index }
-    ensures within { IfSome result (λ _. index ≤ 2 ^ 33) }
+    ensures within { IfSome result (λ _. index ≤ 2 ^ 34) }
 {
     match index {
-        0 => Some(Subject::Out(view, element)),
-        1 => Some(Subject::AllCheckedOut(view)),
-        2 => Some(Subject::History(element)),
-        3 => Some(Subject::Leaving(origin)),
-        4 => Some(Subject::BranchNamed(element, name)),
-        _ => reserved_at(branch, index - 5),
+        0 => Some(Subject::History(element)),
+        1 => Some(Subject::Leaving(origin)),
+        2 => Some(Subject::BranchNamed(element, name)),
+        _ => taken_at(is_out, view, element, branch, index - 3),
     }
 }
 
@@ -300,23 +301,24 @@ fn checkout_subject_at<'a>(
 ) -> Option<Subject<'a>>
     ensures subject { option_map model.plain result
         ≡ slice_get (model.checkout_subjects number branch deed.now) index }
-    ensures within { IfSome result (λ _. index ≤ 2 ^ 33) }
+    ensures within { IfSome result (λ _. index ≤ 2 ^ 34) }
 {
     match deed {
         Deed::Mkelem {
             view,
             directory,
             name,
+            out,
             ..
-        } => element_at(view, number, *directory, name, branch, index),
-        Deed::Checkout { view, element, .. } => taken_at(view, *element, branch, index),
+        } => element_at(*out, view, number, *directory, name, branch, index),
+        Deed::Checkout { view, element, .. } => taken_at(true, view, *element, branch, index),
         Deed::Branch {
             view,
             element,
             origin,
             name,
-            ..
-        } => branch_at(view, *element, *origin, name, branch, index),
+            out,
+        } => branch_at(is_out(*out), view, *element, *origin, name, branch, index),
         Deed::Save { view, element, .. } => one(Subject::Saved(view, *element), index),
         Deed::Checkin { view, element } => two(
             Subject::Out(view, *element),
@@ -325,18 +327,18 @@ fn checkout_subject_at<'a>(
         ),
         Deed::Uncheckout { view, element } => one(Subject::Out(view, *element), index),
         Deed::Rmname {
+            view,
             directory,
             name,
-            ..
-        } => one(Subject::NameIn(*directory, name.as_bytes()), index),
+        } => one(Subject::NameIn(view, *directory, name.as_bytes()), index),
         Deed::Mv {
+            view,
             directory,
             from_name,
             to_name,
-            ..
         } => three(
-            Subject::NameIn(*directory, from_name.as_bytes()),
-            Subject::NameIn(*directory, to_name.as_bytes()),
+            Subject::NameIn(view, *directory, from_name.as_bytes()),
+            Subject::NameIn(view, *directory, to_name.as_bytes()),
             Subject::Given(*directory),
             index,
         ),
@@ -440,7 +442,7 @@ impl Subject<'_> {
             Subject::Given(directory) => key_by_one(hashing, 18, directory),
             Subject::Changing(began) => key_by_one(hashing, 20, began),
             Subject::Altered(branch, name) => key_with(hashing, 21, branch, name),
-            Subject::NameIn(directory, name) => key_with(hashing, 10, directory, name),
+            Subject::NameIn(view, directory, name) => key_in(hashing, 10, directory, view, name),
             Subject::Reserved(branch) => key_by_one(hashing, 11, branch),
             Subject::Pool(targets) => key_by_paths(hashing, 12, targets),
         }

@@ -155,7 +155,8 @@ pub(crate) fn in_life<T: Copy>(
     view: &Name,
     update_by_row: Option<(u64, Option<T>)>,
 ) -> Option<T>
-    ensures { result ≡ within (option_map number_of (newest (end_effect view.now) rows.now)) update_by_row }
+    ensures { result
+        ≡ within (option_map number_of (newest (end_effect view.now) rows.now)) update_by_row }
 {
     match update_by_row {
         None => None,

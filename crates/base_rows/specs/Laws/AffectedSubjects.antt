@@ -8,6 +8,7 @@ use Rattle.cc_names.specs.declared.rows.Deed.TheVariants as deeds
 use Rattle.cc_names.specs.declared.rows.Out.TheVariants as outs
 use Rattle.cc_names.specs.declared.rows.Placed.{Placed}
 use Rattle.cc_names.specs.Versions.{is_number}
+use Rattle.base_model.specs.Catalogs.{is_out}
 use Rattle.base_model.specs.Changes.{targets_of, live_row}
 use Rattle.base_model.specs.Rows.{Base, size}
 use Rattle.base_rows.specs.Effects.{life_effect, end_effect, gone_effect, file_effect, object_effect, living_effect}
@@ -21,7 +22,7 @@ use Rattle.base_rows.specs.LookUps.{ActsBySubject}
 use Rattle.base_rows.specs.Made.{is_target}
 use Rattle.base_rows.specs.Subjects.{Life, Spec, AllCheckedOut, File, Object, Out, Saved, Reserved, Named, Living, Winked, Merge}
 use Rattle.base_rows.specs.Subjects.{Merged, History, Leaving, BranchNamed, Owned, Given, history_at, is_same_subject}
-use Rattle.base_rows.specs.Subjects.{reserved_branch, reserved_subjects, Pool}
+use Rattle.base_rows.specs.Subjects.{reserved_branch, reserved_subjects, taken_subjects, Pool}
 use Rattle.base_rows.specs.Pool.{Test}
 
 -- an effect where a test holds is none where neither it nor another holds
@@ -216,12 +217,15 @@ unless_reserved branch n None h = refl
 unless_reserved branch n (Some other) h = unless (branch == other) false (Sets n) h
 
 pub reserving_affects : (branch : ℕ) → ActsBySubject (Reserved branch) (reserving_effect branch)
-reserving_affects branch older (deeds.Mkelem v directory name kind out) h =
-    unless_reserved branch (size older) (reserved_branch older (deeds.Mkelem v directory name kind out)) h
+reserving_affects branch older (deeds.Mkelem v directory name kind true) h = unless_reserved branch (size older)
+    (Some (size older)) h
+reserving_affects branch older (deeds.Mkelem v directory name kind false) h = refl
 reserving_affects branch older (deeds.Checkout v e origin reserved) h =
     unless_reserved branch (size older) (reserved_branch older (deeds.Checkout v e origin reserved)) h
-reserving_affects branch older (deeds.Branch v e origin name out) h = unless_reserved branch (size older)
-    (reserved_branch older (deeds.Branch v e origin name out)) h
+reserving_affects branch older (deeds.Branch v e origin name outs.No) h = refl
+reserving_affects branch older (deeds.Branch v e origin name outs.Reserved) h = unless_reserved branch (size older)
+    (Some (size older)) h
+reserving_affects branch older (deeds.Branch v e origin name outs.Unreserved) h = refl
 reserving_affects branch older deed h = refl
 
 -- an element among those on which a label is put
@@ -232,10 +236,10 @@ among_placed e (one ∷ placed) = ap (λ rest. (one.element == e) || rest) (amon
 
 pub history_affects : (e : ℕ) → ActsBySubject (History e) (history_effect e)
 history_affects e older (deeds.Mkelem v directory name kind out) h =
-    unless (size older == e) (list_any (is_same_subject (History e)) (reserved_subjects
+    unless (size older == e) (list_any (is_same_subject (History e)) (taken_subjects out v (size older)
     (reserved_branch older (deeds.Mkelem v directory name kind out)))) (Sets (size older)) h
 history_affects e older (deeds.Branch v f origin name out) h =
-    unless (f == e) (list_any (is_same_subject (History e)) (reserved_subjects
+    unless (f == e) (list_any (is_same_subject (History e)) (taken_subjects (is_out out) v f
     (reserved_branch older (deeds.Branch v f origin name out)))) (Sets (size older)) h
 history_affects e older (deeds.Checkin v f) h = unless (f == e) false (Sets (size older)) h
 history_affects e older (deeds.Label label f version) h = unless (f == e) false (Sets (size older)) h
@@ -248,13 +252,13 @@ history_affects e older deed h = refl
 pub leaving_affects : (version : ℕ) → ActsBySubject (Leaving version) (leaving_effect version)
 leaving_affects version older (deeds.Branch v e origin name out) h =
     unless (origin == version) (list_any (is_same_subject (Leaving version))
-    (reserved_subjects (reserved_branch older (deeds.Branch v e origin name out)))) (Sets (size older)) h
+    (taken_subjects (is_out out) v e (reserved_branch older (deeds.Branch v e origin name out)))) (Sets (size older)) h
 leaving_affects version older deed h = refl
 
 pub branch_named_affects : (e : ℕ) (name : List ℕ) → ActsBySubject (BranchNamed e name) (branch_named_effect e name)
 branch_named_affects e name older (deeds.Branch v f origin own out) h =
     unless ((e == f) && bytes_eq name own) (list_any (is_same_subject (BranchNamed e name))
-    (reserved_subjects (reserved_branch older (deeds.Branch v f origin own out)))) (Sets (size older)) h
+    (taken_subjects (is_out out) v f (reserved_branch older (deeds.Branch v f origin own out)))) (Sets (size older)) h
 branch_named_affects e name older deed h = refl
 
 pub own_affects : (v : List ℕ) → ActsBySubject (Owned v) (own_effect v)
@@ -267,7 +271,7 @@ own_affects v older deed h = refl
 
 pub naming_affects : (d : ℕ) → ActsBySubject (Given d) (naming_effect d)
 naming_affects d older (deeds.Mkelem v f name kind out) h =
-    unless (f == d) (list_any (is_same_subject (Given d)) (reserved_subjects
+    unless (f == d) (list_any (is_same_subject (Given d)) (taken_subjects out v (size older)
     (reserved_branch older (deeds.Mkelem v f name kind out)))) (Sets (size older)) h
 naming_affects d older (deeds.Mv v f from_name to_name) h = unless (f == d) false (Sets (size older)) h
 naming_affects d older deed h = refl

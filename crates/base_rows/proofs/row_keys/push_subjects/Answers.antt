@@ -4,8 +4,9 @@ use Rattle.std.proofs.Common.{sym, ap, ◌∙◌, arith}
 use Rattle.std.proofs.lemmas.Option.{slice_get-map}
 use Rattle.std.specs.List.{slice_get}
 use Rattle.std.specs.Option.{option_map}
+use Rattle.cc_names.proofs.Common.{drop_past}
 use Rattle.base_rows.specs.Subjects.{key, plain, subjects}
-use Rattle.base_rows.proofs.AtIndex.{drop_at, drop_past, within_at}
+use Rattle.base_rows.proofs.AtIndex.{drop_at, within_at}
 use Rattle.base_rows.proofs.row_keys.push_subjects.Goals as goal
 
 pub loop-subject-preserved : goal.loop-subject-preserved

@@ -10,6 +10,7 @@ use Rattle.cc_names.specs.Versions.{row_of_change}
 use Rattle.cc_names.specs.declared.changes.LabelChange.{LabelChange}
 use Rattle.cc_names.specs.declared.changes.TreeChange.{TreeChange}
 use Rattle.cc_names.specs.declared.rows.Deed.{Deed}
+use Rattle.cc_names.proofs.Common.{and_second}
 use Rattle.label_book.specs.Marks.{rows_of_pair}
 use Rattle.base_model.specs.Changes.{labels, labels_after, tree}
 use Rattle.base_model.specs.Fits.{deed_fits, fits, is_base, row_limit}
@@ -23,7 +24,6 @@ use Rattle.base_rows.specs.SeenFiles.{AreSeenByViews}
 use Rattle.base_rows.specs.SetSpecs.{rules_set, specs_set, with_spec}
 use Rattle.base_rows.specs.Shown.{Shown}
 use Rattle.base_rows.specs.Subjects.{keys_of}
-use Rattle.base_model.proofs.Owned.{and_second}
 use Rattle.base_rows.proofs.FilesSeen.{seen_more}
 use Rattle.base_rows.proofs.Growths.{above_tree, tree_by_change}
 use Rattle.base_rows.proofs.Labellings.{above_labels, after_same, same_twice}
