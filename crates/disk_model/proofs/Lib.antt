@@ -3,3 +3,4 @@ pub mod Recording
 pub mod Stops
 pub mod Torn
 mod Worked
+mod WorkedImages

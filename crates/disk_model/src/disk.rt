@@ -40,7 +40,8 @@ pub trait Disk {
             (λ n. IfModeled (ghost_state self.old).modeled (λ d. n ≡ length (bytes_now file d))) }
         ensures most { IfOk result (λ n. n ≤ 2 ^ 62) }
         ensures modeled { MatchResult result
-            (λ _. Both (Measures file) (ghost_state self.old).modeled (ghost_state self.new).modeled)
+            (λ _. Both (Measures file) (ghost_state self.old).modeled
+            (ghost_state self.new).modeled)
             (λ _. Both Idles (ghost_state self.old).modeled (ghost_state self.new).modeled) }
         ensures counts { Counted result (ghost_state self.old) (ghost_state self.new) };
 
@@ -64,10 +65,12 @@ pub trait Disk {
     /// a fault. After a fault the range may hold any bytes.
     fn write_at(&mut self, file: u8, place: u64, piece: &[u8]) -> Result<(), DiskFault>
         requires file { file ≤ 1 }
-        requires within { IfModeled (ghost_state self.old).modeled (λ d. place ≤ length (bytes_now file d)) }
+        requires within { IfModeled (ghost_state self.old).modeled
+            (λ d. place ≤ length (bytes_now file d)) }
         ensures most { IfOk result (λ _. place + length piece.now ≤ 2 ^ 62) }
         ensures modeled { MatchResult result
-            (λ _. Both (Writes file place piece.now) (ghost_state self.old).modeled (ghost_state self.new).modeled)
+            (λ _. Both (Writes file place piece.now) (ghost_state self.old).modeled
+            (ghost_state self.new).modeled)
             (λ _.
             Both (Tears file place (length piece.now)) (ghost_state self.old).modeled
             (ghost_state self.new).modeled) }

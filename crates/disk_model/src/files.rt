@@ -197,11 +197,10 @@ impl<R: Files<File = File> + AllocGlobal> BaseFiles<R> {
 /// a file is moved away the calls go on with that file, and another that gets its name is left alone.
 ///
 /// As a file is opened its exclusive lock is taken, and held as long as the disk lives. Then it is synced. Where one of these
-/// fails,
-/// as where another program has the lock, each call on the file is a fault from then on, and nothing is read or written; so is
-/// each write where the folder could not be synced. What a sync that failed in an earlier run left may be read
-/// from the system's memory without being on the disk: no call of this disk can tell. No handle is a standard descriptor, so
-/// nothing that is printed gets into a file, also where standard output is closed.
+/// fails, as where another program has the lock, each call on the file is a fault from then on, and nothing is read or written;
+/// so is each write where the folder could not be synced. What a sync that failed in an earlier run left may be read from the
+/// system's memory without being on the disk: no call of this disk can tell. No handle is a standard descriptor, so nothing that
+/// is printed gets into a file, also where standard output is closed.
 #[derive(Drop)]
 pub struct FileDisk<R: Files<File = File> + AllocGlobal> {
     files: BaseFiles<R>,
@@ -213,7 +212,10 @@ pub struct FileDisk<R: Files<File = File> + AllocGlobal> {
 
 impl<R: Files<File = File> + AllocGlobal> FileDisk<R> {
     /// The disk over the files of these names. It opens nothing yet.
-    pub fn new(rt: R, journal: String, objects: String) -> FileDisk<R> {
+    pub fn new(rt: R, journal: String, objects: String) -> FileDisk<R>
+        ensures ticks { result.ticks ≡ 0 }
+        ensures faults { result.faults ≡ 0 }
+    {
         FileDisk {
             files: BaseFiles {
                 rt,

@@ -134,7 +134,8 @@ impl Picture {
         ensures { OnOk result
             ((d : Device)
             → IsPicture (file_of file d) self.old.bytes.items self.old.image.items
-            → IsPicture (file_after_call file (event_of call.now d) (file_of file d)) self.new.bytes.items
+            → IsPicture
+            (file_after_call file (event_of call.now d) (file_of file d)) self.new.bytes.items
             self.new.image.items) }
     {
         match call {

@@ -112,7 +112,8 @@ impl MemoryDisk {
     pub fn crash(&self, alloc: Global, call: u64, pick: u64) -> Result<MemoryDisk, NoMemory>
         requires from { 1 ≤ call }
         requires to { call ≤ (ghost_state_of self.now).ticks + 1 }
-        ensures { IfOk result (λ disk. IsCrash (modeled_device self.now) call (ghost_state_of disk)) }
+        ensures { IfOk result
+            (λ disk. IsCrash (modeled_device self.now) call (ghost_state_of disk)) }
     {
         let keep = Keep::of(pick);
         let trace = self.trace.as_slice();
@@ -162,7 +163,8 @@ impl MemoryDisk {
     /// A call that changes no bytes.
     fn make(&mut self, call: Call) -> Result<(), DiskFault>
         requires { ChangesNoBytes call }
-        ensures modeled { MatchResult result (λ _. modeled_device self.new ≡ with_traced_call call (modeled_device self.old))
+        ensures modeled { MatchResult result
+            (λ _. modeled_device self.new ≡ with_traced_call call (modeled_device self.old))
             (λ _. Idles (modeled_device self.old) (modeled_device self.new)) }
         ensures counts { Counted result (ghost_state_of self.old) (ghost_state_of self.new) }
     {
@@ -187,7 +189,8 @@ impl MemoryDisk {
         requires { file ≤ 1 }
         ensures modeled { MatchResult result
             (λ _.
-            modeled_device self.new ≡ with_traced_call (calls.Write file place piece.now) (modeled_device self.old))
+            modeled_device self.new
+            ≡ with_traced_call (calls.Write file place piece.now) (modeled_device self.old))
             (λ _. Idles (modeled_device self.old) (modeled_device self.new)) }
         ensures counts { Counted result (ghost_state_of self.old) (ghost_state_of self.new) }
     {

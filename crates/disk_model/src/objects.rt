@@ -49,7 +49,8 @@ pub trait Objects {
         requires { IfModeled (ghost_state self.old).modeled (λ d. place ≤ length (bytes_now 1 d)) }
         ensures most { IfOk result (λ _. place + length piece.now ≤ 2 ^ 62) }
         ensures modeled { MatchResult result
-            (λ _. Both (Writes 1 place piece.now) (ghost_state self.old).modeled (ghost_state self.new).modeled)
+            (λ _. Both (Writes 1 place piece.now) (ghost_state self.old).modeled
+            (ghost_state self.new).modeled)
             (λ _.
             Both (Tears 1 place (length piece.now)) (ghost_state self.old).modeled
             (ghost_state self.new).modeled) }

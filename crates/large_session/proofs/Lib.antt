@@ -5,3 +5,4 @@ pub mod Totals
 mod WorkedDraws
 mod WorkedSessions
 mod WorkedSummaries
+mod WorkedTexts

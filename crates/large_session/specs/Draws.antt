@@ -1,6 +1,5 @@
 -- The numbers of the large session. A draw replaces x, which begins as the seed, and gives the upper half of the new x but for
--- its
--- first bit.
+-- its first bit.
 use Rattle.std.specs.Prelude.{ℕ, zero, suc, ◌+◌, ◌*◌, ◌/◌, ◌%◌, ◌^◌, List, [], ◌∷◌}
 use Rattle.large_session.specs.declared.draws.SourceFile.{SourceFile}
 

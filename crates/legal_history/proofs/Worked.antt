@@ -1,6 +1,8 @@
 -- Worked rows: what closed bases, stories and sessions come to, by computation.
 mod BranchRows
+mod BuildRefusals
 mod CheckoutRows
+mod DueRows
 mod EmptiedRows
 mod FaultRows
 mod FirstBuild
@@ -11,6 +13,7 @@ mod NoSteps
 mod QueryRows
 mod RecordRows
 mod Replies
+mod RefusalRows
 mod ReuseRows
 mod ScrubRows
 mod Selection

@@ -2,3 +2,5 @@
 pub mod Exactly
 pub mod Ready
 pub mod UnstartedStatuses
+mod WorkedCauses
+mod WorkedStatuses

@@ -4,3 +4,4 @@ pub mod FromNothing
 pub mod LaneLines
 pub mod MoreSteps
 mod Worked
+mod WorkedFromNothing

@@ -4,3 +4,4 @@ pub mod OpenedBases
 pub mod OpeningStep
 pub mod ReadRows
 pub mod Unfit
+pub mod WorkedDamages

@@ -9,3 +9,4 @@ pub mod Settling
 pub mod Staying
 pub mod Telling
 mod WorkedForeign
+mod WorkedFrames

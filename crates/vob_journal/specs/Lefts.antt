@@ -22,8 +22,7 @@ calls_to_settle settled = if settled then 0 else 2
 
 -- The phase of a commit in which a call failed, by what it left, with the count of calls before the commit and after it: what was
 -- left over is left over where the tail could not be settled, nothing is where the frame was not written or not synced, and the
--- row in
--- flight is where the gate was not opened for certain.
+-- row in flight is where the gate was not opened for certain.
 abbrev pub FailsInPhase : Bool → Left → ℕ → ℕ → Type 0
 FailsInPhase settled Earlier old new = (settled ≡ false) × (new ≤ old + 2)
 FailsInPhase settled Nothing old new =

@@ -12,13 +12,15 @@ use cc_names::memory::Or;
 use disk_model::{Disk, DiskFault};
 use std::alloc::Global;
 
-/// How many bytes stand behind the last whole frame of file 0, if no frame that was cut short can stand there, else 0. The
-/// frame that is appended next is written over them. Reads in pieces of at least 64 KiB, the last of them twice, in time
-/// linear in the journal. Whatever it answers, both files are as they were.
+/// The number of bytes after the last whole frame of file 0, if they cannot be a torn frame; else 0. The next frame
+/// that is appended overwrites them. Reads in pieces of at least 64 KiB, the last of them twice, in time linear in the
+/// journal. Whatever it answers, both files are as they were.
 pub fn foreign_bytes<D: Disk>(alloc: Global, disk: &mut D) -> Result<u64, Or<DiskFault>>
     ensures foreign { IfOk result
-        (λ count. IfModeled (D.ghost_state disk.old).modeled (λ d. count ≡ foreign (bytes_now 0 d))) }
-    ensures files { Both SameFiles (D.ghost_state disk.old).modeled (D.ghost_state disk.new).modeled }
+        (λ count. IfModeled (D.ghost_state disk.old).modeled
+        (λ d. count ≡ foreign (bytes_now 0 d))) }
+    ensures files { Both SameFiles (D.ghost_state disk.old).modeled
+        (D.ghost_state disk.new).modeled }
     ensures rests { Both Rests (D.ghost_state disk.old).modeled (D.ghost_state disk.new).modeled }
     ensures counts { CountsOn result (D.ghost_state disk.old) (D.ghost_state disk.new) }
 {

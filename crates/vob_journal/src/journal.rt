@@ -69,22 +69,26 @@ impl<D: Disk> Journal<D> {
     /// The journal of a disk that was handed in. Asks its length, and reads nothing yet. Where that fails the disk
     /// comes back. Either way both files are as they were.
     pub fn open(disk: D) -> Result<Journal<D>, D>
-        requires { IfModeled (D.ghost_state disk).modeled (λ d. file_of 0 d ≡ stable (bytes_now 0 d)) }
+        requires { IfModeled (D.ghost_state disk).modeled
+            (λ d. file_of 0 d ≡ stable (bytes_now 0 d)) }
         ensures list { IfOk result
-            (λ journal. IfModeled (D.ghost_state disk).modeled (λ d. journal.list ≡ frames (bytes_now 0 d))) }
+            (λ journal. IfModeled (D.ghost_state disk).modeled
+            (λ d. journal.list ≡ frames (bytes_now 0 d))) }
         ensures begins { IfOk result
             (λ journal.
             (journal.rest ≡ journal.list) × (journal.leftover ≡ []) × (journal.tail ≡ 0)
             × (journal.ended ≡ false) × (journal.left ≡ lefts.Nothing)) }
         ensures modeled { MatchResult result
-            (λ journal. Both (Measures 0) (D.ghost_state disk).modeled (D.ghost_state journal.disk).modeled)
+            (λ journal. Both (Measures 0) (D.ghost_state disk).modeled
+            (D.ghost_state journal.disk).modeled)
             (λ back. Both Idles (D.ghost_state disk).modeled (D.ghost_state back).modeled) }
         ensures moves { IfOk result
             (λ journal.
             Both (Moves journal.list [] journal.list journal.leftover) (D.ghost_state disk).modeled
             (D.ghost_state journal.disk).modeled) }
         ensures files { MatchResult result
-            (λ journal. Both SameFiles (D.ghost_state disk).modeled (D.ghost_state journal.disk).modeled)
+            (λ journal. Both SameFiles (D.ghost_state disk).modeled
+            (D.ghost_state journal.disk).modeled)
             (λ back. Both SameFiles (D.ghost_state disk).modeled (D.ghost_state back).modeled) }
         ensures counts { MatchResult result
             (λ journal. OneMore (D.ghost_state disk) (D.ghost_state journal.disk))
@@ -123,10 +127,12 @@ impl<D: Disk> Journal<D> {
         ensures left { self.new.left ≡ self.old.left }
         ensures moves { Both (Moves self.old.list self.old.leftover self.new.list self.new.leftover)
             (D.ghost_state self.old.disk).modeled (D.ghost_state self.new.disk).modeled }
-        ensures files { Both SameFiles (D.ghost_state self.old.disk).modeled (D.ghost_state self.new.disk).modeled }
+        ensures files { Both SameFiles (D.ghost_state self.old.disk).modeled
+            (D.ghost_state self.new.disk).modeled }
         ensures adds { Both (Adds may_read) (D.ghost_state self.old.disk).modeled
             (D.ghost_state self.new.disk).modeled }
-        ensures counts { CountsReads 2 result (D.ghost_state self.old.disk) (D.ghost_state self.new.disk) }
+        ensures counts { CountsReads 2 result (D.ghost_state self.old.disk)
+            (D.ghost_state self.new.disk) }
     {
         if self.ended {
             return Ok(None);
@@ -147,10 +153,10 @@ impl<D: Disk> Journal<D> {
         }
     }
 
-    /// Commits a frame behind the list, and answers the tick at which it is acknowledged. It first settles a tail that
-    /// is not settled, by one byte 0 at the tail and a sync; then it makes four device calls: length, payload and the
-    /// next gate, shut, behind the gate; a sync; the open gate; a sync. A fault leaves what `left` says. Takes time
-    /// linear in the frame.
+    /// Commits a frame after the list, and answers the tick at which it is acknowledged. It first settles a tail that
+    /// is not settled: it writes one byte 0 at the tail and syncs. Then it makes four device calls: it writes length,
+    /// payload and the next frame's gate byte 0; syncs; writes this frame's gate byte 1; syncs. A fault leaves what
+    /// `left` says. Takes time linear in the frame.
     pub fn append(&mut self, frame: &Frame) -> Result<u64, DiskFault>
         requires { self.old.ended ≡ true }
         ensures moves { Both (Moves self.old.list self.old.leftover self.new.list self.new.leftover)
@@ -175,7 +181,8 @@ impl<D: Disk> Journal<D> {
             (D.ghost_state self.new.disk).ticks) }
         ensures settled { self.new.settled ≡ settled_after self.new.left }
         ensures ended { self.new.ended ≡ true }
-        ensures writes { Both WritesOn (D.ghost_state self.old.disk).modeled (D.ghost_state self.new.disk).modeled }
+        ensures writes { Both WritesOn (D.ghost_state self.old.disk).modeled
+            (D.ghost_state self.new.disk).modeled }
         ensures costs { Spends (calls_of self.old.settled) result (D.ghost_state self.old.disk)
             (D.ghost_state self.new.disk) }
     {
@@ -211,9 +218,11 @@ impl<D: Disk> Journal<D> {
             (λ _. self.new.left ≡ lefts.Earlier) }
         ensures settled { self.new.settled ≡ settled_after self.new.left }
         ensures ended { self.new.ended ≡ true }
-        ensures writes { Both WritesOn (D.ghost_state self.old.disk).modeled (D.ghost_state self.new.disk).modeled }
+        ensures writes { Both WritesOn (D.ghost_state self.old.disk).modeled
+            (D.ghost_state self.new.disk).modeled }
         ensures rests { self.old.settled ≡ true → MakesNoCall result self.old.disk self.new.disk }
-        ensures costs { Spends (if self.old.settled then 0 else 2) result (D.ghost_state self.old.disk)
+        ensures costs { Spends (if self.old.settled then 0 else 2) result
+            (D.ghost_state self.old.disk)
             (D.ghost_state self.new.disk) }
     {
         match settle_tail(&mut self.disk, self.settled, self.tail) {

@@ -1,6 +1,6 @@
 //! What a failed call leaves.
 
-/// What the last call of `append` or `settle` left behind the list for a stop to leave.
+/// The row, if any, that a crash may find after the list because of the last `append` or `settle`.
 #[derive(Clone, Copy, Debug, PartialEq, Eq)]
 pub enum Left {
     /// Nothing: each stop leaves the list.

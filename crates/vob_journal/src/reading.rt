@@ -70,7 +70,8 @@ pub(crate) fn read_frame<D: Disk>(
     requires all { IfModeled (D.ghost_state disk.old).modeled (λ d. size ≡ length (bytes_now 0 d)) }
     requires shows { IfShows window (D.ghost_state disk.old).modeled }
     ensures found { IfOk result
-        (λ found. IfModeled (D.ghost_state disk.old).modeled (λ d. FindsAtHead found (drop tail (bytes_now 0 d)))) }
+        (λ found. IfModeled (D.ghost_state disk.old).modeled
+        (λ d. FindsAtHead found (drop tail (bytes_now 0 d)))) }
     ensures within { IfOk result (IsFrameWithin tail size) }
     ensures shows { IfOk result (ShowsOn (D.ghost_state disk.new).modeled) }
     ensures rests { Both Rests (D.ghost_state disk.old).modeled (D.ghost_state disk.new).modeled }

@@ -22,7 +22,8 @@ fn put_down<D: Disk>(disk: &mut D, place: u64, piece: &[u8]) -> Result<(), DiskF
     requires { IfModeled (D.ghost_state disk.old).modeled (λ d. place ≤ length (bytes_now 0 d)) }
     ensures most { IfOk result (λ _. place + length piece.now ≤ 2 ^ 62) }
     ensures modeled { MatchResult result
-        (λ _. Both (PutsDown place piece.now) (D.ghost_state disk.old).modeled (D.ghost_state disk.new).modeled)
+        (λ _. Both (PutsDown place piece.now) (D.ghost_state disk.old).modeled
+        (D.ghost_state disk.new).modeled)
         (λ _.
         Both (FailsToPut place (length piece.now)) (D.ghost_state disk.old).modeled
         (D.ghost_state disk.new).modeled) }
@@ -38,8 +39,10 @@ fn put_down<D: Disk>(disk: &mut D, place: u64, piece: &[u8]) -> Result<(), DiskF
 pub(crate) fn settle_tail<D: Disk>(disk: &mut D, settled: bool, tail: u64) -> Result<(), DiskFault>
     requires { IfModeled (D.ghost_state disk.old).modeled (IsTail settled tail) }
     ensures modeled { MatchResult result
-        (λ _. Both (Settles settled tail) (D.ghost_state disk.old).modeled (D.ghost_state disk.new).modeled)
-        (λ _. Both (LeavesLeftover settled tail) (D.ghost_state disk.old).modeled (D.ghost_state disk.new).modeled) }
+        (λ _. Both (Settles settled tail) (D.ghost_state disk.old).modeled
+        (D.ghost_state disk.new).modeled)
+        (λ _. Both (LeavesLeftover settled tail) (D.ghost_state disk.old).modeled
+        (D.ghost_state disk.new).modeled) }
     ensures rests { settled ≡ true → MakesNoCall result disk.old disk.new }
     ensures counts { Spends (if settled then 0 else 2) result (D.ghost_state disk.old)
         (D.ghost_state disk.new) }
@@ -56,8 +59,10 @@ fn stage<D: Disk>(disk: &mut D, tail: u64, frame: &Frame) -> Result<(), DiskFaul
     requires shut { IfModeled (D.ghost_state disk.old).modeled (IsTail true tail) }
     ensures most { IfOk result (λ _. tail + (5 + length frame.now) ≤ 2 ^ 62) }
     ensures modeled { MatchResult result
-        (λ _. Both (Stages tail frame.now) (D.ghost_state disk.old).modeled (D.ghost_state disk.new).modeled)
-        (λ _. Both (KeepsFrames true true tail) (D.ghost_state disk.old).modeled (D.ghost_state disk.new).modeled) }
+        (λ _. Both (Stages tail frame.now) (D.ghost_state disk.old).modeled
+        (D.ghost_state disk.new).modeled)
+        (λ _. Both (KeepsFrames true true tail) (D.ghost_state disk.old).modeled
+        (D.ghost_state disk.new).modeled) }
     ensures counts { Spends 2 result (D.ghost_state disk.old) (D.ghost_state disk.new) }
 {
     put_down(disk, tail + 1, frame.as_bytes())
@@ -67,8 +72,10 @@ fn stage<D: Disk>(disk: &mut D, tail: u64, frame: &Frame) -> Result<(), DiskFaul
 fn open_gate<D: Disk>(disk: &mut D, tail: u64, frame: &Frame) -> Result<(), DiskFault>
     requires { IfModeled (D.ghost_state disk.old).modeled (IsStagedAt tail frame.now) }
     ensures modeled { MatchResult result
-        (λ _. Both (OpensGate tail frame.now) (D.ghost_state disk.old).modeled (D.ghost_state disk.new).modeled)
-        (λ _. Both (MayOpen tail frame.now) (D.ghost_state disk.old).modeled (D.ghost_state disk.new).modeled) }
+        (λ _. Both (OpensGate tail frame.now) (D.ghost_state disk.old).modeled
+        (D.ghost_state disk.new).modeled)
+        (λ _. Both (MayOpen tail frame.now) (D.ghost_state disk.old).modeled
+        (D.ghost_state disk.new).modeled) }
     ensures counts { Spends 2 result (D.ghost_state disk.old) (D.ghost_state disk.new) }
 {
     let _frame = frame.as_bytes();
@@ -95,7 +102,8 @@ pub(crate) fn commit<D: Disk>(
     ensures fails { IfErr result
         (λ left.
         FailsInPhase settled left (D.ghost_state disk.old).ticks (D.ghost_state disk.new).ticks) }
-    ensures counts { Spends (calls_of settled) result (D.ghost_state disk.old) (D.ghost_state disk.new) }
+    ensures counts { Spends (calls_of settled) result (D.ghost_state disk.old)
+        (D.ghost_state disk.new) }
 {
     if let Err(_) = settle_tail(disk, settled, tail) {
         return Err(Left::Earlier);

@@ -58,7 +58,8 @@ pub(crate) fn look<D: Disk>(
     ensures to { IfOk result (λ window. place + needed ≤ window.start + length window.bytes.items) }
     ensures shows { IfOk result (λ window. IfShows (Some window) (D.ghost_state disk.new).modeled) }
     ensures rests { Both Rests (D.ghost_state disk.old).modeled (D.ghost_state disk.new).modeled }
-    ensures pieces { Both (ReadsPiece place) (D.ghost_state disk.old).modeled (D.ghost_state disk.new).modeled }
+    ensures pieces { Both (ReadsPiece place) (D.ghost_state disk.old).modeled
+        (D.ghost_state disk.new).modeled }
     ensures counts { CountsReads 1 result (D.ghost_state disk.old) (D.ghost_state disk.new) }
 {
     if let Some(window) = window {

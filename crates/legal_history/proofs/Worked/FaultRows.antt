@@ -103,7 +103,7 @@ fails_once_is_legal = (
                 unit = _;
                 open_unit = record {
                   waits = record { active = refl; is_unit = refl; waits = refl };
-                  sound = refl;
+                  faultless = refl;
                   ready = refl;
                   runs = refl;
                 };
@@ -124,7 +124,7 @@ fails_once_is_legal = (
                         place = refl;
                         running = record {
                           waits = record { active = refl; is_unit = refl; waits = refl };
-                          sound = refl;
+                          faultless = refl;
                           started = refl;
                         };
                         nothing = refl;
@@ -145,7 +145,7 @@ fails_once_is_legal = (
                         place = refl;
                         running = record {
                           waits = record { active = refl; is_unit = refl; waits = refl };
-                          sound = refl;
+                          faultless = refl;
                           started = refl;
                         };
                         nothing = refl;
@@ -165,7 +165,7 @@ fails_once_is_legal = (
                         unit = _;
                         open_unit = record {
                           waits = record { active = refl; is_unit = refl; waits = refl };
-                          sound = refl;
+                          faultless = refl;
                           ready = refl;
                           runs = refl;
                         };
@@ -183,7 +183,7 @@ fails_once_is_legal = (
                               place = refl;
                               running = record {
                                 waits = record { active = refl; is_unit = refl; waits = refl };
-                                sound = refl;
+                                faultless = refl;
                                 started = refl;
                               };
                               nothing = refl;

@@ -122,7 +122,7 @@ build_is_legal = (
                 unit = _;
                 open_unit = record {
                   waits = record { active = refl; is_unit = refl; waits = refl };
-                  sound = refl;
+                  faultless = refl;
                   ready = refl;
                   runs = refl;
                 };
@@ -140,7 +140,7 @@ build_is_legal = (
                       place = refl;
                       running = record {
                         waits = record { active = refl; is_unit = refl; waits = refl };
-                        sound = refl;
+                        faultless = refl;
                         started = refl;
                       };
                       nothing = refl;

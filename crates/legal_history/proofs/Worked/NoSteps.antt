@@ -64,12 +64,12 @@ no_second_row active place outcome h =
 -- a build under which the disk failed commits no row of a unit that was running
 pub no_publish : {s : State} {r : Plain} {targets : List (List ℕ)} {build : Build} →
     build_by s r.tag ≡ Some build → build.faulted ≡ true → Publishes s r targets → ⊥
-no_publish active faulted h = let a = h.running.waits.active in let f = h.running.sound in cc
+no_publish active faulted h = let a = h.running.waits.active in let f = h.running.faultless in cc
 
 -- a build under which the disk failed starts nothing
 pub no_start : {s : State} {tag : Tag} {n : ℕ} {build : Build} → build_by s tag ≡ Some build → build.faulted ≡ true
     → Starts s tag n → ⊥
-no_start active faulted h = let a = h.open_unit.waits.active in let f = h.open_unit.sound in cc
+no_start active faulted h = let a = h.open_unit.waits.active in let f = h.open_unit.faultless in cc
 
 -- a unit that has come to anything is not started once more
 pub no_second_start : {s : State} {tag : Tag} {n : ℕ} {build : Build} → build_by s tag ≡ Some build

@@ -96,7 +96,7 @@ side_by_side_is_legal = (
                                   unit = _;
                                   open_unit = record {
                                     waits = record { active = refl; is_unit = refl; waits = refl };
-                                    sound = refl;
+                                    faultless = refl;
                                     ready = refl;
                                     runs = refl;
                                   };
@@ -109,7 +109,7 @@ side_by_side_is_legal = (
                                     unit = _;
                                     open_unit = record {
                                       waits = record { active = refl; is_unit = refl; waits = refl };
-                                      sound = refl;
+                                      faultless = refl;
                                       ready = refl;
                                       runs = refl;
                                     };
@@ -127,7 +127,7 @@ side_by_side_is_legal = (
                                           place = refl;
                                           running = record {
                                             waits = record { active = refl; is_unit = refl; waits = refl };
-                                            sound = refl;
+                                            faultless = refl;
                                             started = refl;
                                           };
                                           nothing = refl;
@@ -149,7 +149,7 @@ side_by_side_is_legal = (
                                               place = refl;
                                               may = inr (record {
                                                 waits = record { active = refl; is_unit = refl; waits = refl };
-                                                sound = refl;
+                                                faultless = refl;
                                                 started = refl;
                                               });
                                               of_view = refl;

@@ -78,7 +78,7 @@ both_build_is_legal = (
                             unit = _;
                             open_unit = record {
                               waits = record { active = refl; is_unit = refl; waits = refl };
-                              sound = refl;
+                              faultless = refl;
                               ready = refl;
                               runs = refl;
                             };
@@ -96,7 +96,7 @@ both_build_is_legal = (
                                   place = refl;
                                   running = record {
                                     waits = record { active = refl; is_unit = refl; waits = refl };
-                                    sound = refl;
+                                    faultless = refl;
                                     started = refl;
                                   };
                                   nothing = refl;
@@ -122,7 +122,7 @@ both_build_is_legal = (
                                           place = refl;
                                           may = inl (record {
                                             waits = record { active = refl; is_unit = refl; waits = refl };
-                                            sound = refl;
+                                            faultless = refl;
                                             ready = refl;
                                             runs = refl;
                                           });
@@ -143,7 +143,7 @@ both_build_is_legal = (
                                             unit = _;
                                             open_unit = record {
                                               waits = record { active = refl; is_unit = refl; waits = refl };
-                                              sound = refl;
+                                              faultless = refl;
                                               ready = refl;
                                               runs = refl;
                                             };

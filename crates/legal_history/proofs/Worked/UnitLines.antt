@@ -1,7 +1,6 @@
 -- The replies of builds, worked: an object that one view builds and another winks in; one that is built again once it was
--- scrubbed;
--- builds of a view for itself; a build of a view that selects by a record; and one on a checkout. Each is replied as from
--- nothing.
+-- scrubbed; builds of a view for itself; a build of a view that selects by a record; and one on a checkout. Each is replied as
+-- from nothing.
 use Rattle.std.proofs.Common.{◌≡◌, refl, ℕ, Bool, true, false, List, [], ◌∷◌, ◌++◌}
 use Rattle.std.specs.Prelude.{codes}
 use Rattle.cc_names.specs.declared.replies.Digest.{Digest}

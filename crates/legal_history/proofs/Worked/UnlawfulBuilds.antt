@@ -76,7 +76,7 @@ a_first_outcome = record {
   build = _;
   unit = _;
   waits = record { active = refl; is_unit = refl; waits = refl };
-  sound = refl;
+  faultless = refl;
   ready = refl;
   ends = refl;
 }

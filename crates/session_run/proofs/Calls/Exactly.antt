@@ -48,14 +48,14 @@ none_opened story empty opened = let closed = ap is_opened empty in absurd (cc)
 pub disk_failed : (status : Status) (intake : Intake) (faults : Change ℕ) (disk : Change DiskState) (story : List StoryStep)
     → HasCause status intake faults disk story → is_cut status ≡ false → is_opened story ≡ true → disk_rose disk ≡ true
     → status ≡ statuses.DiskFault
-disk_failed statuses.Good intake faults disk story (inl h) c o e = let sound = h.1 in absurd (cc)
+disk_failed statuses.Good intake faults disk story (inl h) c o e = let faultless = h.1 in absurd (cc)
 disk_failed statuses.Good intake faults disk story (inr h) c o e = absurd (none_opened story h.1.story_is o)
-disk_failed statuses.SomeFailed intake faults disk story (inl h) c o e = let sound = h.1 in absurd (cc)
+disk_failed statuses.SomeFailed intake faults disk story (inl h) c o e = let faultless = h.1 in absurd (cc)
 disk_failed statuses.SomeFailed intake faults disk story (inr h) c o e = absurd (none_opened story h.1.story_is o)
 disk_failed statuses.BadWords intake faults disk story h c o e = absurd (none_opened story h.2.story_is o)
 disk_failed (statuses.BadSession error) intake faults disk story (inl h) c o e = absurd (none_opened story h.2.story_is o)
 disk_failed (statuses.BadSession error) intake faults disk story (inr h) c o e = absurd (none_opened story h.1.story_is o)
-disk_failed (statuses.Damaged row) intake faults disk story h c o e = let sound = h.2 in absurd (cc)
+disk_failed (statuses.Damaged row) intake faults disk story h c o e = let faultless = h.2 in absurd (cc)
 disk_failed statuses.ReadFault intake faults disk story h c o e = absurd (none_opened story h.1.story_is o)
 disk_failed statuses.WriteFault intake faults disk story h c o e = absurd (cc)
 disk_failed statuses.DiskFault intake faults disk story h c o e = refl
@@ -63,8 +63,7 @@ disk_failed statuses.NoMemory intake faults disk story h c o e = absurd (cc)
 disk_failed statuses.TooLong intake faults disk story h c o e = absurd (none_opened story h.1.story_is o)
 
 -- a session that was run through on a base that was opened and a disk that did not fail, where its form tells of a failure, and
--- where
--- it tells of none
+-- where it tells of none
 pub failed : (status : Status) (intake : Intake) (faults : Change ℕ) (disk : Change DiskState) (story : List StoryStep)
     (form : Form) → HasCause status intake faults disk story → is_cut status ≡ false → is_opened story ≡ true
     → is_through intake.form status story ≡ true → disk_rose disk ≡ false → intake.form ≡ Some form
@@ -176,7 +175,7 @@ damaged (statuses.BadSession error) intake faults disk story row (inl h) o t d s
 damaged (statuses.BadSession error) intake faults disk story row (inr h) o t d s c = absurd (o.asked.base h.0.words)
 damaged (statuses.Damaged one) intake faults disk story row h o t d s c =
     ap statuses.Damaged (damaged_where disk.before.modeled one row t h.1 d)
-damaged statuses.ReadFault intake faults disk story row h o t d s c = absurd (o.sound h.0)
+damaged statuses.ReadFault intake faults disk story row h o t d s c = absurd (o.faultless h.0)
 damaged statuses.WriteFault intake faults disk story row h o t d s c = absurd (cc)
 damaged statuses.DiskFault intake faults disk story row h o t d s c = let rose = h.1 in absurd (cc)
 damaged statuses.NoMemory intake faults disk story row h o t d s c = absurd (cc)

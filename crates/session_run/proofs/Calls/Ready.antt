@@ -1,7 +1,8 @@
 -- The session of each form: its text, and its phases, which can be run.
 use Rattle.std.proofs.Common.{◌≡◌, ◌≢◌, ℕ, ◌+◌, ◌*◌, ◌≤◌, true, Option, Some, None, Ok, Err, List, [], ◌∷◌, ◌++◌, length, refl}
 use Rattle.std.proofs.Common.{sym, subst, ap, ◌∙◌, arith}
-use Rattle.std.specs.Prelude.{◌&&◌, Bool, codes, false, if◌then◌else◌, IfErr, IfOk, Result, IfSome, nat_le, nat_lt, option_and_then}
+use Rattle.std.specs.Prelude.{◌&&◌, Bool, codes, false, if◌then◌else◌, IfErr, IfOk, Result, IfSome, nat_le, nat_lt}
+use Rattle.std.specs.Prelude.{option_and_then}
 use Rattle.std.specs.Str.{bytes_eq}
 use Rattle.std.specs.List.{AllByRecursion}
 use Rattle.std.specs.Io.KnownBytes.{Consumes, IsAtEnd}
@@ -26,7 +27,8 @@ use Rattle.session_run.specs.Calls.Asked.{big_of, form_of, is_read, is_session, 
 use Rattle.session_run.specs.Calls.Asked.{session_text_of, size_limit, size_of, size_within, text_limit, text_of}
 use Rattle.session_run.specs.Calls.Causes.{Intake, IsIntakeRead, IsUnread, Takes, session_text}
 use Rattle.session_run.specs.Running.Runs.{IsReadyPhase, IsRunnable}
-use Rattle.session_run.specs.Running.Unstarted.{GivesPhases, GivesSites, GivesText, HasPhases, IsGivenBy, IsNotGivenBy, IsShort, IsWithoutBase, IsSaid, IsUnsaid, IsUnstarted}
+use Rattle.session_run.specs.Running.Unstarted.{GivesPhases, GivesSites, GivesText, HasPhases, IsGivenBy, IsNotGivenBy, IsShort}
+use Rattle.session_run.specs.Running.Unstarted.{IsWithoutBase, IsSaid, IsUnsaid, IsUnstarted}
 use Rattle.session_run.specs.declared.sessions.GivenSession.{GivenSession}
 use Rattle.session_run.specs.declared.sessions.Unstarted.{Unstarted}
 use Rattle.session_run.specs.declared.sessions.Unstarted.TheVariants as why
@@ -116,7 +118,7 @@ pub gives_read : (form : Form) (asked : Option Form) (old new : Option (List ℕ
       faults =
           record { before = faults; after = risen };
     }) text
-gives_read form asked old new before after faults risen text reads taken end le given sound =
+gives_read form asked old new before after faults risen text reads taken end le given faultless =
     record { taken = by_form form reads; is = left_by form reads; short = le }
   where
     is : IfSome old (λ bytes. bytes ≡ text)
@@ -134,7 +136,7 @@ gives_read form asked old new before after faults risen text reads taken end le 
       within = le;
       given = given;
       bytes = of_text old text (λ bytes. length bytes ≡ length text) refl is;
-      sound = sound;
+      faultless = faultless;
     }
 
     by_form : (form : Form) → reads_source (Some form) ≡ true → Takes form
@@ -270,7 +272,8 @@ unsaid intake form text why.TooLong words base gives h = absurd h
 
 -- what a form gives with a text that its words were given
 pub given_so : (intake : Intake) (form : Form) (text : List ℕ) (r : Result GivenSession WithoutBase) → intake.form ≡ Some form
-    → GivesText form intake text → IfOk r (IsGivenBy form text) → IfOk r (λ given. GivesPhases intake given.form given.phases.items)
+    → GivesText form intake text → IfOk r (IsGivenBy form text) → IfOk r
+    (λ given. GivesPhases intake given.form given.phases.items)
 given_so intake form text (Ok given) words gives is =
     subst (λ f. GivesPhases intake f given.phases.items) (sym is.form_is)
     (gives_phases intake form text given.phases.items words is.base gives is.has)
@@ -279,7 +282,8 @@ given_so intake form text (Err without) words gives is = tt
 pub not_given_so : (intake : Intake) (form : Form) (text : List ℕ) (r : Result GivenSession WithoutBase) → intake.form ≡ Some form
     → GivesText form intake text → IfErr r (IsNotGivenBy form text) → IfErr r (λ without. IsWithoutBase without intake)
 not_given_so intake form text (Ok given) words gives is = tt
-not_given_so intake form text (Err (without.Line unstarted)) words gives is = unsaid intake form text unstarted words is.0 gives is.1
+not_given_so intake form text (Err (without.Line unstarted)) words gives is =
+    unsaid intake form text unstarted words is.0 gives is.1
 not_given_so intake form text (Err (without.Replies replied)) words gives is =
     subst (GivesSites intake) (sym is.1) (gives_sites intake form text words is.0 gives)
 

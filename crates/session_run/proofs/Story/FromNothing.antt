@@ -18,6 +18,8 @@ use Rattle.legal_history.specs.Stories.States.{State, start, same_tag, build_if,
 use Rattle.legal_history.specs.Stories.Steps.{after, state_of}
 use Rattle.legal_history.specs.Stories.Lawful.{Lawful, LegalFrom, Legal, EndsBuild}
 use Rattle.legal_history.specs.Builds.Turns.{is_complete}
+use Rattle.legal_history.proofs.Stories.Goes.{of_lane}
+use Rattle.legal_history.proofs.Builds.RepliesAgree.{left_complete}
 use Rattle.session_run.specs.Promises.Headline.{AreFromNothing}
 use Rattle.session_run.specs.Story.FromNothing.{end_from_nothing, lane_replies_after, text_from_nothing}
 use Rattle.session_run.specs.Story.Rendered.{Replies, closed_by, closed_over, replies_over, last_ended_phase, text_of_story}
@@ -39,14 +41,6 @@ found_by : (found : Option Build) (tag : Tag) (build : Build) → option_and_the
 found_by None tag build e = absurd (cc)
 found_by (Some kept) tag build e = where_same (same_tag kept.tag tag) kept build e
 
-pub is_active : (s : State) (tag : Tag) (build : Build) → build_by s tag ≡ Some build → build_of s.active tag.lane ≡ Some build
-is_active s tag build e = found_by (build_of s.active tag.lane) tag build e
-
--- a build that is over and sound is complete
-over_complete : (complete faulted : Bool) → (complete || faulted) ≡ true → faulted ≡ false → complete ≡ true
-over_complete true faulted over sound = refl
-over_complete false faulted over sound = absurd (cc)
-
 chosen_same : (faulted : Bool) (fault one two : Reply) → (faulted ≡ false → one ≡ two)
     → (if faulted then fault else one) ≡ (if faulted then fault else two)
 chosen_same true fault one two h = refl
@@ -64,8 +58,8 @@ same_end story prefix rest (story_steps.Other (steps.End tag)) law grows ends =
     let s = state_of prefix in
     let build = ends.build in
     let complete : build.faulted ≡ false → reply_of s.base build ≡ reply_from_nothing s.base build =
-    λ sound. law.complete prefix rest tag.lane build grows (is_active s tag build ends.active)
-    (over_complete (is_complete build) build.faulted ends.over sound) in
+    λ sound. law.complete prefix rest tag.lane build grows (of_lane s tag build ends.active)
+    (left_complete (is_complete build) build.faulted ends.over sound) in
     ap (reply_to_end s.base) ends.active
     ∙ ap Some (chosen_same build.faulted replies.DiskFault (reply_of s.base build) (reply_from_nothing s.base build) complete)
     ∙ ap (end_from_nothing s.base) (sym ends.active)
@@ -133,6 +127,6 @@ are_from_nothing story law legal = record {
       let ends : EndsBuild (state_of prefix) tag = (rest_is_legal start prefix (story_steps.Other (steps.End tag) ∷ rest)
       (subst Legal grows legal)).0 in
       law.complete prefix (story_steps.Other (steps.End tag) ∷ rest) tag.lane build grows
-      (is_active (state_of prefix) tag build is)
-      (over_complete (is_complete build) build.faulted (ends_over (state_of prefix) tag build ends is) sound);
+      (of_lane (state_of prefix) tag build is)
+      (left_complete (is_complete build) build.faulted (ends_over (state_of prefix) tag build ends is) sound);
 }

@@ -7,15 +7,12 @@ use Rattle.cc_names.specs.declared.steps.StoryStep.{StoryStep}
 use Rattle.cc_names.specs.declared.steps.StoryStep.TheVariants as story_steps
 use Rattle.legal_history.specs.Stories.States.{State, start}
 use Rattle.legal_history.specs.Stories.Steps.{after, after_step, state_from, state_of}
+use Rattle.legal_history.proofs.Stories.Prefixes.{state_goes_on}
 use Rattle.clearmake.specs.Going.{SamePhase}
 use Rattle.base_core.specs.Story.Replying.{no_replies, replies_after}
 use Rattle.session_run.specs.Running.Phases.{Goes}
 use Rattle.session_run.specs.Story.Begun.{phases_begun, moments_begun, first_step, is_opened}
 use Rattle.session_run.specs.Story.Rendered.{Replies, closed_by, closed_over, earlier_phases, replies_over}
-
-pub state_more : (s : State) (story more : List StoryStep) → state_from s (story ++ more) ≡ state_from (state_from s story) more
-state_more s [] more = refl
-state_more s (x ∷ story) more = state_more (after s x) story more
 
 pub phases_more : (story more : List StoryStep) → phases_begun (story ++ more) ≡ phases_begun story ++ phases_begun more
 phases_more [] more = refl
@@ -98,7 +95,7 @@ closes_none leave s replies (x ∷ more) e =
 pub goes_on : (old new more : List StoryStep) → new ≡ old ++ more → SamePhase (state_of old) (state_of new) → is_opened old ≡ true
     → Goes old new
 goes_on old new more grows same opened =
-    let state : state_of new ≡ state_from (state_of old) more = ap state_of grows ∙ state_more start old more in
+    let state : state_of new ≡ state_from (state_of old) more = ap state_of grows ∙ state_goes_on start old more in
     let none = no_phases (state_of old) more (ap (λ s. s.number) (sym state) ∙ same.number) in
     record {
       phases = ap phases_begun grows ∙ phases_more old more ∙ ap (λ ps. phases_begun old ++ ps) none

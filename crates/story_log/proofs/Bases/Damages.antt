@@ -1,6 +1,7 @@
 -- The journal of a base of formed rows is damaged nowhere, and is that of no other base.
 use Rattle.std.proofs.Common.{◌≡◌, ℕ, ◌⊎◌, inl, inr, true, List, [], ◌∷◌, ◌++◌, length, length-append, refl, sym, ap, ap₂, subst}
 use Rattle.std.proofs.Common.{◌∙◌, arith}
+use Rattle.std.proofs.lemmas.Bool.{and_parts}
 use Rattle.cc_names.specs.Formed.{IsFormed, Plain}
 use Rattle.disk_model.specs.Devices.{bytes_now}
 use Rattle.disk_model.specs.DiskStates.{DiskState, IfModeled}
@@ -14,7 +15,6 @@ use Rattle.story_log.specs.Bases.Opening.{IsBaseOn, IsDamaged, IsUndamaged}
 use Rattle.story_log.specs.Story.Formed.{AreFormed}
 use Rattle.story_log.specs.Stopping.Standing.{payloads}
 use Rattle.story_log.specs.Story.Handed.{Handed}
-use Rattle.story_log.proofs.Cases.{both}
 
 -- a row that keeps its form is given by its spelling
 row_by_spelling : (one two : Plain) → IsFormed one → IsFormed two → spelling_of one ≡ spelling_of two → one ≡ two
@@ -95,7 +95,7 @@ next_row row older prefix rest payload good h e before = by (which_prefix (paylo
       row = row;
       found = same.0;
       spells = sym same.1;
-      fit = (both (fits older row.deed) (is_base older) good).0;
+      fit = (and_parts (fits older row.deed) (is_base older) good).0;
       formed = h.0;
       earlier = h.1;
     }
@@ -108,7 +108,7 @@ goes_on : (b : Base) (prefix rest : List (List ℕ)) (payload : List ℕ) → is
 goes_on [] prefix rest payload good h e = absurd (none_left prefix rest payload e)
 goes_on (row ∷ older) prefix rest payload good h e =
     next_row row older prefix rest payload good h e (λ more f. goes_on older prefix more payload
-    (both (fits older row.deed) (is_base older) good).1 h.1 f)
+    (and_parts (fits older row.deed) (is_base older) good).1 h.1 f)
 
 -- the journal of such a base is not damaged
 pub undamaged : (b : Base) → is_base b ≡ true → AreFormed b → IsUndamaged (payloads b)

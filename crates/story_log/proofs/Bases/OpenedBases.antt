@@ -206,7 +206,8 @@ covered_opened opening list leftover d e ticks is none moves = record {
 module _ {D : Type 0} (ghost_state : D → DiskState) (first : DiskState) (handed : Handed) (base : Base) (opened read : Shown D)
     (counted : IsCounted first) (ticks : handed.counts.ticks ≡ first.ticks) (faults : handed.counts.faults ≡ first.faults)
     (tells : handed.tells ≡ is_some first.modeled)
-    (new : IsNewOn ghost_state first opened) (reads : OnlyReads ghost_state opened read) (sound : (ghost_state read.disk).faults
+    (new : IsNewOn ghost_state first opened) (reads : OnlyReads ghost_state opened read)
+    (faultless : (ghost_state read.disk).faults
     ≡ (ghost_state opened.disk).faults) (through : IsReadThrough ghost_state base read) where
   list_so : IfModeled (ghost_state read.disk).modeled (λ _. opened.list ≡ payloads base)
   list_so = modeled_both (λ _. read.list ≡ payloads base ++ read.rest) (λ _. read.rest ≡ []) (λ _. opened.list ≡ payloads base)
@@ -226,7 +227,7 @@ module _ {D : Type 0} (ghost_state : D → DiskState) (first : DiskState) (hande
     shut = λ e some. absurd (cc);
     base = refl;
     ticks = omega (arith, ticks, new.counts.0, reads.ticks);
-    faults = omega (arith, faults, new.counts.1, sound);
+    faults = omega (arith, faults, new.counts.1, faultless);
     covered = by first.modeled (ghost_state read.disk).modeled counted.modeled list_so
         (since_first ghost_state first opened read new reads);
   }
@@ -270,7 +271,7 @@ module _ {D : Type 0} (ghost_state : D → DiskState) (first : DiskState) (hande
     handed = handed;
     on = base_on;
     is = is ∙ ap (opened_log base handed) (sym (ap (λ l. l.ghost_state) is));
-    sound = ap (λ l. l.ghost_state.faults) is ∙ sound ∙ new.counts.1;
+    faultless = ap (λ l. l.ghost_state.faults) is ∙ faultless ∙ new.counts.1;
     fit = subst IsCounted (sym (ap (λ l. l.ghost_state) is)) fit;
     adds = subst (λ s. Both (Adds may_read) first.modeled s.modeled) (sym (ap (λ l. l.ghost_state) is))
         (adds_on first.modeled (ghost_state opened.disk).modeled (ghost_state read.disk).modeled new.adds reads.adds);

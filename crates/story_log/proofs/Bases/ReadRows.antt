@@ -1,6 +1,7 @@
 -- How the rows of a journal are read, and what reading leaves.
 use Rattle.std.proofs.Common.{◌≡◌, ℕ, ◌&&◌, true, Option, Some, List, [], ◌∷◌, ◌++◌, sym, ap, ap₂, subst, ◌∙◌, inl, inr, arith}
 use Rattle.std.proofs.lemmas.List.{append_assoc, append-nil}
+use Rattle.std.proofs.lemmas.Bool.{and_parts}
 use Rattle.cc_names.specs.Formed.{Plain}
 use Rattle.disk_model.specs.Counting.{next_count}
 use Rattle.disk_model.specs.Devices.{Device, LeavesNow}
@@ -22,7 +23,6 @@ use Rattle.story_log.specs.Bases.Reading.{OnlyReads, NextIs, IsNextRow, IsReadSo
 use Rattle.story_log.specs.Stopping.Standing.{payloads}
 use Rattle.story_log.specs.declared.opening.OpenCause.{OpenCause}
 use Rattle.story_log.specs.declared.opening.OpenCause.TheVariants as causes
-use Rattle.story_log.proofs.Cases.{both}
 use Rattle.story_log.proofs.Logging.Rising.{rises_raised}
 
 -- reads one after the other
@@ -76,7 +76,7 @@ read_more ghost_state base row payload old new h reads next is = record {
 
 -- the row of a base fits those before it
 pub row_fits : (base : Base) (row : Plain) → is_base (row ∷ base) ≡ true → fits base row.deed ≡ true
-row_fits base row good = (both (fits base row.deed) (is_base base) good).0
+row_fits base row good = (and_parts (fits base row.deed) (is_base base) good).0
 
 -- calls that read are added, and more of them
 pub adds_on : (one two three : Option Device) → Both (Adds may_read) one two → Both (Adds may_read) two three
