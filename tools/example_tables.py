@@ -13,6 +13,7 @@ import sys
 import tempfile
 
 import vob
+from check_examples import PHASE
 from tool_words import run
 from vob_rows import VobError
 
@@ -32,20 +33,28 @@ def examples():
     return sorted(EXAMPLES.glob("*.txt"))
 
 
+def form_of(session):
+    """The form of words that runs an example: a text without a phase is one of sites."""
+    return "run" if PHASE.search(session) else "sites"
+
+
 def case(path):
     """The case of an example, without its last line."""
     session = path.read_text()
+    form = form_of(session)
+    settings = "" if form == "run" else f"words f {form}\n!!!!\n"
     told = path.with_suffix(".transcript").read_text().replace("|DATE ", f"|{CLOCK_DATE} ")
     return (f"front alone\nclock {CLOCK}\nThe example {path.stem} of examples/, written by tools/example_tables.py.\n====\n"
-            f"{session}----\n{told}")
+            f"{settings}{session}----\n{told}")
 
 
 def outcome(program, path):
     """The last line of the case: the status, and how many rows the program made."""
     with tempfile.TemporaryDirectory() as folder:
         base = pathlib.Path(folder) / "base"
-        ran = subprocess.run([program, str(base), "run"], input=path.read_bytes(), stdout=subprocess.DEVNULL, check=False)
-        rows = len(vob.read(str(base)).rows) - 1
+        form = form_of(path.read_text())
+        ran = subprocess.run([program, str(base), form], input=path.read_bytes(), stdout=subprocess.DEVNULL, check=False)
+        rows = len(vob.read(str(base)).rows) - 1 if form == "run" else 0
     return f"status {ran.returncode}, {rows} rows\n"
 
 

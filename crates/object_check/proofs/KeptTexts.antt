@@ -3,6 +3,7 @@ use Rattle.std.proofs.Common.{◌≡◌, refl, ap, ap₂, sym, ◌∙◌, ℕ, z
 use Rattle.std.proofs.Common.{nat_lt, Option, Some, None, List, [], ◌∷◌, arith}
 use Rattle.std.proofs.lemmas.Bool.Decides.{nat_tests}
 use Rattle.std.specs.Prelude.{bytes_eq, find, option_and_then, option_map}
+use Rattle.std.proofs.lemmas.Bool.{or_right}
 use Rattle.cc_names.specs.declared.rows.Deed.{Deed}
 use Rattle.cc_names.specs.declared.rows.Deed.TheVariants as deeds
 use Rattle.cc_names.specs.declared.rows.ReadOf.{ReadOf}
@@ -16,14 +17,10 @@ use Rattle.legal_history.specs.Builds.Values.{are_stored, output_of_run, outputs
 use Rattle.legal_history.specs.Builds.Values.{texts_of_entries}
 use Rattle.base_model.specs.Objects.{row_in}
 use Rattle.legal_history.proofs.Reuse.Reruns.{rerun_now}
-use Rattle.legal_history.proofs.Reuse.TrueObjects.{object_text, same_texts}
+use Rattle.legal_history.proofs.Reuse.TrueObjects.{object_text, stored_is}
 use Rattle.object_check.specs.Kept.{KeepsBelow, Values, values_kept, kept_of, text_kept, text_or_output, texts_kept}
 use Rattle.object_check.specs.Needed.{IsClosed, is_object_of, name_object}
 use Rattle.object_check.proofs.NextRows.{entries_before}
-
-stored_is : (outputs : List (List ℕ)) (o : Option (List (List ℕ))) → are_stored outputs o ≡ true → o ≡ Some outputs
-stored_is outputs None h = absurd (cc)
-stored_is outputs (Some others) h = ap Some (sym (same_texts outputs others h))
 
 -- the text of an entry by what is kept of an object, or by what it has stored
 kept_text : (b : Base) (path : List ℕ) (r : ℕ) →
@@ -85,10 +82,6 @@ no_where : (t : Bool) → only_where {A = Option (List (List ℕ))} t None ≡ N
 no_where true = refl
 no_where false = refl
 
-or_second : (a b : Bool) → b ≡ true → (a || b) ≡ true
-or_second true b h = refl
-or_second false b h = h
-
 -- an object that a record has at a path is named by its entries
 pub named : (b : Base) (entries : List ReadOf) (path : List ℕ) (r : ℕ) → row_in entries path ≡ Some r → is_publish b r ≡ true
     → name_object b entries r ≡ true
@@ -104,7 +97,7 @@ named b (entry ∷ entries) path r is object = by (bytes_eq entry.path path) is 
         let alike : (entry.row == r) ≡ true = grind (arith, nat_tests, same) in
         ap₂ (λ one n. (one && is_publish b n) || name_object b entries r) alike same
         ∙ ap (λ one. one || name_object b entries r) object
-    by false is rest = or_second (is_object_of b r entry) (name_object b entries r) (rest is)
+    by false is rest = or_right (is_object_of b r entry) (name_object b entries r) (rest is)
 
 -- what is kept of a row that is named by a needed object is kept by now
 kept_by_now : (id r : ℕ) (needed : ℕ → Bool) (b : Base) (values : Values) → KeepsBelow id needed b values → r < id

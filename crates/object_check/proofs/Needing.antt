@@ -9,13 +9,14 @@ use Rattle.std.specs.Ordering.{nat_cmp}
 use Rattle.std.specs.Prelude.{is_some}
 use Rattle.cc_names.specs.Formed.{Plain}
 use Rattle.cc_names.specs.declared.rows.ReadOf.{ReadOf}
+use Rattle.cc_names.proofs.Common.{and_first, and_second}
 use Rattle.base_model.specs.Rows.{Base, size, row_at, deed_of}
 use Rattle.base_model.specs.Changes.{live_row}
 use Rattle.base_model.specs.Closures.{entries_of_deed, is_publish}
 use Rattle.base_model.specs.Conditions.{is_entry}
 use Rattle.base_model.specs.Fits.{is_base}
 use Rattle.base_model.specs.Objects.{record_of}
-use Rattle.base_model.proofs.Owned.{and_first, and_second, row_fits, rows_below}
+use Rattle.base_model.proofs.Owned.{row_fits, rows_below}
 use Rattle.base_model.proofs.EntriesBelow.{entries_fit, entry_below}
 use Rattle.object_check.specs.Needed.{HasLive, IsClosed, NeedsFrom, name_object}
 
@@ -29,12 +30,6 @@ pub entry_passed : (t p old : Bool) → p ≡ false → old ≡ ((t && p) || old
 entry_passed true true old h = absurd (cc)
 entry_passed true false old h = refl
 entry_passed false p old h = refl
-
-pub taken_before : (more one old : Bool) → (more || (one || old)) ≡ ((one || more) || old)
-taken_before true true old = refl
-taken_before true false old = refl
-taken_before false true old = refl
-taken_before false false old = refl
 
 named_below : (b older : Base) (entries : List ReadOf) (r : ℕ) → list_all (is_entry older) entries ≡ true
     → name_object b entries r ≡ true → r < size older

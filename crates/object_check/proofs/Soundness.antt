@@ -25,7 +25,8 @@ true_among b (row ∷ older) id none some low = by (size older == id) refl
   where
     by : (t : Bool) → (size older == id) ≡ t → (unsound_among b older ≡ None) × (is_dead_or_true b (size older) ≡ true)
         → (unsound_among b older ≡ None → id < size older → is_dead_or_true b id ≡ true) → is_dead_or_true b id ≡ true
-    by true at h among = let number : size older ≡ id = grind (arith, nat_tests) in subst (λ n. is_dead_or_true b n ≡ true) number h.1
+    by true at h among = let number : size older ≡ id = grind (arith, nat_tests) in
+        subst (λ n. is_dead_or_true b n ≡ true) number h.1
     by false apart h among = let before : id < size older = grind (arith, nat_tests, low) in among h.0 before
 
 pub none_is_sound : (b : Base) → first_unsound b ≡ None → IsSound b

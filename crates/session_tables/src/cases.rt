@@ -4,6 +4,7 @@ use crate::asked::{Asked, STOPS};
 use crate::journals::{journal_for, journals_stopped};
 use crate::runs::{Host, Outcome, disk_with, outcome_on};
 use crate::tables::{NOTHING, Preamble};
+use crate::tallies::RunCounts;
 use anyhow::{Context, Result, ensure};
 use disk_model::MemoryDisk;
 use std::sync::Wait;
@@ -20,8 +21,26 @@ fn read_part(text: &str) -> Result<Part<'_>> {
     let (asked, wanted) = text
         .split_once("----\n")
         .context("a session has no line `----` behind it")?;
+    for wanted in wanted.split("----\n") {
+        check_wanted(wanted)?;
+    }
     let asked = Asked::of(asked)?;
     Ok(Part { asked, wanted })
+}
+
+// Where only the end of an output is wanted, a line of it stands above that of the status.
+fn check_wanted(wanted: &str) -> Result<()> {
+    let Some(end) = wanted.strip_prefix("...\n") else {
+        return Ok(());
+    };
+    let (output, _status) = end
+        .split_once("status ")
+        .context("no status is wanted behind `...`")?;
+    ensure!(
+        !output.trim().is_empty(),
+        "no line of output is wanted behind `...`"
+    );
+    Ok(())
 }
 
 // What a session comes to: what is wanted, and the disk that the next one goes on with; or something else.
@@ -51,7 +70,9 @@ fn run_next<R: Threads + Wait + Sync>(
     preamble: Preamble<'_>,
     part: Part<'_>,
     left: &MemoryDisk,
+    counts: &mut RunCounts,
 ) -> Result<Found> {
+    counts.add_run();
     let journal = journal_for(host.rt.alloc(), part.asked, left.bytes(0))?;
     let outcome = outcome_on(host, journal.as_slice(), preamble.asked, part.asked)?;
     Ok(found_of(outcome, preamble, part))
@@ -62,8 +83,10 @@ fn run_stopped<R: Threads + Wait + Sync>(
     host: &Host<'_, R>,
     part: Part<'_>,
     left: MemoryDisk,
+    counts: &mut RunCounts,
 ) -> Result<Found> {
     for journal in journals_stopped(host.rt.alloc(), part.asked, &left)? {
+        counts.add_stop();
         let outcome = outcome_on(host, journal.as_slice(), "", part.asked)?;
         if let Found::Other(reported) = found_of(outcome, NOTHING, part) {
             return Ok(Found::Other(reported));
@@ -78,15 +101,16 @@ fn difference_in<R: Threads + Wait + Sync>(
     host: &Host<'_, R>,
     preamble: Preamble<'_>,
     case: &str,
+    counts: &mut RunCounts,
 ) -> Result<Option<String>> {
     let mut before = preamble;
     let mut left = disk_with(host.rt.alloc(), &[], &[])?;
     for part in case.split("++++\n") {
         let part = read_part(part)?;
         let found = if part.asked.setting(STOPS).is_some() {
-            run_stopped(host, part, left)?
+            run_stopped(host, part, left, counts)?
         } else {
-            run_next(host, before, part, &left)?
+            run_next(host, before, part, &left, counts)?
         };
         left = match found {
             Found::Wanted(disk) => disk,
@@ -105,20 +129,22 @@ fn each_of(case: &str) -> Option<(u64, u64, &str)> {
 }
 
 /// What the first session of a case comes to that comes to something else than the case says. A case that begins with a line
-/// `each FIRST to LAST` is run for each of these numbers, with that in place of `EACH`.
+/// `each FIRST to LAST` is run for each of these numbers, with that in place of `EACH`. Its sessions and runs are added.
 pub(crate) fn first_difference<R: Threads + Wait + Sync>(
     host: &Host<'_, R>,
     preamble: Preamble<'_>,
     case: &str,
+    counts: &mut RunCounts,
 ) -> Result<Option<String>> {
+    counts.add_sessions(case.split("++++\n").count());
     let Some((first, last, case)) = each_of(case) else {
-        return difference_in(host, preamble, case);
+        return difference_in(host, preamble, case, counts);
     };
     ensure!(first <= last, "no number is in each {first} to {last}");
     for number in first..=last {
         let number = format!(in host.rt.alloc(); "{number}")?;
         let case = case.replace(host.rt.alloc(), "EACH", number.as_str())?;
-        if let Some(reported) = difference_in(host, preamble, case.as_str())? {
+        if let Some(reported) = difference_in(host, preamble, case.as_str(), counts)? {
             let reported = format!(in host.rt.alloc(); "with {number}:\n{reported}")?;
             return Ok(Some(reported));
         }
@@ -126,12 +152,19 @@ pub(crate) fn first_difference<R: Threads + Wait + Sync>(
     Ok(None)
 }
 
+// Whether an output ends so, behind a line at least.
+fn ends_as_wanted(written: &str, end: &str) -> bool {
+    match written.strip_suffix(end) {
+        Some(omitted) => omitted.ends_with("\n") && !omitted.trim().is_empty(),
+        None => false,
+    }
+}
+
 // Whether what is written is what is wanted, behind what the front's session writes. Where the first line that is wanted is
-// `...`,
-// only the end is compared.
+// `...`, only the end is compared.
 fn matches_wanted(written: &str, before: &str, wanted: &str) -> bool {
     match (written.strip_prefix(before), wanted.strip_prefix("...\n")) {
-        (Some(written), Some(end)) => !end.is_empty() && written.ends_with(end),
+        (Some(written), Some(end)) => ends_as_wanted(written, end),
         (Some(written), None) if wanted.contains(" shared ") => is_as_wanted(written, wanted),
         (Some(written), None) => written == wanted,
         (None, _) => false,

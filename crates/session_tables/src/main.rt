@@ -2,20 +2,16 @@
 //!
 //! What it is for: the gate sees that sessions come to what the tables say, to the byte: what each command answers, why each is
 //! refused and which reason is reported where there are two, what queries print, what builds make and reuse, that makefiles mean
-//! what
-//! they mean under GNU make, what a base goes on with that is opened again, what is told and left where a disk, a source or a
-//! sink
-//! fails, what stops leave, and how damaged journals are told. A table is a text, so a case costs no proof. And it sees that a
-//! base
-//! of real files goes on with what was written to them.
+//! what they mean under GNU make, what a base goes on with that is opened again, what is told and left where a disk, a source or
+//! a sink fails, what stops leave, and how damaged journals are told. A table is a text, so a case costs no proof. And it sees
+//! that a base of real files goes on with what was written to them.
 //!
 //! What it promises: nothing beside `session_run::run_words`. It is a program whose printed text the gate compares: how many
-//! tables
-//! and cases were run, above that each case that comes to something else, and below it what the sessions on real files write.
+//! tables and cases were run, of how many sessions, on what stops left and in all, above that each case that comes to something
+//! else, and below it what the sessions on real files write.
 //!
 //! What it stands on: `session_run` for sessions, `disk_model` and `cc_outside` for what is outside of them, `cc_names` for
-//! words,
-//! `hex` for the bytes of journals, and `anyhow` for what stops it.
+//! words, `hex` for the bytes of journals, and `anyhow` for what stops it.
 #![tactic(auto)]
 
 mod asked;
@@ -26,35 +22,19 @@ mod reopened;
 mod reported;
 mod runs;
 mod tables;
+mod tallies;
 
 use crate::cases::first_difference;
 use crate::files::{names_in_folder, text_of_file};
 use crate::reopened::run_reopened;
 use crate::runs::Host;
 use crate::tables::{Preamble, Table, preamble_of, table_of};
+use crate::tallies::{RunCounts, Tally};
 use anyhow::{Context, Result};
 use std::process::ExitCode;
 use std::sync::Wait;
 use std::thread::Threads;
 use std::{env, io};
-
-/// How many tables and cases were run, and how many cases came to something else.
-#[derive(Clone, Copy, Default)]
-struct Tally {
-    tables: usize,
-    cases: usize,
-    differing: usize,
-}
-
-impl Tally {
-    fn and(self, more: Tally) -> Tally {
-        Tally {
-            tables: self.tables.saturating_add(more.tables),
-            cases: self.cases.saturating_add(more.cases),
-            differing: self.differing.saturating_add(more.differing),
-        }
-    }
-}
 
 /// Runs the cases of a table, and prints each that comes to something else.
 fn run_cases<R: Threads + Wait + Sync>(
@@ -69,10 +49,10 @@ fn run_cases<R: Threads + Wait + Sync>(
         rt,
         clock: table.clock,
     };
-    let (mut cases, mut differing) = (0_usize, 0_usize);
+    let (mut cases, mut differing, mut counts) = (0_usize, 0_usize, RunCounts::default());
     for case in table.cases.split("====\n") {
         cases = cases.saturating_add(1);
-        if let Some(reported) = first_difference(&host, preamble, case)? {
+        if let Some(reported) = first_difference(&host, preamble, case, &mut counts)? {
             differing = differing.saturating_add(1);
             println!(rt; "{name}: a case comes to\n{reported}and not to what it says:\n{case}")?;
         }
@@ -80,6 +60,7 @@ fn run_cases<R: Threads + Wait + Sync>(
     Ok(Tally {
         tables: 1,
         cases,
+        counts,
         differing,
     })
 }
@@ -137,16 +118,28 @@ fn folder_given(rt: &HostRuntime) -> io::Result<String> {
     }
 }
 
+/// Prints how much was run, and how many cases came to something else.
+fn print_tally(rt: &HostRuntime, tally: Tally) -> io::Result<()> {
+    let Tally {
+        tables,
+        cases,
+        counts,
+        differing,
+    } = tally;
+    let RunCounts {
+        sessions,
+        stops,
+        runs,
+    } = counts;
+    println!(rt; "{tables} tables, {cases} cases, {differing} differ")?;
+    println!(rt; "{sessions} sessions, {stops} stops, {runs} runs")
+}
+
 fn main(rt: HostRuntime) -> Result<ExitCode> {
     let folder = folder_given(&rt)?;
     // Only `main` may lend the handle of the process for threads, to a parameter with their bounds.
     let tally = run_folder(&rt, &rt, folder.as_str())?;
-    let Tally {
-        tables,
-        cases,
-        differing,
-    } = tally;
-    println!(rt; "{tables} tables, {cases} cases, {differing} differ")?;
+    print_tally(&rt, tally)?;
     let status = run_reopened(&rt, &rt)?;
-    Ok(ExitCode::from(status.max(u8::from(differing > 0))))
+    Ok(ExitCode::from(status.max(u8::from(tally.differing > 0))))
 }

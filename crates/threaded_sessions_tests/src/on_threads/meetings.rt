@@ -225,6 +225,44 @@ fn a_unit_is_driven_once_it_is_released(rt: HostRuntime) -> Result<(), Fail> {
     assert_held(&rt, rt.alloc(), &holds, ALONE, RELEASED)
 }
 
+// The first of two builders is dealt `a`, `b`, `c`, which needs `b`, and `all`.
+const RELEASED_BESIDE: &str = "\
+phase
+lane a
+mkview v
+save v Makefile
+|all: a c
+|a:
+|\techo hi > a
+|b:
+|\techo foo > b
+|c: b
+|\tcat b > c
+clearmake v -J 2
+----
+phase 1
+lane a
+1 mkview ok
+2 save ok
+3 clearmake ok
+  a built 3 98ea6e4f216f2fb4b69fff9b3a44842c38686ca685f3f55dc48c5d3fb1107be4
+  b built 4 b5bb9d8014a0f9b1d61e21e796d78dccdf1352f23cd32812f4850b878ae4944c
+  c built 4 b5bb9d8014a0f9b1d61e21e796d78dccdf1352f23cd32812f4850b878ae4944c
+  all made
+status 0, 5 rows
+";
+
+/// The run of `a` lasts until `c` begins, which needs `b`: were `c` left until the units dealt before it have ended, they would
+/// never meet.
+#[test]
+fn a_unit_is_released_while_another_runs(rt: HostRuntime) -> Result<(), Fail> {
+    let holds = [Hold::new(
+        HookPoint::new(1, "a", About::Enter),
+        HookPoint::new(1, "c", About::Enter),
+    )];
+    assert_held(&rt, rt.alloc(), &holds, ALONE, RELEASED_BESIDE)
+}
+
 // The first of two builders is dealt `a`, `x`, `f`, which needs `x`, and `d`, which needs `a`.
 const LAID_TWICE: &str = "\
 phase

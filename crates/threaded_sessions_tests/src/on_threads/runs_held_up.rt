@@ -160,8 +160,8 @@ fn a_run_reads_what_its_build_began_with(rt: HostRuntime) -> Result<(), Fail> {
     )
 }
 
-// While lane a builds in a view nobody else saves or builds there. The versions stay as they are, so view `w` keeps what lane b
-// built in it by the label.
+// While lane a builds in a view nobody else changes it or builds there, by whichever command. The versions stay as they are, so
+// view `w` keeps what lane b built in it by the label.
 const VIEW_BUSY: &str = "\
 phase
 lane a
@@ -211,6 +211,56 @@ lane b
   pre built 3 98ea6e4f216f2fb4b69fff9b3a44842c38686ca685f3f55dc48c5d3fb1107be4
 2 clearmake refused C18 Building a 2
 3 clearmake ok
+  out built 4 b5bb9d8014a0f9b1d61e21e796d78dccdf1352f23cd32812f4850b878ae4944c
+status 1, 20 rows
+====
+phase
+lane a
+clearmake v2 out
+lane b
+clearmake v pre
+rmview v2
+rmview -force v2
+setcs v2
+|element * /main/LATEST
+mkelem v2 new
+mkdir v2 d
+checkout v2 in
+mkbranch v2 fix in
+save v2 note
+|text
+rm v2 note
+checkin v2 in
+uncheckout v2 in
+rmname v2 in
+mv v2 in input
+rmdo v2 out
+clearmake v2 pre
+clearmake w out
+----
+phase 2
+lane a
+1 clearmake ok
+  out built 4 7d865e959b2466918c9863afca942d0fb89d7c9ac0c99bafc3749504ded97730
+lane b
+1 clearmake ok
+  pre built 3 98ea6e4f216f2fb4b69fff9b3a44842c38686ca685f3f55dc48c5d3fb1107be4
+2 rmview refused C18 Building a 1
+3 rmview refused C18 Building a 1
+4 setcs refused C18 Building a 1
+5 mkelem refused C18 Building a 1
+6 mkdir refused C18 Building a 1
+7 checkout refused C18 Building a 1
+8 mkbranch refused C18 Building a 1
+9 save refused C18 Building a 1
+10 rm refused C18 Building a 1
+11 checkin refused C18 Building a 1
+12 uncheckout refused C18 Building a 1
+13 rmname refused C18 Building a 1
+14 mv refused C18 Building a 1
+15 rmdo refused C18 Building a 1
+16 clearmake refused C18 Building a 1
+17 clearmake ok
   out built 4 b5bb9d8014a0f9b1d61e21e796d78dccdf1352f23cd32812f4850b878ae4944c
 status 1, 20 rows
 ";

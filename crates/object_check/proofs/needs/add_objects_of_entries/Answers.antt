@@ -4,8 +4,8 @@ use Rattle.std.proofs.lemmas.List.{at_drop_all, at_drop_more}
 use Rattle.std.specs.BTreeSet.{contains}
 use Rattle.std.specs.Ordering.{nat_cmp}
 use Rattle.cc_names.specs.declared.rows.ReadOf.{ReadOf}
+use Rattle.cc_names.proofs.Common.{or_moved}
 use Rattle.object_check.specs.Needed.{is_object_of, name_object}
-use Rattle.object_check.proofs.Needing.{taken_before}
 use Rattle.object_check.proofs.needs.add_objects_of_entries.Goals as goal
 
 pub loop-entry-preserved : goal.loop-entry-preserved
@@ -17,7 +17,7 @@ loop-entry-preserved c = λ q.
     let more = name_object b (drop (i + 1) entries) q in
     let old = contains nat_cmp c.loop-entry.needed q in
     ap (λ has. more || has) (c.in_ok-add_object_of_entry.ensures q)
-    ∙ taken_before more (is_object_of b q entry) old
+    ∙ or_moved more (is_object_of b q entry) old
     ∙ ap (λ (one : ReadOf). name_object b (one ∷ drop (i + 1) entries) q || old) c.entry-item.is
     ∙ sym (at_drop_more (λ (left : List ReadOf). name_object b left q || old) entries i entry c.loop-entry-test.true)
     ∙ c.loop-entry.invariant q
