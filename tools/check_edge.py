@@ -57,7 +57,7 @@ REPLIES = [b"phase 1\nlane a\n1 mkview ok\n2 save ok\n", b"phase 2\nlane a\n1 sa
 
 def foreign_line(name, row, count):
     """The line on foreign bytes."""
-    ends = f"the base ends at row {row}: {count} bytes behind it are no row, and the next row is written over them"
+    ends = f"the base ends at row {row}; the {count} bytes after it are not rows, and the next commit overwrites them"
     return f"ccbase: {name}: {ends}\n".encode()
 
 
@@ -274,7 +274,7 @@ def damaged_base(edge):
     damaged = whole[:start] + b"\xff" + whole[start + 1 :]
     edge.write("b", damaged)
     os.remove(edge.path("b.objects"))
-    errors = b"ccbase: b: row 3 is damaged: nothing was run, and nothing is changed\n"
+    errors = b"ccbase: b: row 3 is damaged; nothing was run or changed\n"
     edge.has(["b", "run"], text, (4, b"damaged 3\n", errors))
     same("a damaged base", edge.read("b"), damaged)
     edge.has_none_but(["b"])

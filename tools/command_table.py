@@ -309,11 +309,11 @@ MISSING = (
 )
 
 STATUSES = (
-    Status(0, "each command was carried out, and each unit of each build is made; each live object is what its record gives"),
-    Status(1, "a command was refused, or a unit of a build failed or was blocked; a live object is not what its record gives"),
-    Status(2, "the words are none of the forms"),
-    Status(3, "the text is no session"),
-    Status(4, "the journal is damaged: FILE has a frame that is no row, or whose row does not fit"),
+    Status(0, "every command was carried out, and every unit of every build was made; or the base is sound"),
+    Status(1, "a command was refused, or a unit failed or was blocked; or the base is not sound"),
+    Status(2, "the arguments are none of the forms"),
+    Status(3, "the text is not a session"),
+    Status(4, "the journal is damaged: FILE has a frame that is not a row, or a row that is not valid after those before it"),
     Status(5, "the input failed"),
     Status(6, "the output failed"),
     Status(7, "the disk failed"),

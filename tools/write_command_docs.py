@@ -176,17 +176,17 @@ and
 and writes a summary of its replies in five lines. It reads no input.
 .PP
 .B ccbase sites
-reads a text of sites from standard input: what happens at up to 64 sites that exchange packets, a line each. It writes a
-reply to each line.
+reads from standard input what happens at up to 64 replicas that exchange packets, one event a line, and writes a reply to
+each. It is a model of replicas on its own:
 .I FILE
-is neither opened nor made.
+is neither opened nor created.
 .PP
 .I FILE
 must be a base, or absent. Any other file whose bytes begin no row is treated as an empty base, and
 .BR "the first commit overwrites it" .
-Before that a line on standard error says how many of its bytes are no row. There may be no line for a
+Before that a line on standard error says how many of its bytes are not rows. There may be no such line if
 .I FILE
-that begins with a byte 0 or 1, as some pictures and videos do. To look first, run
+begins with a byte 0 or 1, as some pictures and videos do. To look first, run
 .BR "ccbase FILE run < /dev/null" ,
 which writes nothing into an existing
 .IR FILE .
@@ -289,14 +289,14 @@ def help_list():
     """The list of `ccbase --help`."""
     shown = [(command.form, command.does) for command in table.commands()]
     indent = 34
-    lines = ["The lines of a session; save and setcs are followed by a text, each line of it with a | before it"]
+    lines = ["The lines of a session. After save and setcs a text follows, each line of it begun by |"]
     for form, does in shown:
-        told = textwrap.wrap(does, WIDTH - indent)
+        wrapped = textwrap.wrap(does, WIDTH - indent)
         head = f"  {form}"
         if len(head) >= indent:
             lines.append(head)
             head = ""
-        lines += [f"{front:{indent}}{part}" for front, part in zip([head] + [""] * len(told), told)]
+        lines += [f"{left:{indent}}{part}" for left, part in zip([head] + [""] * len(wrapped), wrapped)]
     return "\n".join(lines) + "\n"
 
 
@@ -313,8 +313,8 @@ def help_source():
     """The source file of the help, with the list between the line that the list begins with and the statuses."""
     source = (TOP / HELP).read_text()
     shown = help_list()
-    front, _, rest = source.partition(shown.partition("\n")[0])
-    return front + shown + "\nEnds with the status\n" + rest.partition("\nEnds with the status\n")[2]
+    before, _, rest = source.partition(shown.partition("\n")[0])
+    return before + shown + "\nEnds with the status\n" + rest.partition("\nEnds with the status\n")[2]
 
 
 FILES = {

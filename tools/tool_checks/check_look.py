@@ -116,7 +116,7 @@ def check_check(bench):
     same("the digest of the frames", frames[3], hashlib.sha256(whole[:-1]).hexdigest())
     bench.write("f.base", whole[:-1] + b"hello, world\n")
     said = bench.run([bench.program, "f.base", "run"], b"").errors
-    holds("the program tells of 13 foreign bytes", f"at row {frames[1]}: 13 bytes behind it are no row" in said, said)
+    holds("the program tells of 13 foreign bytes", f"at row {frames[1]}; the 13 bytes after it are not rows" in said, said)
     holds("check reports them", "after them 13 bytes, foreign" in bench.answers("look.py", "f.base", "check"))
     bench.write("c.base", whole[:-10])
     holds("a frame cut short", "as after a row or a crash" in bench.answers("look.py", "c.base", "check"))

@@ -8,27 +8,27 @@ ccbase FILE sites
 ccbase --help, ccbase -h, ccbase help
 ccbase --version
 
-run reads a session from standard input, runs it on the base that the files FILE and FILE.objects keep, and writes its
-replies to standard output. FILE is locked meanwhile. Files that are absent are made, and are an empty base.
+run reads a session from standard input, runs it on the base in FILE and FILE.objects, and writes the replies to
+standard output. FILE is locked meanwhile. Absent files are created, as an empty base.
 
-verify runs the script of each live object again, on what its record lists. It writes `sound N`, where N objects are
-live and each is what its script gives, else `unsound ROW`, the first that is not. It changes nothing and reads no
-input.
+verify runs the script of every live object again, on the inputs of its configuration record. It writes `sound N` if
+all N live objects have the outputs that their scripts give, else `unsound ROW`, the row of the first that has not. It
+changes nothing and reads no input.
 
-big runs a large session that SEED and SIZE make, on FILE, and writes a summary of its replies: commands, refused,
-units, bytes of objects, and a digest. SEED is below 2^64 and SIZE from 1 to 1000. It reads no input.
+big runs a large session, generated from SEED and SIZE, on FILE, and writes a summary of its replies: commands,
+refused, units, bytes of objects, and a digest. SEED is below 2^64 and SIZE from 1 to 1000. It reads no input.
 
-sites reads a text of sites from standard input: what happens at up to 64 sites that exchange packets, a line each. It
-writes a reply to each line. It is a model of replicas that stands alone: FILE is neither opened nor made.
+sites reads from standard input what happens at up to 64 replicas that exchange packets, one event a line, and writes
+a reply to each. It is a model of replicas on its own: FILE is neither opened nor created.
 
-NAME A BASE, OR NOTHING. Any other FILE, a text or a picture, is taken for an empty base, and the first row that is
-made is WRITTEN OVER IT. Before that a line on standard error says how many of its bytes are no row. There may be no
-line for a FILE that begins with a byte 0 or 1, as some pictures and videos do. To look first, run an empty session,
-which writes nothing into a FILE that is there:
+FILE MUST BE A BASE, OR ABSENT. Any other file is treated as an empty base, and the first commit OVERWRITES IT. Before
+that a line on standard error says how many of its bytes are not rows. There may be no such line if FILE begins with a
+byte 0 or 1, as some pictures and videos do. To look first, run an empty session, which writes nothing into an
+existing FILE:
 
     ccbase FILE run < /dev/null
 
-The lines of a session; save and setcs are followed by a text, each line of it with a | before it
+The lines of a session. After save and setcs a text follows, each line of it begun by |
   phase                           begins a phase, after all lanes of the previous one have ended
   lane NAME                       begins a lane; the lanes of a phase run concurrently
   mkview V                        makes a view with the default config spec
@@ -70,15 +70,15 @@ The lines of a session; save and setcs are followed by a text, each line of it w
   scrub AGE                       removes objects without references that are AGE seconds old or more
 
 Ends with the status
-  0  each command was carried out, and each unit of each build is made; sound
-  1  a command was refused, or a unit of a build failed or was blocked; unsound
-  2  the words are none of the forms
-  3  the text is no session
-  4  the journal is damaged: FILE has a frame that is no row, or whose row does not fit or is of a deed not made yet
+  0  every command was carried out, and every unit of every build was made; or the base is sound
+  1  a command was refused, or a unit failed or was blocked; or the base is not sound
+  2  the arguments are none of the forms above
+  3  the text is not a session
+  4  the journal is damaged: FILE has a frame that is not a row, or a row that is not valid after those before it
   5  the input failed
   6  the output failed
   7  the disk failed
-  8  memory ran out, or the system gave no random numbers: then a line on standard error says so
+  8  memory ran out; or the system gave no random numbers, and a line on standard error says so
   9  the text has more than 16,777,216 bytes
-Where it is not 0, 1 or 8, a line on standard error says why.
+Unless it is 0, 1 or 8, a line on standard error says why.
 ";

@@ -43,14 +43,14 @@ fn count_rows<R: Files<File = File> + AllocGlobal>(
     Ok((None, journal.into_disk()))
 }
 
-/// Says that so many bytes behind the last row of FILE are no row, and which row that is, if it is known.
+/// Says that so many bytes after the last row of FILE are not rows, and the number of that row, if it is known.
 fn tell_foreign(rt: &HostRuntime, file: &str, count: u64, rows: Option<u64>) -> io::Result<()> {
     match rows {
         Some(rows) => eprintln!(rt;
-            "ccbase: {file}: the base ends at row {rows}: {count} bytes behind it are no row, and the next row is written over them"
+            "ccbase: {file}: the base ends at row {rows}; the {count} bytes after it are not rows, and the next commit overwrites them"
         ),
         None => eprintln!(rt;
-            "ccbase: {file}: {count} bytes behind the last row are no row, and the next row is written over them"
+            "ccbase: {file}: the {count} bytes after the last row are not rows, and the next commit overwrites them"
         ),
     }
 }
@@ -58,11 +58,11 @@ fn tell_foreign(rt: &HostRuntime, file: &str, count: u64, rows: Option<u64>) -> 
 /// Says that memory ran out before FILE was looked at.
 fn tell_no_look(rt: &HostRuntime, file: &str) -> io::Result<()> {
     eprintln!(rt;
-        "ccbase: {file}: no memory to look for bytes that are no row: the next row is written over any that there are"
+        "ccbase: {file}: no memory to look for bytes that are not rows; the next commit overwrites any"
     )
 }
 
-/// Says how many bytes behind the last row of FILE are no row, where they are more than a row that was cut short can be. Answers
+/// Says how many bytes after the last row of FILE are not rows, if they are more than a torn row can be. Answers
 /// the disk; it is the error where it failed.
 fn looked_at<R: Files<File = File> + AllocGlobal>(
     rt: &HostRuntime,

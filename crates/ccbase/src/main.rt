@@ -3,8 +3,7 @@
 //! What it is for: `ccbase FILE run` reads a session from standard input, runs it on the base that the files FILE and
 //! FILE.objects keep, and writes its replies to standard output. `ccbase FILE verify` tells whether the objects of the base are
 //! what their records give, `ccbase FILE big SEED SIZE` runs a large session and writes a summary, and `ccbase FILE sites`
-//! replies to
-//! a text of sites.
+//! replies to a text of sites.
 //!
 //! What it promises: it adds nothing to `session_run::run_words` but the streams of the process, its clock, its threads, its two
 //! files, the help and the version, and lines on standard error: what of FILE is no base, and why a session was not carried out.
@@ -102,13 +101,13 @@ fn texts_of(alloc: Global, words: &[String]) -> Result<Vec<Text>, NoMemory> {
 /// What is wrong with a line of a session, for its writer.
 fn fault_words(cause: SessionCause) -> &'static str {
     match cause {
-        SessionCause::NoPhase => "there is no line 'phase' above it",
-        SessionCause::NoLane => "there is no line 'lane NAME' above it in this phase",
-        SessionCause::NoBody => "a line of text ('|') stands where none may",
-        SessionCause::TwoLanes => "a lane of this name is in this phase already",
+        SessionCause::NoPhase => "no line 'phase' comes before it",
+        SessionCause::NoLane => "no line 'lane NAME' comes before it in this phase",
+        SessionCause::NoBody => "no text ('|') may follow the line before",
+        SessionCause::TwoLanes => "this phase already has a lane of this name",
         SessionCause::TooManyLanes => "a phase has at most 64 lanes",
         SessionCause::UnknownCommand => "no such command",
-        SessionCause::BadWord => "a word is missing, wrong, or one too many",
+        SessionCause::BadWord => "a word is missing or wrong, or there is one too many",
     }
 }
 
@@ -129,7 +128,7 @@ fn tell_cause(
             fault_words(error.cause)
         ),
         Status::Damaged(row) => eprintln!(rt;
-            "ccbase: {file}: row {row} is damaged: nothing was run, and nothing is changed"
+            "ccbase: {file}: row {row} is damaged; nothing was run or changed"
         ),
         Status::ReadFault => eprintln!(rt; "ccbase: standard input: a read failed"),
         Status::WriteFault => eprintln!(rt; "ccbase: standard output: a write failed"),
