@@ -49,8 +49,6 @@ LAWS = {
 
 # Rows that are still to be mended, with what they measure today.
 KNOWN = {
-    "scrubs": {"seconds": 2.1},
-    "scrubbed-builds": {"seconds": 1.75},
     "rebuilds": {"seconds": 1.8},
     "links": {"seconds": 1.8},
     "links-opening": {"seconds": 1.85},
@@ -63,14 +61,10 @@ KNOWN = {
     "opening": {"bytes_each": 386},
     "lanes": {"ratio": 2.3},
     "lanes-busy": {"ratio": 8.0},
-    "branches": {"seconds": 1.9},
-    "branches-opening": {"seconds": 1.9},
-    "directory-branches": {"seconds": 1.8},
     "view-checkouts": {"seconds": 2.1},
     "group-listing": {"seconds": 2.8},
     "descriptions": {"seconds": 1.95},
     "version-trees": {"seconds": 2.1},
-    "suffix-fronts": {"seconds": 2.7},
     "suffix-rules": {"seconds": 1.95},
     "prerequisites": {"seconds": 2.0, "memory": 1.8},
     "late-units": {"seconds": 2.2},
