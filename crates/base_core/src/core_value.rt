@@ -65,8 +65,10 @@ impl<D: Disk> Core<D> {
     /// `fits`, and writes nothing. Names are found by hashing them so. A disk whose base cannot be opened comes back with the
     /// cause.
     pub fn open(alloc: Global, hashing: RandomState, disk: D) -> Result<Core<D>, OpenFault<D>>
-        requires { IfModeled (D.ghost_state disk).modeled (λ d. file_of 0 d ≡ stable (bytes_now 0 d)) }
-        ensures ok { IfOk result (λ core. OpensCore (D.ghost_state disk) core.story core.ghost_state) }
+        requires { IfModeled (D.ghost_state disk).modeled
+            (λ d. file_of 0 d ≡ stable (bytes_now 0 d)) }
+        ensures ok { IfOk result
+            (λ core. OpensCore (D.ghost_state disk) core.story core.ghost_state) }
         ensures err { IfErr result
             (λ fault. FailsToOpen (D.ghost_state disk) fault.cause (D.ghost_state fault.disk)) }
     {
@@ -137,17 +139,18 @@ impl<D: Disk> Core<D> {
         self.log.counts()
     }
 
-    /// Settles the journal where a fault left its tail open, by two device calls, or one that fails; elsewhere it makes none, and
-    /// the disk is as it was. A fault that left no row left the tail shut, unless it stands as it was opened. The file of objects
-    /// is as it was in any case. Afterwards no stop finds more than the rows of the base; where it fails, the disk's count of
-    /// faults has passed that of each fault of the story.
+    /// Settles the journal where a fault left its tail open, by two device calls, or one that fails; elsewhere it makes
+    /// none, and the disk is as it was. A fault that left no row leaves the tail settled, unless the tail is as it was
+    /// at opening. The file of objects is as it was in any case. Afterwards no crash finds more than the rows of the
+    /// base; where it fails, the disk's count of faults has passed that of each fault of the history.
     pub fn finish(&mut self) -> Result<(), DiskFault>
         ensures same { self.new.story ≡ self.old.story }
         ensures ok { OnOk result (IsSettled (state_of self.new.story) self.new.ghost_state) }
         ensures err { OnErr result
             (rises (faults_of (state_of self.new.story).opened (state_of self.new.story).ends)
             self.new.ghost_state.faults ≡ true) }
-        ensures faults { MatchResult result (λ _. self.new.ghost_state.faults ≡ self.old.ghost_state.faults)
+        ensures faults { MatchResult result
+            (λ _. self.new.ghost_state.faults ≡ self.old.ghost_state.faults)
             (λ _. self.new.ghost_state.faults ≡ next_count self.old.ghost_state.faults) }
         ensures few { self.new.ghost_state.ticks ≤ self.old.ghost_state.ticks + 2 }
         ensures writes { Both WritesOn self.old.ghost_state.modeled self.new.ghost_state.modeled }

@@ -9,20 +9,19 @@ use Rattle.std.specs.Cmp.{IsTotalOrder, unsigned_tied, tied_itself}
 use Rattle.std.specs.Cmp.Lexicographic.{slice_cmp}
 use Rattle.std.specs.FinMap.Entries.{put, find, find-put, by_order}
 use Rattle.std.specs.Option.{option_or}
-use Rattle.std.specs.Ordering.{nat_cmp, is_eq, ordering_then, eq_by_cmp}
+use Rattle.std.specs.Ordering.{nat_cmp, is_eq, eq_by_cmp}
 use Rattle.std.specs.Prelude.{is_some, bytes_eq, option_map, find as find_in}
 use Rattle.std.specs.declared.cmp.Ordering.{Ordering}
 use Rattle.std.specs.declared.cmp.Ordering.TheVariants.{Less, Equal, Greater}
 use Rattle.cc_names.specs.declared.rows.ReadOf.{ReadOf}
+use Rattle.cc_names.proofs.Common.{is_eq_then, same_number, and_first, and_second}
 use Rattle.base_model.specs.Rows.{Base, size, only_where}
 use Rattle.base_model.specs.Closures.{Input, Inputs, input_cmp, joined_inputs, inputs_of_entry, inputs_of, closure}
 use Rattle.base_model.specs.Closures.{entries_of_deed, is_publish}
 use Rattle.base_model.specs.Objects.{row_in, uncovered_among, agrees}
 use Rattle.base_model.specs.Seen.{file_at}
-use Rattle.base_model.proofs.Tables.{same_number}
-use Rattle.base_model.proofs.Owned.{and_first, and_second}
 
-inputs_total : IsTotalOrder input_cmp
+pub inputs_total : IsTotalOrder input_cmp
 inputs_total = then_total (on_total (λ (input : Input). input.0) nat_list_cmp_total)
     (on_total (λ (input : Input). input.1) nat_cmp_total)
 
@@ -81,12 +80,6 @@ entry_covered rows b of_object (entry ∷ entries) path r h is =
         has)))
     by false e is rest = rest is
 
--- both of two orders tie
-ties : (one two : Ordering) → is_eq (ordering_then one two) ≡ (is_eq one && is_eq two)
-ties Less two = refl
-ties Equal two = refl
-ties Greater two = refl
-
 -- inputs that tie are one
 pub record OneInput (q s : Input) : Type 0 where
   pub path : q.0 ≡ s.0
@@ -94,7 +87,7 @@ pub record OneInput (q s : Input) : Type 0 where
 
 pub one_input : (q s : Input) → eq_by_cmp input_cmp q s ≡ true → OneInput q s
 one_input q s h =
-    let both = sym (ties (slice_cmp nat_cmp q.0 s.0) (nat_cmp q.1 s.1)) ∙ h in
+    let both = sym (is_eq_then (slice_cmp nat_cmp q.0 s.0) (nat_cmp q.1 s.1)) ∙ h in
     record {
       path = (bytes_eq-Decides q.0 s.0).0 (sym (is_eq-slice_cmp q.0 s.0)
           ∙ and_first (is_eq (slice_cmp nat_cmp q.0 s.0)) (is_eq (nat_cmp q.1 s.1)) both);

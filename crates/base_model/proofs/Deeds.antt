@@ -2,8 +2,8 @@
 use Rattle.std.proofs.Common.{◌≡◌, refl, ℕ, suc, ◌<◌, Bool, true, false, ◌==◌, Option, Some, [], ◌∷◌, arith}
 use Rattle.cc_names.specs.Formed.{Plain}
 use Rattle.cc_names.specs.declared.rows.Deed.{Deed}
+use Rattle.cc_names.proofs.Common.{same_number}
 use Rattle.base_model.specs.Rows.{Base, size, row_at, deed_of, deed_at}
-use Rattle.base_model.proofs.Tables.{same_number}
 
 pub deed_below : (b : Base) (r : ℕ) (deed : Deed) → deed_at b r ≡ Some deed → r < size b
 deed_below [] r deed h = absurd (cc)

@@ -6,14 +6,13 @@ use Rattle.std.specs.Prelude.{bytes_eq, find, option_map}
 use Rattle.cc_names.specs.declared.rows.Deed.{Deed}
 use Rattle.cc_names.specs.declared.rows.Deed.TheVariants as deeds
 use Rattle.cc_names.specs.declared.rows.ReadOf.{ReadOf}
+use Rattle.cc_names.proofs.Common.{same_number, and_first, and_second}
 use Rattle.base_model.specs.Rows.{Base, size, deed_at}
 use Rattle.base_model.specs.Changes.{targets_of_deed}
 use Rattle.base_model.specs.Closures.{entries_of_deed, is_path_among}
 use Rattle.base_model.specs.Conditions.{exists, is_entry, makes_file_text}
 use Rattle.base_model.specs.Fits.{deed_fits}
 use Rattle.base_model.specs.Objects.{row_in}
-use Rattle.base_model.proofs.Tables.{same_number}
-use Rattle.base_model.proofs.Owned.{and_first, and_second}
 use Rattle.base_model.proofs.Deeds.{deed_below}
 
 -- only row 0 is a row that says that nothing was there
@@ -33,7 +32,7 @@ entry_below b entry h = by (deed_at b entry.row) refl h
 abbrev pub AreBelow : ℕ → List ReadOf → Type 0
 AreBelow n entries = (path : List ℕ) (r : ℕ) → row_in entries path ≡ Some r → r < n
 
-entries_below : (b : Base) (entries : List ReadOf) → list_all (is_entry b) entries ≡ true → AreBelow (size b) entries
+pub entries_below : (b : Base) (entries : List ReadOf) → list_all (is_entry b) entries ≡ true → AreBelow (size b) entries
 entries_below b [] h = λ path r is. absurd (cc)
 entries_below b (entry ∷ entries) h = λ path r is. by path r (bytes_eq entry.path path) is
     (entries_below b entries (and_second (is_entry b entry) (list_all (is_entry b) entries) h) path r)

@@ -2,6 +2,7 @@
 use Rattle.std.proofs.Common.{◌≡◌, refl, ap, subst, ◌∙◌, ℕ, ◌<◌, Bool, true, false, ◌||◌, Option, Some, None, List, [], ◌∷◌}
 use Rattle.std.proofs.Common.{◌++◌, arith}
 use Rattle.std.specs.Prelude.{reverse}
+use Rattle.std.proofs.lemmas.Bool.{or_left, or_right}
 use Rattle.cc_names.specs.Formed.{Plain}
 use Rattle.cc_names.specs.Paths.{names_of, path_of_names}
 use Rattle.cc_names.specs.Versions.{kind_of}
@@ -18,7 +19,6 @@ use Rattle.base_model.specs.Conditions.{element_of_text, is_put, is_file, is_fil
 use Rattle.base_model.specs.Fits.{is_base}
 use Rattle.base_model.specs.Seen.{at, file_at, file_seen, row_of_file}
 use Rattle.base_model.proofs.PrivateFiles.{private_at}
-use Rattle.base_model.proofs.Either.{or_first, or_second}
 use Rattle.base_model.proofs.Makings.{seen_element}
 use Rattle.base_model.proofs.Picks.{IsPick, picked_is}
 use Rattle.base_model.proofs.Stay.{row_stays}
@@ -34,7 +34,7 @@ pub record FileText (b : Base) (r : ℕ) : Type 0 where
 text_is_file : (b : Base) (r e : ℕ) → kind_of (tree b) e ≡ Some File → TextAt b r e → FileText b r
 text_is_file b r e kind h = record {
   low = h.low;
-  makes = ap (makes_file_text b r) h.made ∙ or_second (is_put h.deed) (is_some_file b (element_of_text b r h.deed))
+  makes = ap (makes_file_text b r) h.made ∙ or_right (is_put h.deed) (is_some_file b (element_of_text b r h.deed))
       (ap (is_some_file b) h.of_element ∙ ap is_file_kind kind);
 }
 
@@ -42,7 +42,7 @@ put_is_file : (b : Base) (r : ℕ) → PutAt b r → FileText b r
 put_is_file b r h = record {
   low = h.low;
   makes = ap (makes_file_text b r) h.made
-      ∙ or_first (is_put h.deed) (is_some_file b (element_of_text b r h.deed)) h.puts;
+      ∙ or_left (is_put h.deed) (is_some_file b (element_of_text b r h.deed)) h.puts;
 }
 
 -- the row of a file that is seen, if it is not row 0

@@ -30,14 +30,11 @@ use Rattle.base_model.proofs.Picks.{IsPick, picked_is}
 use Rattle.base_model.proofs.Stay.{text_stays_all, first_rows_stay, all_rows}
 use Rattle.base_model.proofs.VersionsStay.{of_element, parts_of}
 use Rattle.std.proofs.lemmas.Bool.{ltb-true, ltb-false}
+use Rattle.base_model.proofs.OwnRows.{ends_none}
 
 sets_own : (test : Bool) (n r : ℕ) → only_if test (Sets n) ≡ Sets r → r ≡ n
 sets_own true n r h = cc
 sets_own false n r h = absurd (cc)
-
-ends_none : (test : Bool) (r : ℕ) → only_if test Ends ≡ Sets r → ⊥
-ends_none true r h = cc
-ends_none false r h = cc
 
 private_sets : (v p : List ℕ) (n r : ℕ) (deed : Deed) → private_effect v p n deed ≡ Sets r → r ≡ n
 private_sets v p n r (deeds.Mkview w) h = absurd (ends_none (bytes_eq w v) r h)

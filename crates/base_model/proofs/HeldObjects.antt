@@ -6,6 +6,7 @@ use Rattle.std.specs.Cmp.{IsTotalOrder}
 use Rattle.std.specs.List.{list_any, list_all}
 use Rattle.std.specs.Prelude.{T, is_some, bytes_eq}
 use Rattle.std.specs.FinMap.Entries.{put, is_sorted, is_sorted-put, is_sorted-where_key}
+use Rattle.std.proofs.lemmas.Bool.{or_left, or_right}
 use Rattle.cc_names.specs.Formed.{Plain}
 use Rattle.cc_names.specs.Last.{Ends, Sets, only_if, value_after}
 use Rattle.cc_names.specs.References.{ReferencesByPath, ViewPath, view_path_cmp, is_view_path, won, references, held_at, is_held}
@@ -14,13 +15,12 @@ use Rattle.cc_names.specs.declared.changes.ReferenceChange.{ReferenceChange}
 use Rattle.cc_names.specs.declared.changes.ReferenceChange.TheVariants.{Won, Lost, ViewGone}
 use Rattle.cc_names.specs.declared.rows.Deed.{Deed}
 use Rattle.cc_names.specs.declared.rows.Deed.TheVariants as deeds
+use Rattle.cc_names.proofs.Common.{same_number, and_first, and_second}
 use Rattle.base_model.specs.Rows.{Base, size}
 use Rattle.base_model.specs.Changes.{objects_held, holdings, holdings_after, live_row, live_effect, targets_of}
 use Rattle.base_model.specs.Conditions.{exists, may_be_scrubbed}
 use Rattle.base_model.specs.Fits.{deed_fits, is_base}
-use Rattle.base_model.proofs.Either.{or_first, or_second}
-use Rattle.base_model.proofs.Tables.{same_number}
-use Rattle.base_model.proofs.Owned.{row_fits, rows_below, and_first, and_second, same_is_same}
+use Rattle.base_model.proofs.Owned.{row_fits, rows_below, same_is_same}
 use Rattle.base_model.proofs.Values.{AllValues, all_as, all_both, all_put, all_where, all_found}
 
 abbrev pub Lives : Base → ℕ → Type 0
@@ -30,9 +30,9 @@ Lives b id = is_some (live_row b id) ≡ true
 all_are_held : (objects_held : ReferencesByPath) → AllValues (λ id. is_held objects_held id ≡ true) objects_held
 all_are_held [] = tt
 all_are_held (entry ∷ objects_held) = (
-  or_first (entry.1 == entry.1) (is_held objects_held entry.1) (same_is_same entry.1),
+  or_left (entry.1 == entry.1) (is_held objects_held entry.1) (same_is_same entry.1),
   all_as (λ id. is_held objects_held id ≡ true) (λ id. is_held (entry ∷ objects_held) id ≡ true) objects_held
-      (λ id h. or_second (entry.1 == id) (is_held objects_held id) h) (all_are_held objects_held),
+      (λ id h. or_right (entry.1 == id) (is_held objects_held id) h) (all_are_held objects_held),
 )
 
 -- an object that some view holds is none of those that may be scrubbed

@@ -4,9 +4,8 @@ use Rattle.std.proofs.Common.{List, [], ◌∷◌}
 use Rattle.std.proofs.lemmas.Map.Text.{is_eq-slice_cmp}
 use Rattle.std.proofs.lemmas.Slice.Eq.{bytes_eq-Decides}
 use Rattle.std.specs.Bool.{⊤}
-use Rattle.std.specs.declared.cmp.Ordering.{Ordering}
-use Rattle.std.specs.declared.cmp.Ordering.TheVariants.{Less, Equal, Greater}
-use Rattle.std.specs.Ordering.{nat_cmp, is_eq, ordering_then, eq_by_cmp}
+use Rattle.std.specs.declared.cmp.Ordering.TheVariants.{Equal}
+use Rattle.std.specs.Ordering.{nat_cmp, is_eq, eq_by_cmp}
 use Rattle.std.specs.Cmp.Lexicographic.{slice_cmp}
 use Rattle.std.specs.FinMap.Entries.{put, find-put, find-where_key}
 use Rattle.std.specs.Prelude.{bytes_eq}
@@ -14,32 +13,26 @@ use Rattle.cc_names.specs.References.{ViewPath, ReferencesByPath, view_path_cmp,
 use Rattle.cc_names.specs.References.{held_at, references}
 use Rattle.cc_names.specs.declared.rows.Deed.{Deed}
 use Rattle.cc_names.specs.declared.rows.Deed.TheVariants as deeds
+use Rattle.cc_names.proofs.Common.{is_eq_then, and_first, and_second}
 use Rattle.base_model.specs.Rows.{Base, size}
 use Rattle.base_model.specs.Changes.{objects_held, holdings, holdings_after, targets_of}
 use Rattle.base_model.specs.Closures.{is_path_among}
-use Rattle.base_model.proofs.Owned.{and_first, and_second}
 use Rattle.base_model.proofs.HeldObjects.{view_paths_total}
-
--- both of two orders tie
-ties : (one two : Ordering) → is_eq (ordering_then one two) ≡ (is_eq one && is_eq two)
-ties Less two = refl
-ties Equal two = refl
-ties Greater two = refl
 
 -- two view paths are one where their views and their paths are
 same_view_path : (v path w target : List ℕ) → eq_by_cmp view_path_cmp (v, path) (w, target)
     ≡ (bytes_eq v w && bytes_eq path target)
-same_view_path v path w target = ties (slice_cmp nat_cmp v w) (slice_cmp nat_cmp path target)
+same_view_path v path w target = is_eq_then (slice_cmp nat_cmp v w) (slice_cmp nat_cmp path target)
     ∙ ap₂ ◌&&◌ (is_eq-slice_cmp v w) (is_eq-slice_cmp path target)
 
-one_more : (view here later : Bool) (id before : Option ℕ) → cond (view && later) id (cond (view && here) id before)
+pub one_more : (view here later : Bool) (id before : Option ℕ) → cond (view && later) id (cond (view && here) id before)
     ≡ cond (view && (here || later)) id before
 one_more false here later id before = refl
 one_more true true true id before = refl
 one_more true true false id before = refl
 one_more true false later id before = refl
 
-no_target : (view : Bool) (id before : Option ℕ) → before ≡ cond (view && false) id before
+pub no_target : (view : Bool) (id before : Option ℕ) → before ≡ cond (view && false) id before
 no_target true id before = refl
 no_target false id before = refl
 
@@ -56,7 +49,7 @@ held_after_won v path w id (target ∷ targets) objects_held =
     ∙ one_more (bytes_eq v w) (bytes_eq path target) (is_path_among path targets) (Some id) (held_at objects_held v path)
 
 -- the parts of view paths that tie
-tied_views : (v path : List ℕ) (view_path : ViewPath) → view_path_cmp (v, path) view_path ≡ Equal → v ≡ view_path.0
+pub tied_views : (v path : List ℕ) (view_path : ViewPath) → view_path_cmp (v, path) view_path ≡ Equal → v ≡ view_path.0
 tied_views v path view_path e = (bytes_eq-Decides v view_path.0).0 (and_first (bytes_eq v view_path.0) (bytes_eq path view_path.1)
     (sym (same_view_path v path view_path.0 view_path.1) ∙ ap is_eq e))
 

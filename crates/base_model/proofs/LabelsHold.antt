@@ -16,13 +16,14 @@ use Rattle.cc_names.specs.declared.changes.VersionId.{VersionId}
 use Rattle.cc_names.specs.declared.rows.Deed.{Deed}
 use Rattle.cc_names.specs.declared.rows.Deed.TheVariants as deeds
 use Rattle.cc_names.specs.declared.rows.Placed.{Placed}
+use Rattle.cc_names.proofs.Common.{same_number, and_first, and_second}
 use Rattle.base_model.specs.Rows.{Base, size}
 use Rattle.base_model.specs.Changes.{tree, labels, labels_after, all_placed}
 use Rattle.base_model.specs.Closures.{Inputs, Listing, is_version_of, listing_of, version_listed, with_version_at, greater_of}
 use Rattle.base_model.specs.Conditions.{is_label_type, is_placed}
 use Rattle.base_model.specs.Fits.{is_base, deed_fits}
-use Rattle.base_model.proofs.Tables.{same_number, find_after_put}
-use Rattle.base_model.proofs.Owned.{row_fits, rows_below, and_first, and_second}
+use Rattle.base_model.proofs.Tables.{find_after_put}
+use Rattle.base_model.proofs.Owned.{row_fits, rows_below}
 use Rattle.base_model.proofs.VersionsStay.{is_version, version_stays}
 
 -- each label that changes leave stands on a version of its element in the base

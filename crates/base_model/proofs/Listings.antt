@@ -8,11 +8,12 @@ use Rattle.std.specs.Ordering.{nat_cmp}
 use Rattle.std.specs.Prelude.{T}
 use Rattle.cc_names.specs.declared.changes.VersionId.{VersionId}
 use Rattle.cc_names.specs.Versions.{version_id}
+use Rattle.cc_names.proofs.Common.{same_number}
 use Rattle.base_model.specs.Rows.{Base}
 use Rattle.base_model.specs.Changes.{tree}
 use Rattle.base_model.specs.Closures.{Input, Inputs, greater_of, is_of_element, is_version_of, with_version_at, version_listed}
 use Rattle.base_model.specs.Closures.{listing_of}
-use Rattle.base_model.proofs.Tables.{same_number, find_after_put}
+use Rattle.base_model.proofs.Tables.{find_after_put}
 use Rattle.base_model.specs.Listed.{RestsOn, IsListed}
 
 -- an element of a list with one more at its head

@@ -1,6 +1,5 @@
 -- A view has checked out what it makes anew; and what stands at a path as an element is one, with what was picked of it.
 use Rattle.std.proofs.Common.{◌≡◌, refl, ap, sym, subst, ◌∙◌, ℕ, Bool, true, false, ◌&&◌, ◌==◌, Option, Some, None, List, [], ◌∷◌}
-use Rattle.std.proofs.lemmas.Slice.Eq.{bytes_eq-Decides}
 use Rattle.std.specs.Prelude.{is_some, bytes_eq, if◌then◌else◌, length, nat_le, reverse}
 use Rattle.cc_names.specs.Last.{Effect, Keeps, Ends, Sets, only_if, value_after}
 use Rattle.cc_names.specs.Paths.{path_of_names}
@@ -12,6 +11,7 @@ use Rattle.cc_names.specs.declared.rows.Kind.TheVariants.{File, Directory}
 use Rattle.cc_names.specs.declared.selection.Picked.{Picked}
 use Rattle.cc_names.specs.declared.selection.Seen.{Seen}
 use Rattle.cc_names.specs.declared.selection.Seen.TheVariants.{Private, Element, Unselected, Nothing}
+use Rattle.cc_names.proofs.Common.{same_bytes, same_number, and_first, and_second}
 use Rattle.base_model.specs.Rows.{Base, size}
 use Rattle.base_model.specs.Catalogs.{Catalog, element_named, own_of, catalog_of}
 use Rattle.base_model.specs.Changes.{tree}
@@ -21,11 +21,7 @@ use Rattle.base_model.specs.Seen.{at_names, as_seen, below, path_limit, private_
 use Rattle.base_model.specs.Seen.{entries_by, catalog_by, selection_at}
 use Rattle.base_model.specs.Views.{Checkout, out, out_effect, making, making_effect, making_of_out, private}
 use Rattle.base_model.proofs.CatalogElements.{IsElement, AllElements, catalogued, named_element, element_stays}
-use Rattle.base_model.proofs.Tables.{same_number}
-use Rattle.base_model.proofs.Owned.{row_fits, rows_below, and_first, and_second}
-
-pub same_bytes : (xs ys : List ℕ) → bytes_eq xs ys ≡ true → xs ≡ ys
-same_bytes xs ys h = (bytes_eq-Decides xs ys).0 h
+use Rattle.base_model.proofs.Owned.{row_fits, rows_below}
 
 -- where the checkout's row made the text, there is the checkout; a save comes only where there is one
 out_by_effect : (effect : Effect Checkout) (made : Option ℕ) (taken : Option Checkout) (r : ℕ)

@@ -11,6 +11,7 @@ use Rattle.cc_names.specs.declared.rows.Deed.{Deed}
 use Rattle.cc_names.specs.declared.rows.Deed.TheVariants as deeds
 use Rattle.cc_names.specs.declared.rows.Kind.{Kind}
 use Rattle.cc_names.specs.declared.rows.Tag.{Tag}
+use Rattle.cc_names.proofs.Common.{same_number, and_first, and_second}
 use Rattle.base_model.specs.Rows.{Base, size, row_at, deed_of, deed_at}
 use Rattle.base_model.specs.Catalogs.{Catalog, Edit, Same, BeginsEmpty, BeginsAs, Adds, Removes, Renames, element_named}
 use Rattle.base_model.specs.Catalogs.{without_name, with_new_name, catalog_after, edit_of, edit_where, first_edit, is_out}
@@ -19,8 +20,7 @@ use Rattle.base_model.specs.Checkouts.{is_latest}
 use Rattle.base_model.specs.Closures.{is_version_of}
 use Rattle.base_model.specs.Conditions.{exists, has_out, is_branch_type, has_branch}
 use Rattle.base_model.specs.Fits.{deed_fits, may_reserve}
-use Rattle.base_model.proofs.Tables.{same_number}
-use Rattle.base_model.proofs.Owned.{and_first, and_second, third_of, same_is_same}
+use Rattle.base_model.proofs.Owned.{third_of, same_is_same}
 use Rattle.base_model.proofs.Stay.{row_stays}
 use Rattle.base_model.proofs.VersionsStay.{of_element, version_stays}
 use Rattle.base_model.specs.Directories.{directory_of, directory_of_deed}
@@ -36,9 +36,6 @@ pub record OfItsVersion (b : Base) (r e : ℕ) : Type 0 where
   pub directory : ℕ
   pub made : MadeIn b directory e
   pub version : is_version_of b directory r ≡ true
-
-some_same : {a b : ℕ} → Some a ≡ Some b → a ≡ b
-some_same h = cc
 
 -- a version is one of one element
 pub one_element : (b : Base) (d e r : ℕ) → is_version_of b d r ≡ true → is_version_of b e r ≡ true → d ≡ e

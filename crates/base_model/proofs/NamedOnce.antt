@@ -6,12 +6,12 @@ use Rattle.cc_names.specs.Formed.{Plain}
 use Rattle.cc_names.specs.declared.rows.Deed.{Deed}
 use Rattle.cc_names.specs.declared.rows.Deed.TheVariants as deeds
 use Rattle.cc_names.specs.declared.rows.Tag.{Tag}
+use Rattle.cc_names.proofs.Common.{same_number}
 use Rattle.base_model.specs.Rows.{Base, size}
 use Rattle.base_model.specs.Catalogs.{element_named, edit_of, catalog_source, made_or_older, catalog_of, own_of}
 use Rattle.base_model.specs.Closures.{is_version_of}
 use Rattle.base_model.specs.Conditions.{exists, has_out, is_branch_type, has_branch}
 use Rattle.base_model.specs.Fits.{deed_fits, is_base}
-use Rattle.base_model.proofs.Tables.{same_number}
 use Rattle.base_model.proofs.Owned.{row_fits, rows_below, third_of}
 use Rattle.base_model.specs.Directories.{directory_of}
 use Rattle.base_model.proofs.NewVersions.{branch_makes, checkin_makes}

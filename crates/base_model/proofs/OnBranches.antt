@@ -7,11 +7,11 @@ use Rattle.cc_names.specs.Versions.{version_of_change, put_if, element_of_branch
 use Rattle.cc_names.specs.declared.changes.TreeChange.{TreeChange}
 use Rattle.cc_names.specs.declared.changes.TreeChange.TheVariants.{ElementMade}
 use Rattle.cc_names.specs.declared.rows.Kind.TheVariants.{Directory}
+use Rattle.cc_names.proofs.Common.{same_number}
 use Rattle.base_model.specs.Rows.{Base, size}
 use Rattle.base_model.specs.Changes.{tree}
 use Rattle.base_model.specs.Closures.{is_version_of}
 use Rattle.base_model.proofs.Below.{Within, within, older_change}
-use Rattle.base_model.proofs.Tables.{same_number}
 use Rattle.base_model.proofs.Origins.{newest_change, newest_version}
 use Rattle.base_model.proofs.Owned.{same_is_same}
 use Rattle.base_model.proofs.TreesStay.{Adds, Nothing, One, adds_row}

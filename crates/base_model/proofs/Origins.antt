@@ -13,6 +13,7 @@ use Rattle.cc_names.specs.declared.rows.Deed.TheVariants as deeds
 use Rattle.cc_names.specs.declared.rows.Tag.{Tag}
 use Rattle.cc_names.specs.declared.rows.Out.{Out}
 use Rattle.cc_names.specs.declared.rows.Out.TheVariants as outs
+use Rattle.cc_names.proofs.Common.{same_inside, same_number, and_second}
 use Rattle.base_model.specs.Rows.{Base, size}
 use Rattle.base_model.specs.Changes.{tree}
 use Rattle.base_model.specs.Checkouts.{is_latest}
@@ -22,12 +23,8 @@ use Rattle.base_model.specs.Fits.{deed_fits, is_base, may_reserve}
 use Rattle.base_model.specs.Views.{Checkout, TakenOut, made_out, taken_out, checkout_of_element, checkout_of_branch, set_by}
 use Rattle.base_model.specs.Views.{out_effect, out}
 use Rattle.base_model.proofs.Below.{last_holds}
-use Rattle.base_model.proofs.Tables.{same_number}
-use Rattle.base_model.proofs.Owned.{row_fits, rows_below, same_is_same, third_of, and_second}
+use Rattle.base_model.proofs.Owned.{row_fits, rows_below, same_is_same, third_of}
 use Rattle.base_model.proofs.VersionsStay.{Parts, version_id_by, version_stays}
-
-some_same : {A : Type 0} {a b : A} → Some a ≡ Some b → a ≡ b
-some_same e = cc
 
 -- the newest change is found by its number
 pub newest_change : (change : TreeChange) (before : List TreeChange) (n : ℕ) → (row_of_change change == n) ≡ true
@@ -68,15 +65,15 @@ HasItsOrigin b taken = is_version_of b taken.element taken.checkout.origin ≡ t
 origin_of_element : (older : Base) (row : Plain) (v : List ℕ) (out_too : Bool) (taken : TakenOut)
     → is_version_of (row ∷ older) (size older) (size older) ≡ true →
     taken_out v (size older) (checkout_of_element out_too (size older)) ≡ Some taken → HasItsOrigin (row ∷ older) taken
-origin_of_element older row v true taken h e = subst (HasItsOrigin (row ∷ older)) (some_same e) h
+origin_of_element older row v true taken h e = subst (HasItsOrigin (row ∷ older)) (same_inside e) h
 origin_of_element older row v false taken h e = absurd (cc)
 
 origin_of_branch : (older : Base) (row : Plain) (v : List ℕ) (f : ℕ) (how : Out) (taken : TakenOut)
     → is_version_of (row ∷ older) f (size older) ≡ true →
     taken_out v f (checkout_of_branch how (size older)) ≡ Some taken → HasItsOrigin (row ∷ older) taken
 origin_of_branch older row v f outs.No taken h e = absurd (cc)
-origin_of_branch older row v f outs.Reserved taken h e = subst (HasItsOrigin (row ∷ older)) (some_same e) h
-origin_of_branch older row v f outs.Unreserved taken h e = subst (HasItsOrigin (row ∷ older)) (some_same e) h
+origin_of_branch older row v f outs.Reserved taken h e = subst (HasItsOrigin (row ∷ older)) (same_inside e) h
+origin_of_branch older row v f outs.Unreserved taken h e = subst (HasItsOrigin (row ∷ older)) (same_inside e) h
 
 origin_of_made : (older : Base) (tag : Tag) (moment : ℕ) (deed : Deed) (taken : TakenOut) → deed_fits older deed ≡ true →
     made_out (size older) deed ≡ Some taken → HasItsOrigin (record { tag = tag; moment = moment; deed = deed } ∷ older) taken
@@ -86,7 +83,8 @@ origin_of_made older tag moment (deeds.Mkelem v directory name kind out_too) tak
     (own_version (ElementMade (size older) moment kind) (tree older) (size older) (size older) (same_is_same (size older)) refl
     refl) e
 origin_of_made older tag moment (deeds.Checkout v f origin reserved) taken fit e =
-    subst (HasItsOrigin (record { tag = tag; moment = moment; deed = deeds.Checkout v f origin reserved } ∷ older)) (some_same e)
+    subst (HasItsOrigin (record { tag = tag; moment = moment; deed = deeds.Checkout v f origin reserved } ∷ older))
+    (same_inside e)
     (version_stays (record { tag = tag; moment = moment; deed = deeds.Checkout v f origin reserved }) older f origin
     (third_of (exists older v) (not (has_out older v f)) (is_version_of older f origin) (is_latest older origin)
     (may_reserve older origin reserved) fit))

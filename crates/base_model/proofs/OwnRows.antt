@@ -8,14 +8,13 @@ use Rattle.cc_names.specs.declared.rows.Deed.TheVariants as deeds
 use Rattle.cc_names.specs.declared.rows.Kind.{Kind}
 use Rattle.cc_names.specs.declared.rows.Out.{Out}
 use Rattle.cc_names.specs.declared.rows.Out.TheVariants as outs
+use Rattle.cc_names.proofs.Common.{same_number, and_second}
 use Rattle.base_model.specs.Rows.{Base, size, deed_of, deed_at}
 use Rattle.base_model.specs.Conditions.{element_of_text, is_put}
 use Rattle.base_model.specs.Views.{Checkout, TakenOut, checkout_of_element, checkout_of_branch, made_out, making, making_effect}
 use Rattle.base_model.specs.Views.{making_of_out, out_effect, private, private_effect, taken_out}
 use Rattle.base_model.proofs.Below.{last_holds}
-use Rattle.base_model.proofs.Tables.{same_number}
 use Rattle.base_model.proofs.Origins.{out_sets, set_is}
-use Rattle.base_model.proofs.Owned.{and_second}
 use Rattle.base_model.proofs.Stay.{row_stays}
 use Rattle.base_model.proofs.VersionRows.{TextAt, text_stays_at, newest_deed, newest_text}
 
@@ -90,7 +89,7 @@ pub record PutAt (b : Base) (r : ℕ) : Type 0 where
   pub made : deed_at b r ≡ Some deed
   pub puts : is_put deed ≡ true
 
-ends_none : (test : Bool) (r : ℕ) → only_if test Ends ≡ Sets r → ⊥
+pub ends_none : (test : Bool) (r : ℕ) → only_if test Ends ≡ Sets r → ⊥
 ends_none true r h = cc
 ends_none false r h = cc
 

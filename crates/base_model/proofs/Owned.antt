@@ -13,6 +13,7 @@ use Rattle.cc_names.specs.declared.rows.Deed.{Deed}
 use Rattle.cc_names.specs.declared.rows.Deed.TheVariants as deeds
 use Rattle.cc_names.specs.declared.rows.Kind.{Kind}
 use Rattle.cc_names.specs.declared.rows.Kind.TheVariants.{Directory}
+use Rattle.cc_names.proofs.Common.{and_first, and_second}
 use Rattle.base_model.specs.Rows.{Base, size}
 use Rattle.base_model.specs.Changes.{tree, tree_after, with_version, with_checkin}
 use Rattle.base_model.specs.Closures.{is_version_of}
@@ -21,14 +22,6 @@ use Rattle.base_model.specs.Fits.{deed_fits, is_base}
 use Rattle.base_model.specs.Views.{Checkout, out}
 use Rattle.base_model.proofs.Below.{Within, within, older_change}
 use Rattle.base_model.proofs.VersionsStay.{parts_of, owner_change, of_element}
-
-pub and_first : (a b : Bool) → (a && b) ≡ true → a ≡ true
-and_first true b e = refl
-and_first false b e = absurd (cc)
-
-pub and_second : (a b : Bool) → (a && b) ≡ true → b ≡ true
-and_second true b e = e
-and_second false b e = absurd (cc)
 
 -- the newest row of a base fits the rows below it, which are a base
 pub row_fits : (row : Plain) (older : Base) → is_base (row ∷ older) ≡ true → deed_fits older row.deed ≡ true

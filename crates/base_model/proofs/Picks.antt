@@ -13,6 +13,7 @@ use Rattle.cc_names.specs.declared.selection.Picked.{Picked}
 use Rattle.cc_names.specs.declared.selection.Rule.{Rule}
 use Rattle.cc_names.specs.declared.selection.Selector.{Selector}
 use Rattle.cc_names.specs.declared.selection.Selector.TheVariants as selectors
+use Rattle.cc_names.proofs.Common.{found_passes, same_number, and_first}
 use Rattle.base_model.specs.ConfigSpecs.Rules.{finds, found_by, is_checkout, deciding, picked_by, branch_of_type}
 use Rattle.base_model.specs.Rows.{Base, size, only_where}
 use Rattle.base_model.specs.Changes.{tree, targets_of}
@@ -22,11 +23,10 @@ use Rattle.base_model.specs.Seen.{sources, selection_at, rules}
 use Rattle.base_model.specs.Views.{making}
 use Rattle.base_model.proofs.Below.{Within, within, older_change, found_change}
 use Rattle.base_model.proofs.CatalogElements.{IsElement}
-use Rattle.base_model.proofs.Tables.{same_number}
 use Rattle.base_model.proofs.LabelsHold.{labels_hold, all_listed}
 use Rattle.base_model.proofs.OnBranches.{version_found}
 use Rattle.base_model.proofs.Origins.{newest_change}
-use Rattle.base_model.proofs.Owned.{same_is_same, and_first}
+use Rattle.base_model.proofs.Owned.{same_is_same}
 use Rattle.base_model.proofs.TreesStay.{Adds, Nothing, One, adds_row}
 use Rattle.base_model.proofs.VersionsStay.{apart_below}
 
@@ -78,15 +78,6 @@ main_of b e h = by (change_at (tree b) e) refl h
     by None is h = absurd (cc)
     by (Some c) is h = ap (option_and_then element_by) is ∙ element c h (found_change (tree b) e c is)
 
-found_test : {A : Type 0} (test : A → Bool) (xs : List A) (a : A) → find test xs ≡ Some a → test a ≡ true
-found_test test [] a h = absurd (cc)
-found_test test (x ∷ xs) a h = by (test x) refl h (found_test test xs a)
-  where
-    by : (t : Bool) → test x ≡ t → cond t (Some x) (find test xs) ≡ Some a → (find test xs ≡ Some a → test a ≡ true)
-        → test a ≡ true
-    by true is h rest = let same : x ≡ a = cc in subst (λ y. test y ≡ true) same is
-    by false is h rest = rest h
-
 -- a branch that is found by its type is one of the element
 named_of : (b : Base) (e : ℕ) (name : List ℕ) (branch : ℕ) → branch_named (tree b) e name ≡ Some branch → OfElement b e branch
 named_of b e name branch h = by (find (makes_branch e name) (tree b)) refl h
@@ -102,7 +93,7 @@ named_of b e name branch h = by (find (makes_branch e name) (tree b)) refl h
     by (Some c) is h =
         let same : row_of_change c ≡ branch = cc in
         subst (OfElement b e) same (ap (option_and_then element_by) ((all_found b).by_number (makes_branch e name) c is)
-        ∙ owner c (found_test (makes_branch e name) (tree b) c is))
+        ∙ owner c (found_passes (makes_branch e name) (tree b) c is))
 
 -- a branch to which names lead is one of the element
 if_above_of : (b : Base) (e above below next : ℕ) → OfElement b e below → if_above (tree b) above below ≡ Some next

@@ -4,10 +4,10 @@ use Rattle.cc_names.specs.Formed.{Plain}
 use Rattle.cc_names.specs.Versions.{kind_of}
 use Rattle.cc_names.specs.declared.rows.Deed.{Deed}
 use Rattle.cc_names.specs.declared.rows.Kind.TheVariants.{Directory}
+use Rattle.cc_names.proofs.Common.{same_number}
 use Rattle.base_model.specs.Rows.{Base, size, row_at, deed_of, deed_at}
 use Rattle.base_model.specs.Changes.{tree}
 use Rattle.base_model.specs.Closures.{is_version_of}
-use Rattle.base_model.proofs.Tables.{same_number}
 use Rattle.base_model.proofs.VersionsStay.{kind_stays, version_stays}
 
 -- it has no deed

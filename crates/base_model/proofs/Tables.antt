@@ -1,5 +1,5 @@
 -- Look-ups in a table that is keyed by numbers, after a change of it.
-use Rattle.std.proofs.Common.{◌≡◌, ap, sym, ◌∙◌, ℕ, false, cond, not, ◌==◌, Some, None, List, arith, true}
+use Rattle.std.proofs.Common.{◌≡◌, ap, sym, ◌∙◌, ℕ, false, cond, not, ◌==◌, Some, None, List, arith}
 use Rattle.std.proofs.lemmas.Bool.Decides.{nat_tests}
 use Rattle.std.proofs.lemmas.Cmp.{nat_cmp_total}
 use Rattle.std.specs.Cmp.{unsigned_tied}
@@ -30,6 +30,3 @@ alike k q x e = ap (λ y. not (y == k)) (sym (tied q x e))
 pub find_without : {X : Type 0} (q k : ℕ) (table : List (ℕ × X)) →
     find nat_cmp q (where_key nat_cmp (λ key. not (key == k)) table) ≡ cond (not (q == k)) (find nat_cmp q table) None
 find_without q k table = find-where_key nat_cmp (λ key. not (key == k)) q (alike k q) table
-
-pub same_number : (m n : ℕ) → (m == n) ≡ true → m ≡ n
-same_number m n e = grind (arith, nat_tests)

@@ -12,6 +12,7 @@ use Rattle.cc_names.specs.declared.rows.Deed.{Deed}
 use Rattle.cc_names.specs.declared.rows.Deed.TheVariants as deeds
 use Rattle.cc_names.specs.declared.rows.Kind.TheVariants.{Directory}
 use Rattle.cc_names.specs.declared.rows.Tag.{Tag}
+use Rattle.cc_names.proofs.Common.{same_number}
 use Rattle.base_model.specs.Rows.{Base, size, row_at, deed_of, deed_at}
 use Rattle.base_model.specs.Changes.{tree, tree_after, with_version, with_checkin}
 use Rattle.base_model.specs.Closures.{is_version_of}
@@ -19,7 +20,6 @@ use Rattle.base_model.specs.Conditions.{element_of_text}
 use Rattle.base_model.specs.Fits.{is_base}
 use Rattle.base_model.specs.Views.{Checkout, out}
 use Rattle.base_model.proofs.Below.{within, older_change}
-use Rattle.base_model.proofs.Tables.{same_number}
 use Rattle.base_model.proofs.OnBranches.{all_stand}
 use Rattle.base_model.proofs.Origins.{newest_change, out_is_version}
 use Rattle.base_model.proofs.Owned.{rows_below, same_is_same}
@@ -49,6 +49,18 @@ text_stays_at row older r e h = record {
   made = ap deed_of (row_stays row older r h.low) ∙ h.made;
   of_element = element_stays older (row ∷ older) r h.deed ∙ h.of_element;
 }
+
+-- a version of an element is a row of the base
+pub version_below : (b : Base) (e r : ℕ) → is_version_of b e r ≡ true → r < size b
+version_below b e r is = let found = of_element b e r is in let parts = parts_of (tree b) r found.0 found.1 in
+    (within b).numbers r parts.change parts.made
+
+pub newest_row : (row : Plain) (older : Base) → row_at (row ∷ older) (size older) ≡ Some row
+newest_row row older = ap (λ t. elim t as (λ x. Option Plain) [ true ↦ Some row | false ↦ row_at older (size older) ])
+    (same_is_same (size older))
+
+pub deed_stays : (row : Plain) (older : Base) (n : ℕ) → n < size older → deed_at (row ∷ older) n ≡ deed_at older n
+deed_stays row older n below = ap deed_of (row_stays row older n below)
 
 pub newest_deed : (row : Plain) (older : Base) → deed_at (row ∷ older) (size older) ≡ Some row.deed
 newest_deed row older = ap (λ t. deed_of (elim t as (λ x. Option Plain) [ true ↦ Some row | false ↦ row_at older (size older) ]))

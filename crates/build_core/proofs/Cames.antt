@@ -18,7 +18,7 @@ held_in_read [] n slot h e = absurd (omega arith)
 held_in_read (x ∷ slots) zero slot h e = sym e
 held_in_read (x ∷ slots) (suc n) slot h e = held_in_read slots n slot (omega arith) e
 
-held_in_past : {A : Type 0} (slots : List (Option A)) (n : ℕ) → length slots ≤ n → held_in slots n ≡ None
+pub held_in_past : {A : Type 0} (slots : List (Option A)) (n : ℕ) → length slots ≤ n → held_in slots n ≡ None
 held_in_past [] n h = refl
 held_in_past (x ∷ slots) zero h = absurd (omega arith)
 held_in_past (x ∷ slots) (suc n) h = held_in_past slots n (omega arith)
@@ -48,7 +48,7 @@ noted_in_slot slots n came h =
     ∙ sym (put_numbered n 0 n (came_of came) (cames_of slots) (omega arith) (rw length-map h))
 
 -- one more slot that is empty adds nothing
-one_empty : {A : Type 0} (k : ℕ) (slots : List (Option A)) → numbered_slots k (slots ++ None ∷ []) ≡ numbered_slots k slots
+pub one_empty : {A : Type 0} (k : ℕ) (slots : List (Option A)) → numbered_slots k (slots ++ None ∷ []) ≡ numbered_slots k slots
 one_empty k [] = refl
 one_empty k (None ∷ slots) = one_empty (k + 1) slots
 one_empty k (Some a ∷ slots) = ap (λ rest. (k, a) ∷ rest) (one_empty (k + 1) slots)

@@ -1,4 +1,4 @@
-mod Cames
+pub mod Cames
 mod ChosenObjects
 mod Early
 mod Members

@@ -5,12 +5,14 @@ use Rattle.std.specs.Prelude.{slice_get}
 use Rattle.std.specs.List.{list_any}
 use Rattle.std.specs.Option.{option_or, option_and_then}
 use Rattle.std.proofs.lemmas.Option.{slice_get-get_or, slice_get_within, get_or_from_slice_get}
+use Rattle.std.proofs.lemmas.Bool.{cases_Bool}
 use Rattle.cc_names.specs.Versions.{is_number}
 use Rattle.cc_names.specs.declared.units.Unit.{Unit}
 use Rattle.cc_names.specs.declared.units.UnitScript.TheVariants.{Bare}
+use Rattle.cc_names.proofs.Common.{same_number as same_count}
 use Rattle.make_graph.specs.Waits.{unit_of, makes_one, prerequisites_of, prerequisites_at, needed_units, closure_of, is_in}
 use Rattle.make_graph.specs.Waits.{is_marked}
-use Rattle.make_graph.proofs.NeedLemmas.{same_number as same_count, itself}
+use Rattle.make_graph.proofs.NeedLemmas.{itself}
 use Rattle.make_graph.proofs.StandingLaws.{when_made, when_not}
 use Rattle.base_model.specs.Rows.{only_where}
 use Rattle.base_model.specs.Closures.{is_path_among}
@@ -20,10 +22,6 @@ use Rattle.legal_history.specs.Builds.Serials.{makes}
 use Rattle.legal_history.proofs.Builds.OrderedUnits.{same_number}
 use Rattle.build_core.specs.VisibleObjects.{object_before, object_marked, AreNeeds}
 use Rattle.build_core.proofs.Members.{passed, taken}
-
-true_or_false : (b : Bool) → (b ≡ true) ⊎ (b ≡ false)
-true_or_false true = inl refl
-true_or_false false = inr refl
 
 nobody : Unit
 nobody = record { targets = []; prerequisites = []; script = Bare }
@@ -77,7 +75,7 @@ makes_same units order k unit path at = by (makes path unit) refl
 
     found : (o : Option ℕ) → number_from 0 path units ≡ o → makes path unit ≡ false → false ≡ is_number k o
     found None is not = refl
-    found (Some j) is not = split j is not (true_or_false (k == j))
+    found (Some j) is not = split j is not (cases_Bool (k == j))
 
     by : (t : Bool) → makes path unit ≡ t → t ≡ is_number k (unit_of units path)
     by true made =
@@ -112,7 +110,7 @@ one_more : (build : Build) (k : ℕ) (numbers : List ℕ) (place : Option ℕ) �
     option_or (only_where (is_number k place) (object_of (came_to build k))) (at_place build numbers place)
     ≡ at_place build (k ∷ numbers) place
 one_more build k numbers None = refl
-one_more build k numbers (Some m) = by (true_or_false (k == m))
+one_more build k numbers (Some m) = by (cases_Bool (k == m))
   where
     flipped : (k == m) ≡ false → (t : Bool) → (m == k) ≡ t → (m == k) ≡ false
     flipped other true is = absurd (let both : true ≡ false = sym (itself k m (sym (same_count m k is))) ∙ other in cc)
@@ -147,7 +145,7 @@ found_at build order path (suc k) within paths =
     let at : slice_get build.units k ≡ Some unit = slice_get-get_or build.units k nobody lt in
     let is : unit ≡ get_or build.units k unit = sym (get_or_from_slice_get build.units k unit unit at) in
     let place = unit_of build.units path in
-    elim (true_or_false (makes_one build.units paths k)) [
+    elim (cases_Bool (makes_one build.units paths k)) [
       | inl made ↦
           ap (λ n. object_before build paths n path) (sym (add-one k))
           ∙ (taken build paths k path unit lt is (makes_any_same build.units order k unit at paths ∙ made)

@@ -3,8 +3,6 @@
 use Rattle.std.proofs.Common.{◌≡◌, refl, ap, ◌∙◌, ℕ, ◌<◌, Bool, true, false, ◌&&◌, Option, Some, [], ◌∷◌, bytes_eq, arith}
 use Rattle.std.specs.Prelude.{is_some}
 use Rattle.std.specs.List.{list_all}
-use Rattle.std.proofs.lemmas.Bool.Decides.{Decides-eqb}
-use Rattle.cc_names.specs.Formed.{Plain}
 use Rattle.cc_names.specs.declared.rows.Deed.{Deed}
 use Rattle.cc_names.specs.declared.rows.Deed.TheVariants as deeds
 use Rattle.cc_names.specs.declared.units.Unit.{Unit}
@@ -16,6 +14,7 @@ use Rattle.legal_history.specs.Builds.Fresh.{script_text}
 use Rattle.base_model.specs.Objects.{are_same_paths}
 use Rattle.legal_history.specs.Builds.Reuse.{entry_agrees, matches, newest_match, record_matches}
 use Rattle.base_model.proofs.Stay.{row_stays}
+use Rattle.base_model.proofs.VersionRows.{newest_row}
 use Rattle.base_rows.specs.Pool.{newest_object, newest_passing, publishes}
 use Rattle.build_core.specs.Reusing.{agrees_with}
 
@@ -31,10 +30,6 @@ matched b build n unit (deeds.Publish v made text reads outputs) =
     all_of_three (are_same_paths made unit.targets) (bytes_eq text (script_text unit.script))
     (list_all (entry_agrees (visible b build n unit)) reads)
 matched b build n unit deed = refl
-
-newest_row : (row : Plain) (older : Base) → row_at (row ∷ older) (size older) ≡ Some row
-newest_row row older = ap (λ is. elim is as (λ _. Option Plain) [ true ↦ Some row | false ↦ row_at older (size older) ])
-    ((Decides-eqb (size older) (size older)).1 refl)
 
 by_test : (n : ℕ) (is there : Bool) (one two : Option ℕ) → is ≡ there → one ≡ two
     → elim is as (λ _. Option ℕ) [ true ↦ Some n | false ↦ one ] ≡ elim there as (λ _. Option ℕ) [ true ↦ Some n | false ↦ two ]

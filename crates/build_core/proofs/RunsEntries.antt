@@ -9,6 +9,7 @@ use Rattle.std.specs.Ordering.{nat_cmp, is_lt}
 use Rattle.std.specs.declared.cmp.Ordering.{Ordering}
 use Rattle.std.specs.declared.cmp.Ordering.TheVariants.{Less, Equal, Greater}
 use Rattle.cc_names.specs.Formed.{IsLong, IsBelowRoot, IsEntry, path_of_entry, AreEntries}
+use Rattle.cc_names.proofs.Common.{less_by_test}
 use Rattle.legal_history.specs.Builds.Choices.{entry_row, in_order, as_entry, entries}
 
 -- a path with a row, as an entry has them
@@ -74,17 +75,12 @@ and_parts : (a b : Bool) → T (a && b) → T a × T b
 and_parts true b h = (tt, h)
 and_parts false b h = absurd h
 
-less : (o : Ordering) → T (is_lt o) → o ≡ Less
-less Less h = refl
-less Equal h = absurd h
-less Greater h = absurd h
-
 mapped_below : (path : List ℕ) (pairs : List (List ℕ × ℕ)) → T (below_all (slice_cmp nat_cmp) path pairs) →
     AllByRecursion (λ other. slice_cmp nat_cmp path other ≡ Less) (map path_of_entry (map as_entry pairs))
 mapped_below path [] h = tt
 mapped_below path (pair ∷ pairs) h =
     let parts = and_parts (is_lt (slice_cmp nat_cmp path pair.0)) (below_all (slice_cmp nat_cmp) path pairs) h in
-    (less (slice_cmp nat_cmp path pair.0) parts.0, mapped_below path pairs parts.1)
+    (less_by_test (slice_cmp nat_cmp path pair.0) parts.0, mapped_below path pairs parts.1)
 
 mapped_sorted : (pairs : List (List ℕ × ℕ)) → T (is_sorted (slice_cmp nat_cmp) pairs)
     → IsStrictlySortedBy (slice_cmp nat_cmp) (map path_of_entry (map as_entry pairs))

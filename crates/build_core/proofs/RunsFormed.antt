@@ -18,7 +18,7 @@ use Rattle.build_core.proofs.RunsGo.{AreReads}
 use Rattle.build_core.proofs.RunsSeen.{seen_is_below, nothing_at_root}
 use Rattle.base_model.specs.Fits.{is_base}
 use Rattle.legal_history.proofs.Reuse.Reusables.{first_are_base}
-use Rattle.build_core.proofs.RunsReady.{base_has_room}
+use Rattle.legal_history.proofs.Stories.ConsistentStories.{base_within}
 use Rattle.build_core.specs.Publishing.{HasObjects, CanPublish}
 
 -- the texts that a unit sees, none at the root
@@ -34,7 +34,7 @@ reads_formed : (b : Base) (build : Build) (n : ℕ) (unit : Unit) (outputs : Lis
 reads_formed b build n unit outputs base h ran =
     entries_formed (visible b build n unit) (here b build n unit).reads
     (λ path row is. let low = seen_is_below b build n unit path row (first_are_base b build.rows base) h.objects is in
-    let room = base_has_room b base in omega arith)
+    let room = base_within b base in omega arith)
     are.each
     (let few = are.few in let short = h.script in omega arith)
   where

@@ -1,16 +1,16 @@
 -- How something that asks goes: what holds of its reads before, and where there was no fault of what it came to.
 use Rattle.std.proofs.Common.{◌≡◌, refl, ap, sym, subst, ℕ, ◌+◌, ◌≤◌, Bool, true, false, Option, Some, None, Result, Ok, Err}
 use Rattle.std.proofs.Common.{List, [], ◌∷◌, ◌++◌, length, if◌then◌else◌, arith, length-append}
-use Rattle.std.proofs.lemmas.Bool.Decides.{nat_tests}
 use Rattle.std.specs.List.{AllByRecursion, list_any}
 use Rattle.std.specs.Str.{bytes_eq}
 use Rattle.cc_names.specs.Files.{Files}
 use Rattle.cc_names.specs.Formed.{IsBelowRoot}
 use Rattle.cc_names.specs.Paths.{IsPath, root, is_root}
 use Rattle.cc_names.specs.declared.refusals.ScriptFault.{ScriptFault}
+use Rattle.cc_names.proofs.NamesOfPaths.{is_root-root}
+use Rattle.cc_names.proofs.Common.{all_of_both}
 use Rattle.script_grammar.specs.Run.{Asking, Done, Traced, trace_of, with_read, and_then, unless_fault, see, present, needed_text}
 use Rattle.script_grammar.proofs.CarriedLemmas.{trace_of-and_then}
-use Rattle.build_core.proofs.RunsEach.{each_of_both}
 
 -- what holds where there was no fault
 abbrev pub Ends : {A : Type 0} → (A → List (List ℕ) → Type 0) → Result A ScriptFault → List (List ℕ) → Type 0
@@ -66,14 +66,8 @@ noted_more n m reads path low below h = by (list_any (bytes_eq path) reads)
     by true = reads_wider n m reads (omega arith) h
     by false = record {
       few = let few = h.few in omega (arith, length-append reads (path ∷ []));
-      each = each_of_both IsBelowRoot reads (path ∷ []) h.each (below, tt);
+      each = all_of_both IsBelowRoot reads (path ∷ []) h.each (below, tt);
     }
-
--- the root is one path, and a path with a text is another, where the root has none
-pub the_root : (path : List ℕ) → is_root path ≡ true → path ≡ root
-the_root [] h = absurd (cc)
-the_root (b ∷ []) h = let same : b ≡ 46 = grind (arith, nat_tests) in ap (λ byte. byte ∷ []) same
-the_root (b ∷ c ∷ path) h = absurd (cc)
 
 pub found_below : (files : Files) (path text : List ℕ) → files root ≡ None → files path ≡ Some text → IsPath path
     → IsBelowRoot path
@@ -81,7 +75,7 @@ found_below files path text rootless found is_path = (is_path, by (is_root path)
   where
     by : (t : Bool) → is_root path ≡ t → t ≡ false
     by false is = refl
-    by true is = absurd (let same = ap files (the_root path is) in cc)
+    by true is = absurd (let same = ap files (is_root-root path is) in cc)
 
 -- a text that has to be there
 pub text_leads : (files own : Files) (path : List ℕ) (n : ℕ) → files root ≡ None → IsPath path

@@ -12,13 +12,14 @@ use Rattle.cc_names.specs.Paths.{IsPath, root, is_root, path_fault}
 use Rattle.cc_names.specs.declared.names.NameFault.{NameFault}
 use Rattle.cc_names.specs.declared.refusals.ScriptFault.{ScriptFault}
 use Rattle.cc_names.specs.declared.refusals.ScriptFault.TheVariants.{Absent, TooBig, IncludeDepth}
+use Rattle.cc_names.proofs.NamesOfPaths.{is_root-root}
 use Rattle.script_grammar.specs.Forms.{lines_in}
 use Rattle.script_grammar.specs.Includes.{without_newline, include_start, quoted_path, include_of, under, probes_of}
 use Rattle.script_grammar.specs.Lines.{path_in}
 use Rattle.script_grammar.specs.Run.{Asking, Done, trace_of, with_read, and_then, see, output_limit, probe_limit, Output, Made}
 use Rattle.script_grammar.specs.Run.{with_output, Found, found_or, probe_of, Preprocessing, included_text, line_expanded}
 use Rattle.script_grammar.specs.Run.{lines_expanded, preprocessed_text}
-use Rattle.build_core.proofs.RunsGo.{Ends, Leads, ends_so, leads_done, leads_then, AreReads, reads_wider, noted_more, the_root}
+use Rattle.build_core.proofs.RunsGo.{Ends, Leads, ends_so, leads_done, leads_then, AreReads, reads_wider, noted_more}
 
 -- a word that is read as a path is one
 pub word_is : (word path : List ℕ) → path_in word ≡ Some path → (word ≡ path) × IsPath path
@@ -122,7 +123,7 @@ find_leads files own directories path probes n rootless is_path = by (is_root pa
   where
     by : (t : Bool) → is_root path ≡ t → Leads files (AreReads (n + probes)) (FoundWell n)
         (probe_of own path (path ∷ (if t then [] else filter_map (under path) directories)) probes)
-    by true is = root_leads files own path probes n (ap files (the_root path is) ∙ rootless)
+    by true is = root_leads files own path probes n (ap files (is_root-root path is) ∙ rootless)
     by false is = probed_leads files own path (path ∷ filter_map (under path) directories) probes n (
       (is_path, is),
       places_below path directories (is_path, is),

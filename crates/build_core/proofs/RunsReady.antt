@@ -1,37 +1,26 @@
 -- When a unit's run may publish: in a consistent build, at a base.
-use Rattle.std.proofs.Common.{◌≡◌, ℕ, ◌≤◌, ◌&&◌, nat_lt, true, Some, [], ◌∷◌, length, arith}
-use Rattle.std.proofs.lemmas.Bool.{ltb-true}
+use Rattle.std.proofs.Common.{◌≡◌, ℕ, ◌≤◌, ◌&&◌, Some, [], ◌∷◌, length, arith}
 use Rattle.std.specs.List.{AllByRecursion}
 use Rattle.cc_names.specs.Names.{IsName}
 use Rattle.cc_names.specs.declared.units.Unit.{Unit}
 use Rattle.cc_names.specs.declared.units.UnitScript.{UnitScript}
 use Rattle.cc_names.specs.declared.units.UnitScript.TheVariants.{Bare, TooLong, Lines}
-use Rattle.base_model.specs.Rows.{Base, size}
+use Rattle.cc_names.proofs.Common.{all_at}
+use Rattle.base_model.specs.Rows.{Base}
 use Rattle.legal_history.specs.Builds.Active.{Build, unit_at}
-use Rattle.base_model.specs.Fits.{row_limit, deed_fits, is_base}
 use Rattle.legal_history.specs.Builds.Fresh.{script_text}
 use Rattle.legal_history.specs.Builds.Consistency.{IsConsistent}
-use Rattle.base_model.proofs.Owned.{and_first}
-use Rattle.build_core.proofs.RunsEach.{each_at}
 use Rattle.build_core.proofs.RunsSeen.{makes_no_root}
 use Rattle.build_core.specs.BuildForms.{IsUnitFormed}
 use Rattle.make_grammar.specs.Macros.{expansion_limit}
 use Rattle.make_grammar.specs.UnitLaws.{IsShort}
 use Rattle.build_core.specs.Publishing.{HasObjects, CanPublish}
 
--- a base has no more rows than it may have
-pub base_has_room : (b : Base) → is_base b ≡ true → size b ≤ row_limit
-base_has_room [] h = omega arith
-base_has_room (row ∷ older) h =
-    let fits = and_first (nat_lt (size older) row_limit && deed_fits older row.deed) (is_base older) h in
-    let low = ltb-true (size older) row_limit (and_first (nat_lt (size older) row_limit) (deed_fits older row.deed) fits) in
-    omega arith
-
 -- A consistent build of formed units has objects of the base alone.
 pub consistent_objects : (b : Base) (build : Build) → AllByRecursion IsUnitFormed build.units → IsConsistent b build
     → HasObjects b build
 consistent_objects b build units h = record {
-  rootless = λ m unit is. makes_no_root unit (each_at IsUnitFormed build.units m unit units is).0;
+  rootless = λ m unit is. makes_no_root unit (all_at IsUnitFormed build.units m unit units is).0;
   below = λ m unit id is own. (h.objects m unit id is own).below;
 }
 
@@ -46,7 +35,7 @@ pub can_publish : (b : Base) (build : Build) (n : ℕ) (unit : Unit) → IsName 
     → IsConsistent b build → unit_at build n ≡ Some unit → CanPublish b build unit
 can_publish b build n unit view units h is = record {
   view = view;
-  targets = (each_at IsUnitFormed build.units n unit units is).0;
-  script = short_text unit.script (each_at IsUnitFormed build.units n unit units is).1;
+  targets = (all_at IsUnitFormed build.units n unit units is).0;
+  script = short_text unit.script (all_at IsUnitFormed build.units n unit units is).1;
   objects = consistent_objects b build units h;
 }

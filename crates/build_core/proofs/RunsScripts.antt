@@ -9,6 +9,7 @@ use Rattle.cc_names.specs.Cuts.{is_newline}
 use Rattle.cc_names.specs.Numbers.{number_of}
 use Rattle.cc_names.specs.Paths.{IsPath, path_before}
 use Rattle.cc_names.specs.declared.refusals.ScriptFault.{ScriptFault}
+use Rattle.cc_names.proofs.Common.{all_of_both}
 use Rattle.script_grammar.specs.Lines.{path_in, paths_of, cat_of, link_of, directories_of, preprocess_of, preprocess_of_reversed}
 use Rattle.script_grammar.specs.Lines.{only_path, substitute_of, head_by, head_of, digest_work, work_of, appends_of, makes}
 use Rattle.script_grammar.specs.Lines.{script_line_of, line_of_reversed, line_before_lines, lines_from, script_of}
@@ -19,10 +20,9 @@ use Rattle.script_grammar.specs.declared.lines.Line.{Line}
 use Rattle.script_grammar.specs.declared.lines.Line.TheVariants.{Empty, Makes, Fail}
 use Rattle.script_grammar.specs.declared.lines.Work.{Work}
 use Rattle.script_grammar.specs.declared.lines.Work.TheVariants.{Echo, Cat, Preprocess, Substitute, Head, Digest, Link}
-use Rattle.build_core.proofs.RunsEach.{each_of_both}
 use Rattle.build_core.proofs.RunsPaths.{part_paths, line_paths, script_paths}
 use Rattle.build_core.proofs.RunsProbed.{word_is}
-use Rattle.build_core.proofs.RunsWords.{total, words_few, without_at_few, split_total}
+use Rattle.build_core.proofs.RunsWords.{total, split_total, words_few, without_at_few}
 
 -- some paths, of which there are no more than n
 pub record ArePaths (n : ℕ) (paths : List (List ℕ)) : Type 0 where
@@ -39,7 +39,7 @@ both_are : (m n : ℕ) (one two : List (List ℕ)) → ArePaths m one → ArePat
 both_are m n one two h k = record {
   few = let few = h.few in let more = k.few in
       omega (arith, length-append one two);
-  each = each_of_both IsPath one two h.each k.each;
+  each = all_of_both IsPath one two h.each k.each;
 }
 
 -- a word that is read as a path is one

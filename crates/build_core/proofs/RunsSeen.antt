@@ -6,13 +6,10 @@ use Rattle.std.specs.List.{AllByRecursion, list_any}
 use Rattle.std.specs.Option.{option_or}
 use Rattle.cc_names.specs.Formed.{IsBelowRoot, AreTargets}
 use Rattle.cc_names.specs.Paths.{root, is_root}
-use Rattle.cc_names.specs.Versions.{kind_of}
-use Rattle.cc_names.specs.declared.rows.Kind.TheVariants.{Directory}
 use Rattle.cc_names.specs.declared.selection.Picked.{Picked}
 use Rattle.cc_names.specs.declared.units.Unit.{Unit}
 use Rattle.base_model.specs.Rows.{Base, size, first_rows, only_where}
 use Rattle.legal_history.specs.Builds.Active.{Build, object_of, unit_at}
-use Rattle.base_model.specs.Changes.{tree}
 use Rattle.legal_history.specs.Builds.Choices.{Member, unit_of_member, members_before, object_among, visible}
 use Rattle.base_model.specs.Closures.{is_path_among}
 use Rattle.base_model.specs.Fits.{is_base}
@@ -20,20 +17,15 @@ use Rattle.base_model.specs.Seen.{as_seen, file_at, file_seen, row_of_file, sele
 use Rattle.legal_history.specs.Builds.Serials.{makes, needed_units}
 use Rattle.base_model.proofs.FilesBelow.{beyond, file_is_below}
 use Rattle.legal_history.proofs.Builds.Pairs.{member_of, pairs_before, with_pair, members_paired}
-use Rattle.base_model.proofs.VersionsStay.{kind_stays}
+use Rattle.base_model.proofs.RootRow.{root_is_directory}
 use Rattle.build_core.specs.Publishing.{HasObjects}
-
--- the root is a directory, so a view sees no file there
-root_kind : (b : Base) → kind_of (tree b) 0 ≡ Some Directory
-root_kind [] = refl
-root_kind (row ∷ older) = kind_stays row older 0 Directory (root_kind older)
 
 pub no_file_at_root : (b : Base) (v : List ℕ) → file_at b v root ≡ None
 no_file_at_root b v = by (selection_at b v 0 [])
   where
     by : (o : Option Picked) → file_seen b (as_seen 0 o) ≡ None
     by None = refl
-    by (Some picked) = ap (row_of_file picked) (root_kind b)
+    by (Some picked) = ap (row_of_file picked) (root_is_directory b)
 
 -- targets are below the root
 root_among : (paths : List (List ℕ)) → AllByRecursion IsBelowRoot paths → is_path_among root paths ≡ false

@@ -3,6 +3,7 @@ use Rattle.std.proofs.Common.{◌≡◌, ℕ, zero, suc, Bool, true, false, ◌&
 use Rattle.std.specs.List.{list_all}
 use Rattle.std.specs.Prelude.{slice_get}
 use Rattle.std.specs.Option.{option_or}
+use Rattle.cc_names.proofs.Common.{and_false}
 use Rattle.legal_history.specs.Builds.Active.{Build, came_to, is_outcome, unit_with}
 use Rattle.legal_history.specs.Builds.Turns.{is_over}
 use Rattle.build_core.specs.UnitSteps.{unless_over, awaited_unit, first_awaited}
@@ -27,10 +28,6 @@ awaits_none build (path ∷ paths) e =
     ap (λ here. here && list_all (λ path. is_over build (unit_with build path)) paths)
     (over_unit build (unit_with build path) parts.0)
     ∙ awaits_none build paths parts.1
-
-and_false : (b : Bool) → (b && false) ≡ false
-and_false true = refl
-and_false false = refl
 
 same_path : (one other : List ℕ) → Some one ≡ Some other → one ≡ other
 same_path one other e = cc

@@ -1,5 +1,5 @@
 -- What comes next for a unit of an active build.
-use Rattle.std.specs.Prelude.{◌≡◌, ℕ, ◌<◌, Bool, true, false, Option, Some, None, Ok, Err, List, [], ◌∷◌, length}
+use Rattle.std.specs.Prelude.{◌≡◌, ⊤, ℕ, ◌<◌, Bool, true, false, Option, Some, None, Ok, Err, List, [], ◌∷◌, length}
 use Rattle.std.specs.Option.{option_or}
 use Rattle.cc_names.specs.Versions.{is_number}
 use Rattle.cc_names.specs.declared.refusals.ScriptFault.{ScriptFault}
@@ -8,7 +8,7 @@ use Rattle.cc_names.specs.declared.units.Unit.{Unit}
 use Rattle.script_grammar.specs.Lines.{script_of}
 use Rattle.script_grammar.specs.declared.lines.Line.{Line}
 use Rattle.base_model.specs.Rows.{Base, first_rows}
-use Rattle.legal_history.specs.Builds.Active.{Build, Started, came_to, is_outcome, unit_at, unit_with}
+use Rattle.legal_history.specs.Builds.Active.{Build, Came, Started, came_to, is_outcome, unit_at, unit_with}
 use Rattle.legal_history.specs.Builds.Fresh.{script_text}
 use Rattle.base_model.specs.Objects.{held_at_all}
 use Rattle.legal_history.specs.Builds.Reuse.{reusable}
@@ -100,11 +100,24 @@ IsNextOfUnit b build n unit (next.Unreadable fault) = IsUnreadable b build n uni
 IsNextOfUnit b build n unit (next.Run script targets) = RunsAgain build n unit script targets
 IsNextOfUnit b build n unit (next.Fail fault) = FailsToRun build n unit fault
 
+-- what comes next for unit n, which was started and has no outcome: its run
+abbrev pub IsNextOfStarted : Build → ℕ → Unit → UnitStep → Type 0
+IsNextOfStarted build n unit (next.Run script targets) = RunsAgain build n unit script targets
+IsNextOfStarted build n unit (next.Fail fault) = FailsToRun build n unit fault
+IsNextOfStarted build n unit step = ⊥
+
+-- a step that is no run is of a unit that was not started
+abbrev pub IsFreshFor : UnitStep → Option Came → Type 0
+IsFreshFor (next.Run script targets) came = ⊤
+IsFreshFor (next.Fail fault) came = ⊤
+IsFreshFor step came = came ≡ None
+
 -- unit n has no outcome, and this comes next for it
 pub record UnitWaits (b : Base) (build : Build) (n : ℕ) (step : UnitStep) : Type 0 where
   pub unit : Unit
   pub is_unit : unit_at build n ≡ Some unit
   pub waits : is_outcome (came_to build n) ≡ false
+  pub fresh : IsFreshFor step (came_to build n)
   pub next : IsNextOfUnit b build n unit step
 
 -- What comes next for unit n of a build: nothing where it has its outcome.

@@ -140,6 +140,7 @@ pub fn plan_build(
 ) -> Result<ActiveBuild, Or<Refusal>>
     requires formed { IsClearmake 16777216 asked.now }
     requires taken { occasion.taken < 2 ^ 63 }
+    requires rows { size rows.now ≤ occasion.taken }
     ensures planned { (scene : Scene)
         → Meets scene rows.now asked.now.view occasion.busy occasion.taken
         → Plans occasion.tag scene asked.now result }

@@ -1,11 +1,10 @@
 //! Builds: from a clearmake command to the units that it runs, and what comes next for each of them.
 //!
-//! What it is for: `plan_build` decides a clearmake: which units its build has, over the files of its view, or why it is
-//! refused. An `ActiveBuild` keeps what its units have come to; `step` says what comes next for a unit, `fetch_for_unit` what
-//! its script finds at a path, `reusable` which object it may reuse in place of a run, and `released_units` which units can be
-//! driven
-//! once it has its outcome. `publish_row` makes the row of what a run gave, `wink_row` that by which the view winks an object
-//! in, and `reply_of` says what a build that has ended is replied.
+//! What it is for: `plan_build` decides a clearmake: which units its build has, over the files of its view, or why it is refused.
+//! An `ActiveBuild` keeps what its units have come to; `step` says what comes next for a unit, `fetch_for_unit` what its script
+//! finds at a path, `reusable` which object it may reuse in place of a run, and `released_units` which units can be driven once
+//! it has its outcome. `publish_row` makes the row of what a run gave, `wink_row` that by which the view winks an object in, and
+//! `reply_of` says what a build that has ended is replied.
 //!
 //! What it promises: a clearmake is decided as the model decides it, and what it begins is formed: the units, or the refusal in
 //! their place, are those of the definition of the units of a build, for any makefile, macros and goals. An active build is the

@@ -79,7 +79,8 @@ fn graph_of<X: Texts>(
     goals: &[Path],
 ) -> Result<Graph, Or<Refusal>>
     ensures { Gives result
-        (units_unless_refused (graph_of make.now goals.now (λ path. is_some (X.texts texts.now path)))) }
+        (units_unless_refused
+        (graph_of make.now goals.now (λ path. is_some (X.texts texts.now path)))) }
 {
     match Graph::of(alloc, hashing, make, goals, &Files { texts }) {
         Ok(graph) => Ok(graph),

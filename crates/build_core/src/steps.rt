@@ -7,7 +7,7 @@ ghost use Rattle.base_model.specs.Rows.{Base, first_rows};
 ghost use Rattle.legal_history.specs.Builds.Active.{Build, Started, came_to, is_outcome, unit_at};
 ghost use Rattle.legal_history.specs.Builds.Fresh.{script_text};
 ghost use Rattle.legal_history.specs.Builds.Turns.{early_in};
-ghost use Rattle.build_core.specs.UnitSteps.{first_awaited, IsNextOfUnit, IsUnitOpen, IsUnitStep, IsToRun};
+ghost use Rattle.build_core.specs.UnitSteps.{first_awaited, IsNextOfStarted, IsNextOfUnit, IsUnitOpen, IsUnitStep, IsToRun};
 
 use crate::active::{ActiveBuild, Came};
 use crate::ends::early;
@@ -103,9 +103,9 @@ fn start(alloc: Global, unit: &Unit) -> Result<UnitStep, NoMemory>
 
 /// The step of a unit that was started and has no outcome: its run.
 fn run_again(alloc: Global, unit: &Unit) -> Result<UnitStep, NoMemory>
-    ensures { (b : Base) (build : Build) (n : ℕ)
+    ensures { (build : Build) (n : ℕ)
         → came_to build n ≡ Some Started
-        → IfOk result (λ step. IsNextOfUnit b build n unit.now step) }
+        → IfOk result (λ step. IsNextOfStarted build n unit.now step) }
 {
     match read_script(alloc, unit) {
         Ok(script) => {

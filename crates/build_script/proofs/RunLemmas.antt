@@ -13,8 +13,9 @@ use Rattle.build_script.specs.Progress.{HoldsEach}
 use Rattle.cc_names.specs.Files.{Files}
 use Rattle.script_grammar.specs.Run.{Ran, Traced, carried_out, trace_of, State, Asking, Done, and_then, unless_fault, with_read}
 use Rattle.script_grammar.specs.Run.{write_output, after_line, after_lines}
-use Rattle.script_grammar.specs.Standings.{IsAmong, AreAmong}
+use Rattle.script_grammar.specs.Standings.{AreAmong}
 use Rattle.cc_names.specs.declared.refusals.ScriptFault.TheVariants.{StrayWrite}
+use Rattle.cc_names.proofs.Common.{or_true, or_false, bytes_equal_themselves, bytes_eq_swapped}
 
 -- words with a space between each two are the first and the others behind a space each
 pub joined_by_spaces : (first : List ℕ) (others : List (List ℕ)) → join_with_byte 32 (first ∷ others) ≡ first
@@ -57,14 +58,6 @@ any-append p (x ∷ one) two = by (p x) (any-append p one two)
     by true e = refl
     by false e = e
 
-or-true : (b : Bool) → (b || true) ≡ true
-or-true true = refl
-or-true false = refl
-
-or-false : (b : Bool) → (b || false) ≡ b
-or-false true = refl
-or-false false = refl
-
 -- one path among others passes a test that it passes
 any_among : (p : List ℕ → Bool) (paths : List (List ℕ)) (path : List ℕ) → list_any (bytes_eq path) paths ≡ true → p path ≡ true
     → list_any p paths ≡ true
@@ -77,7 +70,7 @@ any_among p (first ∷ paths) path among passes = by (bytes_eq path first) refl 
     by true same among rest =
         let one : path ≡ first = (bytes_eq-Decides path first).0 same in
         rw (subst (λ q. p q ≡ true) one passes) refl
-    by false other among rest = rw (rest among passes) (or-true (p first))
+    by false other among rest = rw (rest among passes) (or_true (p first))
 
 -- a path that is noted
 any-with_read : (p : List ℕ → Bool) (paths : List (List ℕ)) (path : List ℕ)
@@ -86,9 +79,9 @@ any-with_read p paths path = by (list_any (bytes_eq path) paths) refl (p path) r
   where
     by : (b : Bool) → list_any (bytes_eq path) paths ≡ b → (t : Bool) → p path ≡ t
         → list_any p (if b then paths else paths ++ path ∷ []) ≡ (list_any p paths || t)
-    by true among true passes = any_among p paths path among passes ∙ sym (or-true (list_any p paths))
-    by true among false fails = sym (or-false (list_any p paths))
-    by false apart t is = any-append p paths (path ∷ []) ∙ ap (λ (b : Bool). list_any p paths || b) (or-false (p path) ∙ is)
+    by true among true passes = any_among p paths path among passes ∙ sym (or_true (list_any p paths))
+    by true among false fails = sym (or_false (list_any p paths))
+    by false apart t is = any-append p paths (path ∷ []) ∙ ap (λ (b : Bool). list_any p paths || b) (or_false (p path) ∙ is)
 
 -- one more target
 pub holds_more : (keys targets keys' : List (List ℕ)) (i : ℕ) (target : List ℕ) → HoldsEach keys (take i targets)
@@ -101,12 +94,8 @@ holds_more keys targets keys' i target h e is low = record {
       ∙ sym (ap (list_any (λ t. bytes_eq t path)) (rw add-one (take-suc targets i target low
       ∙ ap (λ (x : List ℕ). take i targets ++ x ∷ []) (sym is)))
       ∙ any-append (λ t. bytes_eq t path) (take i targets) (target ∷ [])
-      ∙ ap (λ (b : Bool). list_any (λ t. bytes_eq t path) (take i targets) || b) (or-false (bytes_eq target path)));
+      ∙ ap (λ (b : Bool). list_any (λ t. bytes_eq t path) (take i targets) || b) (or_false (bytes_eq target path)));
 }
-
--- paths are among themselves
-same_path : (path : List ℕ) → bytes_eq path path ≡ true
-same_path path = (bytes_eq-Decides path path).1 refl
 
 wider : (more : List (List ℕ)) (paths : List (List ℕ)) (first : List ℕ) → AreAmong paths more → AreAmong paths (first ∷ more)
 wider more [] first h = tt
@@ -118,22 +107,13 @@ wider more (path ∷ paths) first h = (by (bytes_eq path first) h.0, wider more 
 
 pub among_themselves : (paths : List (List ℕ)) → AreAmong paths paths
 among_themselves [] = tt
-among_themselves (path ∷ paths) = (rw (same_path path) refl, wider paths paths path (among_themselves paths))
-
-turned : (one other : List ℕ) → bytes_eq one other ≡ bytes_eq other one
-turned one other = by (bytes_eq one other) refl (bytes_eq other one) refl
-  where
-    by : (s : Bool) → bytes_eq one other ≡ s → (t : Bool) → bytes_eq other one ≡ t → s ≡ t
-    by true e true h = refl
-    by false e false h = refl
-    by true e false h = absurd (let back = (bytes_eq-Decides other one).1 (sym ((bytes_eq-Decides one other).0 e)) in cc)
-    by false e true h = absurd (let back = (bytes_eq-Decides one other).1 (sym ((bytes_eq-Decides other one).0 h)) in cc)
+among_themselves (path ∷ paths) = (rw (bytes_equal_themselves path) refl, wider paths paths path (among_themselves paths))
 
 -- a look among paths, either way round
 pub any-turned : (path : List ℕ) (paths : List (List ℕ)) → list_any (bytes_eq path) paths
     ≡ list_any (λ target. bytes_eq target path) paths
 any-turned path [] = refl
-any-turned path (first ∷ paths) = λ i. turned path first i || any-turned path paths i
+any-turned path (first ∷ paths) = λ i. bytes_eq_swapped path first i || any-turned path paths i
 
 -- a run comes to what it traces
 pub came_to : (files : Files) (asking : Asking (Result (List (List ℕ)) ScriptFault)) (ran : Ran)

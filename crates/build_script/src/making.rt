@@ -146,7 +146,8 @@ fn is_too_big(before: usize, fresh: usize, more: usize) -> bool
 /// More bytes behind what the line has made, within the limit.
 pub(crate) fn say(making: Making<'_>, made: &mut Made, more: &[u8]) -> Result<(), Halt>
     ensures { PartGave
-        (with_output (output_by_parts making.entry.path.now making.entry.before) more.now (made_of made.old))
+        (with_output (output_by_parts making.entry.path.now making.entry.before) more.now
+        (made_of made.old))
         (λ _. made_of made.new) result }
 {
     if is_too_big(making.before, made.bytes.len(), more.len()) {
@@ -168,7 +169,8 @@ fn say_replaced(
 ) -> Result<(), Halt>
     ensures { PartGave
         (with_output (output_by_parts making.entry.path.now making.entry.before)
-        (with_replaced from.now to.now text.now) (made_of made.old)) (λ _. made_of made.new) result }
+        (with_replaced from.now to.now text.now) (made_of made.old))
+        (λ _. made_of made.new) result }
 {
     if from.is_empty() {
         return say(making, made, text);

@@ -11,8 +11,8 @@ pub struct Written {
     pub outputs: List<Text>,
 }
 
-/// What a run came to, and the paths that it asked the files for, absent ones too, each once, in the order of first
-/// asking.
+/// The outcome of a run, and the paths that it read, also those without a file: each once, in the order of the first
+/// read.
 #[derive(Debug, Drop)]
 pub struct Ended {
     pub result: Result<Written, ScriptFault>,

@@ -137,7 +137,8 @@ pub(crate) fn outputs(
     written: &Outputs,
     targets: &[Path],
 ) -> Result<List<Text>, Halt>
-    ensures { PartGave (target_outputs targets.now (own_of written.now)) (λ outputs. outputs) result }
+    ensures { PartGave (target_outputs targets.now (own_of written.now))
+        (λ outputs. outputs) result }
 {
     let mut outputs = Vec::new(alloc);
     for target in targets {

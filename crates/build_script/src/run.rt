@@ -65,7 +65,8 @@ fn run_whole<F: Files>(
     lines: &[Line],
 ) -> Result<List<Text>, Halt>
     ensures { Performed F.stands F.broken F.follows progress.old.reads.keys
-        (run_from targets.now lines.now (run_state progress.old)) (gives (λ outputs. outputs)) result
+        (run_from targets.now lines.now (run_state progress.old))
+        (gives (λ outputs. outputs)) result
         progress.new.reads.keys files.old files.new }
 {
     let set = set_of(alloc, hashing, targets)?;

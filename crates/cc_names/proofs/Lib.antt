@@ -1,4 +1,5 @@
 pub mod ByRows
+pub mod Common
 mod DigitValues
 mod FirstFaults
 mod FormedRows

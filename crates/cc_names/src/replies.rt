@@ -14,7 +14,7 @@ pub struct Digest {
     pub sha256: [u8; 32],
 }
 
-/// What a unit of a build came to, as its line says it.
+/// The outcome of a unit of a build, as its reply line has it.
 #[derive(Drop)]
 pub enum UnitWord {
     /// The view's own object was kept.

@@ -7,7 +7,7 @@ use crate::refusals::{Refusal, UnitFault};
 use crate::rows::{Row, Tag};
 use crate::texts::Text;
 
-/// What a unit came to without a row of its own.
+/// The outcome of a unit that commits no row.
 #[derive(Drop)]
 pub enum UnitEnd {
     /// The view's object at the target was kept.

@@ -13,5 +13,6 @@ pub trait Clock {
     fn now(&mut self) -> u64
         ensures moment { Tells (ghost_state self.old) result }
         ensures list { (ghost_state self.new).modeled ≡ (ghost_state self.old).modeled }
-        ensures counted { (ghost_state self.new).readings ≡ raised_count (ghost_state self.old).readings 1 };
+        ensures counted { (ghost_state self.new).readings
+            ≡ raised_count (ghost_state self.old).readings 1 };
 }

@@ -57,8 +57,10 @@ impl Sink for MemorySink {
         ensures some { IfOk result (λ count. 0 < length piece.now → 0 < count) }
         ensures bytes { WriteTakes (Some self.old.held) (Some self.new.held) result piece.now }
         ensures kept { self.old.faults ≤ self.new.faults }
+        ensures faultless { IfOk result (λ count. self.new.faults ≡ self.old.faults) }
         ensures fault { OnErr result (Rose self.old.faults self.new.faults) }
-        ensures planned { is_to_fail self.old.fail (raised_count self.old.calls 1) ≡ true → IsErr result }
+        ensures planned { is_to_fail self.old.fail (raised_count self.old.calls 1) ≡ true
+            → IsErr result }
         ensures whole { IfOk result (λ count. count ≡ length piece.now) }
         ensures after { self.new ≡ basin_after self.old piece.now result }
     {

@@ -60,10 +60,11 @@ impl Source for MemorySource {
     fn read(&mut self, into: &mut [u8]) -> Result<usize, ReadFault>
         ensures within { IfOk result (λ count. count ≤ length into.new) }
         ensures bytes { ReadConsumes (Some self.old.left) (Some self.new.left) result into.new }
-        ensures counted { IfOk result (λ count. self.new.given ≡ raised_count self.old.given count) }
+        ensures counted { IfOk result
+            (λ count. self.new.given ≡ raised_count self.old.given count) }
         ensures uncounted { OnErr result (self.new.given ≡ self.old.given) }
         ensures kept { self.old.faults ≤ self.new.faults }
-        ensures sound { IfOk result (λ count. self.new.faults ≡ self.old.faults) }
+        ensures faultless { IfOk result (λ count. self.new.faults ≡ self.old.faults) }
         ensures fault { OnErr result (Rose self.old.faults self.new.faults) }
         ensures answer { result ≡ feed_answer self.old (length into.old) }
         ensures after { self.new ≡ feed_after self.old result }

@@ -29,9 +29,13 @@ pub trait Sink {
     fn write(&mut self, piece: &[u8]) -> Result<usize, WriteFault>
         ensures within { IfOk result (λ count. count ≤ length piece.now) }
         ensures some { IfOk result (λ count. 0 < length piece.now → 0 < count) }
-        ensures bytes { WriteTakes (ghost_state self.old).held (ghost_state self.new).held result piece.now }
+        ensures bytes { WriteTakes (ghost_state self.old).held
+            (ghost_state self.new).held result piece.now }
         ensures kept { (ghost_state self.old).faults ≤ (ghost_state self.new).faults }
-        ensures fault { OnErr result (Rose (ghost_state self.old).faults (ghost_state self.new).faults) };
+        ensures faultless { IfOk result
+            (λ count. (ghost_state self.new).faults ≡ (ghost_state self.old).faults) }
+        ensures fault { OnErr result
+            (Rose (ghost_state self.old).faults (ghost_state self.new).faults) };
 }
 
 /// Writes a whole text. Takes time linear in it where the sink takes each piece at once.
@@ -39,7 +43,10 @@ pub fn write_whole<K: Sink>(sink: &mut K, text: &[u8]) -> Result<(), WriteFault>
     ensures written { OnOk result
         (Appends (K.ghost_state sink.old).held (K.ghost_state sink.new).held text.now) }
     ensures kept { (K.ghost_state sink.old).faults ≤ (K.ghost_state sink.new).faults }
-    ensures fault { OnErr result (Rose (K.ghost_state sink.old).faults (K.ghost_state sink.new).faults) }
+    ensures faultless { OnOk result
+        ((K.ghost_state sink.new).faults ≡ (K.ghost_state sink.old).faults) }
+    ensures fault { OnErr result
+        (Rose (K.ghost_state sink.old).faults (K.ghost_state sink.new).faults) }
     ensures prefix { OnErr result
         (AppendsPrefix (K.ghost_state sink.old).held (K.ghost_state sink.new).held text.now) }
 {

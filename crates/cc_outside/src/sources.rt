@@ -32,12 +32,17 @@ pub trait Source {
     /// room, are the end.
     fn read(&mut self, into: &mut [u8]) -> Result<usize, ReadFault>
         ensures within { IfOk result (λ count. count ≤ length into.new) }
-        ensures bytes { ReadConsumes (ghost_state self.old).left (ghost_state self.new).left result into.new }
-        ensures counted { IfOk result (λ count. Gave (ghost_state self.old) (ghost_state self.new) count) }
-        ensures uncounted { OnErr result ((ghost_state self.new).given ≡ (ghost_state self.old).given) }
+        ensures bytes { ReadConsumes (ghost_state self.old).left
+            (ghost_state self.new).left result into.new }
+        ensures counted { IfOk result
+            (λ count. Gave (ghost_state self.old) (ghost_state self.new) count) }
+        ensures uncounted { OnErr result
+            ((ghost_state self.new).given ≡ (ghost_state self.old).given) }
         ensures kept { (ghost_state self.old).faults ≤ (ghost_state self.new).faults }
-        ensures sound { IfOk result (λ count. (ghost_state self.new).faults ≡ (ghost_state self.old).faults) }
-        ensures fault { OnErr result (Rose (ghost_state self.old).faults (ghost_state self.new).faults) };
+        ensures faultless { IfOk result
+            (λ count. (ghost_state self.new).faults ≡ (ghost_state self.old).faults) }
+        ensures fault { OnErr result
+            (Rose (ghost_state self.old).faults (ghost_state self.new).faults) };
 }
 
 /// Why a source was not read to its end.
@@ -60,22 +65,25 @@ pub fn read_whole<S: Source>(
     limit: usize,
 ) -> Result<Text, Or<Unread>>
     requires { limit < 2 ^ 62 }
-    ensures bytes { IfOk result (λ text. Lost (S.ghost_state source.old) (S.ghost_state source.new) text) }
+    ensures bytes { IfOk result
+        (λ text. Lost (S.ghost_state source.old) (S.ghost_state source.new) text) }
     ensures end { IfOk result (λ text. IsAtEnd (S.ghost_state source.new).left) }
     ensures short { IfOk result (λ text. length text ≤ limit) }
     ensures counted { IfOk result
         (λ text. Gave (S.ghost_state source.old) (S.ghost_state source.new) (length text)) }
     ensures kept { (S.ghost_state source.old).faults ≤ (S.ghost_state source.new).faults }
-    ensures sound { IfOk result
+    ensures faultless { IfOk result
         (λ text. (S.ghost_state source.new).faults ≡ (S.ghost_state source.old).faults) }
-    ensures fault { OnFault result (Rose (S.ghost_state source.old).faults (S.ghost_state source.new).faults) }
+    ensures fault { OnFault result
+        (Rose (S.ghost_state source.old).faults (S.ghost_state source.new).faults) }
     ensures too_long { OnTooLong result
         (GaveAbove limit (S.ghost_state source.old) (S.ghost_state source.new)) }
-    ensures sound_above { OnTooLong result
+    ensures faultless_above { OnTooLong result
         ((S.ghost_state source.new).faults ≡ (S.ghost_state source.old).faults) }
     ensures modeled { OnTooLong result
         (IfSome (S.ghost_state source.old).left (λ bytes. limit < length bytes)) }
-    ensures taken { RoseAtMost (limit + 1) (S.ghost_state source.old).given (S.ghost_state source.new).given }
+    ensures taken { RoseAtMost (limit + 1) (S.ghost_state source.old).given
+        (S.ghost_state source.new).given }
 {
     let mut piece = vec![in alloc; 0u8; PIECE]?;
     let mut bytes = Vec::new(alloc);

@@ -15,13 +15,13 @@ use Rattle.cc_names.specs.References.{is_held}
 use Rattle.cc_names.specs.Versions.{put_if}
 use Rattle.cc_names.specs.declared.rows.Deed.{Deed}
 use Rattle.cc_names.specs.declared.rows.Deed.TheVariants as deeds
+use Rattle.cc_names.proofs.Common.{and_swapped, same_number}
 use Rattle.base_model.specs.Changes.{objects_held, live_row, live_effect}
 use Rattle.base_model.specs.Closures.{is_publish_deed}
 use Rattle.base_model.specs.Conditions.{may_be_scrubbed}
 use Rattle.base_model.specs.Rows.{Base, size, row_at}
 use Rattle.legal_history.specs.Commands.ObjectLines.{due_objects, due_among, is_due}
 use Rattle.legal_history.proofs.Reuse.SoundRows.{live_below}
-use Rattle.base_model.proofs.Tables.{same_number}
 use Rattle.base_rows.specs.Order.{oldest_first}
 use Rattle.base_rows.proofs.RowTexts.{row_numbered}
 use Rattle.checkout_desk.specs.Dues.{due_from}
@@ -153,12 +153,6 @@ unpublished (first ∷ older) id row at other = by (size older == id) refl at (�
         (ap (λ (r : Plain). is_publish_deed (Some r.deed)) same ∙ other)
     by false apart is rest = unmade first.deed (size older) id (live_row older id) (rest is) apart
 
-either_way : (one two : Bool) → (one && two) ≡ (two && one)
-either_way true true = refl
-either_way true false = refl
-either_way false true = refl
-either_way false false = refl
-
 -- whether an object is due, by the three tests in the order in which they are cheap
 pub due_tested : (b : Base) (moment age id : ℕ) (row : Plain) → row_at b id ≡ Some row
     → (is_publish_deed (Some row.deed) && nat_le (row.moment + age) moment && may_be_scrubbed b id)
@@ -167,7 +161,7 @@ due_tested b moment age id row at = by (is_publish_deed (Some row.deed)) refl
   where
     by : (t : Bool) → is_publish_deed (Some row.deed) ≡ t → (t && nat_le (row.moment + age) moment && may_be_scrubbed b id)
         ≡ is_due b moment age id row.moment
-    by true is = either_way (nat_le (row.moment + age) moment) (may_be_scrubbed b id)
+    by true is = and_swapped (nat_le (row.moment + age) moment) (may_be_scrubbed b id)
     by false is = sym (ap (λ (found : Option ℕ). is_some found && not (is_held (objects_held b) id)
         && nat_le (row.moment + age) moment) (unpublished b id row at is))
 

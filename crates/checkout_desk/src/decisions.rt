@@ -1,7 +1,8 @@
 //! The decision on a change.
 
-ghost use Rattle.std.specs.Prelude.{◌≡◌};
+ghost use Rattle.std.specs.Prelude.{◌≡◌, ◌≤◌};
 ghost use Rattle.cc_names.specs.Commands.{view_of};
+ghost use Rattle.base_model.specs.Rows.{size};
 ghost use Rattle.session_text.specs.Formed.{IsChange};
 ghost use Rattle.legal_history.specs.Commands.Decisions.{Scene};
 ghost use Rattle.legal_history.specs.Commands.Lines.{change_decision};
@@ -46,7 +47,8 @@ pub fn decide(
     change: &Change,
     occasion: Occasion,
 ) -> Result<Option<Row>, Or<Refusal>>
-    requires { IsChange 16777216 change.now }
+    requires formed { IsChange 16777216 change.now }
+    requires rows { size rows.now ≤ occasion.taken }
     ensures { (scene : Scene)
         → Sees scene rows.now occasion.moment (view_of change.now) occasion.busy occasion.taken
         → DecidesIfAny occasion.tag occasion.moment result (change_decision scene change.now) }

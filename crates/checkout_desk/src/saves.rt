@@ -42,8 +42,7 @@ fn saves_element(
 }
 
 /// What stands at the path may be saved: a private file always, a file element that the view has checked out, and a new private
-/// file
-/// where the view holds no object.
+/// file where the view holds no object.
 fn saves_at(
     alloc: Global,
     rows: &FirstRows<'_>,

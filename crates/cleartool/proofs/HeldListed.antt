@@ -13,7 +13,7 @@ use Rattle.std.specs.Cmp.{tied_itself}
 use Rattle.std.proofs.lemmas.Bool.Decides.{nat_tests}
 use Rattle.std.proofs.lemmas.Cmp.{nat_list_cmp_total, nat_list_eq_equiv}
 use Rattle.std.proofs.lemmas.Map.Text.{is_eq-slice_cmp}
-use Rattle.std.proofs.lemmas.Slice.Eq.{bytes_eq-Decides}
+use Rattle.std.proofs.lemmas.Bool.{and_parts, or_left, or_right}
 use Rattle.cc_names.specs.Last.{Keeps, Ends, Sets, only_if, value_after}
 use Rattle.cc_names.specs.References.{ReferencesByPath, held_at, view_path_cmp}
 use Rattle.cc_names.specs.Versions.{put_if}
@@ -22,6 +22,7 @@ use Rattle.cc_names.specs.declared.rows.Deed.TheVariants as deeds
 use Rattle.base_model.specs.Changes.{objects_held, targets_of, targets_of_deed}
 use Rattle.base_model.specs.Closures.{is_path_among}
 use Rattle.cc_names.specs.declared.rows.ReadOf.{ReadOf}
+use Rattle.cc_names.proofs.Common.{test_first, test_second, test_both, test_from, same_bytes}
 use Rattle.base_model.specs.Rows.{Base, size, deed_of}
 use Rattle.legal_history.specs.Queries.DirectoryTexts.{held_line, held_lines, lsdo_text}
 use Rattle.base_model.proofs.HeldObjects.{held_in_order}
@@ -35,37 +36,6 @@ use Rattle.base_rows.proofs.Holdings.{held_by_last, held_effect, same_view_path}
 use Rattle.base_rows.proofs.Newest.{no_later}
 use Rattle.cleartool.specs.HeldObjects.{held_line_at}
 use Rattle.view_lookup.proofs.ByKeys.{by_keys, reported, text_of_key}
-
-t_first : (a b : Bool) → T (a && b) → T a
-t_first true b h = tt
-t_first false b h = h
-
-t_second : (a b : Bool) → T (a && b) → T b
-t_second true b h = h
-t_second false b h = absurd h
-
-t_both : (a b : Bool) → T a → T b → T (a && b)
-t_both true b p q = q
-t_both false b p q = p
-
-as_true : (t : Bool) → t ≡ true → T t
-as_true true h = tt
-as_true false h = absurd (cc)
-
-and_both : (a b : Bool) → (a && b) ≡ true → (a ≡ true) × (b ≡ true)
-and_both true b h = (refl, h)
-and_both false b h = absurd (cc)
-
-or_first : (a b : Bool) → a ≡ true → (a || b) ≡ true
-or_first true b h = refl
-or_first false b h = absurd (cc)
-
-or_second : (a b : Bool) → b ≡ true → (a || b) ≡ true
-or_second true b h = refl
-or_second false b h = h
-
-same_text : (a b : List ℕ) → bytes_eq a b ≡ true → a ≡ b
-same_text a b is = (bytes_eq-Decides a b).0 is
 
 -- ---- the objects of a view alone
 
@@ -106,28 +76,29 @@ own_at v path (entry ∷ objects_held) =
 own_below : (v path : List ℕ) (objects_held : ReferencesByPath) → T (below_all view_path_cmp (v, path) objects_held)
     → T (below_all (slice_cmp nat_cmp) path (own v objects_held))
 own_below v path [] h = tt
-own_below v path (entry ∷ objects_held) h = by (bytes_eq entry.0.0 v) refl (own_below v path objects_held (t_second _ _ h))
+own_below v path (entry ∷ objects_held) h = by (bytes_eq entry.0.0 v) refl (own_below v path objects_held (test_second _ _ h))
   where
     by : (t : Bool) → bytes_eq entry.0.0 v ≡ t → T (below_all (slice_cmp nat_cmp) path (own v objects_held))
         → T (below_all (slice_cmp nat_cmp) path (put_if t (entry.0.1, entry.1) (own v objects_held)))
     by true same rest =
-        let ties : slice_cmp nat_cmp v entry.0.0 ≡ Equal = ap (slice_cmp nat_cmp v) (same_text entry.0.0 v same)
+        let ties : slice_cmp nat_cmp v entry.0.0 ≡ Equal = ap (slice_cmp nat_cmp v) (same_bytes entry.0.0 v same)
         ∙ tied_itself nat_list_cmp_total v in
-        t_both (is_lt (slice_cmp nat_cmp path entry.0.1)) (below_all (slice_cmp nat_cmp) path (own v objects_held))
-        (subst (λ o. T (is_lt (ordering_then o (slice_cmp nat_cmp path entry.0.1)))) ties (t_first _ _ h)) rest
+        test_both (is_lt (slice_cmp nat_cmp path entry.0.1)) (below_all (slice_cmp nat_cmp) path (own v objects_held))
+        (subst (λ o. T (is_lt (ordering_then o (slice_cmp nat_cmp path entry.0.1)))) ties (test_first _ _ h)) rest
     by false other rest = rest
 
 own_sorted : (v : List ℕ) (objects_held : ReferencesByPath) → T (is_sorted view_path_cmp objects_held)
     → T (is_sorted (slice_cmp nat_cmp) (own v objects_held))
 own_sorted v [] h = tt
-own_sorted v (entry ∷ objects_held) h = by (bytes_eq entry.0.0 v) refl (own_sorted v objects_held (t_second _ _ h))
+own_sorted v (entry ∷ objects_held) h = by (bytes_eq entry.0.0 v) refl (own_sorted v objects_held (test_second _ _ h))
   where
     by : (t : Bool) → bytes_eq entry.0.0 v ≡ t → T (is_sorted (slice_cmp nat_cmp) (own v objects_held))
         → T (is_sorted (slice_cmp nat_cmp) (put_if t (entry.0.1, entry.1) (own v objects_held)))
     by true same rest =
-        t_both (below_all (slice_cmp nat_cmp) entry.0.1 (own v objects_held)) (is_sorted (slice_cmp nat_cmp) (own v objects_held))
+        test_both (below_all (slice_cmp nat_cmp) entry.0.1 (own v objects_held))
+        (is_sorted (slice_cmp nat_cmp) (own v objects_held))
         (own_below v entry.0.1 objects_held (subst (λ w. T (below_all view_path_cmp (w, entry.0.1) objects_held))
-        (same_text entry.0.0 v same) (t_first _ _ h))) rest
+        (same_bytes entry.0.0 v same) (test_first _ _ h))) rest
     by false other rest = rest
 
 -- ---- each of them was given to the view by a row
@@ -167,12 +138,12 @@ given_at b v path id [] agree h = absurd (cc)
 given_at b v path id (row ∷ older) agree h = by row.deed refl h (given_at b v path id older (deeds_below b row older agree))
   where
     stays : was_given b v path older ≡ true → was_given b v path (row ∷ older) ≡ true
-    stays rest = or_second (gives_view v row.deed && is_path_among path (paths_given b row.deed)) (was_given b v path older) rest
+    stays rest = or_right (gives_view v row.deed && is_path_among path (paths_given b row.deed)) (was_given b v path older) rest
 
     here : (deed : Deed) → row.deed ≡ deed → gives_view v deed ≡ true → is_path_among path (paths_given b deed) ≡ true
         → was_given b v path (row ∷ older) ≡ true
     here deed same gives among =
-        or_first (gives_view v row.deed && is_path_among path (paths_given b row.deed)) (was_given b v path older)
+        or_left (gives_view v row.deed && is_path_among path (paths_given b row.deed)) (was_given b v path older)
         (ap (λ d. gives_view v d && is_path_among path (paths_given b d)) same ∙ ap₂ (λ (one two : Bool). one && two) gives among)
 
     published : (x : List ℕ) (targets : List (List ℕ)) (script : List ℕ) (entries : List ReadOf) (outputs : List (List ℕ))
@@ -182,7 +153,7 @@ given_at b v path id (row ∷ older) agree h = by row.deed refl h (given_at b v 
         → (last_of (held_effect v path) older ≡ Some id → was_given b v path older ≡ true)
         → was_given b v path (row ∷ older) ≡ true
     published x targets script entries outputs true same test is rest =
-        let parts = and_both (bytes_eq x v) (is_target path targets) test in
+        let parts = and_parts (bytes_eq x v) (is_target path targets) test in
         here (deeds.Publish x targets script entries outputs) same parts.0 (sym (among_targets path targets) ∙ parts.1)
     published x targets script entries outputs false same test is rest = stays (rest is)
 
@@ -192,7 +163,7 @@ given_at b v path id (row ∷ older) agree h = by row.deed refl h (given_at b v 
         → (last_of (held_effect v path) older ≡ Some id → was_given b v path older ≡ true)
         → was_given b v path (row ∷ older) ≡ true
     winked x other true same test is rest =
-        let parts = and_both (bytes_eq x v) (is_target path (targets_of older other)) test in
+        let parts = and_parts (bytes_eq x v) (is_target path (targets_of older other)) test in
         here (deeds.Wink x other) same parts.0 (targets_stay b older other path (deeds_below b row older agree) parts.1)
     winked x other false same test is rest = stays (rest is)
 
@@ -232,6 +203,6 @@ lsdo_by_paths b v paths ordered given =
     let table = own v (objects_held b) in
     ap concat (same_map (held_line_at b v) (text_of_key line table) paths
     (λ path. ap (λ found. option_map_or (line path) found []) (sym (own_at v path (objects_held b)))))
-    ∙ by_keys line paths table ordered (own_sorted v (objects_held b) (as_true _ (held_in_order b)))
+    ∙ by_keys line paths table ordered (own_sorted v (objects_held b) (test_from _ (held_in_order b)))
     (λ path is. given path ∙ held_given b v path (sym (ap is_some (own_at v path (objects_held b))) ∙ is))
     ∙ sym (lines_own (objects_held b) v (objects_held b))

@@ -1,6 +1,5 @@
 -- The views that hold an object are that of the row that made it and those whose winks took it in, as far as they hold it at one
--- of
--- its targets; and each is counted once.
+-- of its targets; and each is counted once.
 use Rattle.std.proofs.Common.{◌≡◌, ℕ, suc, Bool, true, false, cond, not, ◌&&◌, ◌||◌, ◌==◌, Option, Some, List, [], ◌∷◌, length}
 use Rattle.std.proofs.Common.{refl, ap, ap₂, sym, ◌∙◌, arith, bytes_eq}
 use Rattle.std.specs.Prelude.{T, is_some, option_and_then}
@@ -10,12 +9,10 @@ use Rattle.std.specs.FinMap.Entries.{find, is_sorted, below_all}
 use Rattle.std.specs.List.{AllByRecursion, list_any}
 use Rattle.std.specs.List.Sorted.{IsStrictlySortedBy}
 use Rattle.std.specs.Ordering.{eq_by_cmp, is_eq, is_lt, nat_cmp, ordering_reverse}
-use Rattle.std.specs.declared.cmp.Ordering.{Ordering}
-use Rattle.std.specs.declared.cmp.Ordering.TheVariants.{Less, Equal, Greater}
+use Rattle.std.specs.declared.cmp.Ordering.TheVariants.{Less, Greater}
 use Rattle.std.proofs.lemmas.Bool.Decides.{nat_tests}
-use Rattle.std.proofs.lemmas.Cmp.{nat_list_eq_equiv}
 use Rattle.std.proofs.lemmas.Map.Text.{is_eq-slice_cmp}
-use Rattle.std.proofs.lemmas.Slice.Eq.{bytes_eq-Decides}
+use Rattle.std.proofs.lemmas.Bool.{and_parts, or_left, or_right}
 use Rattle.cc_names.specs.Formed.{Plain}
 use Rattle.cc_names.specs.Last.{Keeps, Ends, Sets, only_if, value_after}
 use Rattle.cc_names.specs.References.{ReferencesByPath, ViewPath, count, held_at, is_held_by, view_path_cmp}
@@ -23,12 +20,14 @@ use Rattle.cc_names.specs.Versions.{is_number}
 use Rattle.cc_names.specs.declared.rows.Deed.{Deed}
 use Rattle.cc_names.specs.declared.rows.Deed.TheVariants as deeds
 use Rattle.cc_names.specs.declared.rows.ReadOf.{ReadOf}
+use Rattle.cc_names.proofs.Common.{or_either, same_test, same_bytes, bytes_equal_themselves, bytes_swapped, test_first}
+use Rattle.cc_names.proofs.Common.{test_second, less_by_test, test_from}
 use Rattle.base_model.specs.Changes.{objects_held, targets_of}
 use Rattle.base_model.specs.Closures.{is_path_among}
 use Rattle.base_model.specs.Rows.{Base, size, deed_at, only_where}
 use Rattle.base_model.specs.Counts.{AreOnce, holding_views}
 use Rattle.base_model.proofs.CountedViews.{among_holding, counted_by_views, views_once}
-use Rattle.base_model.proofs.HeldObjects.{held_in_order}
+use Rattle.base_model.proofs.HeldObjects.{held_in_order, view_paths_total}
 use Rattle.base_rows.specs.Effects.{holds_one, winked_effect}
 use Rattle.base_rows.specs.Lifetimes.{ended_or}
 use Rattle.base_rows.specs.LookUps.{last_of, update_by_row}
@@ -38,34 +37,7 @@ use Rattle.cleartool.specs.Owned.{maker_by, winker, winker_at}
 use Rattle.base_rows.specs.Walks.{updating_rows}
 use Rattle.view_lookup.proofs.GivenRows.{AreDeeds, any_put, deed_newest, deeds_below}
 use Rattle.view_lookup.proofs.HeldSomewhere.{holds_target, number_of}
-use Rattle.base_rows.proofs.Holdings.{held_by_last, held_effect, view_paths_total, same_view_path}
-
-and_both : (a b : Bool) → (a && b) ≡ true → (a ≡ true) × (b ≡ true)
-and_both true b h = (refl, h)
-and_both false b h = absurd (cc)
-
-or_first : (a b : Bool) → a ≡ true → (a || b) ≡ true
-or_first true b h = refl
-or_first false b h = absurd (cc)
-
-or_second : (a b : Bool) → b ≡ true → (a || b) ≡ true
-or_second true b h = refl
-or_second false b h = h
-
-or_cases : (a b : Bool) (P : Type 0) → (a || b) ≡ true → (a ≡ true → P) → (b ≡ true → P) → P
-or_cases true b P h one two = one refl
-or_cases false b P h one two = two h
-
-same_test : (one two : Bool) → (one ≡ true → two ≡ true) → (two ≡ true → one ≡ true) → one ≡ two
-same_test true two there back = sym (there refl)
-same_test false true there back = back refl
-same_test false false there back = refl
-
-same_text : (a b : List ℕ) → bytes_eq a b ≡ true → a ≡ b
-same_text a b is = (bytes_eq-Decides a b).0 is
-
-itself : (a : List ℕ) → bytes_eq a a ≡ true
-itself a = (bytes_eq-Decides a a).1 refl
+use Rattle.base_rows.proofs.Holdings.{held_by_last, held_effect, same_view_path}
 
 -- ---- lists without repetition
 
@@ -73,9 +45,6 @@ itself a = (bytes_eq-Decides a a).1 refl
 without : List ℕ → List (List ℕ) → List (List ℕ)
 without x [] = []
 without x (y ∷ ys) = cond (bytes_eq x y) ys (y ∷ without x ys)
-
-turned : (a b : List ℕ) (is : Bool) → bytes_eq a b ≡ is → bytes_eq b a ≡ is
-turned a b is e = nat_list_eq_equiv.symm b a ∙ e
 
 one_fewer : (x : List ℕ) (ys : List (List ℕ)) → is_path_among x ys ≡ true → length ys ≡ suc (length (without x ys))
 unfolding without
@@ -103,11 +72,11 @@ among_rest x q (y ∷ ys) once = by (bytes_eq x y) refl (bytes_eq q x) refl (byt
         → is_path_among q (without x ys) ≡ (not (bytes_eq q x) && is_path_among q ys) →
         is_path_among q (cond t ys (y ∷ without x ys)) ≡ (not s && (r || is_path_among q ys))
     by true e true f r g rest =
-        let one : q ≡ y = same_text q x f ∙ same_text x y e in
+        let one : q ≡ y = same_bytes q x f ∙ same_bytes x y e in
         ap (λ z. is_path_among z ys) one ∙ once.0
-    by true e false f true g rest = absurd (cc (f, ap (bytes_eq q) (same_text x y e) ∙ g))
+    by true e false f true g rest = absurd (cc (f, ap (bytes_eq q) (same_bytes x y e) ∙ g))
     by true e false f false g rest = refl
-    by false e true f true g rest = absurd (cc (e, ap (λ z. bytes_eq z y) (sym (same_text q x f)) ∙ g))
+    by false e true f true g rest = absurd (cc (e, ap (λ z. bytes_eq z y) (sym (same_bytes q x f)) ∙ g))
     by false e true f false g rest = ap (λ z. z || is_path_among q (without x ys)) g ∙ rest
         ∙ ap (λ z. not z && is_path_among q ys) f
     by false e false f r g rest = ap₂ (λ z w. z || w) g (rest ∙ ap (λ z. not z && is_path_among q ys) f)
@@ -129,15 +98,20 @@ once_rest x (y ∷ ys) once = by (bytes_eq x y) (once_rest x ys once.1)
 pub same_length : (xs ys : List (List ℕ)) → AreOnce xs → AreOnce ys → ((q : List ℕ) → is_path_among q xs ≡ is_path_among q ys)
     → length xs ≡ length ys
 same_length [] [] one two same = refl
-same_length [] (y ∷ ys) one two same = absurd (cc (same y, or_first (bytes_eq y y) (is_path_among y ys) (itself y)))
+same_length [] (y ∷ ys) one two same = absurd (cc (
+  same y,
+  or_left (bytes_eq y y) (is_path_among y ys)
+      (bytes_equal_themselves y),
+))
 same_length (x ∷ xs) ys one two same =
-    let there : is_path_among x ys ≡ true = sym (same x) ∙ or_first (bytes_eq x x) (is_path_among x xs) (itself x) in
+    let there : is_path_among x ys ≡ true = sym (same x) ∙ or_left (bytes_eq x x) (is_path_among x xs) (bytes_equal_themselves x)
+    in
     ap suc (same_length xs (without x ys) one.1 (once_rest x ys two) (λ q. rest q (bytes_eq q x) refl
     ∙ sym (among_rest x q ys two)))
     ∙ sym (one_fewer x ys there)
   where
     rest : (q : List ℕ) (t : Bool) → bytes_eq q x ≡ t → is_path_among q xs ≡ (not (bytes_eq q x) && is_path_among q ys)
-    rest q true e = ap (λ z. is_path_among z xs) (same_text q x e) ∙ one.0 ∙ sym (ap (λ z. not z && is_path_among q ys) e)
+    rest q true e = ap (λ z. is_path_among z xs) (same_bytes q x e) ∙ one.0 ∙ sym (ap (λ z. not z && is_path_among q ys) e)
     rest q false e = sym (ap (λ z. z || is_path_among q xs) e) ∙ same q ∙ sym (ap (λ z. not z && is_path_among q ys) e)
 
 -- names in order stand once
@@ -165,12 +139,12 @@ found_held (entry ∷ objects_held) w path id is = by (eq_by_cmp view_path_cmp (
         ≡ Some id → (held_at objects_held w path ≡ Some id → is_held_by objects_held w id ≡ true) →
         ((bytes_eq entry.0.0 w && (entry.1 == id)) || is_held_by objects_held w id) ≡ true
     by true here found rest =
-        let view : bytes_eq entry.0.0 w ≡ true = (and_both (bytes_eq entry.0.0 w) (bytes_eq entry.0.1 path)
+        let view : bytes_eq entry.0.0 w ≡ true = (and_parts (bytes_eq entry.0.0 w) (bytes_eq entry.0.1 path)
         (sym (same_view_path w path entry.0.0 entry.0.1) ∙ here)).0 in
         let number : entry.1 ≡ id = cc in
         let same : (entry.1 == id) ≡ true = grind (arith, nat_tests) in
-        or_first (bytes_eq entry.0.0 w && (entry.1 == id)) (is_held_by objects_held w id) (ap₂ (λ (x y : Bool). x && y) view same)
-    by false other found rest = or_second (bytes_eq entry.0.0 w && (entry.1 == id)) (is_held_by objects_held w id) (rest found)
+        or_left (bytes_eq entry.0.0 w && (entry.1 == id)) (is_held_by objects_held w id) (ap₂ (λ (x y : Bool). x && y) view same)
+    by false other found rest = or_right (bytes_eq entry.0.0 w && (entry.1 == id)) (is_held_by objects_held w id) (rest found)
 
 -- a path of a view at which it holds an object, behind all view paths that come before those of the table
 record FoundBy (objects_held : ReferencesByPath) (w : List ℕ) (id : ℕ) : Type 0 where
@@ -179,34 +153,17 @@ record FoundBy (objects_held : ReferencesByPath) (w : List ℕ) (id : ℕ) : Typ
   is : find view_path_cmp at objects_held ≡ Some id
   behind : (q : ViewPath) → T (below_all view_path_cmp q objects_held) → view_path_cmp q at ≡ Less
 
-t_first : (a b : Bool) → T (a && b) → T a
-t_first true b h = tt
-t_first false b h = h
-
-t_second : (a b : Bool) → T (a && b) → T b
-t_second true b h = h
-t_second false b h = absurd h
-
-less : (o : Ordering) → T (is_lt o) → o ≡ Less
-less Less h = refl
-less Equal h = absurd h
-less Greater h = absurd h
-
-as_true : (t : Bool) → t ≡ true → T t
-as_true true h = tt
-as_true false h = absurd (cc)
-
 found_by : (objects_held : ReferencesByPath) (w : List ℕ) (id : ℕ) → T (is_sorted view_path_cmp objects_held)
     → is_held_by objects_held w id ≡ true → FoundBy objects_held w id
 found_by [] w id sorted h = absurd (cc)
 found_by (entry ∷ objects_held) w id sorted h = by (bytes_eq entry.0.0 w && (entry.1 == id)) refl
-    (found_by objects_held w id (t_second (below_all view_path_cmp entry.0 objects_held) (is_sorted view_path_cmp objects_held)
+    (found_by objects_held w id (test_second (below_all view_path_cmp entry.0 objects_held) (is_sorted view_path_cmp objects_held)
     sorted)) h
   where
     by : (t : Bool) → (bytes_eq entry.0.0 w && (entry.1 == id)) ≡ t → (is_held_by objects_held w id ≡ true
         → FoundBy objects_held w id) → (t || is_held_by objects_held w id) ≡ true → FoundBy (entry ∷ objects_held) w id
     by true here older is =
-        let parts = and_both (bytes_eq entry.0.0 w) (entry.1 == id) here in
+        let parts = and_parts (bytes_eq entry.0.0 w) (entry.1 == id) here in
         let same = parts.1 in
         let number : entry.1 ≡ id = grind (arith, nat_tests, same) in
         record {
@@ -214,20 +171,21 @@ found_by (entry ∷ objects_held) w id sorted h = by (bytes_eq entry.0.0 w && (e
           by = parts.0;
           is = ap (λ o. cond (is_eq o) (Some entry.1) (find view_path_cmp entry.0 objects_held))
               (tied_itself view_paths_total entry.0) ∙ ap Some number;
-          behind = λ q below. less (view_path_cmp q entry.0) (t_first (is_lt (view_path_cmp q entry.0))
+          behind = λ q below. less_by_test (view_path_cmp q entry.0) (test_first (is_lt (view_path_cmp q entry.0))
               (below_all view_path_cmp q objects_held) below);
         }
     by false other older is =
         let there = older is in
         let later : view_path_cmp there.at entry.0 ≡ Greater =
         view_paths_total.antisymm there.at entry.0 ∙ ap ordering_reverse
-        (there.behind entry.0 (t_first (below_all view_path_cmp entry.0 objects_held) (is_sorted view_path_cmp objects_held)
+        (there.behind entry.0 (test_first (below_all view_path_cmp entry.0 objects_held) (is_sorted view_path_cmp objects_held)
         sorted)) in
         record {
           at = there.at;
           by = there.by;
           is = ap (λ o. cond (is_eq o) (Some entry.1) (find view_path_cmp there.at objects_held)) later ∙ there.is;
-          behind = λ q below. there.behind q (t_second (is_lt (view_path_cmp q entry.0)) (below_all view_path_cmp q objects_held)
+          behind = λ q below. there.behind q (test_second (is_lt (view_path_cmp q entry.0))
+              (below_all view_path_cmp q objects_held)
               below);
         }
 
@@ -242,14 +200,14 @@ module _ (b : Base) (id : ℕ) (w : List ℕ) where
   one_held : (targets : List (List ℕ)) → holds_one b w id targets ≡ true → is_held_by (objects_held b) w id ≡ true
   one_held [] h = absurd (cc)
   one_held (target ∷ targets) h =
-      or_cases (is_number id (held_at (objects_held b) w target)) (holds_one b w id targets)
+      or_either (is_number id (held_at (objects_held b) w target)) (holds_one b w id targets)
       (is_held_by (objects_held b) w id ≡ true) h
       (λ here. found_held (objects_held b) w target id (number_of b id (held_at (objects_held b) w target) here))
       (one_held targets)
 
   held_one : (v : List ℕ) (targets : List (List ℕ)) → bytes_eq w v ≡ true → holds_one b v id targets ≡ true
       → is_held_by (objects_held b) w id ≡ true
-  held_one v targets same h = one_held targets (ap (λ x. holds_one b x id targets) (same_text w v same) ∙ h)
+  held_one v targets same h = one_held targets (ap (λ x. holds_one b x id targets) (same_bytes w v same) ∙ h)
 
   made_held : (deed : Option Deed) → made deed ≡ true → is_held_by (objects_held b) w id ≡ true
   made_held (Some (deeds.Publish v targets script entries outputs)) h = by (holds_one b v id targets) refl h
@@ -273,14 +231,14 @@ module _ (b : Base) (id : ℕ) (w : List ℕ) where
           → is_held_by (objects_held b) w id ≡ true
       here v other true test at is =
           held_one v (targets_of older other) (sym (ap (λ deed. is_name w (option_and_then winker deed)) at)
-          ∙ is) (and_both (other == id) (holds_one b v id (targets_of older other)) test).1
+          ∙ is) (and_parts (other == id) (holds_one b v id (targets_of older other)) test).1
       here v other false test at is = absurd (cc)
 
       by : (deed : Deed) → deed_at b (size older) ≡ Some deed → (winks older ≡ true → is_held_by (objects_held b) w id ≡ true) →
           ((is_some (update_by_row (size older) (winked_effect b id older deed)) && is_name w (winker_at b (size older)))
           || winks older) ≡ true → is_held_by (objects_held b) w id ≡ true
       by (deeds.Wink v other) at rest is =
-          or_cases (is_some (update_by_row (size older) (winked_effect b id older (deeds.Wink v other)))
+          or_either (is_some (update_by_row (size older) (winked_effect b id older (deeds.Wink v other)))
           && is_name w (winker_at b (size older))) (winks older) (is_held_by (objects_held b) w id ≡ true) is
           (here v other ((other == id) && holds_one b v id (targets_of older other)) refl at) rest
       by deed at rest is = rest is
@@ -298,7 +256,7 @@ module _ (b : Base) (id : ℕ) (w : List ℕ) where
   more_winks row older h =
       any_put (λ n. is_name w (winker_at b n)) (is_some (update_by_row (size older) (winked_effect b id older row.deed)))
       (size older) (updating_rows (winked_effect b id) older)
-      ∙ or_second (is_some (update_by_row (size older) (winked_effect b id older row.deed))
+      ∙ or_right (is_some (update_by_row (size older) (winked_effect b id older row.deed))
       && is_name w (winker_at b (size older))) (winks older) h
 
   -- whether the view made the object, or winked it in by one of some rows
@@ -309,8 +267,8 @@ module _ (b : Base) (id : ℕ) (w : List ℕ) where
   still row older h = by (made (deed_at b id)) refl h
     where
       by : (m : Bool) → made (deed_at b id) ≡ m → (m || winks older) ≡ true → (made (deed_at b id) || winks (row ∷ older)) ≡ true
-      by true e h = or_first (made (deed_at b id)) (winks (row ∷ older)) e
-      by false e h = or_second (made (deed_at b id)) (winks (row ∷ older)) (more_winks row older h)
+      by true e h = or_left (made (deed_at b id)) (winks (row ∷ older)) e
+      by false e h = or_right (made (deed_at b id)) (winks (row ∷ older)) (more_winks row older h)
 
   traced : (v path : List ℕ) → bytes_eq v w ≡ true → held_at (objects_held b) v path ≡ Some id → (rows : Base) → AreDeeds b rows
       → last_of (held_effect v path) rows ≡ Some id → IsTraced rows
@@ -328,9 +286,9 @@ module _ (b : Base) (id : ℕ) (w : List ℕ) where
           → IsTraced (row ∷ older)
       published x targets script entries outputs true at test is rest =
           let number : size older ≡ id = cc in
-          let parts = and_both (bytes_eq x v) (is_target path targets) test in
-          let mine : bytes_eq w x ≡ true = turned x w true (ap (bytes_eq x) (sym (same_text v w view)) ∙ parts.0) in
-          or_first (made (deed_at b id)) (winks (row ∷ older))
+          let parts = and_parts (bytes_eq x v) (is_target path targets) test in
+          let mine : bytes_eq w x ≡ true = bytes_swapped x w true (ap (bytes_eq x) (sym (same_bytes v w view)) ∙ parts.0) in
+          or_left (made (deed_at b id)) (winks (row ∷ older))
           (ap made (ap (deed_at b) (sym number) ∙ at) ∙ ap (λ t. is_name w (only_where t (Some x)))
           (holds_target b id v path x targets there parts.0 parts.1) ∙ mine)
       published x targets script entries outputs false at test is rest = still row older (rest is)
@@ -343,17 +301,17 @@ module _ (b : Base) (id : ℕ) (w : List ℕ) where
       winked x other true deed at test is rest =
           let number : other ≡ id = cc in
           let one : (other == id) ≡ true = grind (arith, nat_tests) in
-          let parts = and_both (bytes_eq x v) (is_target path (targets_of older other)) test in
+          let parts = and_parts (bytes_eq x v) (is_target path (targets_of older other)) test in
           let holds = holds_target b id v path x (targets_of older other) there parts.0 parts.1 in
-          let mine : bytes_eq w x ≡ true = turned x w true (ap (bytes_eq x) (sym (same_text v w view)) ∙ parts.0) in
+          let mine : bytes_eq w x ≡ true = bytes_swapped x w true (ap (bytes_eq x) (sym (same_bytes v w view)) ∙ parts.0) in
           let does : is_some (update_by_row (size older) (winked_effect b id older row.deed)) ≡ true =
           ap (λ d. is_some (update_by_row (size older) (winked_effect b id older d))) deed
           ∙ ap₂ (λ (t u : Bool). is_some (update_by_row (size older) (only_if (t && u) (Sets other)))) one holds in
           let own : is_name w (winker_at b (size older)) ≡ true = ap (λ d. is_name w (option_and_then winker d)) at ∙ mine in
-          or_second (made (deed_at b id)) (winks (row ∷ older))
+          or_right (made (deed_at b id)) (winks (row ∷ older))
           (any_put (λ n. is_name w (winker_at b n)) (is_some (update_by_row (size older) (winked_effect b id older row.deed)))
           (size older) (updating_rows (winked_effect b id) older)
-          ∙ or_first (is_some (update_by_row (size older) (winked_effect b id older row.deed))
+          ∙ or_left (is_some (update_by_row (size older) (winked_effect b id older row.deed))
           && is_name w (winker_at b (size older))) (winks older) (ap₂ (λ (t u : Bool). t && u) does own))
       winked x other false deed at test is rest = still row older (rest is)
 
@@ -372,10 +330,10 @@ module _ (b : Base) (id : ℕ) (w : List ℕ) where
   pub holder_found : (made (deed_at b id) || winks b) ≡ is_held_by (objects_held b) w id
   holder_found =
       same_test (made (deed_at b id) || winks b) (is_held_by (objects_held b) w id)
-      (λ h. or_cases (made (deed_at b id)) (winks b) (is_held_by (objects_held b) w id ≡ true) h (made_held (deed_at b id))
+      (λ h. or_either (made (deed_at b id)) (winks b) (is_held_by (objects_held b) w id ≡ true) h (made_held (deed_at b id))
       (winks_held b (λ n low. refl)))
       (λ is.
-      let found = found_by (objects_held b) w id (as_true (is_sorted view_path_cmp (objects_held b)) (held_in_order b)) is in
+      let found = found_by (objects_held b) w id (test_from (is_sorted view_path_cmp (objects_held b)) (held_in_order b)) is in
       traced found.at.0 found.at.1 found.by found.is b (λ n low. refl) (sym (held_by_last b found.at.0 found.at.1) ∙ found.is))
 
 -- Views in order that are those which hold the object are as many as hold it.

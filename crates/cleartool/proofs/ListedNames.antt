@@ -13,6 +13,7 @@ use Rattle.std.proofs.lemmas.Cmp.{nat_list_cmp_total, nat_list_eq_equiv}
 use Rattle.std.proofs.lemmas.List.{reverse-append, reverse-reverse}
 use Rattle.std.proofs.lemmas.Map.Text.{is_eq-slice_cmp}
 use Rattle.std.proofs.lemmas.Slice.Eq.{bytes_eq-Decides}
+use Rattle.std.proofs.lemmas.Bool.{and_parts, and_from, or_left, or_right}
 use Rattle.cc_names.specs.Formed.{IsBelowRoot, Plain}
 use Rattle.cc_names.specs.Last.{Ends, Sets, value_after, only_if}
 use Rattle.cc_names.specs.Names.{IsName}
@@ -28,6 +29,7 @@ use Rattle.cc_names.specs.declared.selection.Seen.TheVariants.{Nothing}
 use Rattle.cc_names.proofs.NamesOfPaths.{path-short}
 use Rattle.cc_names.proofs.PathParts.{path_of_names-names_of, last_or-append}
 use Rattle.cc_names.proofs.PathParts.{without_last-append}
+use Rattle.cc_names.proofs.Common.{same_bytes, bytes_equal_themselves}
 use Rattle.base_model.specs.Catalogs.{Catalog, catalog_of, element_named, own_of}
 use Rattle.base_model.specs.Changes.{objects_held}
 use Rattle.base_model.specs.Closures.{is_path_among}
@@ -51,28 +53,6 @@ use Rattle.view_lookup.proofs.ByKeys.{by_keys, text_of_key}
 use Rattle.cleartool.proofs.HeldListed.{held_given}
 use Rattle.view_lookup.proofs.NamesGiven.{checkout_given, version_given}
 use Rattle.view_lookup.proofs.NamesInPaths.{names_in_path}
-
-and_both : (a b : Bool) → (a && b) ≡ true → (a ≡ true) × (b ≡ true)
-and_both true b h = (refl, h)
-and_both false b h = absurd (cc)
-
-and_true : (a b : Bool) → a ≡ true → b ≡ true → (a && b) ≡ true
-and_true true b p q = q
-and_true false b p q = absurd (cc)
-
-or_first : (a b : Bool) → a ≡ true → (a || b) ≡ true
-or_first true b h = refl
-or_first false b h = absurd (cc)
-
-or_second : (a b : Bool) → b ≡ true → (a || b) ≡ true
-or_second true b h = refl
-or_second false b h = h
-
-same_text : (a b : List ℕ) → bytes_eq a b ≡ true → a ≡ b
-same_text a b is = (bytes_eq-Decides a b).0 is
-
-itself : (a : List ℕ) → bytes_eq a a ≡ true
-itself a = (bytes_eq-Decides a a).1 refl
 
 is_itself : (a b : List ℕ) → a ≡ b → bytes_eq a b ≡ true
 is_itself a b same = (bytes_eq-Decides a b).1 same
@@ -124,19 +104,19 @@ path_by : PartsJoin → (directory name path : List ℕ) → IsBelowRoot path �
 path_by law directory name path low above last =
     let p = parts_of law path low in
     let one : p.directory ≡ directory = sym (ap (λ (o : Option (List ℕ)). unwrap_or o root) p.above)
-    ∙ same_text (parent path) directory above in
+    ∙ same_bytes (parent path) directory above in
     let two : p.name ≡ name = sym (ap (λ (o : Option (List ℕ)). unwrap_or o []) p.last)
-    ∙ sym (same_text name (last_name path) last) in
+    ∙ sym (same_bytes name (last_name path) last) in
     p.is ∙ ap₂ path_of_entry one two
 
 lies_there : PartsJoin → (directory name path : List ℕ) → IsBelowRoot path → bytes_eq (parent path) directory ≡ true
     → bytes_eq name (last_name path) ≡ true → lies_in directory name path ≡ true
 lies_there law directory name path low above last =
     let p = parts_of law path low in
-    and_true (is_name directory (parent_of path)) (is_name name (last_of path))
-    (ap (is_name directory) p.above ∙ is_itself directory p.directory (sym (same_text (parent path) directory above)
+    and_from (is_name directory (parent_of path)) (is_name name (last_of path))
+    (ap (is_name directory) p.above ∙ is_itself directory p.directory (sym (same_bytes (parent path) directory above)
     ∙ ap (λ (o : Option (List ℕ)). unwrap_or o root) p.above))
-    (ap (is_name name) p.last ∙ is_itself name p.name (same_text name (last_name path) last
+    (ap (is_name name) p.last ∙ is_itself name p.name (same_bytes name (last_name path) last
     ∙ ap (λ (o : Option (List ℕ)). unwrap_or o []) p.last))
 
 -- ---- one name more in a table
@@ -197,7 +177,7 @@ module _ (law : PartsJoin) (b : Base) (v directory : List ℕ) where
           (Some (seen_at name)) (find (slice_cmp nat_cmp) name rest)
       by true e before =
           ap₂ (λ (key : List ℕ) (found : Option Seen). cond (is_something (seen_at key) && true) (Some (seen_at key)) found)
-          (sym (same_text name entry.0 e)) before
+          (sym (same_bytes name entry.0 e)) before
           ∙ here (is_something (seen_at name)) (is_some (element_named name catalog)) (seen_at name)
           (find (slice_cmp nat_cmp) name rest)
       by false e before = passed (is_something (seen_at entry.0)) (seen_at entry.0)
@@ -225,15 +205,15 @@ module _ (law : PartsJoin) (b : Base) (v directory : List ℕ) where
   AreBelow rows = (path : List ℕ) → was_given b v path rows ≡ true → IsBelowRoot path
 
   older_below : (row : Plain) (older : Base) → AreBelow (row ∷ older) → AreBelow older
-  older_below row older low = λ path given. low path (or_second (gives_view v row.deed
+  older_below row older low = λ path given. low path (or_right (gives_view v row.deed
       && is_path_among path (paths_given b row.deed)) (was_given b v path older) given)
 
   put_below : (row : Plain) (older : Base) (w p text : List ℕ) → row.deed ≡ deeds.Put w p text → bytes_eq w v ≡ true
       → AreBelow (row ∷ older) → IsBelowRoot p
   put_below row older w p text is own low =
-      low p (or_first (gives_view v row.deed && is_path_among p (paths_given b row.deed)) (was_given b v p older)
+      low p (or_left (gives_view v row.deed && is_path_among p (paths_given b row.deed)) (was_given b v p older)
       (ap (λ d. gives_view v d && is_path_among p (paths_given b d)) is
-      ∙ ap₂ (λ (one two : Bool). one && (two || false)) own (itself p)))
+      ∙ ap₂ (λ (one two : Bool). one && (two || false)) own (bytes_equal_themselves p)))
 
   private_find : (name : List ℕ) → IsPath directory → IsName name → (rows : Base) (rest : Names) → AreBelow rows
       → find (slice_cmp nat_cmp) name (private_names b v directory rows rest)
@@ -255,7 +235,7 @@ module _ (law : PartsJoin) (b : Base) (v directory : List ℕ) where
           ≡ cond ((t || is_put (path_of_entry directory name) older) && is_some (private b v (path_of_entry directory name)))
           (Some (seen_at name)) (find (slice_cmp nat_cmp) name rest)
       by_path p low true same before =
-          let one : p ≡ path_of_entry directory name = same_text p (path_of_entry directory name) same in
+          let one : p ≡ path_of_entry directory name = same_bytes p (path_of_entry directory name) same in
           let above : bytes_eq (parent p) directory ≡ true = is_itself (parent p) directory (ap parent one
           ∙ ap (λ (o : Option (List ℕ)). unwrap_or o root) (parent_in directory name path is)) in
           let last : bytes_eq name (last_name p) ≡ true = is_itself name (last_name p) (sym (ap last_name one
@@ -275,8 +255,8 @@ module _ (law : PartsJoin) (b : Base) (v directory : List ℕ) where
       by_path p low false other before =
           let none : ((bytes_eq (parent p) directory && is_some (private b v p)) && bytes_eq name (last_name p)) ≡ false =
           not_true ((bytes_eq (parent p) directory && is_some (private b v p)) && bytes_eq name (last_name p)) (λ h.
-          let parts = and_both (bytes_eq (parent p) directory && is_some (private b v p)) (bytes_eq name (last_name p)) h in
-          let more = and_both (bytes_eq (parent p) directory) (is_some (private b v p)) parts.0 in
+          let parts = and_parts (bytes_eq (parent p) directory && is_some (private b v p)) (bytes_eq name (last_name p)) h in
+          let more = and_parts (bytes_eq (parent p) directory) (is_some (private b v p)) parts.0 in
           let same = is_itself p (path_of_entry directory name) (path_by law directory name p low more.0 parts.1) in
           cc (same, other)) in
           ap (λ t. cond t (Some (at b v p)) (find (slice_cmp nat_cmp) name (private_names b v directory older rest))) none
@@ -364,7 +344,7 @@ module _ (law : PartsJoin) (b : Base) (v directory : List ℕ) where
           → ((gives_view v deed && is_path_among path (paths_given b deed)) || was_given b v path older) ≡ true
       by (deeds.Put w p text) h before = or_more (bytes_eq w v && (bytes_eq path p || false)) (is_put path older)
           (was_given b v path older) (sym (ap (λ t. t || is_put path older) (turned w p)) ∙ h) before
-      by deed h before = or_second (gives_view v deed && is_path_among path (paths_given b deed)) (was_given b v path older)
+      by deed h before = or_right (gives_view v deed && is_path_among path (paths_given b deed)) (was_given b v path older)
           (before h)
 
   -- ---- the names of objects
@@ -386,7 +366,8 @@ module _ (law : PartsJoin) (b : Base) (v directory : List ℕ) where
       → HeldBelow (entry ∷ objects_held) → IsBelowRoot entry.0.1
   entry_below entry objects_held own low =
       low entry.0.1 (ap (λ t. is_some (cond t (Some entry.1) (held_at objects_held v entry.0.1)))
-      (same_view_path v entry.0.1 entry.0.0 entry.0.1 ∙ ap₂ (λ (one two : Bool). one && two) own (itself entry.0.1)))
+      (same_view_path v entry.0.1 entry.0.0 entry.0.1 ∙ ap₂ (λ (one two : Bool). one && two) own
+      (bytes_equal_themselves entry.0.1)))
 
   object_find : (name : List ℕ) → IsPath directory → IsName name → (objects_held : ReferencesByPath) → HeldBelow objects_held
       → find (slice_cmp nat_cmp) name (object_names b v directory objects_held [])
@@ -407,7 +388,7 @@ module _ (law : PartsJoin) (b : Base) (v directory : List ℕ) where
           ≡ cond (is_some (cond t (Some entry.1) (held_at objects_held v (path_of_entry directory name)))) (Some (seen_at name))
           None
       by_path low true same before =
-          let one : entry.0.1 ≡ path_of_entry directory name = same_text entry.0.1 (path_of_entry directory name) same in
+          let one : entry.0.1 ≡ path_of_entry directory name = same_bytes entry.0.1 (path_of_entry directory name) same in
           let above : bytes_eq (parent entry.0.1) directory ≡ true = is_itself (parent entry.0.1) directory (ap parent one
           ∙ ap (λ (o : Option (List ℕ)). unwrap_or o root) (parent_in directory name path is)) in
           let last : bytes_eq name (last_name entry.0.1) ≡ true = is_itself name (last_name entry.0.1) (sym (ap last_name one
@@ -418,7 +399,7 @@ module _ (law : PartsJoin) (b : Base) (v directory : List ℕ) where
       by_path low false other before =
           let none : (bytes_eq (parent entry.0.1) directory && bytes_eq name (last_name entry.0.1)) ≡ false =
           not_true (bytes_eq (parent entry.0.1) directory && bytes_eq name (last_name entry.0.1)) (λ h.
-          let parts = and_both (bytes_eq (parent entry.0.1) directory) (bytes_eq name (last_name entry.0.1)) h in
+          let parts = and_parts (bytes_eq (parent entry.0.1) directory) (bytes_eq name (last_name entry.0.1)) h in
           let same = is_itself entry.0.1 (path_of_entry directory name) (path_by law directory name entry.0.1 low parts.0 parts.1)
           in
           cc (same, other)) in
@@ -453,7 +434,7 @@ module _ (law : PartsJoin) (b : Base) (v directory : List ℕ) where
     private_has name P [] rest all is among before = before is
     private_has name P (row ∷ older) rest all is among before =
         by row.deed refl is (λ found. private_has name P older rest (λ path given. all path
-        (or_second (gives_view v row.deed && is_path_among path (paths_given b row.deed)) (was_given b v path older) given))
+        (or_right (gives_view v row.deed && is_path_among path (paths_given b row.deed)) (was_given b v path older) given))
         found among before)
       where
         by : (deed : Deed) → row.deed ≡ deed → is_some (find (slice_cmp nat_cmp) name
@@ -466,14 +447,14 @@ module _ (law : PartsJoin) (b : Base) (v directory : List ℕ) where
             (sym (ap is_some (find_if ((bytes_eq w v && bytes_eq (parent p) directory) && is_some (private b v p)) name
             (last_name p) (at b v p) (private_names b v directory older rest))) ∙ is)
             (λ h.
-            let parts = and_both ((bytes_eq w v && bytes_eq (parent p) directory) && is_some (private b v p))
+            let parts = and_parts ((bytes_eq w v && bytes_eq (parent p) directory) && is_some (private b v p))
             (bytes_eq name (last_name p)) h in
-            let more = and_both (bytes_eq w v && bytes_eq (parent p) directory) (is_some (private b v p)) parts.0 in
-            let two = and_both (bytes_eq w v) (bytes_eq (parent p) directory) more.0 in
-            let given : was_given b v p b ≡ true = all p (or_first (gives_view v row.deed
+            let more = and_parts (bytes_eq w v && bytes_eq (parent p) directory) (is_some (private b v p)) parts.0 in
+            let two = and_parts (bytes_eq w v) (bytes_eq (parent p) directory) more.0 in
+            let given : was_given b v p b ≡ true = all p (or_left (gives_view v row.deed
             && is_path_among p (paths_given b row.deed)) (was_given b v p older)
             (ap (λ d. gives_view v d && is_path_among p (paths_given b d)) same
-            ∙ ap₂ (λ (one two : Bool). one && (two || false)) two.0 (itself p))) in
+            ∙ ap₂ (λ (one two : Bool). one && (two || false)) two.0 (bytes_equal_themselves p))) in
             among (has.own p name given (lies_there law directory name p (has.below p given) two.1 parts.1)))
             more
         by deed same is more = more is
@@ -489,12 +470,14 @@ module _ (law : PartsJoin) (b : Base) (v directory : List ℕ) where
         (sym (ap is_some (find_if (bytes_eq entry.0.0 v && bytes_eq (parent entry.0.1) directory) name (last_name entry.0.1)
         (at b v entry.0.1) (object_names b v directory held' []))) ∙ is)
         (λ h.
-        let parts = and_both (bytes_eq entry.0.0 v && bytes_eq (parent entry.0.1) directory) (bytes_eq name (last_name entry.0.1))
+        let parts = and_parts (bytes_eq entry.0.0 v && bytes_eq (parent entry.0.1) directory)
+        (bytes_eq name (last_name entry.0.1))
         h in
-        let two = and_both (bytes_eq entry.0.0 v) (bytes_eq (parent entry.0.1) directory) parts.0 in
+        let two = and_parts (bytes_eq entry.0.0 v) (bytes_eq (parent entry.0.1) directory) parts.0 in
         let given : was_given b v entry.0.1 b ≡ true =
         all entry.0.1 (ap (λ t. is_some (cond t (Some entry.1) (held_at held' v entry.0.1)))
-        (same_view_path v entry.0.1 entry.0.0 entry.0.1 ∙ ap₂ (λ (one two : Bool). one && two) two.0 (itself entry.0.1))) in
+        (same_view_path v entry.0.1 entry.0.0 entry.0.1 ∙ ap₂ (λ (one two : Bool). one && two) two.0
+        (bytes_equal_themselves entry.0.1))) in
         has.own entry.0.1 name given (lies_there law directory name entry.0.1 (has.below entry.0.1 given) two.1 parts.1))
         (object_has name held' (λ path found. all path (some_if (eq_by_cmp view_path_cmp (v, path) entry.0) entry.1
         (held_at held' v path) found)))
@@ -506,9 +489,9 @@ module _ (law : PartsJoin) (b : Base) (v directory : List ℕ) where
         found_or P (is_some (element_named name catalog) && is_something (seen_at name)) (seen_at name)
         (find (slice_cmp nat_cmp) name rest)
         (sym (ap is_some (catalog_find name catalog rest)) ∙ is)
-        (λ h. here (and_both (is_some (element_named name catalog)) (is_something (seen_at name)) h).0) before
+        (λ h. here (and_parts (is_some (element_named name catalog)) (is_something (seen_at name)) h).0) before
 
-    -- ---- the directory itself
+    -- ---- the directory bytes_equal_themselves
 
     module _ (base : is_base b ≡ true) (path : IsPath directory) (sees : SeesDirectory b v directory e) where
       abbrev catalog : Catalog

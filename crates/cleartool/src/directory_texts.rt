@@ -227,9 +227,9 @@ fn ls_root(alloc: Global, rows: &FirstRows<'_>, view: &Name) -> Result<Text, Or<
     ls_at(alloc, rows, view, &root)
 }
 
-/// The text of `ls V [P]`, the names of the directory there, of the root without a path, and what stands at each, or its first
-/// refusal. Takes the time of `at` for each name that was ever given in the directory or at whose path there the view ever had
-/// something of its own, and time linear in the rows by which it came to have something at any path.
+/// The text of `ls V [P]`, or its first refusal: each name in the directory P, or in the root, with what the view sees
+/// there. Takes the time of `at` for each name that was ever given in the directory and for each path below it where
+/// the view ever had a private file or an object, and time linear in the rows that gave the view any.
 pub fn ls(
     alloc: Global,
     rows: &FirstRows<'_>,

@@ -122,7 +122,8 @@ module _ (xs : List Extent) (at : ℕ) (e : Extent) (h : IsInPlace 0 xs)
 
     -- so one that does not fit is not free
     pub blocked_prefix : 0 < e.length → e.place < last_behind 0 (take at xs) → is_free xs e ≡ false
-    blocked_prefix some lower = false_from_ne_true (is_free xs e) (λ free. let fits = free_fits some free in omega (arith, fits.0))
+    blocked_prefix some lower = false_from_ne_true (is_free xs e) (λ free. let fits = free_fits some free in
+        omega (arith, fits.0))
 
     pub blocked_back : (next : Extent) → at < length xs → next ≡ get_or xs at next → 0 < e.length → next.place < place_behind e
         → is_free xs e ≡ false

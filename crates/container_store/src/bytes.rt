@@ -53,7 +53,8 @@ impl Store {
             IfModeled (O.ghost_state objects.old).modeled
             (λ d. text ≡ take extent.now.length (drop extent.now.place (bytes_now 1 d)))) }
         ensures long { IfOk result (λ text. length text ≡ extent.now.length) }
-        ensures modeled { Gets extent.now result (O.ghost_state objects.old) (O.ghost_state objects.new) }
+        ensures modeled { Gets extent.now result (O.ghost_state objects.old)
+            (O.ghost_state objects.new) }
         ensures keeps { O.keeps objects.old objects.new }
     {
         let mut bytes = Vec::new(alloc);

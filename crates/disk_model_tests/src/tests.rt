@@ -187,8 +187,7 @@ fn tell_taken(rt: &impl Abort, disk: &mut FileDisk<HostRuntime>) {
 }
 
 /// A disk that takes over goes on with the file of the other and under its lock, though the file was moved away, and counts its
-/// own
-/// calls alone.
+/// own calls alone.
 #[test]
 fn a_disk_goes_on_with_the_files_of_another(rt: HostRuntime) -> Result<(), Fail> {
     let name = "disk_model_taken";

@@ -3,6 +3,7 @@ use Rattle.std.proofs.Common.{◌≡◌, ◌≢◌, ℕ, zero, suc, ◌<◌, tru
 use Rattle.std.proofs.Common.{reverse, Option, None, refl, inl, inr, sym, ap, ◌∙◌, arith}
 use Rattle.std.specs.Str.{bytes_eq}
 use Rattle.std.proofs.lemmas.List.{reverse-append, length-set, get_or-set_same, get_or-set_other, get_or_default}
+use Rattle.std.proofs.lemmas.Bool.{cases_Bool}
 use Rattle.cc_names.specs.Falling.{IsAbove, Falls}
 use Rattle.cc_names.specs.Labels.{row_of_label_change, labels_of_first_rows, holder}
 use Rattle.label_book.specs.Marks.{is_about, of_pair, rows_of_pair}
@@ -11,7 +12,7 @@ use Rattle.label_book.specs.Holding.{is_pair, IsPlaceOf, HasNoPlace}
 use Rattle.label_book.specs.declared.held.Move.{Move}
 use Rattle.label_book.proofs.Entries.{SameHead}
 use Rattle.label_book.proofs.Newest.{row_by}
-use Rattle.label_book.proofs.Pairs.{bool_cases, pair_is, holder_of_pair, about_by, of_pair_none, of_pair_at, of_pair_set_other}
+use Rattle.label_book.proofs.Pairs.{pair_is, holder_of_pair, about_by, of_pair_none, of_pair_at, of_pair_set_other}
 
 -- the rows of moves, as changes or not
 rows_by : (l : List ℕ) (e : ℕ) (moves : List Move) → map row_of_label_change (map (change_of_move l e) moves)
@@ -81,7 +82,7 @@ module _ (all : List Held) (l : List ℕ) (e p : ℕ) (place : IsPlaceOf l e all
       let about : is_about k n (change_by l e move.row move.version) ≡ is_pair k n old =
       about_at move.row move.version k n held in
       let at : (d : Held) → get_or all p d ≡ old = λ d. get_or_default all p d held place.within in
-      elim (bool_cases (is_pair k n old)) [
+      elim (cases_Bool (is_pair k n old)) [
         | inl is ↦
             let (names, numbers) = pair_is k n old is in
             let others : (i : ℕ) (f : Held) → i < length all → i ≢ p → is_pair k n (get_or all i f) ≡ false =

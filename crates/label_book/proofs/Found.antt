@@ -5,7 +5,7 @@ use Rattle.std.specs.Bool.{Decides}
 use Rattle.std.specs.Str.{bytes_eq}
 use Rattle.std.specs.List.{IsDistinct, AllPairs, list_any}
 use Rattle.std.specs.Map.{keys_of, lookup}
-use Rattle.std.proofs.lemmas.Bool.{cases_lt, cases_eq}
+use Rattle.std.proofs.lemmas.Bool.{cases_lt, cases_eq, cases_Bool, and_parts}
 use Rattle.std.proofs.lemmas.Bool.Decides.{Decides-eqb}
 use Rattle.std.proofs.lemmas.List.{get_or-map, length-map}
 use Rattle.std.proofs.lemmas.List.Quantifiers.{position-Some}
@@ -15,7 +15,7 @@ use Rattle.label_book.specs.Holding.{MovesByPlace, is_pair, is_same_label, held_
 use Rattle.label_book.specs.Holding.{IsPlaceOf, HasNoPlace}
 use Rattle.label_book.specs.declared.held.LabelOn.{LabelOn}
 use Rattle.label_book.proofs.Newest.{is_itself}
-use Rattle.label_book.proofs.Pairs.{bool_cases, both_hold, pair_is}
+use Rattle.label_book.proofs.Pairs.{pair_is}
 
 -- what differs from all others stands at one place
 alone_at : {X : Type 0} (xs : List X) (p k : ℕ) (d : X) → AllPairs (λ x y. x ≢ y) xs → p < length xs → k < length xs
@@ -70,7 +70,7 @@ label_absent l e names entries named none = record {
 decides : (one two : LabelOn) → Decides (is_same_label one two) (one ≡ two)
 decides one two = (
   λ is.
-      let (labels, elements) = both_hold (eqb one.label two.label) (eqb one.element two.element) is in
+      let (labels, elements) = and_parts (eqb one.label two.label) (eqb one.element two.element) is in
       ap (λ m. record { label = m; element = one.element }) ((Decides-eqb one.label two.label).0 labels)
       ∙ ap (λ m. record { label = two.label; element = m }) ((Decides-eqb one.element two.element).0 elements),
   λ is. rw is (rw ((Decides-eqb two.label two.label).1 refl) ((Decides-eqb two.element two.element).1 refl)),
@@ -119,7 +119,7 @@ module _ (names : List (List ℕ)) (apart : IsDistinct bytes_eq names) (entries 
             let k_in_range : k < length entries = omega (arith, length-map entries (held_among names)) in
             let entry = get_or entries k f in
             rw (get_or-map (held_among names) entries k f d k_in_range)
-            (elim (bool_cases (is_pair l e (held_among names entry))) [
+            (elim (cases_Bool (is_pair l e (held_among names entry))) [
               | inl pair ↦
                   let one : key ≡ get_or (keys_of entries) p key = (decides key (get_or (keys_of entries) p key)).0 is in
                   let two : key ≡ entry.0 = (decides key entry.0).0 (key_of_pair entry (named k f k_in_range) pair) in
@@ -151,7 +151,7 @@ module _ (names : List (List ℕ)) (apart : IsDistinct bytes_eq names) (entries 
         ap (is_same_label key) (sym (get_or-map (λ (entry : MovesByPlace). entry.0) entries k f key in_range))
         ∙ each_fails (is_same_label key) (keys_of entries) lacks k key
         (omega (arith, length-map entries (λ (entry : MovesByPlace). entry.0))) in
-        rw (get_or-map (held_among names) entries k f d in_range) (elim (bool_cases (is_pair l e (held_among names entry))) [
+        rw (get_or-map (held_among names) entries k f d in_range) (elim (cases_Bool (is_pair l e (held_among names entry))) [
           | inl pair ↦ cc (key_of_pair entry (named k f in_range) pair)
           | inr is_not ↦ is_not
         ]);
@@ -165,7 +165,7 @@ module _ (names : List (List ℕ)) (apart : IsDistinct bytes_eq names) (entries 
       let fails : is_pair l e (held_among names entry) ≡ false =
       ap (is_pair l e) (sym (get_or-map (held_among names) entries k d (held_among names d) within))
       ∙ nowhere.none k (held_among names d) in_range in
-      elim (bool_cases (is_same_label (record { label = n; element = e }) entry.0)) [
+      elim (cases_Bool (is_same_label (record { label = n; element = e }) entry.0)) [
         | inl is ↦ cc (pair_of_key entry is)
         | inr is_not ↦ is_not
       ])

@@ -1,11 +1,12 @@
 -- The changes of one label on one element among all.
 use Rattle.std.proofs.Common.{◌≡◌, ◌≢◌, ℕ, zero, suc, ◌<◌, Bool, true, false, cond, ◌&&◌, eqb, ltb, List, [], ◌∷◌, ◌++◌, length}
-use Rattle.std.proofs.Common.{get_or, set, map, reverse, Option, Some, None, ◌⊎◌, refl, inl, inr, sym, ap, ◌∙◌, arith}
+use Rattle.std.proofs.Common.{get_or, set, map, reverse, Option, Some, None, ◌⊎◌, refl, sym, ap, ◌∙◌, arith}
 use Rattle.std.specs.Str.{bytes_eq}
 use Rattle.std.proofs.lemmas.List.{append-nil}
 use Rattle.std.proofs.lemmas.List.Elements.{filter-append}
 use Rattle.std.proofs.lemmas.Bool.Decides.{Decides-eqb}
 use Rattle.std.proofs.lemmas.Slice.Eq.{bytes_eq-Decides}
+use Rattle.std.proofs.lemmas.Bool.{and_parts}
 use Rattle.cc_names.specs.Labels.{row_of_label_change, labels_of_first_rows, label_effect, holder}
 use Rattle.cc_names.specs.Last.{value_after}
 use Rattle.cc_names.specs.declared.changes.LabelChange.{LabelChange}
@@ -14,20 +15,10 @@ use Rattle.label_book.specs.Marks.{is_about, of_pair}
 use Rattle.label_book.specs.Holding.{Held, change_by, change_of_move, changes_held, all_changes, is_pair}
 use Rattle.label_book.specs.declared.held.Move.{Move}
 
-pub bool_cases : (b : Bool) → (b ≡ true) ⊎ (b ≡ false)
-bool_cases true = inl refl
-bool_cases false = inr refl
-
--- two tests that hold together hold each
-pub both_hold : (a b : Bool) → (a && b) ≡ true → (a ≡ true) × (b ≡ true)
-both_hold true true holds = (refl, refl)
-both_hold true false holds = cc
-both_hold false b holds = cc
-
 -- the label and the element that a test found
 pub pair_is : (l : List ℕ) (e : ℕ) (held : Held) → is_pair l e held ≡ true → (l ≡ held.label) × (e ≡ held.element)
 pair_is l e held is =
-    let (labels, elements) = both_hold (bytes_eq l held.label) (eqb e held.element) is in
+    let (labels, elements) = and_parts (bytes_eq l held.label) (eqb e held.element) is in
     ((bytes_eq-Decides l held.label).0 labels, (Decides-eqb e held.element).0 elements)
 
 -- the holder of a label on an element is given by its own changes

@@ -3,6 +3,7 @@ use Rattle.std.proofs.Common.{◌≡◌, ◌≢◌, ℕ, zero, suc, ◌<◌, Boo
 use Rattle.std.proofs.Common.{set, vec_len, vec_capacity, refl, ap, arith}
 use Rattle.std.specs.List.{list_any}
 use Rattle.cc_names.specs.Versions.{put_if}
+use Rattle.cc_names.proofs.Common.{or_true}
 use Rattle.label_book.specs.Marks.{Pair, is_that}
 use Rattle.label_book.specs.Holding.{Held, is_pair, ready_pairs}
 
@@ -13,12 +14,8 @@ has_room held = ltb (vec_len held.moves) (vec_capacity held.moves)
 abbrev pub pair_of : Held → Pair
 pair_of held = record { label = held.label; element = held.element }
 
-or-true : (t : Bool) → (t || true) ≡ true
-or-true true = refl
-or-true false = refl
-
 any_put : (q : Pair → Bool) (t : Bool) (x : Pair) (xs : List Pair) → list_any q xs ≡ true → list_any q (put_if t x xs) ≡ true
-any_put q true x xs any = rw any (or-true (q x))
+any_put q true x xs any = rw any (or_true (q x))
 any_put q false x xs any = any
 
 none_put : (q : Pair → Bool) (t : Bool) (x : Pair) (xs : List Pair) → q x ≡ false → list_any q xs ≡ false
@@ -91,7 +88,7 @@ module _ (l : List ℕ) (e : ℕ) where
           → list_any (is_that l e) (put_if u (pair_of held) (ready_pairs all)) ≡ true
       at true true grows is any = rw is any
       at true false grows is any = cc (grows refl)
-      at false true grows is any = rw any (or-true (is_that l e (pair_of held)))
+      at false true grows is any = rw any (or_true (is_that l e (pair_of held)))
       at false false grows is any = any
   set_keeps (h ∷ all) (suc p) held lt same more any =
       any_more (is_that l e) (has_room h) (pair_of h) (ready_pairs all) (ready_pairs (set all p held))

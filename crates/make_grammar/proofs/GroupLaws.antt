@@ -9,9 +9,10 @@ use Rattle.std.proofs.lemmas.Slice.Eq.{bytes_eq-Decides}
 use Rattle.std.specs.Bool.{⊤}
 use Rattle.std.specs.List.{AllByRecursion, IsDistinct, list_any}
 use Rattle.std.specs.Str.{bytes_eq}
+use Rattle.std.proofs.lemmas.Bool.{or_from, or_parts}
 use Rattle.cc_names.specs.Formed.{AreTargets, IsBelowRoot, IsListOf}
+use Rattle.cc_names.proofs.Common.{all_of_both}
 use Rattle.make_grammar.proofs.RuleLineLaws.{IsLine, AreLines}
-use Rattle.make_grammar.proofs.RuleWordLaws.{or_false, all_append}
 use Rattle.make_grammar.specs.Contents.{RuleLine, group_of, groups_of, made_with}
 use Rattle.make_grammar.specs.Macros.{is_among}
 use Rattle.make_grammar.specs.Statements.{is_scripted}
@@ -48,7 +49,7 @@ made_first group groups path t is = by (is_among group path) ∙ ap (λ s. if s 
 made_alone : (groups : List (List (List ℕ))) (path : List ℕ) → has_path groups path ≡ false → made_with groups path ≡ path ∷ []
 made_alone [] path h = refl
 made_alone (group ∷ groups) path h =
-    let none = or_false (is_among group path) (has_path groups path) h in
+    let none = or_parts (is_among group path) (has_path groups path) h in
     made_first group groups path false none.0 ∙ made_alone groups path none.1
 
 -- a path is among itself alone
@@ -129,7 +130,7 @@ group_formed line formed false scripted is = tt
 pub groups_formed : (lines : List RuleLine) → AllByRecursion IsLine lines → AllByRecursion IsGroup (groups_of lines)
 groups_formed [] h = tt
 groups_formed (line ∷ lines) h =
-    all_append IsGroup (group_of line) (groups_of lines) (group_formed line h.0 line.is_group (is_some line.script) refl)
+    all_of_both IsGroup (group_of line) (groups_of lines) (group_formed line h.0 line.is_group (is_some line.script) refl)
     (groups_formed lines h.1)
 
 -- the newest line stands last among the groups
@@ -144,21 +145,17 @@ pub lines_reversed : (lines : List RuleLine) → AreLines lines → AllByRecursi
 lines_reversed [] h = tt
 lines_reversed (line ∷ older) h =
     subst (AllByRecursion IsLine) (sym (reverse-append (line ∷ []) older))
-    (all_append IsLine (reverse older) (line ∷ []) (lines_reversed older h.2) (h.0, tt))
-
-pub both_false : (a b : Bool) → a ≡ false → b ≡ false → (a || b) ≡ false
-both_false false b h k = k
-both_false true b h k = absurd (cc)
+    (all_of_both IsLine (reverse older) (line ∷ []) (lines_reversed older h.2) (h.0, tt))
 
 -- a path without a script is in no group
 unscripted : (lines : List RuleLine) (path : List ℕ) → is_scripted lines path ≡ false
     → has_path (groups_of (reverse lines)) path ≡ false
 unscripted [] path h = refl
 unscripted (line ∷ older) path h =
-    let none = or_false (is_some line.script && is_among line.targets path) (is_scripted older path) h in
+    let none = or_parts (is_some line.script && is_among line.targets path) (is_scripted older path) h in
     ap (λ gs. has_path gs path) (groups_reversed line older)
     ∙ (list_any-append (λ group. is_among group path) (groups_of (reverse older)) (group_of line)
-    ∙ both_false (has_path (groups_of (reverse older)) path) (has_path (group_of line) path) (unscripted older path none.1)
+    ∙ or_from (has_path (groups_of (reverse older)) path) (has_path (group_of line) path) (unscripted older path none.1)
     (by line.is_group (is_some line.script) none.0))
   where
     by : (grouped scripted : Bool) → (scripted && is_among line.targets path) ≡ false
@@ -174,16 +171,16 @@ apart_push [] group apart none = ((λ path among. refl), tt)
 apart_push (first ∷ groups) group apart none = (
   (λ path among. by path among (is_among group path) refl),
   apart_push groups group apart.1
-      (λ path among. (or_false (is_among first path) (has_path groups path) (none path among)).1),
+      (λ path among. (or_parts (is_among first path) (has_path groups path) (none path among)).1),
 )
   where
     by : (path : List ℕ) → is_among first path ≡ true → (t : Bool) → is_among group path ≡ t
         → has_path (groups ++ group ∷ []) path ≡ false
-    by path among true is = absurd (let not_first = (or_false (is_among first path) (has_path groups path) (none path is)).0 in
+    by path among true is = absurd (let not_first = (or_parts (is_among first path) (has_path groups path) (none path is)).0 in
         cc)
     by path among false is =
         list_any-append (λ other. is_among other path) groups (group ∷ [])
-        ∙ both_false (has_path groups path) (is_among group path || false) (apart.0 path among) (ap (λ t. t || false) is)
+        ∙ or_from (has_path groups path) (is_among group path || false) (apart.0 path among) (ap (λ t. t || false) is)
 
 -- no two groups have a path, since no target has two scripts
 pub groups_apart : (lines : List RuleLine) → AreLines lines → AreApart (groups_of (reverse lines))

@@ -6,11 +6,13 @@ use Rattle.std.proofs.lemmas.Slice.Eq.{bytes_eq-Decides}
 use Rattle.std.specs.Bool.{⊤}
 use Rattle.std.specs.List.{AllByRecursion, IsDistinct}
 use Rattle.std.specs.Str.{bytes_eq}
+use Rattle.std.proofs.lemmas.Bool.{or_from, or_parts}
 use Rattle.cc_names.specs.Formed.{IsBelowRoot}
+use Rattle.cc_names.proofs.Common.{all_of_both}
 use Rattle.make_grammar.proofs.GroupLaws.{AreGroups, among_made, made_same, made_targets, groups_formed, lines_reversed}
-use Rattle.make_grammar.proofs.GroupLaws.{both_false, groups_apart}
+use Rattle.make_grammar.proofs.GroupLaws.{groups_apart}
 use Rattle.make_grammar.proofs.RuleLineLaws.{IsLine, AreLines}
-use Rattle.make_grammar.proofs.RuleWordLaws.{or_false, all_append, all_joined}
+use Rattle.make_grammar.proofs.RuleWordLaws.{all_joined}
 use Rattle.make_grammar.proofs.ServingLaws.{all_filter, distinct_fold}
 use Rattle.make_grammar.specs.Contents.{RuleLine, groups_of, made_with, with_joined_line, rule_without, with_target}
 use Rattle.make_grammar.specs.Contents.{with_rule_line, joined_rules}
@@ -143,7 +145,7 @@ distinct_before : (paths others : List (List ℕ)) → IsDistinct bytes_eq paths
 unfolding IsDistinct
 distinct_before [] others one two apart = two
 distinct_before (p ∷ paths) others one two apart = (
-  all_append (λ q. bytes_eq p q ≡ false) paths others one.0 (differs others
+  all_of_both (λ q. bytes_eq p q ≡ false) paths others one.0 (differs others
       (apart p (first (bytes_eq p p) ((bytes_eq-Decides p p).1 refl)))),
   distinct_before paths others one.1 two (λ path among. apart path (later path (bytes_eq path p) among)),
 )
@@ -158,7 +160,7 @@ distinct_before (p ∷ paths) others one two apart = (
 
     differs : (qs : List (List ℕ)) → is_among qs p ≡ false → AllByRecursion (λ q. bytes_eq p q ≡ false) qs
     differs [] h = tt
-    differs (q ∷ qs) h = let none = or_false (bytes_eq p q) (is_among qs p) h in (none.0, differs qs none.1)
+    differs (q ∷ qs) h = let none = or_parts (bytes_eq p q) (is_among qs p) h in (none.0, differs qs none.1)
 
 -- none has a path that no rule behind it has
 none_has : (rule : MakeRule) (rules : List MakeRule) (path : List ℕ) → is_among rule.targets path ≡ true
@@ -166,7 +168,7 @@ none_has : (rule : MakeRule) (rules : List MakeRule) (path : List ℕ) → is_am
 none_has rule [] path among h = refl
 none_has rule (other ∷ rules) path among h =
     list_any-append (bytes_eq path) other.targets (flat_map targets_of rules)
-    ∙ both_false (is_among other.targets path) (is_among (flat_map targets_of rules) path) (h.0 path among)
+    ∙ or_from (is_among other.targets path) (is_among (flat_map targets_of rules) path) (h.0 path among)
     (none_has rule rules path among h.1)
 
 rules_apart : (groups : List (List (List ℕ))) (rules : List MakeRule) → AreRules groups rules

@@ -1,17 +1,8 @@
 -- Elements of lists by their places.
-use Rattle.std.proofs.Common.{◌≡◌, ◌≢◌, ◌⊎◌, inl, inr, refl, sym, ap, ◌∙◌, ℕ, zero, suc, ◌<◌, Bool, true, false, Some, List, []}
+use Rattle.std.proofs.Common.{◌≡◌, ◌≢◌, ◌⊎◌, inl, inr, refl, sym, ap, ◌∙◌, ℕ, zero, suc, ◌<◌, Some, List, []}
 use Rattle.std.proofs.Common.{◌∷◌, ◌++◌, length, set, slice_get, length-set, get_or-set_same, get_or-set_other}
-use Rattle.std.proofs.lemmas.Bool.{eqb-true, eqb-false}
 use Rattle.std.proofs.lemmas.Option.{slice_get_within, slice_get-get_or, get_or_from_slice_get}
 use Rattle.std.specs.Prelude.{◌==◌}
-
--- two numbers are the same or not
-pub same_or_not : (m n : ℕ) → (m ≡ n) ⊎ (m ≢ n)
-same_or_not m n = by (m == n) refl
-  where
-    by : (t : Bool) → (m == n) ≡ t → (m ≡ n) ⊎ (m ≢ n)
-    by true h = inl (eqb-true m n h)
-    by false h = inr (eqb-false m n h)
 
 -- ---- behind a list
 
@@ -19,10 +10,6 @@ pub get_prefix : {A : Type 0} (xs ys : List A) (k : ℕ) (x : A) → slice_get x
 get_prefix [] ys k x h = absurd (cc)
 get_prefix (y ∷ xs) ys zero x h = h
 get_prefix (y ∷ xs) ys (suc k) x h = get_prefix xs ys k x h
-
-pub get_last : {A : Type 0} (xs : List A) (x : A) → slice_get (xs ++ x ∷ []) (length xs) ≡ Some x
-get_last [] x = refl
-get_last (y ∷ xs) x = get_last xs x
 
 pub get_push : {A : Type 0} (xs : List A) (x y : A) (k : ℕ) → slice_get (xs ++ x ∷ []) k ≡ Some y → (slice_get xs k ≡ Some y)
     ⊎ ((k ≡ length xs) × (x ≡ y))

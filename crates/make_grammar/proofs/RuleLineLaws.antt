@@ -5,6 +5,7 @@ use Rattle.std.proofs.lemmas.Slice.Eq.{bytes_eq-Decides}
 use Rattle.std.specs.Bool.{⊤}
 use Rattle.std.specs.List.{AllByRecursion, IsDistinct, list_any}
 use Rattle.std.specs.Str.{bytes_eq}
+use Rattle.std.proofs.lemmas.Bool.{or_parts}
 use Rattle.cc_names.specs.Cuts.{words_of}
 use Rattle.cc_names.specs.Files.{Files}
 use Rattle.cc_names.specs.Formed.{IsBelowRoot, IsListOf}
@@ -12,7 +13,7 @@ use Rattle.cc_names.specs.declared.commands.Macro.{Macro}
 use Rattle.cc_names.specs.declared.refusals.MakeCause.{MakeCause}
 use Rattle.cc_names.specs.declared.refusals.MakeCause.TheVariants.{BadLine, BadMacro, TooMany, IncludeDepth, TwoScripts}
 use Rattle.cc_names.specs.declared.refusals.MakeError.{MakeError}
-use Rattle.make_grammar.proofs.RuleWordLaws.{AreWords, or_false, plain_length, plain_below, plain_once, words_read}
+use Rattle.make_grammar.proofs.RuleWordLaws.{AreWords, plain_length, plain_below, plain_once, words_read}
 use Rattle.make_grammar.specs.Contents.{RuleLine}
 use Rattle.make_grammar.specs.Grammar.{nothing_read, with_overrides, lines_read}
 use Rattle.make_grammar.specs.LineKinds.{Kind, Blank, Include, Assignment, Rule, Unclosed, Neither, line_kind, without_comment}
@@ -98,7 +99,7 @@ none_passes : (test : List ℕ → Bool) (paths : List (List ℕ)) → list_any 
     → is_among paths path ≡ true → test path ≡ false
 none_passes test [] h path among = absurd (cc)
 none_passes test (p ∷ paths) h path among =
-    let here = or_false (test p) (list_any test paths) h in
+    let here = or_parts (test p) (list_any test paths) h in
     by here.0 (bytes_eq path p) refl among (none_passes test paths here.1 path)
   where
     by : test p ≡ false → (t : Bool) → bytes_eq path p ≡ t → (t || is_among paths path) ≡ true
@@ -118,7 +119,7 @@ script_added file n line rule older reading h = second (is_second_script rule ol
     first None is = (
       with_line_formed rule line h.0,
       (λ scripted. none_passes (is_scripted older) rule.targets
-          (or_false (has_twice rule.targets) (list_any (is_scripted older) rule.targets) is).1),
+          (or_parts (has_twice rule.targets) (list_any (is_scripted older) rule.targets) is).1),
       h.2,
     )
     first (Some cause) is = tt

@@ -1,7 +1,7 @@
 -- The words of rule lines that have no fault: few, and paths below the root.
 use Rattle.std.proofs.Common.{◌≡◌, refl, subst, ℕ, ◌+◌, ◌<◌, ◌≤◌, ◌^◌, Bool, true, false, not, ◌&&◌, ◌||◌, nat_lt, Option, Some}
 use Rattle.std.proofs.Common.{None, List, [], ◌∷◌, ◌++◌, length, fold, is_some, if◌then◌else◌, arith}
-use Rattle.std.proofs.lemmas.Bool.{ltb-false, not-false}
+use Rattle.std.proofs.lemmas.Bool.{ltb-false, not-false, and_parts}
 use Rattle.std.proofs.lemmas.List.{length-append}
 use Rattle.std.proofs.lemmas.List.Splits.{length-slice_split}
 use Rattle.std.proofs.lemmas.List.Sums.{length-filter, count_by-le-length}
@@ -12,6 +12,7 @@ use Rattle.cc_names.specs.Formed.{IsBelowRoot}
 use Rattle.cc_names.specs.declared.commands.Macro.{Macro}
 use Rattle.cc_names.specs.declared.refusals.MakeCause.{MakeCause}
 use Rattle.cc_names.specs.declared.refusals.MakeCause.TheVariants.{BadPath, LineTooLong, MacroLoop}
+use Rattle.cc_names.proofs.Common.{all_of_both}
 use Rattle.make_grammar.proofs.ServingLaws.{all_filter, below_root, same_path, once_distinct}
 use Rattle.make_grammar.specs.Macros.{Expansion, one_after_other, plain, is_too_long}
 use Rattle.make_grammar.specs.WordPaths.{path_below_root, with_path_once}
@@ -29,14 +30,6 @@ or_none (Some cause) second h = absurd (cc)
 where_none : (t : Bool) (cause : MakeCause) → cause_where t cause ≡ None → t ≡ false
 where_none true cause h = absurd (cc)
 where_none false cause h = refl
-
-both_true : (a b : Bool) → (a && b) ≡ true → (a ≡ true) × (b ≡ true)
-both_true true b h = (refl, h)
-both_true false b h = absurd (cc)
-
-pub or_false : (a b : Bool) → (a || b) ≡ false → (a ≡ false) × (b ≡ false)
-or_false false b h = (refl, h)
-or_false true b h = absurd (cc)
 
 -- ---- words
 
@@ -82,17 +75,11 @@ paths_below [] h = tt
 paths_below (word ∷ words) h = (by (path_below_root word) refl here.0, paths_below words here.1)
   where
     here : (is_path word ≡ true) × (list_all is_path words ≡ true)
-    here = both_true (is_path word) (list_all is_path words) h
+    here = and_parts (is_path word) (list_all is_path words) h
 
     by : (o : Option (List ℕ)) → path_below_root word ≡ o → is_some o ≡ true → IsBelowRoot word
     by None is h = absurd (cc)
     by (Some path) is h = subst IsBelowRoot (same_path word path is) (below_root word path is)
-
--- what holds of each of two lists holds of both
-pub all_append : {A : Type 0} (P : A → Type 0) (xs ys : List A) → AllByRecursion P xs → AllByRecursion P ys
-    → AllByRecursion P (xs ++ ys)
-all_append P [] ys h k = k
-all_append P (x ∷ xs) ys h k = (h.0, all_append P xs ys h.1 k)
 
 -- what holds of paths, and of others, holds of them put together
 pub all_joined : (P : List ℕ → Type 0) (paths more : List (List ℕ)) → AllByRecursion P paths → AllByRecursion P more
@@ -102,7 +89,7 @@ all_joined P paths (path ∷ more) h k = all_joined P (with_path_once paths path
   where
     by : (t : Bool) → AllByRecursion P (if t then paths else paths ++ path ∷ [])
     by true = h
-    by false = all_append P paths (path ∷ []) h (k.0, tt)
+    by false = all_of_both P paths (path ∷ []) h (k.0, tt)
 
 pub plain_below : (grouped : Bool) (targets : List (List ℕ)) → AllByRecursion IsBelowRoot targets
     → AllByRecursion IsBelowRoot (plain_targets grouped targets)
@@ -151,7 +138,7 @@ words_below grouped targets prerequisites h =
     let paths = or_none (line_words_fault grouped targets prerequisites)
     (cause_where (not (list_all is_path targets && list_all is_path prerequisites)) BadPath) h in
     let all = not-false (list_all is_path targets && list_all is_path prerequisites) (where_none _ BadPath paths.1) in
-    let both = both_true (list_all is_path targets) (list_all is_path prerequisites) all in
+    let both = and_parts (list_all is_path targets) (list_all is_path prerequisites) all in
     (paths_below targets both.0, paths_below prerequisites both.1)
 
 -- and so are the words of a rule line without a fault

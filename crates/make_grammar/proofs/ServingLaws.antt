@@ -11,6 +11,7 @@ use Rattle.cc_names.specs.Formed.{AreTargets, IsBelowRoot}
 use Rattle.cc_names.specs.Names.{unless_fault}
 use Rattle.cc_names.specs.Paths.{path_fault, is_root}
 use Rattle.cc_names.specs.declared.names.NameFault.{NameFault}
+use Rattle.cc_names.proofs.Common.{or_first_false, or_second_false, all_of_both}
 use Rattle.make_grammar.proofs.NumberLaws.{not_twice}
 use Rattle.make_grammar.specs.Contents.{Contents}
 use Rattle.make_grammar.specs.WordPaths.{path_below_root, unless_root, with_path_once, each_once}
@@ -31,21 +32,13 @@ eq_flips p q h = by (bytes_eq q p) refl
     by true same = let other = (bytes_eq-Decides p q).1 (sym ((bytes_eq-Decides q p).0 same)) in absurd (cc)
     by false differs = refl
 
-or_left : (a b : Bool) → (a || b) ≡ false → a ≡ false
-or_left true b h = h
-or_left false b h = refl
-
-or_right : (a b : Bool) → (a || b) ≡ false → b ≡ false
-or_right true b h = absurd (cc)
-or_right false b h = h
-
 -- a path that is not among these differs from each
 differs_from_all : (path : List ℕ) (ps : List (List ℕ)) → is_among ps path ≡ false
     → AllByRecursion (λ q. bytes_eq path q ≡ false) ps
 differs_from_all path [] h = tt
 differs_from_all path (p ∷ ps) h = (
-  or_left (bytes_eq path p) (is_among ps path) h,
-  differs_from_all path ps (or_right (bytes_eq path p) (is_among ps path) h),
+  or_first_false (bytes_eq path p) (is_among ps path) h,
+  differs_from_all path ps (or_second_false (bytes_eq path p) (is_among ps path) h),
 )
 
 distinct_push : (path : List ℕ) (ps : List (List ℕ)) → IsDistinct bytes_eq ps → is_among ps path ≡ false
@@ -53,11 +46,11 @@ distinct_push : (path : List ℕ) (ps : List (List ℕ)) → IsDistinct bytes_eq
 unfolding IsDistinct
 distinct_push path [] h none = (tt, tt)
 distinct_push path (p ∷ ps) h none =
-    (all ps h.0, distinct_push path ps h.1 (or_right (bytes_eq path p) (is_among ps path) none))
+    (all ps h.0, distinct_push path ps h.1 (or_second_false (bytes_eq path p) (is_among ps path) none))
   where
     all : (qs : List (List ℕ)) → AllByRecursion (λ q. bytes_eq p q ≡ false) qs
         → AllByRecursion (λ q. bytes_eq p q ≡ false) (qs ++ path ∷ [])
-    all [] rest = (eq_flips path p (or_left (bytes_eq path p) (is_among ps path) none), tt)
+    all [] rest = (eq_flips path p (or_first_false (bytes_eq path p) (is_among ps path) none), tt)
     all (q ∷ qs) rest = (rest.0, all qs rest.1)
 
 distinct_with : (ps : List (List ℕ)) (path : List ℕ) → IsDistinct bytes_eq ps → IsDistinct bytes_eq (with_path_once ps path)
@@ -166,7 +159,7 @@ unfolding IsDistinct
 distinct_append [] qs one two apart = two
 distinct_append (p ∷ ps) qs one two apart = (
   all ps one.0,
-  distinct_append ps qs one.1 two (λ path among. or_right (bytes_eq path p) (is_among ps path)
+  distinct_append ps qs one.1 two (λ path among. or_second_false (bytes_eq path p) (is_among ps path)
       (apart path among)),
 )
   where
@@ -183,7 +176,7 @@ distinct_append (p ∷ ps) qs one two apart = (
 
     all : (rs : List (List ℕ)) → AllByRecursion (λ q. bytes_eq p q ≡ false) rs
         → AllByRecursion (λ q. bytes_eq p q ≡ false) (rs ++ qs)
-    all [] rest = behind qs (λ path among. or_left (bytes_eq path p) (is_among ps path) (apart path among))
+    all [] rest = behind qs (λ path among. or_first_false (bytes_eq path p) (is_among ps path) (apart path among))
     all (r ∷ rs) rest = (rest.0, all rs rest.1)
 
 -- ---- the targets of what serves
@@ -428,15 +421,10 @@ all_alone make is_file (p ∷ ps) = by (inference make is_file p) refl (all_alon
       rest,
     )
 
-all_append : {A : Type 0} (P : A → Type 0) (xs ys : List A) → AllByRecursion P xs → AllByRecursion P ys
-    → AllByRecursion P (xs ++ ys)
-all_append P [] ys h k = k
-all_append P (x ∷ xs) ys h k = (h.0, all_append P xs ys h.1 k)
-
 -- all that may serve is formed
 pub servings_formed : (make : Contents) (is_file : List ℕ → Bool) (goals : List (List ℕ)) → IsFormedMakefile make
     → AllByRecursion IsServing (servings make is_file goals)
 servings_formed make is_file goals formed =
-    all_append IsServing (map (serving_of make is_file) make.rules) (filter_map (serving_alone make is_file)
+    all_of_both IsServing (map (serving_of make is_file) make.rules) (filter_map (serving_alone make is_file)
     (without_rule make goals)) (all_own make is_file make.rules formed.rules)
     (all_alone make is_file (without_rule make goals))

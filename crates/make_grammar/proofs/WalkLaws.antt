@@ -6,7 +6,9 @@ use Rattle.std.proofs.lemmas.List.{length-replicate, get_or-replicate}
 use Rattle.std.proofs.lemmas.Option.{slice_get_within, slice_get-get_or, get_or_from_slice_get}
 use Rattle.std.proofs.lemmas.Slice.Eq.{bytes_eq-Decides}
 use Rattle.std.specs.Str.{bytes_eq}
-use Rattle.make_grammar.proofs.Places.{same_or_not, get_prefix, get_last, get_push, set_same, set_other, from_other}
+use Rattle.std.proofs.lemmas.Bool.{cases_eq}
+use Rattle.cc_names.proofs.Common.{slice_get_last}
+use Rattle.make_grammar.proofs.Places.{get_prefix, get_push, set_same, set_other, from_other}
 use Rattle.make_grammar.proofs.NumberLaws.{numbered}
 use Rattle.make_grammar.specs.Macros.{is_among}
 use Rattle.make_grammar.specs.Rules.{Serving}
@@ -58,7 +60,7 @@ settled_opened : (units : List Serving) (w : Walk) (n : ℕ) → slice_get w.mar
     → IsSettled units (with_open_unit n w)
 settled_opened units w n new settled = record {
   size = length-set w.marks n Open ∙ settled.size;
-  placed = λ k h. settled.placed k (earlier k h (same_or_not k n));
+  placed = λ k h. settled.placed k (earlier k h (cases_eq k n));
   done = λ k m h. (later_opened units w n new).done_still m (settled.done k m h);
   once = settled.once;
   behind = settled.behind;
@@ -77,7 +79,7 @@ settled_closed : (units : List Serving) (w : Walk) (n : ℕ) → slice_get w.mar
     IsSettled units (with_done_unit n w)
 settled_closed units w n is_open settled ready = record {
   size = length-set w.marks n Done ∙ settled.size;
-  placed = λ k h. placed k h (same_or_not k n);
+  placed = λ k h. placed k h (cases_eq k n);
   done = λ k m h. done k m (get_push w.order n m k h);
   once = λ j k m at_j at_k. once j k m (get_push w.order n m j at_j) (get_push w.order n m k at_k);
   behind = λ k m q path at among is. behind k m q path (get_push w.order n m k at) among is;
@@ -85,7 +87,7 @@ settled_closed units w n is_open settled ready = record {
   where
     placed : (k : ℕ) → slice_get (slice_set w.marks n Done) k ≡ Some Done → (k ≡ n) ⊎ (k ≢ n) → (j : ℕ)
         × (slice_get (w.order ++ n ∷ []) j ≡ Some k)
-    placed k h (inl same) = (length w.order, get_last w.order n ∙ ap Some (sym same))
+    placed k h (inl same) = (length w.order, slice_get_last w.order n ∙ ap Some (sym same))
     placed k h (inr other) =
         let there = settled.placed k (from_other w.marks n k Done Done other h) in
         (there.0, get_prefix w.order (n ∷ []) there.0 k there.1)
@@ -97,7 +99,7 @@ settled_closed units w n is_open settled ready = record {
 
     done : (k m : ℕ) → (slice_get w.order k ≡ Some m) ⊎ ((k ≡ length w.order) × (n ≡ m))
         → slice_get (slice_set w.marks n Done) m ≡ Some Done
-    done k m (inl before) = still m (settled.done k m before) (same_or_not m n)
+    done k m (inl before) = still m (settled.done k m before) (cases_eq m n)
     done k m (inr last) = subst (λ (i : ℕ). slice_get (slice_set w.marks n Done) i ≡ Some Done) last.1
         (set_same w.marks n Open Done is_open)
 

@@ -37,7 +37,8 @@ fn push_arguments(
     refusal: &Refusal,
 ) -> Result<(), NoMemory>
     ensures { OnOk result
-        (text.new.items ≡ text.old.items ++ spaced_words (refusal_arguments phase.now refusal.now)) }
+        (text.new.items
+        ≡ text.old.items ++ spaced_words (refusal_arguments phase.now refusal.now)) }
 {
     match refusal {
         Refusal::NoView | Refusal::ViewExists => Ok(()),
@@ -123,7 +124,8 @@ fn push_numbered(
 }
 
 fn push_script_fault(alloc: Global, text: &mut Vec<u8>, fault: &ScriptFault) -> Result<(), NoMemory>
-    ensures { OnOk result (text.new.items ≡ text.old.items ++ spaced_words (script_words fault.now)) }
+    ensures { OnOk result
+        (text.new.items ≡ text.old.items ++ spaced_words (script_words fault.now)) }
 {
     match fault {
         ScriptFault::Absent(path) => push_named(text, b"X1 Absent", path.as_bytes()),
@@ -142,7 +144,8 @@ pub(crate) fn push_fault(
     text: &mut Vec<u8>,
     fault: &UnitFault,
 ) -> Result<(), NoMemory>
-    ensures { OnOk result (text.new.items ≡ text.old.items ++ spaced_words (fault_words fault.now)) }
+    ensures { OnOk result
+        (text.new.items ≡ text.old.items ++ spaced_words (fault_words fault.now)) }
 {
     match fault {
         UnitFault::NoRule(path) => push_named(text, b"U1 NoRule", path.as_bytes()),

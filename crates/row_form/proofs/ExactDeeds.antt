@@ -2,7 +2,7 @@
 use Rattle.std.proofs.Common.{◌≡◌, ◌⊎◌, ◌≤◌, ◌<◌, ◌+◌, ◌^◌, ◌==◌, inl, inr, ℕ, nat_le, nat_lt, Bool, true, false, ◌&&◌, Some}
 use Rattle.std.proofs.Common.{None, Ok, Err, List, [], ◌∷◌, ◌++◌, length, refl, sym, ◌∙◌, ap, subst, if◌then◌else◌, arith}
 use Rattle.std.specs.List.{list_any, AllByRecursion}
-use Rattle.std.proofs.lemmas.Bool.{leb-true, le-leb, lt-ltb, ltb-true, eqb-true, eq-eqb}
+use Rattle.std.proofs.lemmas.Bool.{leb-true, le-leb, lt-ltb, ltb-true, eqb-true, eq-eqb, and_parts, and_from}
 use Rattle.std.proofs.lemmas.List.{append_assoc}
 use Rattle.cc_names.specs.Formed.{IsListOf, IsDeedFormed, IsStored, IsPublished, is_there}
 use Rattle.cc_names.specs.declared.rows.Extent.{Extent}
@@ -23,14 +23,6 @@ use Rattle.row_form.proofs.ExactFields.{exact_type_kind, exact_out}
 use Rattle.row_form.proofs.ExactLists.{AreOutputsOf, exact_list, exact_targets, exact_entries, exact_objects, exact_places}
 use Rattle.row_form.proofs.ExactLists.{exact_outputs}
 
--- extents
-both_hold : (a b : Bool) → (a && b) ≡ true → (a ≡ true) × (b ≡ true)
-both_hold true b e = (refl, e)
-both_hold false b e = absurd (cc)
-
-and_hold : (a b : Bool) → a ≡ true → b ≡ true → (a && b) ≡ true
-and_hold a b ha hb = rw (ha, hb) refl
-
 below_if : (a b : ℕ) → nat_lt a b ≡ true → a < b
 below_if a b e = ltb-true a b e
 
@@ -47,14 +39,14 @@ IsExtent x = IsStored (There x)
 
 may_if : (place size : ℕ) → may_have place size ≡ true → (0 < size) × (size ≤ 1048576) × (place + size < 2 ^ 63)
 may_if place size e =
-    let h = both_hold (nat_lt 0 size && nat_le size 1048576) (nat_lt (place + size) (2 ^ 63)) e in
-    let k = both_hold (nat_lt 0 size) (nat_le size 1048576) h.0 in
+    let h = and_parts (nat_lt 0 size && nat_le size 1048576) (nat_lt (place + size) (2 ^ 63)) e in
+    let k = and_parts (nat_lt 0 size) (nat_le size 1048576) h.0 in
     (below_if 0 size k.0, leb-true size 1048576 k.1, below_if (place + size) (2 ^ 63) h.1)
 
 may_only : (place size : ℕ) → 0 < size → size ≤ 1048576 → place + size < 2 ^ 63 → may_have place size ≡ true
 may_only place size a b c =
-    and_hold (nat_lt 0 size && nat_le size 1048576) (nat_lt (place + size) (2 ^ 63))
-    (and_hold (nat_lt 0 size) (nat_le size 1048576) (lt-ltb 0 size a) (le-leb size 1048576 b)) (lt-ltb (place + size) (2 ^ 63) c)
+    and_from (nat_lt 0 size && nat_le size 1048576) (nat_lt (place + size) (2 ^ 63))
+    (and_from (nat_lt 0 size) (nat_le size 1048576) (lt-ltb 0 size a) (le-leb size 1048576 b)) (lt-ltb (place + size) (2 ^ 63) c)
 
 abbrev IsExtentAt : ℕ → Extent → Type 0
 IsExtentAt place x = IsExtent x × (x.place ≡ place)
@@ -125,8 +117,8 @@ exact_stored_outputs : (count : ℕ) → IsExact (read_stored_outputs count) (li
 exact_stored_outputs count =
     exact_tested (λ os. (length os == count) && list_any is_there os) (AreStoredOf count)
     (exact_list read_stored stored_bytes IsStored exact_stored)
-    (λ os h. (h.1, and_hold (length os == count) (list_any is_there os) (eq-eqb (length os) count h.0) h.2))
-    (λ os g e. let h = both_hold (length os == count) (list_any is_there os) e in (eqb-true (length os) count h.0, g, h.1))
+    (λ os h. (h.1, and_from (length os == count) (list_any is_there os) (eq-eqb (length os) count h.0) h.2))
+    (λ os g e. let h = and_parts (length os == count) (list_any is_there os) e in (eqb-true (length os) count h.0, g, h.1))
 
 -- a record and its outputs
 abbrev IsWhole : {S : Type 0} (Outputs : ℕ → List S → Type 0) → ℕ → Record × List S → Type 0

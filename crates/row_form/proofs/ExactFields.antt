@@ -18,6 +18,7 @@ use Rattle.cc_names.specs.declared.rows.TypeKind.{TypeKind}
 use Rattle.cc_names.specs.declared.rows.TypeKind.TheVariants as type_kinds
 use Rattle.cc_names.specs.declared.rows.Out.{Out}
 use Rattle.cc_names.specs.declared.rows.Out.TheVariants as outs
+use Rattle.cc_names.proofs.Common.{not_true}
 use Rattle.row_form.specs.Fields.{byte, word, long, text, flag, kind, type_kind, out_byte, entry, place_of}
 use Rattle.row_form.specs.Readers.{Reading, read_byte, read_word, read_long, read_bytes, read_text}
 use Rattle.row_form.specs.FieldReaders.{read_name, read_type_name, read_any_path, read_path, flag_of, read_flag, kind_by_code}
@@ -158,10 +159,6 @@ exact_any_path =
     exact_chosen (λ t. result_ok (path_of t)) (λ b. b) IsPath exact_text
     (λ b h. (path_short b h, ap (λ fault. result_ok (unless_fault fault b)) h.no_fault))
     (λ a b g e. let f = fault_or (path_fault a) a b e in (subst IsPath f.1 (record { no_fault = f.0 }), sym f.1))
-
-not_true : (b : Bool) → not b ≡ true → b ≡ false
-not_true true e = absurd (cc)
-not_true false e = refl
 
 pub exact_path : IsExact read_path text IsBelowRoot
 exact_path =

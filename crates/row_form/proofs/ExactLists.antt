@@ -1,5 +1,5 @@
 -- The readers of lists are exact, those of lists with a rule too.
-use Rattle.std.proofs.Common.{◌≡◌, ◌≢◌, ◌==◌, ℕ, zero, suc, Bool, true, false, not, ◌&&◌, ◌||◌, Ok, List, [], ◌∷◌, ◌++◌, length}
+use Rattle.std.proofs.Common.{◌≡◌, ◌≢◌, ◌==◌, ℕ, zero, suc, true, false, not, ◌&&◌, ◌||◌, Ok, List, [], ◌∷◌, ◌++◌, length}
 use Rattle.std.proofs.Common.{map, refl, sym, ◌∙◌, ap, subst}
 use Rattle.std.specs.List.{flat_map, list_any, AllByRecursion, IsDistinct}
 use Rattle.std.specs.List.Sorted.{IsStrictlySortedBy}
@@ -9,11 +9,12 @@ use Rattle.std.specs.Cmp.Lexicographic.{slice_cmp, nat_list_eq_equiv, nat_list_c
 use Rattle.std.specs.Ordering.{nat_cmp, is_lt}
 use Rattle.std.specs.declared.cmp.Ordering.{Ordering}
 use Rattle.std.specs.declared.cmp.Ordering.TheVariants.{Less, Equal, Greater}
-use Rattle.std.proofs.lemmas.Bool.{eqb-true, eq-eqb}
+use Rattle.std.proofs.lemmas.Bool.{eqb-true, eq-eqb, and_parts, and_from, or_parts, or_from}
 use Rattle.std.proofs.lemmas.List.{append_assoc}
 use Rattle.cc_names.specs.Formed.{IsWord, IsLong, IsText, IsListOf, IsBelowRoot, AreTargets, AreEntries, IsEntry, IsPlaced}
 use Rattle.cc_names.specs.Formed.{path_of_entry, element_of}
 use Rattle.cc_names.specs.declared.rows.Placed.{Placed}
+use Rattle.cc_names.proofs.Common.{not_true}
 use Rattle.row_form.specs.Fields.{word, long, text, list_bytes, entry, place_of}
 use Rattle.row_form.specs.Readers.{Reader, then_read, read_word, read_long, read_text, read_members, read_list}
 use Rattle.row_form.specs.FieldReaders.{read_path, read_entry, read_placed, is_some_list, ascends_from, ascends, entry_cmp}
@@ -74,13 +75,6 @@ module _ {A : Type 0} (read : Reader A) (s : A → List ℕ) (G : A → Type 0) 
   pub exact_list : IsExact (read_list read) (list_bytes s) (IsListOf G)
   exact_list = record { back = list_back; read_back = list_read_back }
 
-both_hold : (a b : Bool) → (a && b) ≡ true → (a ≡ true) × (b ≡ true)
-both_hold true b e = (refl, e)
-both_hold false b e = absurd (cc)
-
-and_hold : (a b : Bool) → a ≡ true → b ≡ true → (a && b) ≡ true
-and_hold a b ha hb = rw (ha, hb) refl
-
 some_if : {A : Type 0} (xs : List A) → is_some_list xs ≡ true → xs ≢ []
 some_if [] e = absurd (cc)
 some_if (a ∷ xs) e = λ h. let same : is_some_list (a ∷ xs) ≡ false = ap is_some_list h in cc
@@ -106,7 +100,7 @@ module _ {A K : Type 0} (cmp : K → K → Ordering) (total : IsTotalOrder cmp) 
   unfolding IsStrictlySortedBy
   from_here a [] e = (tt, tt)
   from_here a (b ∷ bs) e =
-      let h = both_hold (is_lt (cmp (key a) (key b))) (ascends_from (λ x y. cmp (key x) (key y)) b bs) e in
+      let h = and_parts (is_lt (cmp (key a) (key b))) (ascends_from (λ x y. cmp (key x) (key y)) b bs) e in
       let less = less_if (cmp (key a) (key b)) h.0 in
       let rest = from_here b bs h.1 in
       ((less, above_all (key a) (key b) (map key bs) less rest.0), rest)
@@ -120,7 +114,7 @@ module _ {A K : Type 0} (cmp : K → K → Ordering) (total : IsTotalOrder cmp) 
       → ascends_from (λ x y. cmp (key x) (key y)) a xs ≡ true
   unfolding IsStrictlySortedBy
   to_here a [] h = refl
-  to_here a (b ∷ bs) h = and_hold (is_lt (cmp (key a) (key b))) (ascends_from (λ x y. cmp (key x) (key y)) b bs) (ap is_lt h.0.0)
+  to_here a (b ∷ bs) h = and_from (is_lt (cmp (key a) (key b))) (ascends_from (λ x y. cmp (key x) (key y)) b bs) (ap is_lt h.0.0)
       (to_here b bs h.1)
 
   pub sorted_only : (xs : List A) → IsStrictlySortedBy cmp (map key xs) → ascends (λ x y. cmp (key x) (key y)) xs ≡ true
@@ -132,34 +126,22 @@ map_same : {A : Type 0} (xs : List A) → map (λ a. a) xs ≡ xs
 map_same [] = refl
 map_same (a ∷ xs) = ap (λ os. a ∷ os) (map_same xs)
 
--- targets
-not_true : (a : Bool) → not a ≡ true → a ≡ false
-not_true true e = absurd (cc)
-not_true false e = refl
-
-or_false : (a b : Bool) → (a || b) ≡ false → (a ≡ false) × (b ≡ false)
-or_false true b e = absurd (cc)
-or_false false b e = (refl, e)
-
-false_or : (a b : Bool) → a ≡ false → b ≡ false → (a || b) ≡ false
-false_or a b ha hb = rw (ha, hb) refl
-
 not_again : (t : List ℕ) (ts : List (List ℕ)) → list_any (λ u. bytes_eq u t) ts ≡ false
     → AllByRecursion (λ u. bytes_eq t u ≡ false) ts
 not_again t [] e = tt
-not_again t (u ∷ us) e = let h = or_false (bytes_eq u t) (list_any (λ v. bytes_eq v t) us) e in
+not_again t (u ∷ us) e = let h = or_parts (bytes_eq u t) (list_any (λ v. bytes_eq v t) us) e in
     (nat_list_eq_equiv.symm t u ∙ h.0, not_again t us h.1)
 
 none_again : (t : List ℕ) (ts : List (List ℕ)) → AllByRecursion (λ u. bytes_eq t u ≡ false) ts
     → list_any (λ u. bytes_eq u t) ts ≡ false
 none_again t [] h = refl
-none_again t (u ∷ us) h = false_or (bytes_eq u t) (list_any (λ v. bytes_eq v t) us) (nat_list_eq_equiv.symm u t
+none_again t (u ∷ us) h = or_from (bytes_eq u t) (list_any (λ v. bytes_eq v t) us) (nat_list_eq_equiv.symm u t
     ∙ h.0) (none_again t us h.1)
 
 distinct_if : (ts : List (List ℕ)) → are_distinct ts ≡ true → IsDistinct bytes_eq ts
 unfolding IsDistinct
 distinct_if [] e = tt
-distinct_if (t ∷ ts) e = let h = both_hold (not (list_any (λ u. bytes_eq u t) ts)) (are_distinct ts) e in
+distinct_if (t ∷ ts) e = let h = and_parts (not (list_any (λ u. bytes_eq u t) ts)) (are_distinct ts) e in
     (not_again t ts (not_true (list_any (λ u. bytes_eq u t) ts) h.0), distinct_if ts h.1)
 
 distinct_only : (ts : List (List ℕ)) → IsDistinct bytes_eq ts → are_distinct ts ≡ true
@@ -175,13 +157,13 @@ exact_targets form =
     exact_tested (are_targets form) (AreTargetsOf form) (exact_list read_path text IsBelowRoot exact_path)
     (λ ts h. (
       h.0.0,
-      and_hold (is_some_list ts && (form_of ts == form)) (are_distinct ts)
-          (and_hold (is_some_list ts) (form_of ts == form) (some_only ts h.0.1) (eq-eqb (form_of ts) form h.1))
+      and_from (is_some_list ts && (form_of ts == form)) (are_distinct ts)
+          (and_from (is_some_list ts) (form_of ts == form) (some_only ts h.0.1) (eq-eqb (form_of ts) form h.1))
           (distinct_only ts h.0.2),
     ))
     (λ ts g e.
-    let h = both_hold (is_some_list ts && (form_of ts == form)) (are_distinct ts) e in
-    let k = both_hold (is_some_list ts) (form_of ts == form) h.0 in
+    let h = and_parts (is_some_list ts && (form_of ts == form)) (are_distinct ts) e in
+    let k = and_parts (is_some_list ts) (form_of ts == form) h.0 in
     ((g, some_if ts k.0, distinct_if ts h.1), eqb-true (form_of ts) form k.1))
 
 pub exact_entries : IsExact read_entries (list_bytes entry) AreEntries
@@ -198,11 +180,11 @@ exact_objects =
     exact_tested (λ os. is_some_list os && ascends nat_cmp os) AreObjects (exact_list read_long long IsLong exact_long)
     (λ os h. (
       h.0,
-      and_hold (is_some_list os) (ascends nat_cmp os) (some_only os h.1)
+      and_from (is_some_list os) (ascends nat_cmp os) (some_only os h.1)
           (sorted_only nat_cmp nat_cmp_total (λ n. n) os (subst (IsStrictlySortedBy nat_cmp) (sym (map_same os)) h.2)),
     ))
     (λ os g e.
-    let h = both_hold (is_some_list os) (ascends nat_cmp os) e in
+    let h = and_parts (is_some_list os) (ascends nat_cmp os) e in
     (g, some_if os h.0, subst (IsStrictlySortedBy nat_cmp) (map_same os) (sorted_if nat_cmp nat_cmp_total (λ n. n) os h.1)))
 
 abbrev pub ArePlaces : List Placed → Type 0
@@ -214,11 +196,11 @@ exact_places =
     (exact_list read_placed place_of IsPlaced exact_placed)
     (λ ps h. (
       h.0,
-      and_hold (is_some_list ps) (ascends placed_cmp ps) (some_only ps h.1)
+      and_from (is_some_list ps) (ascends placed_cmp ps) (some_only ps h.1)
           (sorted_only nat_cmp nat_cmp_total element_of ps h.2),
     ))
     (λ ps g e.
-    let h = both_hold (is_some_list ps) (ascends placed_cmp ps) e in
+    let h = and_parts (is_some_list ps) (ascends placed_cmp ps) e in
     (g, some_if ps h.0, sorted_if nat_cmp nat_cmp_total element_of ps h.1))
 
 -- outputs

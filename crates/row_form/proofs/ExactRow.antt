@@ -1,7 +1,7 @@
 -- The reader of rows is exact, so a row has one spelling.
-use Rattle.std.proofs.Common.{◌≡◌, ◌⊎◌, ◌≤◌, ◌<◌, ◌==◌, inl, inr, ℕ, nat_le, Bool, true, false, ◌||◌, Ok, List, [], ◌∷◌, ◌++◌}
+use Rattle.std.proofs.Common.{◌≡◌, ◌⊎◌, ◌≤◌, ◌<◌, ◌==◌, inl, inr, ℕ, nat_le, true, ◌||◌, Ok, List, [], ◌∷◌, ◌++◌}
 use Rattle.std.proofs.Common.{refl, sym, ◌∙◌, ap, subst, arith}
-use Rattle.std.proofs.lemmas.Bool.{leb-true, le-leb, eqb-true}
+use Rattle.std.proofs.lemmas.Bool.{leb-true, le-leb, eqb-true, or_cases}
 use Rattle.std.proofs.lemmas.List.{append-nil}
 use Rattle.cc_names.specs.Formed.{Plain, IsFormed, IsTag, IsDeedFormed}
 use Rattle.cc_names.specs.declared.rows.Deed.{Deed}
@@ -20,10 +20,6 @@ use Rattle.row_form.proofs.Steps.{then_ok}
 abbrev IsForm : ℕ → Type 0
 IsForm n = (n ≡ 1) ⊎ (n ≡ 2)
 
-either : (a b : Bool) → (a || b) ≡ true → (a ≡ true) ⊎ (b ≡ true)
-either true b e = inl refl
-either false b e = inr e
-
 form_test : (n : ℕ) → IsForm n → ((n == 1) || (n == 2)) ≡ true
 form_test n (inl e) = ap (λ m. (m == 1) || (m == 2)) e
 form_test n (inr e) = ap (λ m. (m == 1) || (m == 2)) e
@@ -35,7 +31,7 @@ form_byte n (inr e) = omega (arith, e)
 exact_form : IsExact read_form byte IsForm
 exact_form =
     exact_tested (λ form. (form == 1) || (form == 2)) IsForm exact_byte (λ n h. (form_byte n h, form_test n h))
-    (λ n g e. elim (either (n == 1) (n == 2) e) [ inl h ↦ inl (eqb-true n 1 h) | inr h ↦ inr (eqb-true n 2 h) ])
+    (λ n g e. elim (or_cases (n == 1) (n == 2) e) [ inl h ↦ inl (eqb-true n 1 h) | inr h ↦ inr (eqb-true n 2 h) ])
 
 abbrev tag_bytes : Tag → List ℕ
 tag_bytes tag = word tag.phase ++ (word tag.lane ++ word tag.command)

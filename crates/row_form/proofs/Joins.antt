@@ -2,32 +2,30 @@
 use Rattle.std.proofs.Common.{◌≡◌, Result, OnOk, List, ℕ, ◌++◌, ◌∙◌, ap}
 use Rattle.std.proofs.lemmas.List.{append_assoc}
 use Rattle.std.proofs.lemmas.Result.{on_ok_weaker}
-
-pub one_more : (old a b m n : List ℕ) → m ≡ old ++ a → n ≡ m ++ b → n ≡ old ++ (a ++ b)
-one_more old a b m n first second = second ∙ ap (λ s. s ++ b) first ∙ append_assoc old a b
+use Rattle.cc_names.proofs.Common.{appended_twice}
 
 pub then_three : {T E : Type 0} (r : Result T E) (old a b c m n : List ℕ) → m ≡ old ++ (a ++ b) → OnOk r (n ≡ m ++ c)
     → OnOk r (n ≡ old ++ (a ++ (b ++ c)))
-then_three r old a b c m n first second = on_ok_weaker r (λ h. one_more old (a ++ b) c m n first h
+then_three r old a b c m n first second = on_ok_weaker r (λ h. appended_twice old (a ++ b) c m n first h
     ∙ ap (λ s. old ++ s) (append_assoc a b c)) second
 
 pub then_four : {T E : Type 0} (r : Result T E) (old a b c d m k n : List ℕ) → m ≡ old ++ (a ++ b) → k ≡ m ++ c
     → OnOk r (n ≡ k ++ d) → OnOk r (n ≡ old ++ (a ++ (b ++ (c ++ d))))
 then_four r old a b c d m k n first second third =
-    on_ok_weaker r (λ h. one_more old (a ++ b) (c ++ d) m n first (one_more m c d k n second h)
+    on_ok_weaker r (λ h. appended_twice old (a ++ b) (c ++ d) m n first (appended_twice m c d k n second h)
     ∙ ap (λ s. old ++ s) (append_assoc a b (c ++ d))) third
 
 pub then_five : {T E : Type 0} (r : Result T E) (old a b c d e m k l n : List ℕ) → m ≡ old ++ (a ++ b) → k ≡ m ++ c → l ≡ k ++ d
     → OnOk r (n ≡ l ++ e)
     → OnOk r (n ≡ old ++ (a ++ (b ++ (c ++ (d ++ e)))))
 then_five r old a b c d e m k l n first second third fourth =
-    on_ok_weaker r (λ h. one_more old (a ++ b) (c ++ (d ++ e)) m n first
-    (one_more m c (d ++ e) k n second (one_more k d e l n third h))
+    on_ok_weaker r (λ h. appended_twice old (a ++ b) (c ++ (d ++ e)) m n first
+    (appended_twice m c (d ++ e) k n second (appended_twice k d e l n third h))
     ∙ ap (λ s. old ++ s) (append_assoc a b (c ++ (d ++ e)))) fourth
 
 after_three : (old a b c d m n : List ℕ) → m ≡ old ++ (a ++ (b ++ c)) → n ≡ m ++ d → n ≡ old ++ (a ++ (b ++ (c ++ d)))
 after_three old a b c d m n first second =
-    one_more old (a ++ (b ++ c)) d m n first second ∙ ap (λ s. old ++ s) (append_assoc a (b ++ c) d
+    appended_twice old (a ++ (b ++ c)) d m n first second ∙ ap (λ s. old ++ s) (append_assoc a (b ++ c) d
     ∙ ap (λ s. a ++ s) (append_assoc b c d))
 
 pub three_then_one : {T E : Type 0} (r : Result T E) (old a b c d m n : List ℕ) → m ≡ old ++ (a ++ (b ++ c)) → OnOk r (n ≡ m ++ d)
@@ -38,4 +36,4 @@ pub three_then_two : {T E : Type 0} (r : Result T E) (old a b c d e m k n : List
     → OnOk r (n ≡ k ++ e)
     → OnOk r (n ≡ old ++ (a ++ (b ++ (c ++ (d ++ e)))))
 three_then_two r old a b c d e m k n first second third =
-    on_ok_weaker r (λ h. after_three old a b c (d ++ e) m n first (one_more m d e k n second h)) third
+    on_ok_weaker r (λ h. after_three old a b c (d ++ e) m n first (appended_twice m d e k n second h)) third

@@ -64,7 +64,8 @@ fn put_outputs(out: &mut Vec<u8>, outputs: &[Text], extents: &[Extent]) -> Resul
     requires short { length outputs.now < 2 ^ 32 }
     requires texts { AllByRecursion IsText outputs.now }
     ensures { OnOk result
-        (out.new.items ≡ out.old.items ++ list_bytes stored_bytes (stored_at outputs.now extents.now)) }
+        (out.new.items
+        ≡ out.old.items ++ list_bytes stored_bytes (stored_at outputs.now extents.now)) }
 {
     put_word(out, outputs.len() as u32)?;
     let mut left = extents;

@@ -32,10 +32,13 @@ fn write_summary<K: Sink>(
     sink: &mut K,
 ) -> Result<(), Or<WriteFault>>
     ensures ok { OnOk result
-        (Appends (K.ghost_state sink.old).held (K.ghost_state sink.new).held (summary transcripts.now)) }
+        (Appends (K.ghost_state sink.old).held (K.ghost_state sink.new).held
+        (summary transcripts.now)) }
     ensures err { OnErr result
-        (AppendsPrefix (K.ghost_state sink.old).held (K.ghost_state sink.new).held (summary transcripts.now)) }
-    ensures fault { OnWriteFault result (Rose (K.ghost_state sink.old).faults (K.ghost_state sink.new).faults) }
+        (AppendsPrefix (K.ghost_state sink.old).held (K.ghost_state sink.new).held
+        (summary transcripts.now)) }
+    ensures fault { OnWriteFault result
+        (Rose (K.ghost_state sink.old).faults (K.ghost_state sink.new).faults) }
 {
     let text = summary(alloc, transcripts)?;
     match write_whole(sink, text.as_bytes()) {

@@ -55,7 +55,8 @@ pub(crate) fn write_check<K: Sink, D: Disk>(
     ensures err { OnErr result
         (AppendsPrefix (K.ghost_state sink.old).held (K.ghost_state sink.new).held
         (text_modeled forms.Verify core.now.story)) }
-    ensures fault { OnWriteFault result (Rose (K.ghost_state sink.old).faults (K.ghost_state sink.new).faults) }
+    ensures fault { OnWriteFault result
+        (Rose (K.ghost_state sink.old).faults (K.ghost_state sink.new).faults) }
 {
     let verdict = core.verify(alloc)?;
     match write_whole(sink, verdict_line(verdict).as_str().as_bytes()) {

@@ -95,7 +95,8 @@ fn line_of(unstarted: Unstarted) -> ArrayString<80>
 /// Writes the line that says why no session was started, and answers the status. Want of memory has no line. Takes no memory.
 #[tactic(auto, using(crate::proofs::Calls::UnstartedStatuses::only_memory, crate::proofs::Calls::UnstartedStatuses::has_line))]
 pub(crate) fn write_unstarted<K: Sink>(unstarted: Unstarted, sink: &mut K) -> Status
-    ensures { WritesUnstarted unstarted result (K.ghost_state sink.old).held (K.ghost_state sink.new).held
+    ensures { WritesUnstarted unstarted result (K.ghost_state sink.old).held
+        (K.ghost_state sink.new).held
         (sink_faults (K.ghost_state sink.old) (K.ghost_state sink.new)) }
 {
     if matches!(unstarted, Unstarted::Unopened(OpenCause::NoMemory)) {

@@ -32,9 +32,11 @@ use std::thread::Threads;
 fn moment_of<C: Clock>(clock: &mut C) -> u64
     ensures capped { result ≤ last_moment }
     ensures moment { IfSome (C.ghost_state clock.old).modeled
-        (λ moments. result ≡ min (moment_at moments (C.ghost_state clock.old).readings) last_moment) }
+        (λ moments. result
+        ≡ min (moment_at moments (C.ghost_state clock.old).readings) last_moment) }
     ensures list { (C.ghost_state clock.new).modeled ≡ (C.ghost_state clock.old).modeled }
-    ensures counted { (C.ghost_state clock.new).readings ≡ raised_count (C.ghost_state clock.old).readings 1 }
+    ensures counted { (C.ghost_state clock.new).readings
+        ≡ raised_count (C.ghost_state clock.old).readings 1 }
 {
     clock.now().min(LAST_MOMENT)
 }
@@ -79,7 +81,8 @@ fn write_transcript<K: Sink, D: Disk>(
         (AppendsPrefix (K.ghost_state sink.old).held (K.ghost_state sink.new).held
         (transcript number (state_of core.now.story).phase (replies_of core.now.story))) }
     ensures kept { (K.ghost_state sink.old).faults ≤ (K.ghost_state sink.new).faults }
-    ensures fault { OnWriteFault result (Rose (K.ghost_state sink.old).faults (K.ghost_state sink.new).faults) }
+    ensures fault { OnWriteFault result
+        (Rose (K.ghost_state sink.old).faults (K.ghost_state sink.new).faults) }
 {
     let text = transcript(alloc, core, number)?;
     match write_whole(sink, text.as_bytes()) {

@@ -89,7 +89,8 @@ fn a_disk_is_counted<D: Disk>()
 fn settle<D: Disk>(core: &mut Core<D>)
     ensures same { core.new.story ≡ core.old.story }
     ensures mended { IsMended (state_of core.new.story) core.new.ghost_state }
-    ensures settles { SettlesJournal (may_be_open (state_of core.old.story).ends) core.old.ghost_state
+    ensures settles { SettlesJournal
+        (may_be_open (state_of core.old.story).ends) core.old.ghost_state
         core.new.ghost_state }
 {
     let _ = core.finish();
@@ -111,7 +112,8 @@ fn run_opened<R: Threads + Wait + Sync, G: Hook + Sync, K: Sink, D: Disk + Send,
     requires base { given.form ≢ forms.Sites }
     ensures { RunsOpened given.form given.phases.items result.status (first_step core.story)
         result.history before (disk_ghost_states core.ghost_state (D.ghost_state result.disk))
-        (outside_of (K.ghost_state sink.old) (K.ghost_state sink.new) (C.ghost_state clock.old) (C.ghost_state clock.new))
+        (outside_of (K.ghost_state sink.old) (K.ghost_state sink.new) (C.ghost_state clock.old)
+        (C.ghost_state clock.new))
         (sink_faults (K.ghost_state sink.old) (K.ghost_state sink.new)) }
 {
     let GivenSession { form, phases } = given;
@@ -139,9 +141,11 @@ fn run_session<R: Threads + Wait + Sync, G: Hook + Sync, K: Sink, D: Disk + Send
     requires runnable { IsRunnable given.phases.items }
     requires none { given.form ≡ forms.Verify → given.phases.items ≡ [] }
     requires base { given.form ≢ forms.Sites }
-    requires stable { IfModeled (D.ghost_state disk).modeled (λ d. file_of 0 d ≡ stable (bytes_now 0 d)) }
+    requires stable { IfModeled (D.ghost_state disk).modeled
+        (λ d. file_of 0 d ≡ stable (bytes_now 0 d)) }
     ensures { RunsSession given.form given.phases.items result.status result.history
-        (outside_of (K.ghost_state sink.old) (K.ghost_state sink.new) (C.ghost_state clock.old) (C.ghost_state clock.new))
+        (outside_of (K.ghost_state sink.old) (K.ghost_state sink.new) (C.ghost_state clock.old)
+        (C.ghost_state clock.new))
         (sink_faults (K.ghost_state sink.old) (K.ghost_state sink.new))
         (disk_ghost_states (D.ghost_state disk) (D.ghost_state result.disk)) }
 {
@@ -171,14 +175,12 @@ fn run_session<R: Threads + Wait + Sync, G: Hook + Sync, K: Sink, D: Disk + Send
 /// hashing them so: with random keys nobody can choose names that make a look-up there slow, and the answers are the same with
 /// any.
 ///
-/// The lanes of a phase run on threads once one of them builds, and so do the units of each build: what is promised holds in
-/// whatever order they take turns, and it is not promised that they get on. Around each script, and before each read of it, the
-/// hook is called.
+/// The lanes of a phase run on threads once one of them builds, and so do the units of each build. The promises hold for
+/// every order of turns; progress is not promised. Around each script, and before each read of it, the hook is called.
 ///
-/// Such a phase starts a thread for each lane but one, and a build that asks for N scripts at once up to N - 1 more, anew
-/// each time: 4,095 at most are there at once beside the caller's. Each has a stack of its own, of the size that `ulimit -s`
-/// tells, and counts against the processes of its user, `ulimit -u`. Where one is refused, the thread that asked does what it
-/// was wanted for.
+/// Such a phase starts a thread for each lane but one, and each build that asks for N scripts at once up to N - 1 more. At
+/// most 4,095 exist at once, besides the caller's. Each has a stack of the size that `ulimit -s` tells, and counts against the
+/// processes of its user, `ulimit -u`. If the system refuses one, the thread that asked for it does its work.
 ///
 /// Takes time linear in the session and in the replies, the time of `Core::open`, and for each command that of `act` or of its
 /// build. `big` keeps its transcripts until all phases are run. `verify` takes what `Core::verify` takes, `sites` what
@@ -203,9 +205,11 @@ pub fn run_words<
 ) -> SessionResult<D>
     requires { IsHandedIn (D.ghost_state disk) }
     ensures session { IsSession result.status result.history
-        (intake_of words.now (S.ghost_state source.old) (S.ghost_state source.new)) (C.ghost_state clock.old).modeled
+        (intake_of words.now (S.ghost_state source.old) (S.ghost_state source.new))
+        (C.ghost_state clock.old).modeled
         (clock_readings (C.ghost_state clock.old) (C.ghost_state clock.new)) }
-    ensures history { IsOneHistory (form_of words.now) result.status result.history (D.ghost_state disk)
+    ensures history { IsOneHistory (form_of words.now) result.status result.history
+        (D.ghost_state disk)
         (K.ghost_state sink.old).held (K.ghost_state sink.new).held }
     ensures commanded { AreOfTheirCommands result.history }
     ensures built { WasSound result.history → AreFromNothing result.history }
@@ -220,7 +224,8 @@ pub fn run_words<
     ensures printed { ArePrinted result.status result.history
         (intake_of words.now (S.ghost_state source.old) (S.ghost_state source.new))
         (sink_faults (K.ghost_state sink.old) (K.ghost_state sink.new))
-        (disk_ghost_states (D.ghost_state disk) (D.ghost_state result.disk)) (K.ghost_state sink.old).held
+        (disk_ghost_states (D.ghost_state disk) (D.ghost_state result.disk))
+        (K.ghost_state sink.old).held
         (K.ghost_state sink.new).held }
     ensures stopped { IsStopped (D.ghost_state disk) (D.ghost_state result.disk) result.history }
     ensures cause { HasCause result.status
@@ -228,14 +233,18 @@ pub fn run_words<
         (sink_faults (K.ghost_state sink.old) (K.ghost_state sink.new))
         (disk_ghost_states (D.ghost_state disk) (D.ghost_state result.disk)) result.history }
     ensures accounted { is_opened result.history ≡ true
-        → IsAccountedFor (disk_ghost_states (D.ghost_state disk) (D.ghost_state result.disk)) result.history }
-    ensures files { KeepsFiles (disk_ghost_states (D.ghost_state disk) (D.ghost_state result.disk)) result.history }
+        → IsAccountedFor
+        (disk_ghost_states (D.ghost_state disk) (D.ghost_state result.disk)) result.history }
+    ensures files { KeepsFiles
+        (disk_ghost_states (D.ghost_state disk) (D.ghost_state result.disk)) result.history }
     ensures damaged { FindsDamage result.status
         (intake_of words.now (S.ghost_state source.old) (S.ghost_state source.new))
         (disk_ghost_states (D.ghost_state disk) (D.ghost_state result.disk)) }
-    ensures untouched { LeavesAlone (intake_of words.now (S.ghost_state source.old) (S.ghost_state source.new))
+    ensures untouched { LeavesAlone
+        (intake_of words.now (S.ghost_state source.old) (S.ghost_state source.new))
         (disk_ghost_states (D.ghost_state disk) (D.ghost_state result.disk)) result.history }
-    ensures taken { TakesNoMore (intake_of words.now (S.ghost_state source.old) (S.ghost_state source.new)) }
+    ensures taken { TakesNoMore
+        (intake_of words.now (S.ghost_state source.old) (S.ghost_state source.new)) }
 {
     builds_are_as_from_nothing();
     objects_are_reused_well();

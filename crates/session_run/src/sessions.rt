@@ -71,7 +71,8 @@ fn text_read<S: Source>(alloc: Global, source: &mut S) -> Result<Text, Unstarted
     ensures gives { (form : Form) → reads_source (Some form) ≡ true
         → IfOk result
         (λ text.
-        GivesText form (intake_by (Some form) (S.ghost_state source.old) (S.ghost_state source.new)) text) }
+        GivesText form
+        (intake_by (Some form) (S.ghost_state source.old) (S.ghost_state source.new)) text) }
     ensures why { (form : Form) → reads_source (Some form) ≡ true
         → IfErr result
         (λ unstarted.
@@ -92,7 +93,8 @@ fn text_given<S: Source>(alloc: Global, form: Form, source: &mut S) -> Result<Te
     requires { IsSaid form }
     ensures gives { IfOk result
         (λ text.
-        GivesText form (intake_by (Some form) (S.ghost_state source.old) (S.ghost_state source.new)) text) }
+        GivesText form
+        (intake_by (Some form) (S.ghost_state source.old) (S.ghost_state source.new)) text) }
     ensures why { IfErr result
         (λ unstarted.
         IsUnstarted unstarted
@@ -157,12 +159,15 @@ pub(crate) fn session_given<S: Source>(
 ) -> Result<GivenSession, WithoutBase>
     ensures gives { IfOk result
         (λ given.
-        GivesPhases (intake_of words.now (S.ghost_state source.old) (S.ghost_state source.new)) given.form
+        GivesPhases
+        (intake_of words.now (S.ghost_state source.old) (S.ghost_state source.new)) given.form
         given.phases.items) }
     ensures why { IfErr result
         (λ without.
-        IsWithoutBase without (intake_of words.now (S.ghost_state source.old) (S.ghost_state source.new))) }
-    ensures taken { TakesNoMore (intake_of words.now (S.ghost_state source.old) (S.ghost_state source.new)) }
+        IsWithoutBase without
+        (intake_of words.now (S.ghost_state source.old) (S.ghost_state source.new))) }
+    ensures taken { TakesNoMore
+        (intake_of words.now (S.ghost_state source.old) (S.ghost_state source.new)) }
 {
     let Some(form) = form_of(words) else {
         return Err(WithoutBase::Line(Unstarted::BadWords));

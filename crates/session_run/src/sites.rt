@@ -50,7 +50,8 @@ fn status_of(replies: &Replies) -> Status
 
 /// Writes replies, and answers the status.
 fn write_replies<K: Sink>(replies: &Replies, sink: &mut K) -> Status
-    ensures { WritesResult (Ok replies.now) result (K.ghost_state sink.old).held (K.ghost_state sink.new).held
+    ensures { WritesResult (Ok replies.now) result (K.ghost_state sink.old).held
+        (K.ghost_state sink.new).held
         (sink_faults (K.ghost_state sink.old) (K.ghost_state sink.new)) }
 {
     match write_whole(sink, replies.text.as_bytes()) {
@@ -60,8 +61,7 @@ fn write_replies<K: Sink>(replies: &Replies, sink: &mut K) -> Status
 }
 
 /// Writes the replies to a text of sites, or the line that says which of its lines says nothing, and answers the status. Takes
-/// the
-/// time and the memory of `vob_replica::run`.
+/// the time and the memory of `vob_replica::run`.
 fn reply<K: Sink>(alloc: Global, hashing: RandomState, text: Text, sink: &mut K) -> Status
     requires { length text ≤ text_limit }
     ensures { WritesReplies text result (K.ghost_state sink.old).held (K.ghost_state sink.new).held
@@ -82,7 +82,8 @@ pub(crate) fn write_without_base<K: Sink>(
     sink: &mut K,
 ) -> Status
     requires { IsShort without }
-    ensures { WritesWithoutBase without result (K.ghost_state sink.old).held (K.ghost_state sink.new).held
+    ensures { WritesWithoutBase without result (K.ghost_state sink.old).held
+        (K.ghost_state sink.new).held
         (sink_faults (K.ghost_state sink.old) (K.ghost_state sink.new)) }
 {
     match without {

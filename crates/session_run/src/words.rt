@@ -62,8 +62,7 @@ fn big_form(word: &Text, seed: &Text, size: &Text) -> Option<Form>
 }
 
 /// The form of words: FILE `run`, FILE `verify`, FILE `sites`, or FILE `big` SEED SIZE, both in decimal digits without leading
-/// zeros,
-/// the seed below 2^64 and the size from 1 to 1,000. All other words have none.
+/// zeros, the seed below 2^64 and the size from 1 to 1,000. All other words have none.
 pub fn form_of(words: &[Text]) -> Option<Form>
     ensures { result ≡ form_of words.now }
 {

@@ -200,7 +200,10 @@ table_tells = (
                     (λ ws t. changed _ _ (made change_word _ _ _ (λ x. refl))),
                     (
                       (λ ws t. changed _ _ (made change_word _ _ _ (λ x. refl))),
-                      ((λ ws t. changed _ _ (made change_word _ _ _ (λ x. refl))), ((λ ws t. changed _ _ (mv_word_is ws)), types_tell)),
+                      (
+                        (λ ws t. changed _ _ (made change_word _ _ _ (λ x. refl))),
+                        ((λ ws t. changed _ _ (mv_word_is ws)), types_tell),
+                      ),
                     ),
                   ),
                 ),

@@ -267,7 +267,8 @@ lanes_step (kinds.Lane words) above rest n h l =
     h
 lanes_step (kinds.Command word words) above rest n h l = h l
 
-no_error : (n : ℕ) (cause : Option SessionCause) (later : Option SessionError) → error_or n cause later ≡ None → (cause ≡ None)
+pub no_error : (n : ℕ) (cause : Option SessionCause) (later : Option SessionError) → error_or n cause later ≡ None
+    → (cause ≡ None)
     × (later ≡ None)
 no_error n (Some cause) later h = cc
 no_error n None later h = (refl, h)

@@ -1,26 +1,21 @@
 -- What is known of lines that stand right.
-use Rattle.std.proofs.Common.{◌≡◌, ◌∙◌, ℕ, ◌+◌, Bool, true, false, not, cond, Option, Some, None, List, [], ◌∷◌, refl, sym, ap}
+use Rattle.std.proofs.Common.{◌≡◌, ◌∙◌, ℕ, ◌+◌, Bool, true, false, not, cond, Option, None, List, [], ◌∷◌, refl, sym, ap}
 use Rattle.std.proofs.Common.{length, arith}
 use Rattle.std.specs.Prelude.{Ok, Err, IsOk, nat_le}
 use Rattle.cc_names.specs.declared.commands.Command.{Command}
 use Rattle.cc_names.specs.declared.refusals.SessionCause.{SessionCause}
 use Rattle.cc_names.specs.declared.refusals.SessionCause.TheVariants as causes
-use Rattle.cc_names.specs.declared.refusals.SessionError.{SessionError}
 use Rattle.session_text.specs.declared.kinds.Kind.{Kind}
 use Rattle.session_text.specs.declared.kinds.Kind.TheVariants as kinds
 use Rattle.session_text.specs.Commands.{command_of}
 use Rattle.session_text.specs.Kinds.{Rest, kinds_of}
 use Rattle.session_text.specs.Reading.{IsNextLine, HasNoLine, IsRight, FindsKind, PassesLines, FindsCommand, LaneNames, Says}
-use Rattle.session_text.specs.Sessions.{cause_where_or, cause_in, cause_of, above_next, is_empty, is_taken, error_or}
+use Rattle.session_text.specs.Sessions.{cause_where_or, cause_in, cause_of, above_next, is_empty, is_taken}
 use Rattle.session_text.specs.Sessions.{first_error, body_of, before_commands, commands_of}
 use Rattle.session_text.specs.Shapes.{view}
 use Rattle.session_text.specs.Words.{Said}
 use Rattle.session_text.proofs.Ends.{end-all, end-behind}
-
-pub none_wrong : (n : ℕ) (cause : Option SessionCause) (later : Option SessionError) → error_or n cause later ≡ None
-    → (cause ≡ None) × (later ≡ None)
-none_wrong n (Some cause) later e = cc
-none_wrong n None later e = (refl, e)
+use Rattle.session_text.proofs.FormedReading.{no_error}
 
 no_cause : (test : Bool) (cause : SessionCause) (later : Option SessionCause) → cause_where_or test cause later ≡ None
     → later ≡ None
@@ -36,13 +31,13 @@ pub right-behind : (kind : Kind) (lines : List Kind) → IsRight (kind ∷ lines
 right-behind kind lines r = record {
   number = r.number + 1;
   above = above_next r.above kind (body_of lines);
-  right = (none_wrong (r.number + 1) (cause_of r.above kind (body_of lines))
+  right = (no_error (r.number + 1) (cause_of r.above kind (body_of lines))
       (first_error (r.number + 1) (above_next r.above kind (body_of lines)) lines) r.right).1;
 }
 
 cause_none : (kind : Kind) (lines : List Kind) (r : IsRight (kind ∷ lines)) → cause_of r.above kind (body_of lines) ≡ None
 cause_none kind lines r =
-    (none_wrong (r.number + 1) (cause_of r.above kind (body_of lines))
+    (no_error (r.number + 1) (cause_of r.above kind (body_of lines))
     (first_error (r.number + 1) (above_next r.above kind (body_of lines)) lines) r.right).0
 
 -- a command's line says one

@@ -6,6 +6,7 @@ use Rattle.std.proofs.lemmas.Bool.{and_parts}
 use Rattle.cc_names.specs.declared.selection.Rule.{Rule}
 use Rattle.cc_names.specs.declared.selection.Selector.{Selector}
 use Rattle.cc_names.specs.declared.selection.Selector.TheVariants.{CheckedOut, Label, Latest, Wherever, Numbered, Config, Nothing}
+use Rattle.cc_names.proofs.Common.{found_passes}
 use Rattle.spec_text.specs.Laws.{FirstDecides, PicksNothing}
 use Rattle.base_model.specs.ConfigSpecs.Patterns.{matches}
 use Rattle.base_model.specs.ConfigSpecs.Rules.{Selectables, finds, found_by, ends_scan, decides, deciding, picked_by}
@@ -22,15 +23,6 @@ found_before {A} test (x ∷ xs) ys h = by_test (test x) h (found_before test xs
 pub first_decides : FirstDecides
 first_decides sources element names rules more h =
     ap (option_and_then (picked_by sources element)) (found_before (decides sources element names) rules more h)
-
-found_passes : {A : Type 0} (test : A → Bool) (xs : List A) (x : A) → find test xs ≡ Some x → test x ≡ true
-found_passes test [] x h = cc
-found_passes {A} test (y ∷ xs) x h = by_test (test y) refl h (found_passes test xs x)
-  where
-    by_test : (b : Bool) → test y ≡ b → cond b (Some y) (find test xs) ≡ Some x → (find test xs ≡ Some x → test x ≡ true)
-        → test x ≡ true
-    by_test true e some behind = let same : y ≡ x = cc in rw (← same) e
-    by_test false e some behind = behind some
 
 ends_none : (sources : Selectables) (element : ℕ) (before : Option ℕ) (selector : Selector) → ends_scan selector ≡ true
     → finds sources element before selector ≡ None

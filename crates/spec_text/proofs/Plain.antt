@@ -4,13 +4,10 @@ use Rattle.std.proofs.Common.{ap, ◌∙◌, eq-eqb}
 use Rattle.std.specs.List.{list_all, list_any}
 use Rattle.std.proofs.lemmas.Bool.{eqb-true, and_parts, and_from, or_cases, or_left, or_right}
 use Rattle.cc_names.specs.declared.selection.Segment.TheVariants.{OneName}
+use Rattle.cc_names.proofs.Common.{not_true}
 use Rattle.base_model.specs.ConfigSpecs.WildCards.{list_suffixes, has_none}
 use Rattle.spec_text.specs.Laws.{is_plain, MatchesOwnPath, MatchesEndsOfPaths}
 use Rattle.base_model.specs.ConfigSpecs.Patterns.{is_star, is_question_mark, fits_byte, matches_name, matches_names, is_lone_star}
-
-negated : (b : Bool) → not b ≡ true → b ≡ false
-negated true h = cc
-negated false h = refl
 
 same_byte : (question same : Bool) → question ≡ false → (question || same) ≡ true → same ≡ true
 same_byte true same e h = cc
@@ -21,13 +18,13 @@ name_to [] [] plain h = refl
 name_to [] (b ∷ bs) plain h = cc
 name_to (c ∷ cs) [] plain h =
     let here = and_parts (not (is_star c) && not (is_question_mark c)) (is_plain cs) plain in
-    let star = negated (is_star c) (and_parts (not (is_star c)) (not (is_question_mark c)) here.0).0 in
+    let star = not_true (is_star c) (and_parts (not (is_star c)) (not (is_question_mark c)) here.0).0 in
     let bad = rw star at h in cc
 name_to (c ∷ cs) (b ∷ bs) plain h =
     let here = and_parts (not (is_star c) && not (is_question_mark c)) (is_plain cs) plain in
     let tests = and_parts (not (is_star c)) (not (is_question_mark c)) here.0 in
-    let star = negated (is_star c) tests.0 in
-    let question = negated (is_question_mark c) tests.1 in
+    let star = not_true (is_star c) tests.0 in
+    let question = not_true (is_question_mark c) tests.1 in
     let fit = rw star at h in
     let parts = and_parts (fits_byte c b) (matches_name cs bs) fit in
     let same = eqb-true c b (same_byte (is_question_mark c) (c == b) question parts.0) in
@@ -38,7 +35,7 @@ name_from : (name : List ℕ) → is_plain name ≡ true → matches_name name n
 name_from [] plain = refl
 name_from (c ∷ cs) plain =
     let here = and_parts (not (is_star c) && not (is_question_mark c)) (is_plain cs) plain in
-    let star = negated (is_star c) (and_parts (not (is_star c)) (not (is_question_mark c)) here.0).0 in
+    let star = not_true (is_star c) (and_parts (not (is_star c)) (not (is_question_mark c)) here.0).0 in
     rw star (and_from (fits_byte c c) (matches_name cs cs) (or_right (is_question_mark c) (c == c) (eq-eqb c c refl))
     (name_from cs here.1))
 
@@ -97,7 +94,7 @@ not_lone_star ([] ∷ []) plain = refl
 not_lone_star ((b ∷ []) ∷ []) plain =
     let here = and_parts (is_plain (b ∷ [])) true plain in
     let byte = and_parts (not (is_star b) && not (is_question_mark b)) true here.0 in
-    negated (is_star b) (and_parts (not (is_star b)) (not (is_question_mark b)) byte.0).0
+    not_true (is_star b) (and_parts (not (is_star b)) (not (is_question_mark b)) byte.0).0
 not_lone_star ((b ∷ c ∷ bs) ∷ []) plain = refl
 not_lone_star ([] ∷ name ∷ names) plain = refl
 not_lone_star ((b ∷ []) ∷ name ∷ names) plain = refl

@@ -144,7 +144,8 @@ pub stands : {P A : Type 0} (wild : P → Bool) (fits : P → A → Bool) (answe
     → Searches wild fits answer all_cards all cards left again → Searches wild fits answer all_cards all behind rest again
 stands wild fits answer all_cards all cards card behind left x rest again prefix first plain fit known = let h =
     rw (prefix, first) at known in record {
-      same = plain_same (wild card) (fits card) (cards_match wild fits behind) x rest answer (again_covers wild fits again) plain fit
+      same = plain_same (wild card) (fits card) (cards_match wild fits behind) x rest answer (again_covers wild fits again) plain
+          fit
           h.same;
       kept = λ e. plain_preserved (wild card) (fits card) (cards_match wild fits behind) rest plain (h.kept e);
       cards_fit = omega arith;

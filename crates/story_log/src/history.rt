@@ -9,10 +9,9 @@ use session_text::PhaseText;
 use std::alloc::Global;
 use std::marker::{Model, PhantomData};
 
-/// The story of a session with the rows and phases that it names, the phases kept as their text. Contracts see it as the story,
-/// each commit told with its row and each beginning of a phase with that phase. A session that opened no base has the empty
-/// story. Whether the
-/// disk told its device is a part of the story, and known by the disk's type alone.
+/// The history of a session with the rows and phases that it names, the phases kept as their text. Contracts see it as
+/// the history; each commit has its row, and each begin of a phase has that phase. A session that opened no base has
+/// the empty history. The history says whether the disk is modeled, which its type decides.
 #[derive(Drop)]
 pub struct History<D: Disk> {
     rows: Vec<Row>,
@@ -64,7 +63,8 @@ impl<D: Disk> History<D> {
         handed: Counts,
     ) -> History<D>
         requires { AreNamedBySteps 1 0 steps.items rows.items phases.items }
-        ensures { result ≡ story_of (handed_disk handed D.tells) steps.items rows.items phases.items }
+        ensures { result
+            ≡ story_of (handed_disk handed D.tells) steps.items rows.items phases.items }
     {
         History {
             rows,

@@ -16,8 +16,8 @@ pub fn a_stop_leaves_a_base()
     stops::a_stop_leaves_a_base_sound();
 }
 
-/// Promises `BaseIsUndamaged` and `JournalIsOfOneBase`: a journal that stands for a base of formed rows is not damaged, and
-/// stands for no other such base.
+/// Promises `BaseIsUndamaged` and `JournalIsOfOneBase`: a journal that represents a base of formed rows is not damaged,
+/// and represents no other such base.
 pub fn a_base_is_undamaged()
     ensures undamaged { BaseIsUndamaged }
     ensures one { JournalIsOfOneBase }
@@ -28,16 +28,16 @@ pub fn a_journal_is_damaged_once()
     ensures { JournalIsDamagedOnce }
 {}
 
-/// Promises `StoryKeepsItsBaseFormed` and `FaultLeavesAFormedRow`: the base of a story that names only formed rows is one
-/// of formed rows, and what a fault left behind it is formed.
+/// Promises `StoryKeepsItsBaseFormed` and `FaultLeavesAFormedRow`: if a history names only formed rows, its base has
+/// only formed rows, and the row that a fault may have left after it is formed.
 pub fn a_story_keeps_its_base_formed()
     ensures base { StoryKeepsItsBaseFormed }
     ensures left { FaultLeavesAFormedRow }
 {}
 
-/// Promises `StopOpensAgain`: whatever a stop may find of a legal story that names only formed rows opens again, without
-/// damage and to one base: that of the commits so far, or that and a row which a command would have committed there. It is
-/// sound where the base was sound as it was opened.
+/// Promises `StopOpensAgain`: whatever a stop may find of a legal history that names only formed rows opens again,
+/// without damage and to one base: that of the commits so far, or that and one row more, which a command would have
+/// committed there. It is sound where the base was sound as it was opened.
 pub fn a_stop_opens_again()
     ensures { StopOpensAgain }
 {

@@ -150,7 +150,8 @@ impl<D: Disk> Log<D> {
             (D.ghost_state journal.disk) journal.list journal.leftover journal.ended journal.left
             journal.settled }
         ensures ok { IfOk result
-            (λ log. log ≡ opened_log rows.base (handed_disk handed D.tells) (D.ghost_state journal.disk)) }
+            (λ log. log
+            ≡ opened_log rows.base (handed_disk handed D.tells) (D.ghost_state journal.disk)) }
         ensures err { IfErr result (λ back. back ≡ journal) }
     {
         let mut steps = Vec::new(alloc);
@@ -188,9 +189,9 @@ impl<D: Disk> Log<D> {
         Ok(())
     }
 
-    /// Commits a row: it is appended to the journal and then told, or the fault of the disk is told, and behind it the step
-    /// that it brings with it. Takes all memory first; an `Err` changes nothing. Takes time linear in the row, in the steps
-    /// since the last commit or fault, and in the row that a fault left there.
+    /// Commits a row: it is appended to the journal and then added to the history; or the disk fault is added, followed
+    /// by the step that ends the build, if there is one. Takes all memory first; an `Err` changes nothing. Takes time
+    /// linear in the row, in the steps since the last commit or fault, and in the row that a fault left there.
     pub fn append(
         &mut self,
         alloc: Global,
@@ -235,7 +236,7 @@ impl<D: Disk> Log<D> {
     /// Tells a step that names no row and no phase, and is no fault of the disk. An `Err` changes nothing.
     pub fn tell(&mut self, step: Step) -> Result<(), NoMemory>
         requires alone { stands_alone step ≡ true }
-        requires sound { is_fault (story_steps.Other step) ≡ false }
+        requires faultless { is_fault (story_steps.Other step) ≡ false }
         ensures ok { OnOk result (self.new ≡ with_step self.old step) }
         ensures err { OnErr result (self.new ≡ self.old) }
     {
@@ -251,7 +252,8 @@ impl<D: Disk> Log<D> {
         ensures err { OnErr result
             (rises (faults_of (state_of self.new.story).opened (state_of self.new.story).ends)
             self.new.ghost_state.faults ≡ true) }
-        ensures faults { MatchResult result (λ _. self.new.ghost_state.faults ≡ self.old.ghost_state.faults)
+        ensures faults { MatchResult result
+            (λ _. self.new.ghost_state.faults ≡ self.old.ghost_state.faults)
             (λ _. self.new.ghost_state.faults ≡ next_count self.old.ghost_state.faults) }
         ensures few { self.new.ghost_state.ticks ≤ self.old.ghost_state.ticks + 2 }
         ensures writes { Both WritesOn self.old.ghost_state.modeled self.new.ghost_state.modeled }

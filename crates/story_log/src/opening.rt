@@ -42,7 +42,8 @@ fn next_payload<D: Disk>(alloc: Global, journal: &mut Journal<D>) -> Result<Opti
     ensures ok { IfOk result (λ found. NextIs D.ghost_state found journal.old journal.new) }
     ensures err { IfErr result
         (λ cause.
-        IsMissed cause (D.ghost_state journal.old.disk).faults (D.ghost_state journal.new.disk).faults) }
+        IsMissed cause (D.ghost_state journal.old.disk).faults
+        (D.ghost_state journal.new.disk).faults) }
 {
     match journal.next(alloc) {
         Ok(payload) => Ok(payload),
@@ -94,7 +95,7 @@ fn read_next_row<D: Disk>(
     requires { IsReadSoFar D.ghost_state rows.now journal.old }
     ensures reads { OnlyReads D.ghost_state journal.old journal.new }
     ensures ok { IfOk result (λ found. ReadsOn D.ghost_state rows.now found journal.new) }
-    ensures sound { OnOk result
+    ensures faultless { OnOk result
         ((D.ghost_state journal.new.disk).faults ≡ (D.ghost_state journal.old.disk).faults) }
     ensures err { IfErr result
         (λ cause.
@@ -132,7 +133,7 @@ fn read_rows<D: Disk>(
     requires { IsReadSoFar D.ghost_state [] journal.old }
     ensures reads { OnlyReads D.ghost_state journal.old journal.new }
     ensures ok { IfOk result (λ rows. IsReadThrough D.ghost_state rows.base journal.new) }
-    ensures sound { OnOk result
+    ensures faultless { OnOk result
         ((D.ghost_state journal.new.disk).faults ≡ (D.ghost_state journal.old.disk).faults) }
     ensures err { IfErr result
         (λ cause.

@@ -3,16 +3,13 @@ use Rattle.std.proofs.Common.{◌≡◌, ℕ, ◌+◌, ◌<◌, ◌≤◌, Bool,
 use Rattle.std.proofs.Common.{None, ◌⊎◌, refl, inl, inr, ap, ◌∙◌, arith}
 use Rattle.std.specs.Prelude.{filter, find}
 use Rattle.std.proofs.lemmas.Bool.Decides.{nat_tests, Decides-eqb}
+use Rattle.std.proofs.lemmas.Bool.{cases_Bool}
 use Rattle.cc_names.specs.Versions.{Version, row_of_change, branch_of_change, row_of_version, version_of_change, of_first_rows}
 use Rattle.cc_names.specs.Versions.{versions_on, put_if}
 use Rattle.cc_names.specs.declared.changes.TreeChange.{TreeChange}
 use Rattle.cc_names.specs.Falling.{IsAbove, Falls}
 use Rattle.version_tree.specs.Branches.{row_of_later, versions_from}
 use Rattle.version_tree.specs.declared.branches.Later.{Later}
-
-pub bool_cases : (b : Bool) → (b ≡ true) ⊎ (b ≡ false)
-bool_cases true = inl refl
-bool_cases false = inr refl
 
 -- a greater row is above as well
 pub above_le : (row higher : ℕ) (rows : List ℕ) → row ≤ higher → IsAbove row rows → IsAbove higher rows
@@ -61,7 +58,7 @@ versions_fall (c ∷ older) b falls =
 pub versions_of_first_rows : (rows : ℕ) (cs : List TreeChange) (b : ℕ) → Falls (map row_of_change cs)
     → filter (λ v. ltb v.row rows) (versions_on cs b) ≡ versions_on (of_first_rows rows cs) b
 versions_of_first_rows rows [] b falls = refl
-versions_of_first_rows rows (c ∷ older) b falls = elim (bool_cases (ltb (row_of_change c) rows)) [
+versions_of_first_rows rows (c ∷ older) b falls = elim (cases_Bool (ltb (row_of_change c) rows)) [
   | inl early ↦
       let below : row_of_change c + 1 ≤ rows = grind (arith, nat_tests) in
       let all_older : of_first_rows rows older ≡ older = filter_all row_of_change (row_of_change c) rows older falls.0
@@ -99,7 +96,7 @@ branch_in (Some v) = Some v.branch
 pub found_on : (cs : List TreeChange) (b : ℕ) (p : Version → Bool) (v : Version) → find p (versions_on cs b) ≡ Some v
     → v.branch ≡ b
 found_on [] b p v found = cc
-found_on (c ∷ older) b p v found = elim (bool_cases (eqb (branch_of_change c) b)) [
+found_on (c ∷ older) b p v found = elim (cases_Bool (eqb (branch_of_change c) b)) [
   | inl here ↦ on_it (found_on older b p v) (p (version_of_change c (length (versions_on older b)))) here (rw here at found)
   | inr elsewhere ↦ found_on older b p v (rw elsewhere at found)
 ]

@@ -5,7 +5,7 @@ use Rattle.std.proofs.Common.{◌∙◌, arith}
 use Rattle.std.specs.Prelude.{find}
 use Rattle.std.specs.List.{list_any}
 use Rattle.std.proofs.lemmas.List.{reverse-append, length-set, get_or-set_same, get_or-set_other}
-use Rattle.std.proofs.lemmas.Bool.{cases_lt}
+use Rattle.std.proofs.lemmas.Bool.{cases_lt, cases_Bool}
 use Rattle.std.proofs.lemmas.Bool.Decides.{nat_tests, Decides-eqb}
 use Rattle.std.proofs.lemmas.Option.{slice_get-get_or}
 use Rattle.cc_names.specs.Versions.{Version, row_of_change, branch_of_change, moment_of_change, versions_on, latest, put_if}
@@ -16,7 +16,6 @@ use Rattle.version_tree.specs.TreeFields.{changes_of, row_of_made, row_of_branch
 use Rattle.version_tree.specs.declared.changes.Made.{Made}
 use Rattle.version_tree.specs.declared.branches.Branch.{Branch}
 use Rattle.version_tree.specs.declared.branches.Later.{Later}
-use Rattle.version_tree.proofs.FirstRows.{bool_cases}
 use Rattle.cc_names.proofs.ByRows.{find_first, find-reverse, rises_below}
 
 -- the rows of changes
@@ -45,7 +44,7 @@ branch_added m b made branches step rows on moments empty above = record {
   falls = (rw rows above, step.falls);
   branches_fall = (step.branches_made b.row above, step.branches_fall);
   branches_made = λ row higher. (rw (← rows) higher.0, step.branches_made row higher.1);
-  kept = λ q. elim (bool_cases (eqb b.row q)) [
+  kept = λ q. elim (cases_Bool (eqb b.row q)) [
     | inl same ↦
         let here : b.row ≡ q = (Decides-eqb b.row q).0 same in
         let absent : branch_at branches q ≡ None = rw (← here) (no_branch b.row branches (step.branches_made b.row above)) in
@@ -97,7 +96,7 @@ module _ (items : List Branch) (branch p : ℕ) (falls : Falls (map row_of_branc
     where
       has : (b : Branch) (xs : List Branch) → Some b ≡ find (λ x. eqb x.row branch) xs → b.row ≡ branch
       has b [] is = cc
-      has b (x ∷ xs) is = elim (bool_cases (eqb x.row branch)) [
+      has b (x ∷ xs) is = elim (cases_Bool (eqb x.row branch)) [
         | inl same ↦ let here : Some b ≡ Some x = rw same at is in grind (arith, nat_tests, row_in here)
         | inr other ↦ has b xs (rw other at is)
       ]
@@ -207,7 +206,7 @@ version_added m made items p b' row moment branch step is above within found sam
       falls = (rw is above, step.falls);
       branches_fall = fall_after;
       branches_made = λ r higher. rw rows (step.branches_made r higher.1);
-      kept = λ q. elim (bool_cases (eqb branch q)) [
+      kept = λ q. elim (cases_Bool (eqb branch q)) [
         | inl same ↦
             let here : branch ≡ q = (Decides-eqb branch q).0 same in
             let old_there : branch_at (reverse items) q ≡ Some old = rw (← here) old_found in
@@ -226,7 +225,7 @@ version_added m made items p b' row moment branch step is above within found sam
 pub not_ready : (branch : ℕ) (items : List Branch) → find (λ b. eqb b.row branch) items ≡ None
     → list_any (λ b. eqb b branch) (ready_branches items) ≡ false
 not_ready branch [] none = refl
-not_ready branch (x ∷ items) none = elim (bool_cases (eqb x.row branch)) [
+not_ready branch (x ∷ items) none = elim (cases_Bool (eqb x.row branch)) [
   | inl same ↦ cc (rw same at none)
   | inr other ↦ over_put (ltb (vec_len x.later) (vec_capacity x.later)) other (not_ready branch items (rw other at none))
 ]
@@ -262,7 +261,7 @@ room_made made items p b' branch step within found same_row same_moment same_lat
       falls = step.falls;
       branches_fall = fall_after;
       branches_made = λ r higher. rw rows (step.branches_made r higher);
-      kept = λ q. elim (bool_cases (eqb branch q)) [
+      kept = λ q. elim (cases_Bool (eqb branch q)) [
         | inl same ↦
             let here : branch ≡ q = (Decides-eqb branch q).0 same in
             let old_there : branch_at (reverse items) q ≡ Some old = rw (← here) old_found in

@@ -3,13 +3,14 @@ use Rattle.std.proofs.Common.{◌≡◌, ℕ, ◌<◌, Bool, true, false, eqb, L
 use Rattle.std.proofs.Common.{inr, ap, ◌∙◌, arith}
 use Rattle.std.specs.Prelude.{find, option_map, option_and_then}
 use Rattle.std.proofs.lemmas.Bool.Decides.{nat_tests}
+use Rattle.std.proofs.lemmas.Bool.{cases_Bool}
 use Rattle.cc_names.specs.declared.changes.TreeChange.{TreeChange}
 use Rattle.cc_names.specs.declared.changes.VersionId.{VersionId}
 use Rattle.cc_names.specs.Falling.{IsAbove}
 use Rattle.cc_names.specs.Versions.{Version, row_of_change, branch_of_change, change_at, version_at, version_of_change}
 use Rattle.cc_names.specs.Versions.{versions_on, element_by, element_of_branch, number_of_version, version_id, version_id_of}
 use Rattle.cc_names.specs.Versions.{put_if}
-use Rattle.version_tree.proofs.FirstRows.{bool_cases, found_on}
+use Rattle.version_tree.proofs.FirstRows.{found_on}
 
 module _ (changes : List TreeChange) (row : ℕ) (change : TreeChange) (made : change_at changes row ≡ Some change) where
   -- the version is looked for on the branch of the change
@@ -57,7 +58,7 @@ made_before change older row lt =
 made_below : (n : ℕ) (cs : List TreeChange) (row : ℕ) (change : TreeChange) → IsAbove n (map row_of_change cs)
     → change_at cs row ≡ Some change → row < n
 made_below n [] row change above found = cc
-made_below n (c ∷ cs) row change above found = elim (bool_cases (eqb (row_of_change c) row)) [
+made_below n (c ∷ cs) row change above found = elim (cases_Bool (eqb (row_of_change c) row)) [
   | inl same ↦ grind (arith, nat_tests, above.0)
   | inr other ↦ made_below n cs row change above.1 (rw other at found)
 ]

@@ -12,17 +12,13 @@ use Rattle.cc_names.specs.Falling.{IsAbove, Falls}
 use Rattle.version_tree.specs.Branches.{row_of_later, versions_from, stored_of_first_rows, row_if, row_numbered, row_within}
 use Rattle.version_tree.specs.declared.branches.Branch.{Branch}
 use Rattle.cc_names.proofs.ByRows.{filter-reverse, filter_first, find-reverse}
+use Rattle.cc_names.proofs.Common.{slice_get_last}
 use Rattle.version_tree.specs.declared.branches.Later.{Later}
 
 -- a branch has one version more than versions behind version 0
 pub length-versions_from : (b moment : ℕ) (ls : List Later) → length (versions_from b moment ls) ≡ suc (length ls)
 length-versions_from b moment [] = refl
 length-versions_from b moment (l ∷ older) = ap suc (length-versions_from b moment older)
-
--- an item behind the end of a list, or before it
-pub slice_get_last : {X : Type 0} (xs : List X) (x : X) → slice_get (xs ++ x ∷ []) (length xs) ≡ Some x
-slice_get_last [] x = refl
-slice_get_last (y ∷ xs) x = slice_get_last xs x
 
 pub slice_get_others : {X : Type 0} (xs : List X) (x : X) (k : ℕ) → (k ≡ length xs → ⊥)
     → slice_get (xs ++ x ∷ []) k ≡ slice_get xs k

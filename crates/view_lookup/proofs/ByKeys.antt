@@ -14,23 +14,8 @@ use Rattle.std.specs.declared.cmp.Ordering.TheVariants.{Less, Equal, Greater}
 use Rattle.std.proofs.lemmas.Cmp.{nat_list_cmp_total}
 use Rattle.std.proofs.lemmas.Map.Text.{is_eq-slice_cmp}
 use Rattle.std.proofs.lemmas.Slice.Eq.{bytes_eq-Decides}
+use Rattle.cc_names.proofs.Common.{test_first, test_second, less_by_test, texts_tied}
 use Rattle.base_model.specs.Closures.{is_path_among}
-
-t_first : (a b : Bool) → T (a && b) → T a
-t_first true b h = tt
-t_first false b h = h
-
-t_second : (a b : Bool) → T (a && b) → T b
-t_second true b h = h
-t_second false b h = absurd h
-
-less : (o : Ordering) → T (is_lt o) → o ≡ Less
-less Less h = refl
-less Equal h = absurd h
-less Greater h = absurd h
-
-same_key : (one two : List ℕ) → slice_cmp nat_cmp one two ≡ Equal → one ≡ two
-same_key one two ties = (bytes_eq-Decides one two).0 (sym (is_eq-slice_cmp one two) ∙ ap is_eq ties)
 
 apart : (one two : List ℕ) → slice_cmp nat_cmp one two ≡ Less → bytes_eq one two ≡ false
 apart one two below = sym (is_eq-slice_cmp one two) ∙ ap is_eq below
@@ -69,15 +54,15 @@ module _ {X : Type 0} (f : List ℕ → X → List ℕ) where
   none_below key [] h = refl
   none_below key (entry ∷ table) h =
       ap (λ o. cond (is_eq o) (Some entry.1) (find (slice_cmp nat_cmp) key table))
-      (less (slice_cmp nat_cmp key entry.0) (t_first _ _ h)) ∙ none_below key table (t_second _ _ h)
+      (less_by_test (slice_cmp nat_cmp key entry.0) (test_first _ _ h)) ∙ none_below key table (test_second _ _ h)
 
   below_more : (one two : List ℕ) (table : List (List ℕ × X)) → slice_cmp nat_cmp one two ≡ Less
       → T (below_all (slice_cmp nat_cmp) two table) → T (below_all (slice_cmp nat_cmp) one table)
   below_more one two [] low h = tt
   below_more one two (entry ∷ table) low h =
       both (is_lt (slice_cmp nat_cmp one entry.0)) (below_all (slice_cmp nat_cmp) one table)
-      (subst (λ o. T (is_lt o)) (sym (nat_list_cmp_total.trans one two entry.0 low (less _ (t_first _ _ h)))) tt)
-      (below_more one two table low (t_second _ _ h))
+      (subst (λ o. T (is_lt o)) (sym (nat_list_cmp_total.trans one two entry.0 low (less_by_test _ (test_first _ _ h)))) tt)
+      (below_more one two table low (test_second _ _ h))
     where
       both : (a b : Bool) → T a → T b → T (a && b)
       both true b p q = q
@@ -121,7 +106,7 @@ module _ {X : Type 0} (f : List ℕ → X → List ℕ) where
   by_keys (key ∷ keys) [] ordered sorted has = by_keys keys [] ordered.1 tt (λ k is. absurd (cc))
   by_keys (key ∷ keys) (entry ∷ table) ordered sorted has =
       by (slice_cmp nat_cmp key entry.0) refl (λ more. by_keys keys (entry ∷ table) ordered.1 sorted more)
-      (λ more. by_keys keys table ordered.1 (t_second _ _ sorted) more)
+      (λ more. by_keys keys table ordered.1 (test_second _ _ sorted) more)
     where
       by : (o : Ordering) → slice_cmp nat_cmp key entry.0 ≡ o →
           (HasKeys (entry ∷ table) keys → concat (map (text_of_key (entry ∷ table)) keys) ≡ concat (map reported (entry ∷ table)))
@@ -131,7 +116,7 @@ module _ {X : Type 0} (f : List ℕ → X → List ℕ) where
       by Less e with_all with_rest =
           let none : find (slice_cmp nat_cmp) key (entry ∷ table) ≡ None =
           ap (λ o. cond (is_eq o) (Some entry.1) (find (slice_cmp nat_cmp) key table)) e
-          ∙ none_below key table (below_more key entry.0 table e (t_first _ _ sorted)) in
+          ∙ none_below key table (below_more key entry.0 table e (test_first _ _ sorted)) in
           ap (λ o. option_map_or (f key) o [] ++ concat (map (text_of_key (entry ∷ table)) keys)) none
           ∙ with_all (λ k is. rest k (bytes_eq k key) refl is)
         where
@@ -141,11 +126,11 @@ module _ {X : Type 0} (f : List ℕ → X → List ℕ) where
               let gone : find (slice_cmp nat_cmp) k (entry ∷ table) ≡ None =
               ap (λ n. find (slice_cmp nat_cmp) n (entry ∷ table)) ((bytes_eq-Decides k key).0 same)
               ∙ ap (λ o. cond (is_eq o) (Some entry.1) (find (slice_cmp nat_cmp) key table)) e
-              ∙ none_below key table (below_more key entry.0 table e (t_first _ _ sorted)) in
+              ∙ none_below key table (below_more key entry.0 table e (test_first _ _ sorted)) in
               absurd (cc (gone, is))
           rest k false other is = sym (ap (λ t. t || is_path_among k keys) other) ∙ has k is
       by Equal e with_all with_rest =
-          let same = same_key key entry.0 e in
+          let same = texts_tied key entry.0 e in
           let above : AllAbove entry.0 keys = subst (λ k. AllAbove k keys) same ordered.0 in
           ap₂ (λ (one more : List ℕ). one ++ more)
           (ap (λ o. option_map_or (f key) (cond (is_eq o) (Some entry.1) (find (slice_cmp nat_cmp) key table)) []) e
@@ -156,13 +141,13 @@ module _ {X : Type 0} (f : List ℕ → X → List ℕ) where
               → is_path_among k keys ≡ true
           rest k true same is =
               let gone : find (slice_cmp nat_cmp) k table ≡ None = ap (λ n. find (slice_cmp nat_cmp) n table)
-              ((bytes_eq-Decides k entry.0).0 same) ∙ none_below entry.0 table (t_first _ _ sorted) in
+              ((bytes_eq-Decides k entry.0).0 same) ∙ none_below entry.0 table (test_first _ _ sorted) in
               absurd (cc (gone, is))
           rest k false other is =
               let there : is_some (find (slice_cmp nat_cmp) k (entry ∷ table)) ≡ true =
               ap (λ t. is_some (cond t (Some entry.1) (find (slice_cmp nat_cmp) k table))) (is_eq-slice_cmp k entry.0 ∙ other)
               ∙ is in
-              let unlike : bytes_eq k key ≡ false = ap (bytes_eq k) (same_key key entry.0 e) ∙ other in
+              let unlike : bytes_eq k key ≡ false = ap (bytes_eq k) (texts_tied key entry.0 e) ∙ other in
               sym (ap (λ t. t || is_path_among k keys) unlike) ∙ has k there
       by Greater e with_all with_rest =
           let low = turned key entry.0 e in

@@ -17,6 +17,7 @@ use Rattle.cc_names.specs.declared.rows.Deed.TheVariants as deeds
 use Rattle.cc_names.specs.declared.rows.Out.TheVariants as outs
 use Rattle.cc_names.specs.declared.rows.Kind.TheVariants.{Directory}
 use Rattle.cc_names.specs.declared.rows.Tag.{Tag}
+use Rattle.cc_names.proofs.Common.{number_found, same_inside, same_number, and_first, and_second}
 use Rattle.base_model.specs.Catalogs.{Catalog, Edit, BeginsEmpty, BeginsAs, Adds, Removes, Renames, OfCheckout, catalog_of}
 use Rattle.base_model.specs.Catalogs.{catalog_source, edit_of, edit_where, catalog_after, first_edit, made_or_older}
 use Rattle.base_model.specs.Catalogs.{element_named, own_of}
@@ -28,10 +29,10 @@ use Rattle.base_model.specs.Fits.{deed_fits, is_base, may_reserve}
 use Rattle.base_model.specs.Rows.{Base, size, first_rows, row_at, deed_of}
 use Rattle.base_model.specs.Views.{Checkout, out}
 use Rattle.base_model.proofs.Below.{within}
-use Rattle.base_model.proofs.Owned.{and_first, and_second, row_fits, rows_below, same_is_same}
+use Rattle.base_model.proofs.Owned.{row_fits, rows_below, same_is_same}
 use Rattle.base_model.proofs.Stay.{catalog_stays, first_rows_stay, row_stays}
 use Rattle.base_model.proofs.TreesStay.{tree_of_first_rows}
-use Rattle.base_model.proofs.VersionsStay.{of_element, parts_of}
+use Rattle.base_model.proofs.VersionRows.{version_below}
 use Rattle.base_rows.specs.Changed.{alters, begins, newest_checkout_row, newest_change_row, changes, checked_in_on, is_since}
 use Rattle.base_rows.specs.Lifetimes.{later}
 use Rattle.base_rows.specs.Entries.{begun_effect, changed_effect, entry_effect}
@@ -43,6 +44,7 @@ use Rattle.view_lookup.proofs.EntryRows.{below_newest, edit_at, edit_by, entry_b
 use Rattle.base_rows.proofs.FirstTrees.{change_of_first}
 use Rattle.base_rows.proofs.Growths.{tree_by_change}
 use Rattle.base_rows.proofs.Newest.{first_shorter, last_by_newest}
+use Rattle.base_rows.proofs.Prefixes.{fitting_first}
 
 altered_more : (branch : ℕ) (name : List ℕ) (row : Plain) (older : Base)
     → altered_by branch name (row ∷ older) ≡ elim (alters branch name older row.deed) [
@@ -83,16 +85,6 @@ latest_more change older branch = by (branch_of_change change == branch)
         ≡ elim is [ true ↦ Some (row_of_change change) | false ↦ latest older branch None ]
     by true = refl
     by false = refl
-
-number_is : (n : ℕ) (found : Option ℕ) → is_number n found ≡ true → found ≡ Some n
-number_is n None h = absurd (cc)
-number_is n (Some m) h = ap Some (sym ((Decides-eqb n m).0 h))
-
-some_same : {a b : ℕ} → Some a ≡ Some b → a ≡ b
-some_same h = cc
-
-same_number : (a b : ℕ) → (a == b) ≡ true → a ≡ b
-same_number a b is = (Decides-eqb a b).0 is
 
 -- what a name is in the catalog of a version, and where its version and its branch lie
 pub record IsCatalogEntry (b : Base) (name : List ℕ) (branch v : ℕ) : Type 0 where
@@ -141,7 +133,7 @@ begun_tells v d name b c began since =
     by None two own other is since = absurd (cc)
     by (Some one) None own other is since = is
     by (Some one) (Some two) own other is since =
-        let row : one.0 ≡ c = some_same (sym own ∙ is) in
+        let row : one.0 ≡ c = same_inside (sym own ∙ is) in
         let less : nat_lt one.0 two.0 ≡ false = ap (λ n. nat_lt n two.0) row ∙ ap (is_since (Some c)) (sym other) ∙ since in
         ap (λ test. left_by (cond test (Some two) (Some one))) less ∙ is
 
@@ -159,17 +151,11 @@ catalog_of_first (row ∷ older) t r below = by (nat_lt (size older) t) below (c
     by true below before = refl
     by false below before = before below ∙ sym (catalog_stays row older r (omega (arith, below, shorter t older)))
 
-version_low : (b : Base) (e r : ℕ) → is_version_of b e r ≡ true → r < size b
-version_low b e r version =
-    let found = of_element b e r version in
-    let parts = parts_of (tree b) r found.0 found.1 in
-    (within b).numbers r parts.change parts.made
-
 -- the version from which a checkout is made is a row below it
 origin_of_checkout : (older : Base) (w : List ℕ) (e origin : ℕ) (reserved : Bool)
     → deed_fits older (deeds.Checkout w e origin reserved) ≡ true → origin < size older
 origin_of_checkout older w e origin reserved fit =
-    version_low older e origin
+    version_below older e origin
     (and_second (exists older w && not (has_out older w e)) (is_version_of older e origin)
     (and_first (exists older w && not (has_out older w e) && is_version_of older e origin) (is_latest older origin)
     (and_first (exists older w && not (has_out older w e) && is_version_of older e origin && is_latest older origin)
@@ -470,7 +456,7 @@ module _ (name : List ℕ) (older : Base) (base : is_base older ≡ true) (branc
           sym (ap (option_and_then (branch_of older)) found) ∙ on in
           let may : may_check_in older w (Some checkout) ≡ true = sym (ap (may_check_in older w) found) ∙ fit in
           let newest : latest_beside older checkout.origin ≡ Some checkout.origin =
-          number_is checkout.origin (latest_beside older checkout.origin)
+          number_found checkout.origin (latest_beside older checkout.origin)
           (and_second (is_none (option_and_then (other_reserver older w) (branch_of older checkout)))
           (is_latest older checkout.origin) may) in
           let last_is : latest (tree older) branch None ≡ Some checkout.origin =
@@ -522,7 +508,7 @@ module _ (name : List ℕ) (older : Base) (base : is_base older ≡ true) (branc
           with : (test : Bool) → (other == branch) ≡ test → IsCatalogEntry
               (record { tag = tag; moment = moment; deed = deeds.Checkin w d } ∷ older) name branch v
           with true here =
-              let number : size older ≡ v = some_same (sym (last_is ∙ ap
+              let number : size older ≡ v = same_inside (sym (last_is ∙ ap
               (λ test. elim test [ true ↦ Some (size older) | false ↦ latest (tree older) branch None ]) here) ∙ is) in
               let own : other ≡ branch = same_number other branch here in
               let behind : branch < size older = on_low older (out older w d) branch (e ∙ ap Some own) in
@@ -557,7 +543,7 @@ module _ (name : List ℕ) (older : Base) (base : is_base older ≡ true) (branc
       with : (test : Bool) → (branch_of_change change == branch) ≡ test
           → IsCatalogEntry (record { tag = tag; moment = moment; deed = deed } ∷ older) name branch v
       with true here =
-          let at : row_of_change change ≡ v = some_same (sym (last_is ∙ ap
+          let at : row_of_change change ≡ v = same_inside (sym (last_is ∙ ap
           (λ test. elim test [ true ↦ Some (row_of_change change) | false ↦ latest (tree older) branch None ]) here) ∙ is) in
           made name (record { tag = tag; moment = moment; deed = deed }) older branch before v (sym at
           ∙ number) (sym (same_number (branch_of_change change) branch here) ∙ own)
@@ -584,7 +570,7 @@ kept name [] base branch v is = by (0 == branch) refl (sym (latest_more (Element
     by : (test : Bool) → (0 == branch) ≡ test → elim test [ true ↦ Some 0 | false ↦ latest [] branch None ] ≡ Some v
         → IsCatalogEntry [] name branch v
     by true e h =
-        let number : 0 ≡ v = some_same h in
+        let number : 0 ≡ v = same_inside h in
         let own : 0 ≡ branch = same_number 0 branch e in
         record { version = omega (arith, number); branch_below = omega (arith, number, own); same = refl }
     by false e h = absurd (cc)
@@ -607,7 +593,7 @@ latest_by_newest [] v branch past is = by (0 == v) refl is
     by : (test : Bool) → (0 == v) ≡ test → option_map branch_of_change (cond test (Some (ElementMade 0 0 Directory)) None)
         ≡ Some branch → latest (ElementMade 0 0 Directory ∷ []) branch None ≡ Some v
     by true e h =
-        let own : 0 ≡ branch = some_same h in
+        let own : 0 ≡ branch = same_inside h in
         latest_more (ElementMade 0 0 Directory) [] branch ∙ ap (λ test. elim test [
           | true ↦ Some 0
           | false ↦
@@ -625,25 +611,13 @@ latest_by_newest (row ∷ older) v branch past is = by (tree_change older row.mo
         with : (test : Bool) → (row_of_change change == v) ≡ test → option_map branch_of_change
             (cond test (Some change) (change_at (tree older) v)) ≡ Some branch → latest (tree (row ∷ older)) branch None ≡ Some v
         with true here h =
-            let own : branch_of_change change ≡ branch = some_same h in
+            let own : branch_of_change change ≡ branch = same_inside h in
             ap (λ changes. latest changes branch None) grown
             ∙ latest_more change (tree older) branch
             ∙ ap (λ test. elim test [ true ↦ Some (row_of_change change) | false ↦ latest (tree older) branch None ])
             ((Decides-eqb (branch_of_change change) branch).1 own)
             ∙ ap Some (same_number (row_of_change change) v here)
         with false here h = absurd (no_change_at older v branch (omega (arith, past)) h)
-
-base_of_first : (t : ℕ) (b : Base) → is_base b ≡ true → is_base (first_rows t b) ≡ true
-base_of_first t [] base = base
-base_of_first t (row ∷ older) base = by (nat_lt (size older) t) (base_of_first t older (rows_below row older base))
-  where
-    by : (is : Bool) → is_base (first_rows t older) ≡ true → is_base (elim is as (λ _. Base) [
-      | true ↦ row ∷ older
-      | false ↦
-          first_rows t older
-    ]) ≡ true
-    by true before = base
-    by false before = before
 
 few_first : (b : Base) (t : ℕ) → size (first_rows (suc t) b) ≤ suc t
 few_first [] t = omega arith
@@ -664,7 +638,7 @@ version_by_altering_row b base name v branch is =
     let there : branch_of_version (tree first) v ≡ Some branch =
     ap (λ changes. branch_of_version changes v) (sym (tree_of_first_rows b (suc v) (omega arith)))
     ∙ ap (option_map branch_of_change) (change_of_first (suc v) v (tree b) (omega arith)) ∙ is in
-    let keeps = kept name first (base_of_first (suc v) b base) branch v (latest_by_newest first v branch (few_first b v) there) in
+    let keeps = kept name first (fitting_first (suc v) b base) branch v (latest_by_newest first v branch (few_first b v) there) in
     let n = greater_of branch (altered_by branch name first) in
     let below : n < size first = low branch v (size first) (altered_by branch name first) keeps.branch_below keeps.version
     (altering_row_below branch name first) in

@@ -9,21 +9,13 @@ use Rattle.std.specs.declared.cmp.Ordering.TheVariants.{Equal}
 use Rattle.std.proofs.lemmas.Cmp.{nat_list_cmp_total}
 use Rattle.std.proofs.lemmas.Map.Text.{is_eq-slice_cmp}
 use Rattle.std.proofs.lemmas.Slice.Eq.{bytes_eq-Decides}
+use Rattle.cc_names.proofs.Common.{bytes_swapped}
 use Rattle.base_model.specs.Catalogs.{Catalog, Edit, Same, BeginsEmpty, BeginsAs, Adds, Removes, Renames, element_named}
 use Rattle.base_model.specs.Catalogs.{with_name, without_name, with_new_name, catalog_after}
 use Rattle.base_rows.specs.Changed.{begins, changes}
 
 flipped_true : (a b : List ℕ) → bytes_eq a b ≡ true → bytes_eq b a ≡ true
 flipped_true a b is = subst (λ c. bytes_eq b c ≡ true) (sym ((bytes_eq-Decides a b).0 is)) ((bytes_eq-Decides b b).1 refl)
-
--- whether two texts are one, the other way round
-pub flipped : (a b : List ℕ) (is : Bool) → bytes_eq a b ≡ is → bytes_eq b a ≡ is
-flipped a b true same = flipped_true a b same
-flipped a b false same = by (bytes_eq b a) refl
-  where
-    by : (is : Bool) → bytes_eq b a ≡ is → bytes_eq b a ≡ false
-    by true back = absurd (cc (same, flipped_true b a back))
-    by false back = back
 
 -- a name in a catalog with one more name
 pub found_with : (name other : List ℕ) (e : ℕ) (catalog : Catalog) → element_named name (with_name other e catalog)
@@ -54,15 +46,16 @@ left_alone name Same of_version own none kept = refl
 left_alone name BeginsEmpty of_version own none kept = absurd (cc)
 left_alone name (BeginsAs origin) of_version own none kept = absurd (cc)
 left_alone name (Adds other e) of_version own none kept =
-    found_with name other e own ∙ ap (λ is. cond is (Some e) (element_named name own)) (flipped other name false kept)
+    found_with name other e own ∙ ap (λ is. cond is (Some e) (element_named name own)) (bytes_swapped other name false kept)
 left_alone name (Removes other) of_version own none kept =
-    found_without name other own ∙ ap (λ is. cond (not is) (element_named name own) None) (flipped other name false kept)
+    found_without name other own ∙ ap (λ is. cond (not is) (element_named name own) None) (bytes_swapped other name false kept)
 left_alone name (Renames from_name to_name) of_version own none kept =
     let apart : (bytes_eq from_name name ≡ false) × (bytes_eq to_name name ≡ false) =
     both (bytes_eq from_name name) (bytes_eq to_name name) kept in
-    found_with_new name to_name (element_named from_name own) (without_name from_name own) (flipped to_name name false apart.1)
+    found_with_new name to_name (element_named from_name own) (without_name from_name own)
+    (bytes_swapped to_name name false apart.1)
     ∙ found_without name from_name own
-    ∙ ap (λ is. cond (not is) (element_named name own) None) (flipped from_name name false apart.0)
+    ∙ ap (λ is. cond (not is) (element_named name own) None) (bytes_swapped from_name name false apart.0)
   where
     both : (one two : Bool) → (one || two) ≡ false → (one ≡ false) × (two ≡ false)
     both true two h = absurd (cc)
@@ -72,13 +65,13 @@ left_alone name (Renames from_name to_name) of_version own none kept =
 pub added : (name other : List ℕ) (e : ℕ) (own : Catalog) → bytes_eq other name ≡ true
     → element_named name (with_name other e own) ≡ Some e
 added name other e own is = found_with name other e own ∙ ap (λ same. cond same (Some e) (element_named name own))
-    (flipped other name true is)
+    (bytes_swapped other name true is)
 
 -- a name that was removed
 pub removed : (name other : List ℕ) (own : Catalog) → bytes_eq other name ≡ true
     → element_named name (without_name other own) ≡ None
 removed name other own is = found_without name other own ∙ ap (λ same. cond (not same) (element_named name own) None)
-    (flipped other name true is)
+    (bytes_swapped other name true is)
 
 -- a name that something else had before
 pub moved_here : (name from_name to_name : List ℕ) (own : Catalog) → bytes_eq to_name name ≡ true
@@ -97,5 +90,6 @@ pub moved_away : (name from_name to_name : List ℕ) (own : Catalog) → bytes_e
     → bytes_eq from_name name ≡ true
     → element_named name (with_new_name to_name (element_named from_name own) (without_name from_name own)) ≡ None
 moved_away name from_name to_name own apart is =
-    found_with_new name to_name (element_named from_name own) (without_name from_name own) (flipped to_name name false apart)
+    found_with_new name to_name (element_named from_name own) (without_name from_name own)
+    (bytes_swapped to_name name false apart)
     ∙ removed name from_name own is

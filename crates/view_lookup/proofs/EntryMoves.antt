@@ -1,26 +1,25 @@
 -- A row that gives an element another name fits the rows below it: the element has its first name there.
 use Rattle.std.proofs.Common.{◌≡◌, ℕ, suc, ◌<◌, ◌≤◌, ◌==◌, Bool, true, false, not, ◌&&◌, Some, List, [], ◌∷◌, length, bytes_eq}
-use Rattle.std.proofs.Common.{nat_lt, refl, ap, ap₂, sym, subst, ◌∙◌, arith}
+use Rattle.std.proofs.Common.{refl, ap, ap₂, sym, subst, ◌∙◌, arith}
 use Rattle.std.specs.Prelude.{is_some}
 use Rattle.std.proofs.lemmas.Bool.Decides.{Decides-eqb}
 use Rattle.std.proofs.lemmas.Slice.Eq.{bytes_eq-Decides}
 use Rattle.cc_names.specs.declared.rows.Deed.{Deed}
 use Rattle.cc_names.specs.declared.rows.Deed.TheVariants as deeds
+use Rattle.cc_names.proofs.Common.{and_first, and_second}
+use Rattle.base_rows.proofs.Newest.{first_shorter}
 use Rattle.base_model.specs.Catalogs.{BeginsEmpty, BeginsAs, Adds, Removes, Renames, edit_where, first_edit, is_out}
 use Rattle.base_model.specs.Catalogs.{element_named, edit_of, own_of}
 use Rattle.base_model.specs.Conditions.{has_out, has_name}
 use Rattle.base_model.specs.Fits.{deed_fits, is_base}
 use Rattle.base_model.specs.Rows.{Base, size, first_rows, row_at, deed_of, deed_at}
 use Rattle.base_model.proofs.Deeds.{deed_below}
-use Rattle.base_model.proofs.Owned.{and_first, and_second, row_fits, rows_below}
+use Rattle.base_model.proofs.Owned.{row_fits, rows_below}
 use Rattle.base_model.proofs.Stay.{first_rows_stay}
-use Rattle.view_lookup.proofs.EntryRows.{below_newest}
+use Rattle.view_lookup.proofs.EntryRows.{below_newest, below_or_same}
 
 some_deed : {a b : Deed} → Some a ≡ Some b → a ≡ b
 some_deed h = cc
-
-within : (n m : ℕ) → n < m → n ≤ m
-within n m h = omega arith
 
 -- each row of a base fits the rows below it
 pub fits_below : (b : Base) (n : ℕ) (deed : Deed) → is_base b ≡ true → deed_at b n ≡ Some deed
@@ -37,23 +36,14 @@ fits_below (row ∷ older) n deed base h = by (size older == n) refl h (fits_bel
         (subst (λ made. deed_fits older made ≡ true) (some_deed found) (row_fits row older base))
     by false is found before =
         subst (λ (b : Base). deed_fits b deed ≡ true) (sym (first_rows_stay row older n
-        (within n (size older) (deed_below older n deed found)))) (before found)
-
-no_more : (t : ℕ) (b : Base) → length (first_rows t b) ≤ length b
-no_more t [] = omega arith
-no_more t (row ∷ older) = by (nat_lt (size older) t) (no_more t older)
-  where
-    by : (is : Bool) → length (first_rows t older) ≤ length older → length
-        (elim is as (λ _. Base) [ true ↦ row ∷ older | false ↦ first_rows t older ]) ≤ suc (length older)
-    by true less = omega arith
-    by false less = omega arith
+        (below_or_same n (size older) (deed_below older n deed found)))) (before found)
 
 -- there are fewer rows below a row
 pub fewer_below : (b : Base) (n : ℕ) (deed : Deed) → deed_at b n ≡ Some deed → length (first_rows n b) < length b
 fewer_below [] n deed h = absurd (cc)
 fewer_below (row ∷ older) n deed h =
     let below : n < suc (size older) = deed_below (row ∷ older) n deed h in
-    let less : length (first_rows n older) ≤ length older = no_more n older in
+    let less : length (first_rows n older) ≤ length older = first_shorter n older in
     let same : first_rows n (row ∷ older) ≡ first_rows n older = first_rows_stay row older n (omega arith) in
     subst (λ (b : Base). length b < suc (length older)) (sym same) (omega arith)
 

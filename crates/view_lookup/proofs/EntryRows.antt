@@ -2,24 +2,28 @@
 -- checkout.
 use Rattle.std.proofs.Common.{◌≡◌, ℕ, suc, ◌<◌, ◌≤◌, ◌==◌, Bool, true, false, ◌||◌, Option, Some, None, IfSome, List, [], ◌∷◌}
 use Rattle.std.proofs.Common.{refl, ap, sym, subst, ◌∙◌, arith}
-use Rattle.std.proofs.lemmas.Bool.Decides.{nat_tests, Decides-eqb}
+use Rattle.std.proofs.lemmas.Bool.Decides.{Decides-eqb}
+use Rattle.std.proofs.lemmas.Bool.{or_parts}
 use Rattle.cc_names.specs.Formed.{Plain}
 use Rattle.cc_names.specs.Last.{Sets, only_if, value_after}
 use Rattle.cc_names.specs.declared.rows.Deed.{Deed}
 use Rattle.cc_names.specs.declared.rows.Deed.TheVariants as deeds
 use Rattle.cc_names.specs.declared.rows.Out.{Out}
+use Rattle.cc_names.proofs.Common.{same_inside}
 use Rattle.base_model.specs.Catalogs.{Catalog, CatalogSource, Empty, OfVersion, OfCheckout, Edit, Same, catalog_source}
 use Rattle.base_model.specs.Catalogs.{made_or_older, element_named, catalog_after, edit_of, catalog_of, own_of}
 use Rattle.base_model.specs.Rows.{Base, size, first_rows, row_at, deed_of, deed_at}
 use Rattle.base_model.proofs.Deeds.{deed_below}
 use Rattle.base_model.proofs.Stay.{all_rows, first_rows_stay}
+use Rattle.base_model.proofs.VersionRows.{newest_deed, deed_stays}
 use Rattle.base_rows.specs.Changed.{begins, changes}
 use Rattle.base_rows.specs.Entries.{entry_effect}
 use Rattle.base_rows.specs.Lifetimes.{or_else}
 use Rattle.base_rows.specs.LookUps.{last_of}
+use Rattle.base_rows.proofs.SpecRows.{weaker}
 use Rattle.view_lookup.proofs.EntryEdits.{left_alone}
 
--- the edit of a row, where there is one
+-- the edit of a row, where deed_stays is one
 abbrev pub edit_by : List ℕ → ℕ → ℕ → Option Deed → Edit
 edit_by v d n None = Same
 edit_by v d n (Some deed) = edit_of v d n deed
@@ -32,19 +36,10 @@ abbrev pub entry_at : Base → List ℕ → ℕ → List ℕ → ℕ → Option 
 entry_at b v d name n = element_named name (catalog_after (edit_at b v d n) (catalog_of (first_rows n b))
     (own_of (first_rows n b) v d))
 
--- the same, where there is a row
+-- the same, where deed_stays is a row
 abbrev pub entry_by : Base → List ℕ → ℕ → List ℕ → Option ℕ → Option ℕ
 entry_by b v d name None = None
 entry_by b v d name (Some n) = entry_at b v d name n
-
-here : (row : Plain) (older : Base) → deed_at (row ∷ older) (size older) ≡ Some row.deed
-here row older = ap (λ is. deed_of (elim is [ true ↦ Some row | false ↦ row_at older (size older) ]))
-    ((Decides-eqb (size older) (size older)).1 refl)
-
-there : (row : Plain) (older : Base) (n : ℕ) → n < size older → deed_at (row ∷ older) n ≡ deed_at older n
-there row older n below =
-    let apart : (size older == n) ≡ false = grind (arith, nat_tests) in
-    ap (λ is. deed_of (elim is [ true ↦ Some row | false ↦ row_at older n ])) apart
 
 -- the rows below the newest one
 pub below_newest : (row : Plain) (older : Base) → first_rows (size older) (row ∷ older) ≡ older
@@ -56,7 +51,7 @@ entry_here : (v : List ℕ) (d : ℕ) (name : List ℕ) (row : Plain) (older : B
 entry_here v d name row older =
     ap (λ deed. element_named name (catalog_after (edit_by v d (size older) deed)
     (catalog_of (first_rows (size older) (row ∷ older))) (own_of (first_rows (size older) (row ∷ older)) v d)))
-    (here row older)
+    (newest_deed row older)
     ∙ ap (λ (b : Base). element_named name (catalog_after (edit_of v d (size older) row.deed) (catalog_of b) (own_of b v d)))
     (below_newest row older)
 
@@ -65,14 +60,11 @@ entry_there : (v : List ℕ) (d : ℕ) (name : List ℕ) (row : Plain) (older : 
 entry_there v d name row older None below = refl
 entry_there v d name row older (Some n) below =
     ap (λ deed. element_named name (catalog_after (edit_by v d n deed) (catalog_of (first_rows n older))
-    (own_of (first_rows n older) v d))) (sym (there row older n below))
+    (own_of (first_rows n older) v d))) (sym (deed_stays row older n below))
     ∙ ap (λ (b : Base). element_named name (catalog_after (edit_at (row ∷ older) v d n) (catalog_of b) (own_of b v d)))
     (sym (first_rows_stay row older n (omega arith)))
 
-some_same : {a b : ℕ} → Some a ≡ Some b → a ≡ b
-some_same h = cc
-
-below_or_same : (n m : ℕ) → n < m → n ≤ m
+pub below_or_same : (n m : ℕ) → n < m → n ≤ m
 below_or_same n m h = omega arith
 
 -- whether an edit affects a name
@@ -85,14 +77,6 @@ set_by_either : (one two : Bool) (n : ℕ) (before : Option ℕ) → value_after
 set_by_either true two n before = refl
 set_by_either false true n before = refl
 set_by_either false false n before = refl
-
-neither : (one two : Bool) → (one || two) ≡ false → (one ≡ false) × (two ≡ false)
-neither true two h = absurd (cc)
-neither false two h = (refl, h)
-
-weaker : (row : Option ℕ) (n : ℕ) → IfSome row (λ m. m < n) → IfSome row (λ m. m < suc n)
-weaker None n h = tt
-weaker (Some m) n h = omega arith
 
 -- the row that affects a name lies in the base
 pub entry_below : (v : List ℕ) (d : ℕ) (name : List ℕ) (b : Base) → IfSome (last_of (entry_effect v d name) b) (λ n. n < size b)
@@ -126,7 +110,7 @@ entry_by_row v d name (row ∷ older) =
         (elim is [ true ↦ Some (size older) | false ↦ last_of (entry_effect v d name) older ])
     by true is before = sym (entry_here v d name row older)
     by false is before =
-        let alone = neither (begins (edit_of v d (size older) row.deed)) (changes name (edit_of v d (size older) row.deed)) is in
+        let alone = or_parts (begins (edit_of v d (size older) row.deed)) (changes name (edit_of v d (size older) row.deed)) is in
         left_alone name (edit_of v d (size older) row.deed) (catalog_of older) (own_of older v d) alone.0 alone.1
         ∙ before
         ∙ entry_there v d name row older (last_of (entry_effect v d name) older) (entry_below v d name older)
@@ -147,12 +131,12 @@ row_affects v d name (row ∷ older) n h =
         → (last_of (entry_effect v d name) older ≡ Some n → affects_name name (edit_at older v d n) ≡ true)
         → affects_name name (edit_at (row ∷ older) v d n) ≡ true
     by true is found before =
-        let same : size older ≡ n = some_same found in
+        let same : size older ≡ n = same_inside found in
         subst (λ m. affects_name name (edit_at (row ∷ older) v d m) ≡ true) same
-        (ap (λ deed. affects_name name (edit_by v d (size older) deed)) (here row older) ∙ is)
+        (ap (λ deed. affects_name name (edit_by v d (size older) deed)) (newest_deed row older) ∙ is)
     by false is found before =
         let below : n < size older = subst (λ o. IfSome o (λ m. m < size older)) found (entry_below v d name older) in
-        ap (λ deed. affects_name name (edit_by v d n deed)) (there row older n below) ∙ before found
+        ap (λ deed. affects_name name (edit_by v d n deed)) (deed_stays row older n below) ∙ before found
 
 abbrev pub from_source : Base → CatalogSource → Catalog
 from_source older Empty = []
@@ -188,7 +172,7 @@ catalog_by_row (row ∷ older) r = by (size older == r) refl (catalog_by_row old
         ∙ ap (λ n. first_rows n (row ∷ older)) ((Decides-eqb (size older) r).0 is))
     by false is before = before ∙ stays (deed_at older r) refl
 
--- a deed that neither makes a branch nor checks in makes an empty catalog
+-- a deed that or_parts makes a branch nor checks in makes an empty catalog
 pub no_source : (deed : Deed) → ((v : List ℕ) (e origin : ℕ) (name : List ℕ) (out : Out) → deed ≡ deeds.Branch v e origin name out
     → ⊥) → ((v : List ℕ) (e : ℕ) → deed ≡ deeds.Checkin v e → ⊥)
     → catalog_source deed ≡ Empty

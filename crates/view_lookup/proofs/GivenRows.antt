@@ -8,6 +8,7 @@ use Rattle.cc_names.specs.Formed.{Plain}
 use Rattle.cc_names.specs.Last.{Sets, only_if}
 use Rattle.cc_names.specs.Versions.{put_if}
 use Rattle.base_model.specs.Rows.{Base, size, deed_at, deed_of, row_at}
+use Rattle.base_model.proofs.VersionRows.{newest_deed}
 use Rattle.base_rows.specs.Giving.{gives_in, naming_effect}
 use Rattle.base_rows.specs.LookUps.{update_by_row}
 use Rattle.view_lookup.specs.GivenNames.{is_name, name_at, name_given, was_named}
@@ -23,12 +24,6 @@ pub updates_where : (test : Bool) (n m : ℕ) → is_some (update_by_row n (only
 updates_where true n m = refl
 updates_where false n m = refl
 
-pub deed_here : (row : Plain) (older : Base) → deed_at (row ∷ older) (size older) ≡ Some row.deed
-deed_here row older = ap (λ is. deed_of (elim is [ true ↦ Some row | false ↦ row_at older (size older) ])) (same (size older))
-  where
-    same : (n : ℕ) → (n == n) ≡ true
-    same n = grind (arith, nat_tests)
-
 pub deed_there : (row : Plain) (older : Base) (n : ℕ) → n ≤ length older → deed_at (row ∷ older) n ≡ deed_at older n
 deed_there row older n low =
     let apart : (size older == n) ≡ false = grind (arith, nat_tests, low) in
@@ -42,7 +37,7 @@ pub deeds_below : (b : Base) (row : Plain) (older : Base) → AreDeeds b (row �
 deeds_below b row older agree = λ n low. agree n (omega (arith, low)) ∙ deed_there row older n low
 
 pub deed_newest : (b : Base) (row : Plain) (older : Base) → AreDeeds b (row ∷ older) → deed_at b (size older) ≡ Some row.deed
-deed_newest b row older agree = agree (size older) (omega arith) ∙ deed_here row older
+deed_newest b row older agree = agree (size older) (omega arith) ∙ newest_deed row older
 
 pub names_found : (b : Base) (d : ℕ) (name : List ℕ) (rows : Base) → AreDeeds b rows
     → list_any (λ n. is_name name (name_at b n)) (updating_rows (naming_effect d) rows) ≡ was_named d name rows

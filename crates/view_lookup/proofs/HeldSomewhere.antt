@@ -3,12 +3,12 @@ use Rattle.std.proofs.Common.{◌≡◌, ℕ, ◌<◌, Bool, true, false, ◌&&�
 use Rattle.std.proofs.Common.{refl, ap, sym, ◌∙◌, arith, bytes_eq}
 use Rattle.std.specs.Prelude.{T, is_some}
 use Rattle.std.specs.Cmp.{tied_itself}
-use Rattle.std.specs.declared.cmp.Ordering.{Ordering}
-use Rattle.std.specs.declared.cmp.Ordering.TheVariants.{Less, Equal, Greater}
+use Rattle.std.specs.declared.cmp.Ordering.TheVariants.{Less, Greater}
 use Rattle.std.specs.Ordering.{is_eq, is_lt, ordering_reverse}
 use Rattle.std.specs.FinMap.Entries.{find, is_sorted, below_all}
 use Rattle.std.proofs.lemmas.Bool.Decides.{nat_tests}
 use Rattle.std.proofs.lemmas.Slice.Eq.{bytes_eq-Decides}
+use Rattle.std.proofs.lemmas.Bool.{and_parts, or_left, or_right}
 use Rattle.cc_names.specs.Formed.{Plain}
 use Rattle.cc_names.specs.Last.{Keeps, Ends, Sets, only_if, value_after}
 use Rattle.cc_names.specs.References.{ReferencesByPath, ViewPath, view_path_cmp, held_at, is_held}
@@ -16,6 +16,7 @@ use Rattle.cc_names.specs.Versions.{is_number}
 use Rattle.cc_names.specs.declared.rows.Deed.{Deed}
 use Rattle.cc_names.specs.declared.rows.Deed.TheVariants as deeds
 use Rattle.cc_names.specs.declared.rows.ReadOf.{ReadOf}
+use Rattle.cc_names.proofs.Common.{test_first, test_second, less_by_test, test_from}
 use Rattle.base_model.specs.Changes.{objects_held, targets_of}
 use Rattle.base_model.specs.Rows.{Base, size, deed_at, deed_of, row_at}
 use Rattle.base_model.proofs.HeldObjects.{held_in_order, is_held_there, view_paths_total}
@@ -25,35 +26,6 @@ use Rattle.base_rows.specs.LookUps.{last_of}
 use Rattle.base_rows.specs.Made.{is_target}
 use Rattle.base_rows.proofs.Holdings.{held_by_last, held_effect}
 use Rattle.base_rows.proofs.Newest.{no_later}
-
-first : (a b : Bool) → T (a && b) → T a
-first true b h = tt
-first false b h = h
-
-second : (a b : Bool) → T (a && b) → T b
-second true b h = h
-second false b h = absurd h
-
-less : (o : Ordering) → T (is_lt o) → o ≡ Less
-less Less h = refl
-less Equal h = absurd h
-less Greater h = absurd h
-
-as_true : (t : Bool) → t ≡ true → T t
-as_true true h = tt
-as_true false h = absurd (cc)
-
-and_both : (a b : Bool) → (a && b) ≡ true → (a ≡ true) × (b ≡ true)
-and_both true b h = (refl, h)
-and_both false b h = absurd (cc)
-
-or_first : (a b : Bool) → a ≡ true → (a || b) ≡ true
-or_first true b h = refl
-or_first false b h = absurd (cc)
-
-or_second : (a b : Bool) → b ≡ true → (a || b) ≡ true
-or_second true b h = refl
-or_second false b h = h
 
 -- a view path at which an object is found, behind all that come before those of the table
 record Found (objects_held : ReferencesByPath) (id : ℕ) : Type 0 where
@@ -66,7 +38,7 @@ found_in : (objects_held : ReferencesByPath) (id : ℕ) → T (is_sorted view_pa
     → Found objects_held id
 found_in [] id sorted h = absurd (cc)
 found_in (entry ∷ objects_held) id sorted h = by (entry.1 == id) refl (found_in objects_held id
-    (second (below_all view_path_cmp entry.0 objects_held) (is_sorted view_path_cmp objects_held) sorted)) h
+    (test_second (below_all view_path_cmp entry.0 objects_held) (is_sorted view_path_cmp objects_held) sorted)) h
   where
     by : (t : Bool) → (entry.1 == id) ≡ t → (is_held objects_held id ≡ true → Found objects_held id)
         → (t || is_held objects_held id) ≡ true → Found (entry ∷ objects_held) id
@@ -76,19 +48,20 @@ found_in (entry ∷ objects_held) id sorted h = by (entry.1 == id) refl (found_i
           at = entry.0;
           is = ap (λ o. cond (is_eq o) (Some entry.1) (find view_path_cmp entry.0 objects_held))
               (tied_itself view_paths_total entry.0) ∙ ap Some number;
-          behind = λ q below. less (view_path_cmp q entry.0) (first (is_lt (view_path_cmp q entry.0))
+          behind = λ q below. less_by_test (view_path_cmp q entry.0) (test_first (is_lt (view_path_cmp q entry.0))
               (below_all view_path_cmp q objects_held) below);
         }
     by false other older is =
         let there = older is in
         let later : view_path_cmp there.at entry.0 ≡ Greater =
         view_paths_total.antisymm there.at entry.0 ∙ ap ordering_reverse
-        (there.behind entry.0 (first (below_all view_path_cmp entry.0 objects_held) (is_sorted view_path_cmp objects_held)
+        (there.behind entry.0 (test_first (below_all view_path_cmp entry.0 objects_held) (is_sorted view_path_cmp objects_held)
         sorted)) in
         record {
           at = there.at;
           is = ap (λ o. cond (is_eq o) (Some entry.1) (find view_path_cmp there.at objects_held)) later ∙ there.is;
-          behind = λ q below. there.behind q (second (is_lt (view_path_cmp q entry.0)) (below_all view_path_cmp q objects_held)
+          behind = λ q below. there.behind q (test_second (is_lt (view_path_cmp q entry.0))
+              (below_all view_path_cmp q objects_held)
               below);
         }
 
@@ -109,10 +82,10 @@ module _ (b : Base) (id : ℕ) where
       by true here rest one =
           let view : w ≡ v = (bytes_eq-Decides w v).0 same in
           let at : target ≡ path = (bytes_eq-Decides target path).0 here in
-          or_first (is_number id (held_at (objects_held b) w target)) (holds_one b w id targets)
+          or_left (is_number id (held_at (objects_held b) w target)) (holds_one b w id targets)
           (ap (λ x. is_number id (held_at (objects_held b) x target)) view
           ∙ ap (λ x. is_number id (held_at (objects_held b) v x)) at ∙ ap (is_number id) is ∙ number_is id refl)
-      by false other rest one = or_second (is_number id (held_at (objects_held b) w target)) (holds_one b w id targets) (rest one)
+      by false other rest one = or_right (is_number id (held_at (objects_held b) w target)) (holds_one b w id targets) (rest one)
 
   -- an object that a view holds at one of some paths is held
   pub number_of : (found : Option ℕ) → is_number id found ≡ true → found ≡ Some id
@@ -147,7 +120,7 @@ module _ (b : Base) (id : ℕ) where
           → (is_some (last_of (winked_effect b id) older) ≡ true → is_held (objects_held b) id ≡ true)
           → is_held (objects_held b) id ≡ true
       here_or v other true here is rest = one_held v (targets_of older other)
-          (and_both (other == id) (holds_one b v id (targets_of older other)) here).1
+          (and_parts (other == id) (holds_one b v id (targets_of older other)) here).1
       here_or v other false not is rest = rest is
 
       by : (deed : Deed) → is_some (value_after (winked_effect b id older deed) (last_of (winked_effect b id) older)) ≡ true
@@ -228,8 +201,8 @@ module _ (b : Base) (id : ℕ) where
           → (before ≡ Some id → IsTraced older) → IsTraced older
       published w targets script entries outputs true at test is rest =
           let number : size older ≡ id = cc in
-          let parts = and_both (bytes_eq w v) (is_target path targets) test in
-          or_first maker (is_some winked) (ap (held_by_maker b id) (ap (deed_at b) (sym number) ∙ at)
+          let parts = and_parts (bytes_eq w v) (is_target path targets) test in
+          or_left maker (is_some winked) (ap (held_by_maker b id) (ap (deed_at b) (sym number) ∙ at)
           ∙ holds_target v path w targets there parts.0 parts.1)
       published w targets script entries outputs false at test is rest = rest is
 
@@ -240,9 +213,9 @@ module _ (b : Base) (id : ℕ) where
       winks w other true test is rest =
           let number : other ≡ id = cc in
           let one : (other == id) ≡ true = grind (arith, nat_tests) in
-          let parts = and_both (bytes_eq w v) (is_target path (targets_of older other)) test in
+          let parts = and_parts (bytes_eq w v) (is_target path (targets_of older other)) test in
           let holds = holds_target v path w (targets_of older other) there parts.0 parts.1 in
-          or_second maker (is_some (value_after (only_if ((other == id) && holds_one b w id (targets_of older other))
+          or_right maker (is_some (value_after (only_if ((other == id) && holds_one b w id (targets_of older other))
           (Sets other)) winked))
           (ap (λ here. is_some (value_after (only_if (here && holds_one b w id (targets_of older other)) (Sets other)) winked))
           one
@@ -262,7 +235,7 @@ module _ (b : Base) (id : ℕ) where
 
   one_way : is_held (objects_held b) id ≡ true → IsTraced b
   one_way is =
-      let found = found_in (objects_held b) id (as_true (is_sorted view_path_cmp (objects_held b)) (held_in_order b)) is in
+      let found = found_in (objects_held b) id (test_from (is_sorted view_path_cmp (objects_held b)) (held_in_order b)) is in
       traced found.at.0 found.at.1 found.is b (record { same = λ n deed here. here }) (sym (held_by_last b found.at.0 found.at.1)
       ∙ found.is)
 

@@ -2,12 +2,12 @@
 use Rattle.std.proofs.Common.{◌≡◌, refl, ap, sym, subst, ◌∙◌, ℕ, suc, ◌<◌, ◌≤◌, Bool, true, false, cond, ◌&&◌, ◌==◌, max, Option}
 use Rattle.std.proofs.Common.{Some, None, List, [], ◌∷◌, ◌++◌, length, drop, get_or, ◌+◌, arith}
 use Rattle.std.proofs.lemmas.Bool.Decides.{nat_tests}
-use Rattle.std.proofs.lemmas.Cmp.{nat_list_cmp_total, then_total, on_total, nat_cmp_total, ranked}
+use Rattle.std.proofs.lemmas.Cmp.{nat_list_cmp_total, ranked}
 use Rattle.std.proofs.lemmas.List.Elements.{recursion_from_All}
 use Rattle.std.proofs.lemmas.List.{at_drop_more}
 use Rattle.std.specs.BTreeSet.{insert_key}
 use Rattle.std.specs.Bool.{⊤}
-use Rattle.std.specs.Cmp.{IsTotalOrder, unsigned_tied}
+use Rattle.std.specs.Cmp.{unsigned_tied}
 use Rattle.std.specs.Cmp.Lexicographic.{slice_cmp}
 use Rattle.std.specs.FinMap.Entries.{below_all, by_order, is_sorted, is_sorted-put, put}
 use Rattle.std.specs.List.{All, AllByRecursion, list_all}
@@ -18,16 +18,16 @@ use Rattle.std.specs.declared.cmp.Ordering.{Ordering}
 use Rattle.std.specs.declared.cmp.Ordering.TheVariants.{Less, Equal, Greater}
 use Rattle.cc_names.specs.Formed.{Plain}
 use Rattle.cc_names.specs.declared.rows.ReadOf.{ReadOf}
+use Rattle.cc_names.proofs.Common.{and_first, and_second, test_first, test_second, same_number}
 use Rattle.base_model.specs.Closures.{Input, Inputs, closure, entries_of_deed, is_publish, joined_inputs, input_cmp, inputs_of}
 use Rattle.base_model.specs.Closures.{inputs_of_entry}
 use Rattle.base_model.specs.Conditions.{is_entry}
 use Rattle.base_model.specs.Fits.{is_base}
 use Rattle.base_model.specs.Rows.{Base, only_where, size}
 use Rattle.base_model.specs.Objects.{record_of}
-use Rattle.base_model.proofs.Owned.{and_first, and_second, row_fits, rows_below}
-use Rattle.base_model.proofs.Covered.{Keyed, closure_keyed, entries_keyed, entry_keyed, one_input, put_keyed}
+use Rattle.base_model.proofs.Owned.{row_fits, rows_below}
+use Rattle.base_model.proofs.Covered.{Keyed, closure_keyed, entries_keyed, entry_keyed, one_input, put_keyed, inputs_total}
 use Rattle.base_model.proofs.EntriesBelow.{entry_below, entries_fit}
-use Rattle.base_model.proofs.Tables.{same_number}
 use Rattle.view_lookup.specs.FirstInputs.{PathTest, first_among, first_input}
 use Rattle.view_lookup.specs.LeastInputs.{above, above_entries, least_in, least_of, least_of_all, least_of_entries}
 use Rattle.view_lookup.specs.LeastInputs.{least_of_entry, lesser, lower, path_if_passed}
@@ -209,10 +209,6 @@ least_not_below passes path (input ∷ inputs) h = by (passes input.0.0 input.1)
     by true None g = h.0
     by true (Some q) g = lower_not_below path input.0.0 q h.0 g
 
-inputs_total : IsTotalOrder input_cmp
-inputs_total = then_total (on_total (λ (input : Input). input.0) nat_list_cmp_total)
-    (on_total (λ (input : Input). input.1) nat_cmp_total)
-
 -- the path of an input behind another is not below that one's
 path_not_below : (one two : Input) → T (is_lt (input_cmp one two)) → is_lt (slice_cmp nat_cmp two.0 one.0) ≡ false
 path_not_below one two low = by (slice_cmp nat_cmp one.0 two.0) refl low
@@ -226,26 +222,18 @@ path_not_below one two low = by (slice_cmp nat_cmp one.0 two.0) refl low
     by Equal e low = ap is_lt (turned Equal e)
     by Greater e low = absurd low
 
-t_first : (a b : Bool) → T (a && b) → T a
-t_first true b h = tt
-t_first false b h = h
-
-t_second : (a b : Bool) → T (a && b) → T b
-t_second true b h = h
-t_second false b h = absurd h
-
 not_below_all : (s : Input) (inputs : Inputs) → T (below_all input_cmp s inputs) → NotBelow s.0 inputs
 not_below_all s [] h = tt
-not_below_all s (input ∷ inputs) h = (path_not_below s input.0 (t_first _ _ h), not_below_all s inputs (t_second _ _ h))
+not_below_all s (input ∷ inputs) h = (path_not_below s input.0 (test_first _ _ h), not_below_all s inputs (test_second _ _ h))
 
 -- in order, the first path of which the test holds is the least
 first_is_least : (passes : PathTest) (inputs : Inputs) → T (is_sorted input_cmp inputs)
     → first_among passes inputs ≡ least_in passes inputs
 first_is_least passes [] sorted = refl
 first_is_least passes (input ∷ inputs) sorted =
-    ap (option_or (path_if_passed passes input.0.0 input.1)) (first_is_least passes inputs (t_second _ _ sorted))
+    ap (option_or (path_if_passed passes input.0.0 input.1)) (first_is_least passes inputs (test_second _ _ sorted))
     ∙ by (passes input.0.0 input.1) (least_in passes inputs) (least_not_below passes input.0.0 inputs
-    (not_below_all input.0 inputs (t_first _ _ sorted)))
+    (not_below_all input.0 inputs (test_first _ _ sorted)))
   where
     by : (t : Bool) (rest : Option (List ℕ)) → IfSome rest (λ q. is_lt (slice_cmp nat_cmp q input.0.0) ≡ false)
         → option_or (only_where t (Some input.0.0)) rest ≡ lesser (only_where t (Some input.0.0)) rest

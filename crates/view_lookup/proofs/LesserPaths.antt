@@ -1,16 +1,12 @@
 -- The lesser of paths, in any order and each once.
 use Rattle.std.proofs.Common.{◌≡◌, refl, ap, sym, ◌∙◌, ℕ, Bool, true, false, cond, Option, Some, None, List}
 use Rattle.std.proofs.lemmas.Cmp.{nat_list_cmp_total}
-use Rattle.std.proofs.lemmas.Map.Text.{is_eq-slice_cmp}
-use Rattle.std.proofs.lemmas.Slice.Eq.{bytes_eq-Decides}
 use Rattle.std.specs.Cmp.Lexicographic.{slice_cmp}
-use Rattle.std.specs.Ordering.{is_eq, is_lt, nat_cmp, ordering_reverse}
+use Rattle.std.specs.Ordering.{is_lt, nat_cmp, ordering_reverse}
 use Rattle.std.specs.declared.cmp.Ordering.{Ordering}
 use Rattle.std.specs.declared.cmp.Ordering.TheVariants.{Less, Equal, Greater}
+use Rattle.cc_names.proofs.Common.{texts_tied}
 use Rattle.view_lookup.specs.LeastInputs.{lower, lesser}
-
-same_path : (one two : List ℕ) → slice_cmp nat_cmp one two ≡ Equal → one ≡ two
-same_path one two ties = (bytes_eq-Decides one two).0 (sym (is_eq-slice_cmp one two) ∙ ap is_eq ties)
 
 lower_swap : (one two : List ℕ) → lower one two ≡ lower two one
 lower_swap one two = by (slice_cmp nat_cmp one two) refl
@@ -20,7 +16,7 @@ lower_swap one two = by (slice_cmp nat_cmp one two) refl
 
     by : (o : Ordering) → slice_cmp nat_cmp one two ≡ o → lower one two ≡ lower two one
     by Less e = ap (λ r. cond (is_lt r) two one) (turned Less e) ∙ sym (ap (λ r. cond (is_lt r) one two) e)
-    by Equal e = ap (λ r. cond (is_lt r) two one) (turned Equal e) ∙ same_path one two e
+    by Equal e = ap (λ r. cond (is_lt r) two one) (turned Equal e) ∙ texts_tied one two e
         ∙ sym (ap (λ r. cond (is_lt r) one two) e)
     by Greater e = ap (λ r. cond (is_lt r) two one) (turned Greater e) ∙ sym (ap (λ r. cond (is_lt r) one two) e)
 
@@ -41,7 +37,7 @@ below_other a b c low high = by (slice_cmp nat_cmp b a) refl
   where
     by : (o : Ordering) → slice_cmp nat_cmp b a ≡ o → is_lt (slice_cmp nat_cmp c b) ≡ true
     by Less e = absurd (cc (ap is_lt e, high))
-    by Equal e = ap (λ p. is_lt (slice_cmp nat_cmp c p)) (same_path b a e) ∙ low
+    by Equal e = ap (λ p. is_lt (slice_cmp nat_cmp c p)) (texts_tied b a e) ∙ low
     by Greater e = ap is_lt (nat_list_cmp_total.trans c a b (is_less _ low) (nat_list_cmp_total.antisymm a b
         ∙ ap ordering_reverse e))
 

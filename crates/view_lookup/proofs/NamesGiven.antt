@@ -2,10 +2,12 @@
 use Rattle.std.proofs.Common.{◌≡◌, ℕ, Bool, true, false, not, cond, ◌&&◌, ◌||◌, ◌==◌, List, [], ◌∷◌, Option, Some, None, refl}
 use Rattle.std.proofs.Common.{ap, sym, subst, ◌∙◌, bytes_eq}
 use Rattle.std.specs.Prelude.{is_some}
+use Rattle.std.proofs.lemmas.Bool.{or_left, or_right}
 use Rattle.cc_names.specs.Formed.{Plain}
 use Rattle.cc_names.specs.declared.rows.Deed.{Deed}
 use Rattle.cc_names.specs.declared.rows.Deed.TheVariants as deeds
 use Rattle.cc_names.specs.declared.rows.Tag.{Tag}
+use Rattle.cc_names.proofs.Common.{same_number}
 use Rattle.base_model.specs.Catalogs.{Catalog, Edit, Same, BeginsEmpty, BeginsAs, Adds, Removes, Renames, catalog_of}
 use Rattle.base_model.specs.Catalogs.{catalog_source, edit_of, edit_where, catalog_after, first_edit, is_out, made_or_older}
 use Rattle.base_model.specs.Catalogs.{element_named, own_of, with_new_name, without_name}
@@ -17,18 +19,9 @@ use Rattle.base_model.proofs.NamedEdits.{Keeps, one_element, row_keeps}
 use Rattle.base_model.proofs.NewVersions.{branch_makes, checkin_makes}
 use Rattle.base_model.proofs.Owned.{row_fits, rows_below, third_of}
 use Rattle.base_model.proofs.VersionsStay.{version_stays}
-use Rattle.base_model.proofs.Tables.{same_number}
 use Rattle.base_rows.specs.Giving.{gives_in}
 use Rattle.view_lookup.specs.GivenNames.{is_name, name_given, was_named}
 use Rattle.view_lookup.proofs.EntryEdits.{found_with, found_without}
-
-or_first : (a b : Bool) → a ≡ true → (a || b) ≡ true
-or_first true b h = refl
-or_first false b h = absurd (cc)
-
-or_second : (a b : Bool) → b ≡ true → (a || b) ≡ true
-or_second true b h = refl
-or_second false b h = h
 
 -- a row gave the name in the directory of which a row made a version
 record OfVersion (b : Base) (r : ℕ) (name : List ℕ) : Type 0 where
@@ -43,7 +36,7 @@ record AllGiven (b : Base) : Type 0 where
 
 stays : (row : Plain) (older : Base) (d : ℕ) (name : List ℕ) → was_named d name older ≡ true
     → was_named d name (row ∷ older) ≡ true
-stays row older d name h = or_second (gives_in d row.deed && is_name name (name_given row.deed)) (was_named d name older) h
+stays row older d name h = or_right (gives_in d row.deed && is_name name (name_given row.deed)) (was_named d name older) h
 
 -- whether an edit gives a name
 abbrev gives : List ℕ → Edit → Bool
@@ -160,7 +153,7 @@ all_given (row ∷ older) base =
           (row_keeps older v d row.deed (row_fits row older base)) in
           let same = one_element older of_origin.directory d origin of_origin.version version in
           stays row older d name (subst (λ k. was_named k name older ≡ true) same of_origin.given))
-          (λ gives_it. or_first (gives_in d row.deed && is_name name (name_given row.deed)) (was_named d name older)
+          (λ gives_it. or_left (gives_in d row.deed && is_name name (name_given row.deed)) (was_named d name older)
           (given_by_row v d (size older) name row.deed gives_it));
     }
   where

@@ -7,8 +7,8 @@ use Rattle.std.specs.List.{AllByRecursion, list_any}
 use Rattle.std.specs.Ordering.{nat_cmp}
 use Rattle.std.proofs.lemmas.Map.Text.{is_eq-slice_cmp}
 use Rattle.std.proofs.lemmas.Slice.Eq.{bytes_eq-Decides}
+use Rattle.cc_names.proofs.Common.{bytes_swapped}
 use Rattle.base_model.specs.Closures.{is_path_among}
-use Rattle.view_lookup.proofs.EntryEdits.{flipped}
 
 among_at : (q : List ℕ) (keys : List (List ℕ)) → list_any (is_at (slice_cmp nat_cmp q)) keys ≡ is_path_among q keys
 among_at q [] = refl
@@ -22,19 +22,12 @@ one_inserted old new key q updated =
     sym (among_at q new.keys)
     ∙ updated
     ∙ ap₂ (λ (is among : Bool). cond is true among) (is_eq-slice_cmp key q
-    ∙ sym (flipped key q (bytes_eq key q) refl)) (among_at q old.keys)
+    ∙ sym (bytes_swapped key q (bytes_eq key q) refl)) (among_at q old.keys)
     ∙ by (bytes_eq q key) (is_path_among q old.keys)
   where
     by : (is among : Bool) → cond is true among ≡ (is || among)
     by true among = refl
     by false among = refl
-
--- what is left, one that was added, and what was there before
-pub moved_over : (left one before : Bool) → (left || (one || before)) ≡ ((one || left) || before)
-moved_over true true before = refl
-moved_over true false before = refl
-moved_over false true before = refl
-moved_over false false before = refl
 
 -- what holds of all of some paths holds of each that is among them
 pub all_among : (P : List ℕ → Type 0) (paths : List (List ℕ)) → AllByRecursion P paths → (path : List ℕ)

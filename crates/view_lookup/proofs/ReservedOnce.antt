@@ -1,5 +1,5 @@
 -- In a base at most one reserved checkout stands on a branch, and that is the newest that was made there.
-use Rattle.std.proofs.Common.{◌≡◌, refl, ap, sym, subst, ◌∙◌, ℕ, ◌<◌, ◌≤◌, Bool, true, false, cond, not, ◌&&◌, ◌==◌, ◌⊎◌, inl}
+use Rattle.std.proofs.Common.{◌≡◌, refl, ap, sym, ◌∙◌, ℕ, ◌<◌, ◌≤◌, Bool, true, false, cond, not, ◌&&◌, ◌==◌, ◌⊎◌, inl}
 use Rattle.std.proofs.Common.{inr, Option, Some, None, List, [], ◌∷◌, bytes_eq, arith}
 use Rattle.std.proofs.lemmas.Bool.Decides.{Decides-eqb}
 use Rattle.std.specs.List.{filter}
@@ -14,6 +14,7 @@ use Rattle.cc_names.specs.declared.rows.Deed.{Deed}
 use Rattle.cc_names.specs.declared.rows.Tag.{Tag}
 use Rattle.cc_names.specs.declared.rows.Deed.TheVariants as deeds
 use Rattle.cc_names.specs.declared.rows.Out.TheVariants as outs
+use Rattle.cc_names.proofs.Common.{and_first, and_second}
 use Rattle.base_model.specs.Changes.{tree}
 use Rattle.base_model.specs.Checkouts.{checkouts, other_reserver, reserver, reserves, row_of_checkout, standing_among}
 use Rattle.base_model.specs.Checkouts.{checkout_view, with_standing}
@@ -21,16 +22,17 @@ use Rattle.base_model.specs.Closures.{is_version_of}
 use Rattle.base_model.specs.Fits.{deed_fits, is_base}
 use Rattle.base_model.specs.Rows.{Base, deed_of, only_where, size}
 use Rattle.base_model.specs.Views.{Checkout, TakenOut, made_out, out, out_effect}
-use Rattle.base_model.proofs.Below.{last_holds, older_change, within}
+use Rattle.base_model.proofs.Below.{last_holds, older_change}
 use Rattle.base_model.proofs.FilesBelow.{out_row}
-use Rattle.base_model.proofs.Owned.{and_first, and_second, row_fits, rows_below}
+use Rattle.base_model.proofs.Owned.{row_fits, rows_below}
 use Rattle.base_model.proofs.Stay.{row_stays}
 use Rattle.base_model.proofs.TreesStay.{Adds, Nothing, One, adds_row}
-use Rattle.base_model.proofs.VersionRows.{newest_deed}
-use Rattle.base_model.proofs.VersionsStay.{apart_below, of_element, parts_of}
+use Rattle.base_model.proofs.VersionRows.{newest_deed, version_below}
+use Rattle.base_model.proofs.VersionsStay.{apart_below}
 use Rattle.base_rows.specs.Effects.{reserving_effect, stands}
 use Rattle.base_rows.specs.LookUps.{last_of}
 use Rattle.view_lookup.specs.Reservations.{newest_reserving, reserving, taken_at}
+use Rattle.view_lookup.proofs.NextNames.{branch_below}
 use Rattle.base_rows.specs.Subjects.{reserved_branch}
 
 -- The branch of a version is the same in a longer base.
@@ -44,23 +46,6 @@ branch_before row b r low = by (adds_row b row.moment row.deed (tree b))
         ap (λ changes. branch_of_version changes r) same
         ∙ ap (option_map branch_of_change) (older_change change (tree b) r
         (apart_below (row_of_change change) (size b) r number low))
-
--- the branch of a version lies in the base
-branch_low : (b : Base) (r branch : ℕ) → branch_of_version (tree b) r ≡ Some branch → branch < size b
-branch_low b r branch is = by (change_at (tree b) r) refl is
-  where
-    by : (o : Option TreeChange) → change_at (tree b) r ≡ o → option_map branch_of_change o ≡ Some branch → branch < size b
-    by None found is = absurd (cc)
-    by (Some change) found is =
-        let same : branch_of_change change ≡ branch = cc in
-        subst (λ n. n < size b) same ((within b).branches r change found)
-
--- a version of an element lies in the base
-version_low : (b : Base) (e r : ℕ) → is_version_of b e r ≡ true → r < size b
-version_low b e r version =
-    let found = of_element b e r version in
-    let parts = parts_of (tree b) r found.0 found.1 in
-    (within b).numbers r parts.change parts.made
 
 -- a checkout has the row that made it
 made_row : (n : ℕ) (deed : Deed) (taken : TakenOut) → made_out n deed ≡ Some taken → taken.checkout.row ≡ n
@@ -154,7 +139,7 @@ reserved_low older (deeds.Checkout v e origin true) branch is = by (branch_of_ve
     by None found is = absurd (cc)
     by (Some own) found is =
         let same : branch ≡ own = (Decides-eqb branch own).0 is in
-        let low = branch_low older origin own found in
+        let low = branch_below older origin own found in
         omega arith
 reserved_low older (deeds.Checkout v e origin false) branch is = absurd (cc)
 reserved_low older (deeds.Branch v e origin name outs.No) branch is = absurd (cc)
@@ -206,7 +191,7 @@ made_reserving b older tag moment (deeds.Checkout v e origin true) branch taken 
     let version : is_version_of older e origin ≡ true = and_second _ _ (and_first _ _ (and_first _ _ fit)) in
     let row : Plain = record { tag = tag; moment = moment; deed = deeds.Checkout v e origin true } in
     ap (reserves b branch) (sym same)
-    ∙ ap (is_number branch) ((stays_older row older b stays).branches origin (version_low older e origin version))
+    ∙ ap (is_number branch) ((stays_older row older b stays).branches origin (version_below older e origin version))
 made_reserving b older tag moment (deeds.Checkout v e origin false) branch taken fit stays is =
     let same : record { view = v; element = e; checkout = record { row = size older; origin = origin; reserved = false } }
     ≡ taken = cc in

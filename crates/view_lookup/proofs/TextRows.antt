@@ -1,6 +1,6 @@
 -- The text that a row made, by the row and the rows below it.
 use Rattle.std.proofs.Common.{◌≡◌, ℕ, suc, ◌<◌, ◌≤◌, ◌==◌, Bool, true, false, nat_lt, Option, Some, None, List, [], ◌∷◌, length}
-use Rattle.std.proofs.Common.{refl, ap, sym, ◌∙◌, arith}
+use Rattle.std.proofs.Common.{refl, ap, sym, ◌∙◌, arith, lt-suc_self}
 use Rattle.std.proofs.lemmas.Bool.Decides.{nat_tests}
 use Rattle.cc_names.specs.Formed.{Plain}
 use Rattle.base_model.specs.Rows.{Base, size, first_rows, row_at}
@@ -50,9 +50,6 @@ text_by_its_row (row ∷ older) r path =
       | false ↦ λ e. text_by_its_row older r path ∙ older_row row older r path e
     ] refl
 
-just_below : (n : ℕ) → n < suc n
-just_below n = omega arith
-
 -- a row that is there has a number of the base
 row_within : (b : Base) (n : ℕ) (found : Plain) → row_at b n ≡ Some found → n ≤ size b
 row_within [] n found here = absurd (cc)
@@ -69,7 +66,8 @@ below_shorter [] n found here = absurd (cc)
 below_shorter (row ∷ older) n found here =
     elim (size older == n) as (λ is. (size older == n) ≡ is → elim is [ true ↦ Some row | false ↦ row_at older n ] ≡ Some found
     → length (first_rows n (row ∷ older)) < suc (length older)) [
-      | true ↦ λ e h. let at : size older ≡ n = grind (arith, nat_tests) in rw (newest row older n at) (just_below (length older))
+      | true ↦ λ e h. let at : size older ≡ n = grind (arith, nat_tests) in
+          rw (newest row older n at) (lt-suc_self (length older))
       | false ↦ λ e h.
           let fewer = below_shorter older n found h in
           let few : n ≤ size older = row_within older n found h in

@@ -9,8 +9,7 @@
 //! over which every look-up answers as of then.
 //!
 //! What it stands on: `cc_names` for rows, `base_model` and `legal_history` for the definitions, `version_tree` and `label_book`
-//! for the trees and
-//! the labels, and `spec_text` for the rules of config specs and how they select.
+//! for the trees and the labels, and `spec_text` for the rules of config specs and how they select.
 #![tactic(auto)]
 
 mod branch_names;

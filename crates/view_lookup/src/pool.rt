@@ -85,8 +85,7 @@ impl<T: RecordTest> LookUp for PoolOf<'_, T> {
 
 /// The newest live object with these targets whose record passes. Takes time linear in the targets, and for each object with
 /// these targets, live or scrubbed, from the newest on as far as the one that is found, the time of `live_row` and, where it is
-/// live,
-/// that of `publishes`.
+/// live, that of `publishes`.
 pub fn newest_object<T: RecordTest>(rows: &FirstRows<'_>, targets: &[Path], test: &T) -> Option<u64>
     ensures { result ≡ newest_object rows.now targets.now (T.passes test.now) }
 {

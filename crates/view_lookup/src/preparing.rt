@@ -37,9 +37,10 @@ fn read_given(alloc: Global, deed: &Deed) -> Result<Option<Rules>, NoMemory>
     }
 }
 
-/// What the next row of a base needs, where it is of this deed. Takes time linear in what the deed names, for a config spec the
-/// time to read it, for each entry of a record time linear in what it stands for, times logarithmic in what the record lists, for
-/// each row that changed names in a checkout that ends the time of some look-ups, and time logarithmic in the branches.
+/// What the next row of a base needs, where it is of this deed. Takes the time of `read_rules` for a config spec. Takes time
+/// linear in what the operation names; for each entry of a record linear in the versions that the entry's object lists, times
+/// the logarithm of the record's; for each row that changed names in a checkout that it ends, a few look-ups; logarithmic in
+/// the branches.
 pub fn prepare(alloc: Global, base: &Rows, deed: &Deed) -> Result<Prepared, NoMemory>
     ensures { IfOk result
         (λ prepared. IsPrepared prepared base.now.hashing base.now.base deed.now) }

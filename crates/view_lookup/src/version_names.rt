@@ -223,9 +223,9 @@ fn next_name(
     }
 }
 
-/// The name that the command of a row of this deed is replied, as it is once the row is there: that of the version which a
-/// checkout takes out, or which a branch or a checkin makes; none for any other deed.
-/// Takes time linear in the name, and for each branch in it time logarithmic in the changes.
+/// The name with which the command of a row of this deed is replied, once the row is there: the name of the version
+/// that a checkout is made from, or that a branch or a checkin makes; none for any other deed. Takes time linear in the
+/// name, and for each branch in it time logarithmic in the changes.
 pub fn replied_name(
     alloc: Global,
     rows: &FirstRows<'_>,

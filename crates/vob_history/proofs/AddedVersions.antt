@@ -1,7 +1,6 @@
 -- What a walk adds, one version after the other.
 use Rattle.std.proofs.Common.{◌≡◌, refl, ap, ap₂, sym, ◌∙◌, ℕ, ◌+◌, Bool, true, false, cond, not, ◌&&◌, ◌||◌, ◌==◌, Some, List}
 use Rattle.std.proofs.Common.{[], ◌∷◌, ◌++◌, length, arith}
-use Rattle.std.proofs.lemmas.Bool.Decides.{nat_tests}
 use Rattle.std.proofs.lemmas.List.{length-append}
 use Rattle.std.proofs.lemmas.List.Folds.{list_any-append}
 use Rattle.std.specs.BTreeMap.{is_at}
@@ -10,8 +9,8 @@ use Rattle.std.specs.List.{list_any}
 use Rattle.std.specs.List.Sorted.{IsStrictlySortedBy}
 use Rattle.std.specs.Ordering.{nat_cmp}
 use Rattle.cc_names.specs.Versions.{is_number}
+use Rattle.cc_names.proofs.Common.{eq_swapped, same_number}
 use Rattle.legal_history.specs.Queries.Merges.{is_in}
-use Rattle.base_model.proofs.Tables.{same_number}
 use Rattle.vob_history.specs.Reached.{AddsVersions}
 use Rattle.vob_history.specs.declared.reached.Walk.{Walk}
 
@@ -61,12 +60,9 @@ both_taken p q one two three h g = record {
 
 -- ---- one version
 
-turned : (m n : ℕ) → (m == n) ≡ (n == m)
-turned m n = grind (arith, nat_tests)
-
 contains_in : (n : ℕ) (keys : List ℕ) → list_any (is_at (nat_cmp n)) keys ≡ is_in n keys
 contains_in n [] = refl
-contains_in n (key ∷ keys) = ap₂ (λ (one more : Bool). one || more) (unsigned_tied n key ∙ turned n key) (contains_in n keys)
+contains_in n (key ∷ keys) = ap₂ (λ (one more : Bool). one || more) (unsigned_tied n key ∙ eq_swapped n key) (contains_in n keys)
 
 cond_or : (t u : Bool) → cond t true u ≡ (t || u)
 cond_or true u = refl
@@ -77,7 +73,7 @@ seen_one : (m : ℕ) (old new : List ℕ) → ((n : ℕ) → list_any (is_at (na
 seen_one m old new put n =
     sym (contains_in n new)
     ∙ put n
-    ∙ ap₂ (λ (one more : Bool). cond one true more) (unsigned_tied m n ∙ turned m n) (contains_in n old)
+    ∙ ap₂ (λ (one more : Bool). cond one true more) (unsigned_tied m n ∙ eq_swapped m n) (contains_in n old)
     ∙ cond_or (n == m) (is_in n old)
 
 -- one that was new is left
@@ -101,5 +97,5 @@ new_taken m old new put was left count ordered = record {
         let same : n ≡ m = same_number n m e in
         let fresh : is_in n old.seen.keys ≡ false = sym (contains_in n old.seen.keys)
         ∙ ap (λ k. list_any (is_at (nat_cmp k)) old.seen.keys) same ∙ was in
-        ap (λ t. t || false) (turned m n ∙ e) ∙ sym (ap₂ (λ (t u : Bool). t && not u) e fresh)
-    one n false e = ap (λ t. t || false) (turned m n ∙ e) ∙ sym (ap (λ t. t && not (is_in n old.seen.keys)) e)
+        ap (λ t. t || false) (eq_swapped m n ∙ e) ∙ sym (ap₂ (λ (t u : Bool). t && not u) e fresh)
+    one n false e = ap (λ t. t || false) (eq_swapped m n ∙ e) ∙ sym (ap (λ t. t && not (is_in n old.seen.keys)) e)

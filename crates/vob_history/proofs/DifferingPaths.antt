@@ -13,6 +13,7 @@ use Rattle.std.specs.Option.{option_map_or}
 use Rattle.std.specs.Ordering.{nat_cmp}
 use Rattle.std.specs.Prelude.{T, codes, is_some, option_map, find as find_in}
 use Rattle.cc_names.specs.declared.rows.ReadOf.{ReadOf}
+use Rattle.cc_names.proofs.Common.{or_first_false, or_second_false}
 use Rattle.base_model.specs.Changes.{targets_of}
 use Rattle.base_model.specs.Closures.{is_path_among}
 use Rattle.base_model.specs.Objects.{are_same_paths, record_of, row_in}
@@ -93,14 +94,6 @@ either true b = refl
 either false true = refl
 either false false = refl
 
-no_first : (a b : Bool) → (a || b) ≡ false → a ≡ false
-no_first true b h = absurd (cc)
-no_first false b h = refl
-
-no_second : (a b : Bool) → (a || b) ≡ false → b ≡ false
-no_second true b h = absurd (cc)
-no_second false b h = h
-
 same_map : (f g : List ℕ → List ℕ) (keys : List (List ℕ)) → ((key : List ℕ) → f key ≡ g key) → map f keys ≡ map g keys
 same_map f g [] same = refl
 same_map f g (key ∷ keys) same = ap₂ (λ (one : List ℕ) (more : List (List ℕ)). one ∷ more) (same key) (same_map f g keys same)
@@ -128,8 +121,8 @@ path_by_table b one two key = by (find (slice_cmp nat_cmp) key (table_of one two
     by (Some path) e = refl
     by None e =
         let neither : (is_path_read key one || is_path_read key two) ≡ false = sym (has_path one two key) ∙ ap is_some e in
-        ap₂ (difference_lines b key) (unread one key (no_first (is_path_read key one) (is_path_read key two) neither))
-        (unread two key (no_second (is_path_read key one) (is_path_read key two) neither))
+        ap₂ (difference_lines b key) (unread one key (or_first_false (is_path_read key one) (is_path_read key two) neither))
+        (unread two key (or_second_false (is_path_read key one) (is_path_read key two) neither))
 
 -- Paths in order that are those of two records tell what the model tells.
 pub paths_found : (b : Base) (one two : List ReadOf) (keys : List (List ℕ)) → IsStrictlySortedBy (slice_cmp nat_cmp) keys

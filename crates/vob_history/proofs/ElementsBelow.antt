@@ -9,17 +9,19 @@ use Rattle.std.specs.List.{AllByRecursion, list_any}
 use Rattle.std.specs.List.Sorted.{IsStrictlySortedBy}
 use Rattle.std.specs.Map.{keys_of, lookup}
 use Rattle.std.specs.Ordering.{is_eq, is_lt, nat_cmp}
-use Rattle.std.specs.declared.cmp.Ordering.TheVariants.{Less, Equal}
+use Rattle.std.specs.declared.cmp.Ordering.TheVariants.{Less}
 use Rattle.std.proofs.lemmas.Bool.Decides.{nat_tests}
 use Rattle.std.proofs.lemmas.Cmp.{nat_list_cmp_total, nat_list_eq_equiv}
 use Rattle.std.proofs.lemmas.List.{reverse-append, reverse-reverse}
 use Rattle.std.proofs.lemmas.Map.Text.{is_eq-slice_cmp}
 use Rattle.std.proofs.lemmas.Slice.Eq.{bytes_eq-Decides}
+use Rattle.std.proofs.lemmas.Bool.{and_from, or_left, or_right}
 use Rattle.cc_names.specs.Names.{IsName}
 use Rattle.cc_names.specs.Paths.{IsPath, join_of, path_of_names, names_of}
 use Rattle.cc_names.specs.declared.names.NameFault.TheVariants.{TooLong}
 use Rattle.cc_names.specs.declared.selection.Seen.{Seen}
 use Rattle.cc_names.specs.declared.selection.Seen.TheVariants.{Element, Nothing}
+use Rattle.cc_names.proofs.Common.{and_false, same_bytes, test_both, texts_tied, and_first, and_second, same_test}
 use Rattle.base_model.specs.Catalogs.{Catalog, element_named}
 use Rattle.base_model.specs.Closures.{is_path_among}
 use Rattle.base_model.specs.Rows.{Base, size}
@@ -28,22 +30,8 @@ use Rattle.base_model.specs.Seen.{at, at_names, below, element_at, entries_of, p
 use Rattle.base_model.specs.Views.{private}
 use Rattle.legal_history.specs.Queries.DirectoryTexts.{catalog_or_none, path_of_entry}
 use Rattle.legal_history.specs.Queries.Merges.{Elements, elements_below, in_catalog, with_element}
-use Rattle.base_model.proofs.Owned.{and_first, and_second}
-use Rattle.base_model.proofs.Either.{or_first, or_second}
 use Rattle.vob_history.specs.ElementsBelow.{is_element, lies_below, lies_below_joined, seen_where}
 use Rattle.view_lookup.proofs.NamesInPaths.{names_in_path}
-use Rattle.vob_history.proofs.Predecessors.{both_ways}
-
-and_true : (a b : Bool) → a ≡ true → b ≡ true → (a && b) ≡ true
-and_true true b p q = q
-and_true false b p q = absurd (cc)
-
-never : (t : Bool) → (t && false) ≡ false
-never true = refl
-never false = refl
-
-same_text : (a b : List ℕ) → bytes_eq a b ≡ true → a ≡ b
-same_text a b is = (bytes_eq-Decides a b).0 is
 
 -- ---- the table of the model
 
@@ -62,7 +50,7 @@ find_element q path seen found = refl
 -- what stands at a path is what stands at the other, where they are one
 at_same : (b : Base) (v path q : List ℕ) (t : Bool) → bytes_eq q path ≡ t → (before : Option Seen)
     → cond t (Some (at b v path)) before ≡ seen_where t b v q before
-at_same b v path q true e before = ap (λ p. Some (at b v p)) (sym (same_text q path e))
+at_same b v path q true e before = ap (λ p. Some (at b v p)) (sym (same_bytes q path e))
 at_same b v path q false e before = refl
 
 element_same : (b : Base) (v path q : List ℕ) (s t : Bool) → bytes_eq q path ≡ t → (before : Option Seen)
@@ -128,31 +116,24 @@ found_as : (q : List ℕ) (found : Elements) → find (slice_cmp nat_cmp) q foun
 found_as q [] = refl
 found_as q (entry ∷ found) = ap (cond (is_eq (slice_cmp nat_cmp q entry.0)) (Some entry.1)) (found_as q found)
 
-both_tests : (a b : Bool) → T a → T b → T (a && b)
-both_tests true b p q = q
-both_tests false b p q = absurd p
-
 below_keys : (path : List ℕ) (found : Elements) → AllByRecursion (λ other. slice_cmp nat_cmp path other ≡ Less) (keys_of found)
     → T (below_all (slice_cmp nat_cmp) path found)
 below_keys path [] h = tt
-below_keys path (entry ∷ found) h = both_tests (is_lt (slice_cmp nat_cmp path entry.0)) (below_all (slice_cmp nat_cmp) path found)
+below_keys path (entry ∷ found) h = test_both (is_lt (slice_cmp nat_cmp path entry.0)) (below_all (slice_cmp nat_cmp) path found)
     (subst (λ o. T (is_lt o)) (sym h.0) tt) (below_keys path found h.1)
 
 sorted_keys : (found : Elements) → IsStrictlySortedBy (slice_cmp nat_cmp) (keys_of found)
     → T (is_sorted (slice_cmp nat_cmp) found)
 unfolding IsStrictlySortedBy
 sorted_keys [] h = tt
-sorted_keys (entry ∷ found) h = both_tests (below_all (slice_cmp nat_cmp) entry.0 found) (is_sorted (slice_cmp nat_cmp) found)
+sorted_keys (entry ∷ found) h = test_both (below_all (slice_cmp nat_cmp) entry.0 found) (is_sorted (slice_cmp nat_cmp) found)
     (below_keys entry.0 found h.0) (sorted_keys found h.1)
-
-tied : (one two : List ℕ) → slice_cmp nat_cmp one two ≡ Equal → one ≡ two
-tied one two ties = same_text one two (sym (is_eq-slice_cmp one two) ∙ ap is_eq ties)
 
 pub same_elements : (b : Base) (v path : List ℕ) (found : Elements) → IsStrictlySortedBy (slice_cmp nat_cmp) (keys_of found) →
     ((q : List ℕ) → lookup (is_at (slice_cmp nat_cmp q)) found ≡ seen_where (lies_below (size b) b v path q) b v q None)
     → found ≡ elements_below (size b) b v path []
 same_elements b v path found ordered has =
-    same_entries (slice_cmp nat_cmp) nat_list_cmp_total tied found (elements_below (size b) b v path [])
+    same_entries (slice_cmp nat_cmp) nat_list_cmp_total texts_tied found (elements_below (size b) b v path [])
     (sorted_keys found ordered) (sorted_below b v (size b) path [] tt)
     (λ q. found_as q found ∙ has q ∙ sym (find_below b v q (size b) path []))
 
@@ -178,9 +159,9 @@ module _ (test : List ℕ → Bool) where
       by : (t : Bool) → bytes_eq name entry.0 ≡ t → (t || is_some (element_named name catalog)) ≡ true
           → (is_some (element_named name catalog) ≡ true → test name ≡ true → list_any (λ entry. test entry.0) catalog ≡ true) →
           (test entry.0 || list_any (λ entry. test entry.0) catalog) ≡ true
-      by true same is rest = or_first (test entry.0) (list_any (λ entry. test entry.0) catalog)
-          (ap test (sym (same_text name entry.0 same)) ∙ h)
-      by false same is rest = or_second (test entry.0) (list_any (λ entry. test entry.0) catalog) (rest is h)
+      by true same is rest = or_left (test entry.0) (list_any (λ entry. test entry.0) catalog)
+          (ap test (sym (same_bytes name entry.0 same)) ∙ h)
+      by false same is rest = or_right (test entry.0) (list_any (λ entry. test entry.0) catalog) (rest is h)
 
   some_name : (catalog : Catalog) (names : List (List ℕ)) → list_any (λ name. is_some (element_named name catalog) && test name)
       names ≡ true → list_any (λ entry. test entry.0) catalog ≡ true
@@ -209,7 +190,7 @@ module _ (test : List ℕ → Bool) where
           → (list_any (λ entry. test entry.0) catalog ≡ true → Passing catalog) → Passing (entry ∷ catalog)
       by true is h rest = record {
         name = entry.0;
-        there = named_or entry.0 entry catalog ∙ or_first (bytes_eq entry.0 entry.0) (is_some (element_named entry.0 catalog))
+        there = named_or entry.0 entry catalog ∙ or_left (bytes_eq entry.0 entry.0) (is_some (element_named entry.0 catalog))
             ((bytes_eq-Decides entry.0 entry.0).1 refl);
         passes = is;
       }
@@ -218,7 +199,7 @@ module _ (test : List ℕ → Bool) where
           record {
             name = one.name;
             there = named_or one.name entry catalog
-                ∙ or_second (bytes_eq one.name entry.0) (is_some (element_named one.name catalog)) one.there;
+                ∙ or_right (bytes_eq one.name entry.0) (is_some (element_named one.name catalog)) one.there;
             passes = one.passes;
           }
 
@@ -235,12 +216,12 @@ module _ (test : List ℕ → Bool) where
           ((is_some (element_named first catalog) && test first) || list_any (λ name. is_some (element_named name catalog)
           && test name) names) ≡ true
       by true same among rest =
-          let one = same_text name first same in
-          or_first (is_some (element_named first catalog) && test first)
+          let one = same_bytes name first same in
+          or_left (is_some (element_named first catalog) && test first)
           (list_any (λ name. is_some (element_named name catalog) && test name) names)
-          (and_true (is_some (element_named first catalog)) (test first) (ap (λ n. is_some (element_named n catalog)) (sym one)
+          (and_from (is_some (element_named first catalog)) (test first) (ap (λ n. is_some (element_named n catalog)) (sym one)
           ∙ there) (ap test (sym one) ∙ h))
-      by false same among rest = or_second (is_some (element_named first catalog) && test first)
+      by false same among rest = or_right (is_some (element_named first catalog) && test first)
           (list_any (λ name. is_some (element_named name catalog) && test name) names) (rest among)
 
   -- names among which are all of a catalog have one of it that passes where an entry does
@@ -248,7 +229,7 @@ module _ (test : List ℕ → Bool) where
       → is_path_among name names ≡ true) →
       list_any (λ name. is_some (element_named name catalog) && test name) names ≡ list_any (λ entry. test entry.0) catalog
   by_names catalog names all =
-      both_ways (list_any (λ name. is_some (element_named name catalog) && test name) names)
+      same_test (list_any (λ name. is_some (element_named name catalog) && test name) names)
       (list_any (λ entry. test entry.0) catalog)
       (some_name catalog names)
       (λ h. let one = passing catalog h in among_names catalog names one.name one.there one.passes (all one.name one.there))
@@ -327,7 +308,7 @@ module _ (b : Base) (v : List ℕ) where
           (nowhere depth (path_of_entry path name) q
           (ap is_element (at_name path name is_path is_name) ∙ too_long (names_of path ++ name ∷ []) name
           (entries_of b v (at b v path)) long))
-          ∙ never (is_some (element_named name (catalog_at path))))
+          ∙ and_false (is_some (element_named name (catalog_at path))))
       by false short = by_name (element_named name (catalog_at path)) refl
 
   -- what was found at a path, once an element was put in at another

@@ -4,7 +4,7 @@ use Rattle.std.proofs.Common.{ap₂, sym, ◌∙◌, arith}
 use Rattle.std.specs.Prelude.{codes, is_some}
 use Rattle.std.specs.List.{concat, list_any}
 use Rattle.std.specs.Option.{option_map_or}
-use Rattle.std.proofs.lemmas.Bool.Decides.{nat_tests, Decides-eqb}
+use Rattle.std.proofs.lemmas.Bool.Decides.{nat_tests}
 use Rattle.cc_names.specs.Formed.{Plain}
 use Rattle.cc_names.specs.Last.{Sets, only_if}
 use Rattle.cc_names.specs.Versions.{put_if}
@@ -12,6 +12,7 @@ use Rattle.cc_names.specs.declared.rows.Deed.{Deed}
 use Rattle.cc_names.specs.declared.rows.Deed.TheVariants as deeds
 use Rattle.cc_names.specs.declared.rows.Placed.{Placed}
 use Rattle.base_model.specs.Rows.{Base, size, row_at}
+use Rattle.base_model.proofs.VersionRows.{newest_row}
 use Rattle.legal_history.specs.Queries.HistoryTexts.{dated_line, line_where, placed_lines, history_line, history_lines}
 use Rattle.legal_history.specs.Queries.HistoryTexts.{lshistory_text}
 use Rattle.legal_history.specs.Queries.VersionNames.{branch_name, version_name}
@@ -45,12 +46,7 @@ no_line b e n moment (deeds.Unlabel label f) none = ap (λ is. line_where is (da
 no_line b e n moment (deeds.Labels label placed) none = no_placed b e moment label placed none
 no_line b e n moment deed none = refl
 
--- the newest row stands at its number, the others where they stood
-newest_row : (row : Plain) (older : Base) → row_at (row ∷ older) (size older) ≡ Some row
-newest_row row older = ap (λ is. elim is [ true ↦ Some row | false ↦ row_at older (size older) ])
-    ((Decides-eqb (size older) (size older)).1 refl)
-
-older_row : (row : Plain) (older : Base) (n : ℕ) → n ≤ length older → row_at (row ∷ older) n ≡ row_at older n
+pub older_row : (row : Plain) (older : Base) (n : ℕ) → n ≤ length older → row_at (row ∷ older) n ≡ row_at older n
 older_row row older n low =
     let apart : (size older == n) ≡ false = grind (arith, nat_tests, low) in
     ap (λ is. elim is [ true ↦ Some row | false ↦ row_at older n ]) apart

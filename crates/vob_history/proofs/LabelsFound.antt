@@ -14,10 +14,10 @@ use Rattle.std.proofs.lemmas.Bool.Decides.{nat_tests}
 use Rattle.std.proofs.lemmas.Cmp.{nat_list_cmp_total}
 use Rattle.std.proofs.lemmas.Map.Text.{is_eq-slice_cmp}
 use Rattle.std.proofs.lemmas.Slice.Eq.{bytes_eq-Decides}
-use Rattle.cc_names.specs.Formed.{Plain}
+use Rattle.std.proofs.lemmas.Bool.{or_right, or_left}
 use Rattle.cc_names.specs.Labels.{holder}
 use Rattle.cc_names.specs.Last.{Ends, Sets, only_if, value_after}
-use Rattle.cc_names.specs.Versions.{is_number, put_if}
+use Rattle.cc_names.specs.Versions.{put_if}
 use Rattle.cc_names.specs.declared.changes.LabelChange.{LabelChange}
 use Rattle.cc_names.specs.declared.changes.LabelChange.TheVariants.{Put, Taken}
 use Rattle.cc_names.specs.declared.rows.Deed.{Deed}
@@ -25,16 +25,19 @@ use Rattle.cc_names.specs.declared.rows.Deed.TheVariants as deeds
 use Rattle.cc_names.specs.declared.rows.Placed.{Placed}
 use Rattle.cc_names.specs.declared.rows.TypeKind.{TypeKind}
 use Rattle.cc_names.specs.declared.rows.TypeKind.TheVariants as type_kinds
+use Rattle.cc_names.proofs.Common.{test_first, test_second, less_by_test, texts_tied, number_found, and_first, and_second}
+use Rattle.cc_names.proofs.Common.{bytes_swapped}
 use Rattle.base_model.specs.Rows.{Base, size, row_at, deed_of}
 use Rattle.base_model.specs.Changes.{labels, labels_after, all_placed, kind_of_type, type_effect}
 use Rattle.base_model.specs.Conditions.{is_label_type, is_label_kind}
 use Rattle.base_model.specs.Fits.{is_base, deed_fits}
 use Rattle.legal_history.specs.Queries.ElementTexts.{NameSet, entry_key, label_types, labels_on, with_label_type}
-use Rattle.base_model.proofs.Owned.{row_fits, rows_below, and_first, and_second}
+use Rattle.base_model.proofs.Owned.{row_fits, rows_below}
+use Rattle.base_model.proofs.VersionRows.{newest_row}
 use Rattle.base_rows.specs.Histories.{history_of, is_placed_on, tells_of}
 use Rattle.vob_history.specs.LabelSets.{label_put, label_at, stands_on, with_label_if, with_label, labels_among}
+use Rattle.vob_history.proofs.HistoryRows.{older_row}
 use Rattle.base_rows.specs.LookUps.{update_by_row}
-use Rattle.view_lookup.proofs.EntryEdits.{flipped}
 
 -- ---- sets of names
 
@@ -98,38 +101,23 @@ names_where p (entry ∷ set) = by (p entry.0) (names_where p set)
     by true rest = ap (λ names. entry.0 ∷ names) rest
     by false rest = rest
 
-t_first : (a b : Bool) → T (a && b) → T a
-t_first true b h = tt
-t_first false b h = absurd h
-
-t_second : (a b : Bool) → T (a && b) → T b
-t_second true b h = h
-t_second false b h = absurd h
-
-less : (o : Ordering) → T (is_lt o) → o ≡ Less
-less Less h = refl
-less Equal h = absurd h
-less Greater h = absurd h
-
-same_name : (one two : List ℕ) → slice_cmp nat_cmp one two ≡ Equal → one ≡ two
-same_name one two ties = (bytes_eq-Decides one two).0 (sym (is_eq-slice_cmp one two) ∙ ap is_eq ties)
-
 -- a name below all of a set is not in it
 below_none : (name : List ℕ) (set : NameSet) → T (below_all (slice_cmp nat_cmp) name set) → has name set ≡ false
 below_none name [] h = refl
 below_none name (entry ∷ set) h =
-    let apart : slice_cmp nat_cmp name entry.0 ≡ Less = less (slice_cmp nat_cmp name entry.0) (t_first _ _ h) in
+    let apart : slice_cmp nat_cmp name entry.0 ≡ Less = less_by_test (slice_cmp nat_cmp name entry.0) (test_first _ _ h) in
     ap (λ o. is_some (cond (is_eq o) (Some entry.1) (find (slice_cmp nat_cmp) name set))) apart
-    ∙ below_none name set (t_second _ _ h)
+    ∙ below_none name set (test_second _ _ h)
 
 -- a name below the first of a set is below all
 below_first : (name : List ℕ) (entry : List ℕ × List ℕ) (set : NameSet) → slice_cmp nat_cmp name entry.0 ≡ Less
     → T (below_all (slice_cmp nat_cmp) entry.0 set) → T (below_all (slice_cmp nat_cmp) name set)
 below_first name entry [] low h = tt
 below_first name entry (next ∷ set) low h =
-    let step : slice_cmp nat_cmp name next.0 ≡ Less = nat_list_cmp_total.trans name entry.0 next.0 low (less _ (t_first _ _ h)) in
+    let step : slice_cmp nat_cmp name next.0 ≡ Less = nat_list_cmp_total.trans name entry.0 next.0 low
+    (less_by_test _ (test_first _ _ h)) in
     t_both (is_lt (slice_cmp nat_cmp name next.0)) (below_all (slice_cmp nat_cmp) name set)
-    (subst (λ o. T (is_lt o)) (sym step) tt) (below_first name entry set low (t_second _ _ h))
+    (subst (λ o. T (is_lt o)) (sym step) tt) (below_first name entry set low (test_second _ _ h))
   where
     t_both : (a b : Bool) → T a → T b → T (a && b)
     t_both true b p q = q
@@ -146,15 +134,15 @@ same_sets [] [] s t same = refl
 same_sets [] (entry ∷ two) s t same = absurd (cc (same entry.0, has_first entry two))
 same_sets (entry ∷ one) [] s t same = absurd (cc (same entry.0, has_first entry one))
 same_sets (first ∷ one) (second ∷ two) s t same = by (slice_cmp nat_cmp first.0 second.0) refl
-    (same_sets one two (t_second _ _ s) (t_second _ _ t))
+    (same_sets one two (test_second _ _ s) (test_second _ _ t))
   where
     rest_of : first.0 ≡ second.0 → (name : List ℕ) → has name one ≡ has name two
     rest_of at name = elim (is_eq (slice_cmp nat_cmp name first.0)) as (λ is. is_eq (slice_cmp nat_cmp name first.0) ≡ is
         → has name one ≡ has name two) [
           | true ↦ λ e.
               let is : name ≡ first.0 = (bytes_eq-Decides name first.0).0 (sym (is_eq-slice_cmp name first.0) ∙ e) in
-              ap (λ n. has n one) is ∙ below_none first.0 one (t_first _ _ s)
-              ∙ sym (ap (λ n. has n two) (is ∙ at) ∙ below_none second.0 two (t_first _ _ t))
+              ap (λ n. has n one) is ∙ below_none first.0 one (test_first _ _ s)
+              ∙ sym (ap (λ n. has n two) (is ∙ at) ∙ below_none second.0 two (test_first _ _ t))
           | false ↦ λ e.
               sym (ap (λ is. is_some (cond is (Some first.1) (find (slice_cmp nat_cmp) name one))) e)
               ∙ same name
@@ -167,17 +155,17 @@ same_sets (first ∷ one) (second ∷ two) s t same = by (slice_cmp nat_cmp firs
     by Less e rest =
         let none : has first.0 (second ∷ two) ≡ false =
         ap (λ o. is_some (cond (is_eq o) (Some second.1) (find (slice_cmp nat_cmp) first.0 two))) e
-        ∙ below_none first.0 two (below_first first.0 second two e (t_first _ _ t)) in
+        ∙ below_none first.0 two (below_first first.0 second two e (test_first _ _ t)) in
         absurd (cc (same first.0, has_first first one, none))
     by Equal e rest =
-        let at = same_name first.0 second.0 e in
+        let at = texts_tied first.0 second.0 e in
         ap₂ (λ (name : List ℕ) (names : List (List ℕ)). name ∷ names) at (rest (rest_of at))
     by Greater e rest =
         let low : slice_cmp nat_cmp second.0 first.0 ≡ Less = turned (slice_cmp nat_cmp second.0 first.0)
         (nat_list_cmp_total.antisymm first.0 second.0) e in
         let none : has second.0 (first ∷ one) ≡ false =
         ap (λ o. is_some (cond (is_eq o) (Some first.1) (find (slice_cmp nat_cmp) second.0 one))) low
-        ∙ below_none second.0 one (below_first second.0 first one low (t_first _ _ s)) in
+        ∙ below_none second.0 one (below_first second.0 first one low (test_first _ _ s)) in
         absurd (cc (same second.0, has_first second two, none))
       where
         turned : (o : Ordering) → slice_cmp nat_cmp first.0 second.0 ≡ ordering_reverse o
@@ -199,18 +187,10 @@ types_sorted (row ∷ older) = by row.deed (types_sorted older)
     by (deeds.Mktype type_kinds.Branch name) rest = rest
     by deed rest = rest
 
-or_last : (a b : Bool) → b ≡ true → (a || b) ≡ true
-or_last true b h = refl
-or_last false b h = h
-
-or_first : (a b : Bool) → a ≡ true → (a || b) ≡ true
-or_first true b h = refl
-or_first false b h = absurd (cc)
-
 -- a type stays one
 type_stays : (name : List ℕ) (deed : Deed) (set : NameSet) → has name set ≡ true → has name (with_label_type deed set) ≡ true
 type_stays name (deeds.Mktype type_kinds.Label other) set h = has_put name other set
-    ∙ or_last (bytes_eq name other) (has name set) h
+    ∙ or_right (bytes_eq name other) (has name set) h
 type_stays name (deeds.Mktype type_kinds.Branch other) set h = h
 type_stays name deed set h = h
 
@@ -224,7 +204,7 @@ type_has (row ∷ older) name is = by row.deed (type_has older name) is
         (is_label_type older name ≡ true → has name (label_types older) ≡ true)
         → has name (with_label_type (deeds.Mktype kind made) (label_types older)) ≡ true
     kept made type_kinds.Label true test is before = has_put name made (label_types older)
-        ∙ or_first (bytes_eq name made) (has name (label_types older)) (flipped made name true test)
+        ∙ or_left (bytes_eq name made) (has name (label_types older)) (bytes_swapped made name true test)
     kept made type_kinds.Branch true test is before = absurd (cc)
     kept made kind false test is before = type_stays name (deeds.Mktype kind made) (label_types older) (before is)
 
@@ -299,7 +279,7 @@ is_put b name (n ∷ ns) = is_label name (label_at b n) || is_put b name ns
 
 more_put : (b : Base) (name : List ℕ) (test : Bool) (n : ℕ) (ns : List ℕ) → is_put b name ns ≡ true
     → is_put b name (put_if test n ns) ≡ true
-more_put b name true n ns h = or_last (is_label name (label_at b n)) (is_put b name ns) h
+more_put b name true n ns h = or_right (is_label name (label_at b n)) (is_put b name ns) h
 more_put b name false n ns h = h
 
 turned_number : (one two : ℕ) → (one == two) ≡ true → (two == one) ≡ true
@@ -313,7 +293,7 @@ put_or_before P n label [] changes name e r held before here = before held
 put_or_before P n label (one ∷ more) changes name e r held before here =
     put_or_before P n label more (Put n label one.element one.version ∷ changes) name e r held
     (λ held. by (bytes_eq name label && (e == one.element)) refl held)
-    (λ same any. here same (or_last (one.element == e) (list_any (is_placed_on e) more) any))
+    (λ same any. here same (or_right (one.element == e) (list_any (is_placed_on e) more) any))
   where
     by : (x : Bool) → (bytes_eq name label && (e == one.element)) ≡ x → value_after (only_if x (Sets one.version))
         (holder changes name e) ≡ Some r → P
@@ -321,7 +301,7 @@ put_or_before P n label (one ∷ more) changes name e r held before here =
         let at : (one.element == e) ≡ true = turned_number e one.element
         (and_second (bytes_eq name label) (e == one.element) test) in
         here (and_first (bytes_eq name label) (e == one.element) test)
-        (or_first (one.element == e) (list_any (is_placed_on e) more) at)
+        (or_left (one.element == e) (list_any (is_placed_on e) more) at)
     by false test held = before held
 
 -- where row n puts the label on the element it is put by the history
@@ -329,7 +309,7 @@ put_here : (b : Base) (name label : List ℕ) (n : ℕ) (ns : List ℕ) (test : 
     → bytes_eq name label ≡ true → test ≡ true → is_put b name (put_if (is_some (update_by_row n (only_if test (Sets n)))) n ns)
     ≡ true
 put_here b name label n ns true at same is =
-    ap (λ found. is_label name found || is_put b name ns) at ∙ or_first (bytes_eq name label) (is_put b name ns) same
+    ap (λ found. is_label name found || is_put b name ns) at ∙ or_left (bytes_eq name label) (is_put b name ns) same
 put_here b name label n ns false at same is = absurd (cc)
 
 -- a label that is held was put by a row of the element's history
@@ -366,17 +346,6 @@ row_put b older (deeds.Labels label placed) e name r at held before =
 row_put b older deed e name r at held before =
     more_put b name (is_some (update_by_row (size older) (only_if (tells_of e (size older) deed) (Sets (size older)))))
     (size older) (history_of older e) (before held)
-
-newest_row : (row : Plain) (older : Base) → row_at (row ∷ older) (size older) ≡ Some row
-newest_row row older = ap (λ is. elim is [ true ↦ Some row | false ↦ row_at older (size older) ]) (same (size older))
-  where
-    same : (n : ℕ) → (n == n) ≡ true
-    same n = grind (arith, nat_tests)
-
-older_row : (row : Plain) (older : Base) (n : ℕ) → n ≤ length older → row_at (row ∷ older) n ≡ row_at older n
-older_row row older n low =
-    let apart : (size older == n) ≡ false = grind (arith, nat_tests, low) in
-    ap (λ is. elim is [ true ↦ Some row | false ↦ row_at older n ]) apart
 
 held_put : (b : Base) (e : ℕ) (name : List ℕ) (r : ℕ) (rows : Base) → ((n : ℕ) → n ≤ length rows → row_at b n ≡ row_at rows n)
     → holder (labels rows) name e ≡ Some r → is_put b name (history_of rows e) ≡ true
@@ -438,8 +407,8 @@ has_label b e version (Some label) name set = by (bytes_eq name label) refl (sta
     by : (same : Bool) → bytes_eq name label ≡ same → (is : Bool) → stands_on b e version label ≡ is
         → has name (put_one is label set) ≡ ((bytes_eq name label && stands_on b e version name) || has name set)
     by true at true stands =
-        has_put name label set ∙ or_first _ _ at
-        ∙ sym (or_first (bytes_eq name label && stands_on b e version name) (has name set)
+        has_put name label set ∙ or_left _ _ at
+        ∙ sym (or_left (bytes_eq name label && stands_on b e version name) (has name set)
         (ap₂ (λ (x y : Bool). x && y) at (ap (stands_on b e version) ((bytes_eq-Decides name label).0 at) ∙ stands)))
     by true at false stands =
         sym (ap₂ (λ (x y : Bool). (x && y) || has name set) at (ap (stands_on b e version) ((bytes_eq-Decides name label).0 at)
@@ -466,14 +435,6 @@ has_among b e version (n ∷ ns) name set =
     joined false true false before = refl
     joined false false stands before = refl
 
--- a label that stands on a version is held
-is_held : (version : ℕ) (found : Option ℕ) → is_number version found ≡ true → found ≡ Some version
-is_held version None h = absurd (cc)
-is_held version (Some other) h = ap Some (turned version other h)
-  where
-    turned : (one two : ℕ) → (one == two) ≡ true → two ≡ one
-    turned one two is = grind (arith, nat_tests, is)
-
 same_labels : (b : Base) (e version : ℕ) (name : List ℕ) → is_base b ≡ true →
     has name (put_among b e version (history_of b e) []) ≡ has name (where_key (slice_cmp nat_cmp) (stands_on b e version)
     (label_types b))
@@ -489,7 +450,7 @@ same_labels b e version name fits =
     by : (is : Bool) → stands_on b e version name ≡ is → ((is_put b name (history_of b e) && is) || false)
         ≡ (is && has name (label_types b))
     by true stands =
-        let held = is_held version (holder (labels b) name e) stands in
+        let held = number_found version (holder (labels b) name e) stands in
         let put : is_put b name (history_of b e) ≡ true = held_put b e name version b (λ n low. refl) held in
         let typed : has name (label_types b) ≡ true = (labels_typed b fits).typed name e version held in
         ap (λ x. (x && true) || false) put ∙ sym typed

@@ -9,6 +9,7 @@ use Rattle.cc_names.specs.declared.changes.TreeChange.TheVariants.{ElementMade, 
 use Rattle.cc_names.specs.declared.rows.Deed.{Deed}
 use Rattle.cc_names.specs.declared.rows.Deed.TheVariants as deeds
 use Rattle.cc_names.specs.declared.rows.Kind.TheVariants.{Directory}
+use Rattle.cc_names.proofs.Common.{and_first, same_number, number_found}
 use Rattle.base_model.specs.Changes.{tree, tree_after, with_checkin, with_version}
 use Rattle.base_model.specs.Closures.{is_version_of}
 use Rattle.base_model.specs.Conditions.{arrow_row, exists, has_branch, has_out, is_branch_type}
@@ -17,14 +18,9 @@ use Rattle.base_model.specs.Rows.{Base, size}
 use Rattle.base_model.specs.Views.{Checkout, out}
 use Rattle.legal_history.specs.Queries.Merges.{follows, is_arrow_between, is_branch_from, is_successor, leads}
 use Rattle.base_model.proofs.Below.{within}
-use Rattle.base_model.proofs.Owned.{and_first, row_fits, rows_below, third_of}
-use Rattle.base_model.proofs.VersionsStay.{of_element, parts_of}
-use Rattle.base_model.proofs.Tables.{same_number}
-use Rattle.vob_history.proofs.Predecessors.{branch_by, number_is}
-
-version_below : (b : Base) (e r : ℕ) → is_version_of b e r ≡ true → r < size b
-version_below b e r h = let p = of_element b e r h in let parts = parts_of (tree b) r p.0 p.1 in
-    (within b).numbers r parts.change parts.made
+use Rattle.base_model.proofs.Owned.{row_fits, rows_below, third_of}
+use Rattle.base_model.proofs.VersionRows.{version_below}
+use Rattle.vob_history.proofs.Predecessors.{branch_by}
 
 successor_below : (b : Base) (one two : ℕ) → is_successor b one two ≡ true → one < size b
 successor_below b one two h = by (change_at (tree b) one) refl h
@@ -84,7 +80,7 @@ are_below (row ∷ older) base = row_more older row.moment row.deed (row_fits ro
     (are_below older (rows_below row older base))
 
 branch_below : (b : Base) (one two : ℕ) → is_base b ≡ true → is_branch_from (tree b) one two ≡ true → one < size b
-branch_below b one two base h = (are_below b base).origins two one (number_is one (origin_of (tree b) two)
+branch_below b one two base h = (are_below b base).origins two one (number_found one (origin_of (tree b) two)
     (sym (branch_by b one two) ∙ h))
 
 arrow_source_below : (b : Base) (one two : ℕ) (deed : Deed) → deed_fits b deed ≡ true → leads one two deed ≡ true → one < size b

@@ -13,6 +13,7 @@ use Rattle.cc_names.specs.declared.changes.VersionId.{VersionId}
 use Rattle.cc_names.specs.declared.rows.Deed.{Deed}
 use Rattle.cc_names.specs.declared.rows.Deed.TheVariants as deeds
 use Rattle.cc_names.specs.declared.rows.Kind.TheVariants.{Directory}
+use Rattle.cc_names.proofs.Common.{same_test, number_found, found_passes, same_number}
 use Rattle.base_model.specs.Changes.{tree, tree_after, with_checkin, with_version}
 use Rattle.base_model.specs.Rows.{Base, size}
 use Rattle.base_model.specs.Views.{Checkout, out}
@@ -23,29 +24,10 @@ use Rattle.base_model.proofs.Origins.{newest_change}
 use Rattle.base_model.proofs.Owned.{same_is_same}
 use Rattle.base_model.proofs.TreesStay.{Adds, Nothing, One, adds_row}
 use Rattle.base_model.proofs.VersionsStay.{apart_below, parts_of}
-use Rattle.base_model.proofs.Tables.{same_number}
 use Rattle.vob_history.specs.Reached.{numbered_before, predecessor}
-
-pub both_ways : (s t : Bool) → (s ≡ true → t ≡ true) → (t ≡ true → s ≡ true) → s ≡ t
-both_ways true t one two = sym (one refl)
-both_ways false true one two = two refl
-both_ways false false one two = refl
-
-pub number_is : (n : ℕ) (found : Option ℕ) → is_number n found ≡ true → found ≡ Some n
-number_is n None h = absurd (cc)
-number_is n (Some m) h = ap Some (sym (same_number n m h))
 
 is_itself : (n : ℕ) (found : Option ℕ) → found ≡ Some n → is_number n found ≡ true
 is_itself n found h = ap (is_number n) h ∙ same_is_same n
-
-passes : {A : Type 0} (test : A → Bool) (xs : List A) (x : A) → find test xs ≡ Some x → test x ≡ true
-passes test [] x h = absurd (cc)
-passes test (y ∷ ys) x h = by (test y) refl h (passes test ys x)
-  where
-    by : (t : Bool) → test y ≡ t → cond t (Some y) (find test ys) ≡ Some x → (find test ys ≡ Some x → test x ≡ true)
-        → test x ≡ true
-    by true e h rest = let same : y ≡ x = cc in ap test (sym same) ∙ e
-    by false e h rest = rest h
 
 -- ---- the numbers of versions
 
@@ -121,7 +103,7 @@ row_of_number b r v h = by (change_at (tree b) r) h
     by (Some change) h =
         let branch = branch_of_change change in
         let stands = (all_stand b).stands branch (λ v. v.row == r) v h in
-        let row : v.row ≡ r = same_number v.row r (passes (λ v. v.row == r) (versions_on (tree b) branch) v h) in
+        let row : v.row ≡ r = same_number v.row r (found_passes (λ v. v.row == r) (versions_on (tree b) branch) v h) in
         ap (λ on. version_of_number (tree b) on v.number) stands.branch_is
         ∙ ap (option_map row_of_version) (has_number (tree b) branch (λ v. v.row == r) v h).found
         ∙ ap Some row
@@ -148,7 +130,7 @@ number_of_row b branch n r h = by (find (λ v. v.number == n) (versions_on (tree
           version = v;
           made = subst (λ k. version_at (tree b) k ≡ Some v) row at_row;
           on = stands.branch_is;
-          number = same_number v.number n (passes (λ v. v.number == n) (versions_on (tree b) branch) v found);
+          number = same_number v.number n (found_passes (λ v. v.number == n) (versions_on (tree b) branch) v found);
         }
 
 -- ---- the elements of branches
@@ -257,7 +239,7 @@ module _ (b : Base) (one two : ℕ) where
           → is_number one (predecessor (tree b) two) ≡ true
       by None at h = absurd (cc)
       by (Some v) at h =
-          let next = number_of_row b v.branch (suc v.number) two (number_is two
+          let next = number_of_row b v.branch (suc v.number) two (number_found two
           (version_of_number (tree b) v.branch (suc v.number)) h) in
           let id = has_id b two next.version next.made in
           is_itself one (predecessor (tree b) two)
@@ -266,7 +248,7 @@ module _ (b : Base) (one two : ℕ) where
           ∙ row_of_number b one v at)
 
   comes_next : is_number one (predecessor (tree b) two) ≡ true → is_successor b one two ≡ true
-  comes_next h = by (version_id (tree b) two) refl (number_is one (predecessor (tree b) two) h)
+  comes_next h = by (version_id (tree b) two) refl (number_found one (predecessor (tree b) two) h)
     where
       by_number : (v : Version) (n : ℕ) → version_at (tree b) two ≡ Some v → v.number ≡ n
           → numbered_before (tree b) v.branch n ≡ Some one → is_successor b one two ≡ true
@@ -291,7 +273,7 @@ module _ (b : Base) (one two : ℕ) where
 
   -- the version before another one is the one that has it as its successor
   pub successor_by : is_successor b one two ≡ is_number one (predecessor (tree b) two)
-  successor_by = both_ways (is_successor b one two) (is_number one (predecessor (tree b) two)) came_before comes_next
+  successor_by = same_test (is_successor b one two) (is_number one (predecessor (tree b) two)) came_before comes_next
 
 -- ---- where a branch leaves
 

@@ -8,21 +8,20 @@ use Rattle.std.proofs.lemmas.Map.Views.{length-le_from_below}
 use Rattle.std.specs.List.{All}
 use Rattle.std.specs.List.Sorted.{IsStrictlySortedBy}
 use Rattle.std.specs.Ordering.{nat_cmp}
+use Rattle.std.proofs.lemmas.Bool.{or_left, or_right}
 use Rattle.cc_names.specs.Versions.{is_number}
+use Rattle.cc_names.proofs.Common.{or_first_false, and_first, same_number}
 use Rattle.base_model.specs.Fits.{is_base}
 use Rattle.base_model.specs.Rows.{Base, size}
 use Rattle.legal_history.specs.Laws.BaseLaws.{ReachingIsByAWalkFound, ReachingIsByAWalkWalk}
 use Rattle.legal_history.specs.Queries.Merges.{Itself, Onward, Reaches, follows, is_in, reaches}
-use Rattle.base_model.proofs.Owned.{and_first, same_is_same}
-use Rattle.base_model.proofs.Either.{or_first, or_second}
-use Rattle.base_model.proofs.Tables.{same_number}
+use Rattle.base_model.proofs.Owned.{same_is_same}
 use Rattle.vob_history.specs.Reached.{AddsVersions}
 use Rattle.vob_history.specs.declared.reached.Walk.{Walk}
 use Rattle.vob_history.proofs.Leaders.{leader_below}
 
 -- What a walk back from a version has come to: the versions that it has seen reach the version, those that they follow it has
--- seen
--- too but for what it still goes on from, and the one that is looked for is none from which it has gone on.
+-- seen too but for what it still goes on from, and the one that is looked for is none from which it has gone on.
 pub record GoesBack (b : Base) (source target : ℕ) (walk : Walk) : Type 0 where
   pub target_seen : is_in target walk.seen.keys ≡ true
   pub reach : (n : ℕ) → is_in n walk.seen.keys ≡ true → Reaches b n target
@@ -38,14 +37,6 @@ or_cases : (P : Type 0) (a b : Bool) → (a || b) ≡ true → (a ≡ true → P
 or_cases P true b h one two = one refl
 or_cases P false b h one two = two h
 
-neither_first : (a b : Bool) → (a || b) ≡ false → a ≡ false
-neither_first true b h = absurd (cc)
-neither_first false b h = refl
-
-neither_second : (a b : Bool) → (a || b) ≡ false → b ≡ false
-neither_second true b h = absurd (cc)
-neither_second false b h = h
-
 and_true : (a b : Bool) → a ≡ true → b ≡ false → (a && not b) ≡ true
 and_true true false p q = refl
 and_true true true p q = absurd (cc)
@@ -55,8 +46,8 @@ and_true false b p q = absurd (cc)
 
 all_in : (P : ℕ → Type 0) (keys : List ℕ) → ((n : ℕ) → is_in n keys ≡ true → P n) → All P keys
 all_in P [] h = All-nil P
-all_in P (key ∷ keys) h = All-cons P key keys (h key (or_first (key == key) (is_in key keys) (same_is_same key)))
-    (all_in P keys (λ n is. h n (or_second (key == n) (is_in n keys) is)))
+all_in P (key ∷ keys) h = All-cons P key keys (h key (or_left (key == key) (is_in key keys) (same_is_same key)))
+    (all_in P keys (λ n is. h n (or_right (key == n) (is_in n keys) is)))
 
 row_or_last : (b : Base) (base : is_base b ≡ true) {n target : ℕ} → Reaches b n target → n < size b + suc target
 row_or_last b base Itself = omega arith
@@ -122,7 +113,7 @@ module _ (b : Base) (source target version : ℕ) (old popped : Walk) (h : GoesB
       or_none false = refl
 
   was_seen : is_in version old.seen.keys ≡ true
-  was_seen = h.seen version (left_is version ∙ or_second (is_in version popped.left.items) (version == version)
+  was_seen = h.seen version (left_is version ∙ or_right (is_in version popped.left.items) (version == version)
       (same_is_same version))
 
   -- the version that is looked for, once it comes to that
@@ -134,17 +125,17 @@ module _ (b : Base) (source target version : ℕ) (old popped : Walk) (h : GoesB
     seen_is n = g.seen n ∙ ap (λ keys. follows b n version || is_in n keys) kept
 
     stays_seen : (n : ℕ) → is_in n old.seen.keys ≡ true → is_in n new.seen.keys ≡ true
-    stays_seen n is = seen_is n ∙ or_second (follows b n version) (is_in n old.seen.keys) is
+    stays_seen n is = seen_is n ∙ or_right (follows b n version) (is_in n old.seen.keys) is
 
     new_is : (n : ℕ) → is_in n new.left.items ≡ (is_in n popped.left.items
         || (follows b n version && not (is_in n old.seen.keys)))
     new_is n = g.left n ∙ ap (λ keys. is_in n popped.left.items || (follows b n version && not (is_in n keys))) kept
 
     stays_left : (n : ℕ) → is_in n popped.left.items ≡ true → is_in n new.left.items ≡ true
-    stays_left n is = new_is n ∙ or_first (is_in n popped.left.items) (follows b n version && not (is_in n old.seen.keys)) is
+    stays_left n is = new_is n ∙ or_left (is_in n popped.left.items) (follows b n version && not (is_in n old.seen.keys)) is
 
     goes_left : (n : ℕ) → follows b n version ≡ true → is_in n old.seen.keys ≡ false → is_in n new.left.items ≡ true
-    goes_left n f was = new_is n ∙ or_second (is_in n popped.left.items) (follows b n version && not (is_in n old.seen.keys))
+    goes_left n f was = new_is n ∙ or_right (is_in n popped.left.items) (follows b n version && not (is_in n old.seen.keys))
         (and_true (follows b n version) (is_in n old.seen.keys) f was)
 
     still_reach : (n : ℕ) → is_in n new.seen.keys ≡ true → Reaches b n target
@@ -156,13 +147,13 @@ module _ (b : Base) (source target version : ℕ) (old popped : Walk) (h : GoesB
     gone_on c d is out f = by (is_in d old.seen.keys) (version == d) refl refl
       where
         not_left : is_in d popped.left.items ≡ false
-        not_left = neither_first (is_in d popped.left.items) (follows b d version && not (is_in d old.seen.keys)) (sym (new_is d)
+        not_left = or_first_false (is_in d popped.left.items) (follows b d version && not (is_in d old.seen.keys)) (sym (new_is d)
             ∙ out)
 
         by : (t s : Bool) → is_in d old.seen.keys ≡ t → (version == d) ≡ s → is_in c new.seen.keys ≡ true
         by true true was here =
             let same : d ≡ version = sym (same_number version d here) in
-            seen_is c ∙ or_first (follows b c version) (is_in c old.seen.keys) (subst (λ m. follows b c m ≡ true) same f)
+            seen_is c ∙ or_left (follows b c version) (is_in c old.seen.keys) (subst (λ m. follows b c m ≡ true) same f)
         by true false was here = stays_seen c (h.gone c d was (left_is d ∙ ap₂ (λ (x y : Bool). x || y) not_left here) f)
         by false s was here =
             let follows_it : follows b d version ≡ true = or_cases (follows b d version ≡ true) (follows b d version)
@@ -172,8 +163,8 @@ module _ (b : Base) (source target version : ℕ) (old popped : Walk) (h : GoesB
     left_seen : (n : ℕ) → is_in n new.left.items ≡ true → is_in n new.seen.keys ≡ true
     left_seen n is = or_cases (is_in n new.seen.keys ≡ true) (is_in n popped.left.items)
         (follows b n version && not (is_in n old.seen.keys)) (sym (new_is n) ∙ is)
-        (λ before. stays_seen n (h.seen n (left_is n ∙ or_first (is_in n popped.left.items) (version == n) before)))
-        (λ fresh. seen_is n ∙ or_first (follows b n version) (is_in n old.seen.keys)
+        (λ before. stays_seen n (h.seen n (left_is n ∙ or_left (is_in n popped.left.items) (version == n) before)))
+        (λ fresh. seen_is n ∙ or_left (follows b n version) (is_in n old.seen.keys)
         (and_first (follows b n version) (not (is_in n old.seen.keys)) fresh))
 
     still_left : is_in source new.seen.keys ≡ true → is_in source new.left.items ≡ true

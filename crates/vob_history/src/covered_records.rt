@@ -72,8 +72,7 @@ fn covers_text(alloc: Global, uncovered_path: Option<&Path>) -> Result<Text, NoM
 
 /// The text of `covers W V P`, whether view W sees each row on which the object that V holds at the path rests in the end, or its
 /// first refusal. Takes the time of `held_object`, and for each entry of the records on which the object rests that of `file_at`,
-/// each
-/// record once.
+/// each record once.
 pub fn covers(
     alloc: Global,
     rows: &FirstRows<'_>,

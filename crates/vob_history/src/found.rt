@@ -42,7 +42,8 @@ pub(crate) fn find_object(
     view: &Name,
     path: &Path,
 ) -> Result<u64, Or<Refusal>>
-    ensures { FindsObject result (for_object path.now (held_at (objects_held rows.now) view.now path.now)) }
+    ensures { FindsObject result
+        (for_object path.now (held_at (objects_held rows.now) view.now path.now)) }
 {
     match held_object(rows, view, path) {
         Some(object) => Ok(object),

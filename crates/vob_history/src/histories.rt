@@ -202,7 +202,8 @@ fn push_row(
     element: u64,
     number: u64,
 ) -> Result<(), NoMemory>
-    ensures { OnOk result (text.new.items ≡ text.old.items ++ history_row_lines rows.now element number) }
+    ensures { OnOk result
+        (text.new.items ≡ text.old.items ++ history_row_lines rows.now element number) }
 {
     let Some(row) = row_at(rows, number) else {
         return Ok(());

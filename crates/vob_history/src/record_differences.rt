@@ -162,7 +162,8 @@ fn push_listed(
 fn paths_of(alloc: Global, one: &[ReadOf], two: &[ReadOf]) -> Result<BTreeSet<Path>, NoMemory>
     ensures { IfOk result
         (λ paths. (path : List ℕ)
-        → is_path_among path paths.keys ≡ (is_path_read path one.now || is_path_read path two.now)) }
+        → is_path_among path paths.keys
+        ≡ (is_path_read path one.now || is_path_read path two.now)) }
 {
     let mut paths = BTreeSet::new(alloc);
     add_paths(alloc, &mut paths, two)?;

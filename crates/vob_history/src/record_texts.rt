@@ -36,7 +36,8 @@ fn push_targets(text: &mut Vec<u8>, targets: &[Path]) -> Result<(), NoMemory>
 /// Adds a line for each line of a script.
 fn push_script(text: &mut Vec<u8>, script: &[u8]) -> Result<(), NoMemory>
     ensures { OnOk result
-        (text.new.items ≡ text.old.items ++ concat (map recorded_script_line (lines_of script.now))) }
+        (text.new.items
+        ≡ text.old.items ++ concat (map recorded_script_line (lines_of script.now))) }
 {
     let mut lines = Lines::of(script);
     while let Some(line) = lines.next() {

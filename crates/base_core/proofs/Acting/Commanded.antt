@@ -12,12 +12,12 @@ use Rattle.cc_names.specs.declared.commands.Lane.{Lane}
 use Rattle.cc_names.specs.declared.commands.Phase.{Phase}
 use Rattle.cc_names.specs.declared.occasions.Next.TheVariants as nexts
 use Rattle.cc_names.specs.declared.rows.Tag.{Tag}
+use Rattle.cc_names.proofs.Common.{all_at}
 use Rattle.session_text.specs.Formed.{IsCommand, IsLane, IsPhase}
 use Rattle.legal_history.specs.Stories.Commanded.{next_command_of}
 use Rattle.legal_history.specs.Stories.States.{State, command_behind, next_tag}
 use Rattle.base_core.specs.Keeping.CoreInvariants.{command_limit}
 use Rattle.clearmake.specs.Nexts.{next_by, next_of_lane}
-use Rattle.base_core.proofs.Building.UnitRows.{all_at}
 
 -- what holds of all commands of all lanes holds of the one that is next
 in_lane : (Q : Lane → Type 0) (P : Command → Type 0) → ((lane : Lane) → Q lane → AllByRecursion P lane.commands)

@@ -1,5 +1,6 @@
 -- A row that may be committed fits the base.
 use Rattle.std.proofs.Common.{◌≡◌, ◌+◌, true, List, [], ◌∷◌, ◌++◌, ap, sym, ◌∙◌, arith}
+use Rattle.std.proofs.lemmas.Bool.{and_parts}
 use Rattle.cc_names.specs.Formed.{Plain}
 use Rattle.cc_names.specs.declared.steps.StoryStep.{StoryStep}
 use Rattle.cc_names.specs.declared.steps.StoryStep.TheVariants as story_steps
@@ -10,7 +11,6 @@ use Rattle.legal_history.specs.Stories.Steps.{state_of}
 use Rattle.legal_history.specs.Stories.Lawful.{Legal}
 use Rattle.legal_history.proofs.Stories.ConsistentStories.{base_fits}
 use Rattle.story_log.proofs.Story.Growing.{state_from-more, legal_more}
-use Rattle.story_log.proofs.Cases.{both}
 use Rattle.story_log.proofs.Logging.Rising.{rises_more}
 
 -- the base of the story with the row committed is a base
@@ -23,4 +23,4 @@ may_fits story row legal may =
     (record { may = may; ticked = rises_more (ticks_of s.opened s.ends) (ticks_of s.opened s.ends + 1) (omega arith) }) in
     let grown : is_base (row ∷ s.base) ≡ true = ap is_base (sym (ap (λ t. t.base) (state_from-more start story x)))
     ∙ base_fits (story ++ x ∷ []) more in
-    (both (fits s.base row.deed) (is_base s.base) grown).0
+    (and_parts (fits s.base row.deed) (is_base s.base) grown).0

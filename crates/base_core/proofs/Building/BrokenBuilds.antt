@@ -1,5 +1,5 @@
 -- What a core keeps, and how the story went on, where the disk failed under a lane's build, which ends with that.
-use Rattle.std.proofs.Common.{◌≡◌, ℕ, ◌-◌, ◌≤◌, true, false, Bool, ◌||◌, Option, Some, None, List, [], ◌∷◌, ◌++◌, append_assoc}
+use Rattle.std.proofs.Common.{◌≡◌, ℕ, ◌-◌, ◌≤◌, true, ◌||◌, Option, Some, None, List, [], ◌∷◌, ◌++◌, append_assoc}
 use Rattle.std.proofs.Common.{drop, length, set, refl, ap, sym, subst, ◌∙◌, arith}
 use Rattle.std.proofs.lemmas.List.{append-nil, set-set}
 use Rattle.std.specs.Ordering.{nat_cmp}
@@ -11,6 +11,8 @@ use Rattle.cc_names.specs.declared.rows.Tag.{Tag}
 use Rattle.cc_names.specs.declared.steps.Step.TheVariants as steps
 use Rattle.cc_names.specs.declared.steps.StoryStep.{StoryStep}
 use Rattle.cc_names.specs.declared.steps.StoryStep.TheVariants as story_steps
+use Rattle.base_model.proofs.Tables.{find_put_same}
+use Rattle.cc_names.proofs.Common.{or_true}
 use Rattle.build_core.specs.Slots.{numbered_slots}
 use Rattle.disk_model.specs.DiskStates.{DiskState}
 use Rattle.legal_history.specs.Builds.Active.{Build, build_of}
@@ -19,6 +21,7 @@ use Rattle.legal_history.specs.Stories.Committing.{LeavesRow, MayCommit}
 use Rattle.legal_history.specs.Stories.Lawful.{EndsBuild}
 use Rattle.legal_history.specs.Stories.States.{State, Faulted, start, done_of, with_done, next_tag, build_by, ticks_of, faults_of}
 use Rattle.legal_history.specs.Stories.Steps.{after, state_of, done_by_fault, faulted_in, without_build}
+use Rattle.legal_history.proofs.Stories.LaterSteps.{own_done}
 use Rattle.story_log.specs.Logging.Appending.{MayLeaveRow}
 use Rattle.base_core.specs.Calls.Building.{BuildInvariant}
 use Rattle.clearmake.specs.Going.{SamePhase, Finishes}
@@ -33,15 +36,11 @@ use Rattle.story_log.proofs.Story.Growing.{state_from-more}
 use Rattle.base_core.proofs.Keeping.PreservedBuilds.{same_rows}
 use Rattle.base_core.proofs.Keeping.PreservedReplies.{replies_more, replies_stay, replies_are_same}
 use Rattle.base_core.proofs.Keeping.PreservedSteps.{phase_stays, story_more}
-use Rattle.base_core.proofs.Keeping.LaneCounts.{done_same, done_other}
+use Rattle.base_core.proofs.Keeping.LaneCounts.{done_other}
 use Rattle.base_core.proofs.Keeping.LaneSets.{builds_count}
-use Rattle.base_core.proofs.Keeping.LaneSlots.{found_put, lane_slot}
+use Rattle.base_core.proofs.Keeping.LaneSlots.{lane_slot}
 use Rattle.story_log.proofs.Story.Naming.{left_named}
 use Rattle.base_core.proofs.Building.UnitRows.{Gives}
-
-either : (b : Bool) → (b || true) ≡ true
-either true = refl
-either false = refl
 
 -- a build under which the disk failed
 abbrev pub broken : Build → Build
@@ -81,7 +80,8 @@ preserved_broken log lanes now lane build row left before faults tick ghost_stat
     may formed = record {
       story = story_more failed end log.base ghost_state story_with_fault (record
           { lawful = subst (λ t. EndsBuild t tag) (sym state1) ends; names = tt; leads = story_with_fault.base });
-      phase = subst (λ t. PhaseInvariant t log.phases now) (sym state2) (phase_stays s (after s1 end) log.phases now h.phase same);
+      phase = subst (λ t. PhaseInvariant t log.phases now) (sym state2)
+          (phase_stays s (after s1 end) log.phases now h.phase same);
       replies = replies_more story' end lanes tag replies.DiskFault (record (lane_state lanes lane)
           { commands = drop 1 (commands_at lanes lane); replies = replies_at lanes lane ++ replies.DiskFault ∷ []; build = None })
           so_far low high
@@ -89,7 +89,8 @@ preserved_broken log lanes now lane build row left before faults tick ghost_stat
           ∙ ap (λ o. replies_of story' l ++ in_lane l tag (reply_to_end s.base o)) by_tag1)
           refl refl refl refl refl;
       builds = subst (λ t. AreBuilds t (builds_in (with_closed lanes lane replies.DiskFault))) (sym state2)
-          (builds_closed s (after s1 end) lanes lane replies.DiskFault h.builds low high same (same_rows s (after s1 end) refl) refl
+          (builds_closed s (after s1 end) lanes lane replies.DiskFault h.builds low high same (same_rows s (after s1 end) refl)
+          refl
           active);
     }
   where
@@ -121,7 +122,7 @@ preserved_broken log lanes now lane build row left before faults tick ghost_stat
     by_tag = build_is_by s lane build is kept.tag
 
     by_tag1 : build_by s1 tag ≡ Some (broken build)
-    by_tag1 = build_is_by s1 lane (broken build) (found_put lane (broken build) s.active) kept.tag
+    by_tag1 = build_is_by s1 lane (broken build) (find_put_same lane (broken build) s.active) kept.tag
 
     story_with_fault : StoryInvariant failed
     story_with_fault = story_more log fault log.base ghost_state h.story (record {
@@ -137,7 +138,7 @@ preserved_broken log lanes now lane build row left before faults tick ghost_stat
     })
 
     ends : EndsBuild s1 tag
-    ends = record { build = broken build; active = by_tag1; over = either (is_complete (broken build)) }
+    ends = record { build = broken build; active = by_tag1; over = or_true (is_complete (broken build)) }
 
     state1 : state_of story' ≡ s1
     state1 = state_from-more start log.story fault ∙ after_fault s lane build left before faults tick by_tag
@@ -170,7 +171,7 @@ broken_finishes log story lane build tag left before faults tick ghost_state sam
   grows = ap (λ t. (t ++ fault ∷ []) ++ end ∷ []) same ∙ append_assoc story (fault ∷ []) (end ∷ []);
   one = (ap (λ (t : Tag). t.lane) tagged, refl);
   phase = record { phase = ap (λ t. t.phase) state; number = ap (λ t. t.number) state; moment = ap (λ t. t.moment) state };
-  done = ap (λ t. done_of t.done lane) state ∙ done_same s.done lane;
+  done = ap (λ t. done_of t.done lane) state ∙ own_done s.done lane;
   others = λ other differs. ap (λ t. done_of t.done other) state ∙ done_other s.done lane other differs;
 }
   where

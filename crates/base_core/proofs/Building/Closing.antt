@@ -96,7 +96,7 @@ preserved_end log lanes now lane build h low high is over = record {
     by_tag = build_is_by s lane build is kept.tag
 
     replied : reply_to_end s.base (build_by s tag) ≡ Some reply
-    replied = ap (reply_to_end s.base) by_tag ∙ ap (λ f. Some (if f then replies.DiskFault else reply)) kept.sound
+    replied = ap (reply_to_end s.base) by_tag ∙ ap (λ f. Some (if f then replies.DiskFault else reply)) kept.faultless
 
     more : state_of (log.story ++ x ∷ []) ≡ after s x
     more = state_from-more start log.story x

@@ -11,6 +11,7 @@ use Rattle.legal_history.specs.Builds.Active.{Build, build_of}
 use Rattle.legal_history.specs.Stories.States.{State, start, done_of, with_done, next_tag}
 use Rattle.legal_history.specs.Stories.Steps.{state_of, without_build}
 use Rattle.legal_history.specs.Builds.Turns.{is_complete}
+use Rattle.legal_history.proofs.Stories.LaterSteps.{own_done}
 use Rattle.clearmake.specs.Calls.{IsOver}
 use Rattle.clearmake.specs.Going.{Finishes}
 use Rattle.base_core.specs.Keeping.CoreInvariants.{CoreInvariant}
@@ -19,7 +20,7 @@ use Rattle.story_log.specs.Logging.Logs.{Logged, with_step}
 use Rattle.base_core.proofs.Building.Closing.{preserved_end}
 use Rattle.story_log.proofs.Story.Growing.{state_from-more}
 use Rattle.story_log.proofs.Cases.{some_same}
-use Rattle.base_core.proofs.Keeping.LaneCounts.{done_same, done_other}
+use Rattle.base_core.proofs.Keeping.LaneCounts.{done_other}
 use Rattle.base_core.proofs.Keeping.LaneSlots.{lane_slot}
 
 -- what is kept
@@ -50,7 +51,7 @@ ended_finishes log story lane tag same tagged = record {
   grows = ap (λ t. t ++ x ∷ []) same;
   one = ap (λ (t : Tag). Some t.lane) tagged;
   phase = record { phase = ap (λ t. t.phase) state; number = ap (λ t. t.number) state; moment = ap (λ t. t.moment) state };
-  done = ap (λ t. done_of t.done lane) state ∙ done_same s.done lane;
+  done = ap (λ t. done_of t.done lane) state ∙ own_done s.done lane;
   others = λ other differs. ap (λ t. done_of t.done other) state ∙ done_other s.done lane other differs;
 }
   where

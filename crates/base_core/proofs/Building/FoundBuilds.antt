@@ -73,7 +73,7 @@ runs_so s lane n ran h = record {
     is_unit = h.is_unit;
     waits = ap is_outcome h.started;
   };
-  sound = h.kept.sound;
+  faultless = h.kept.faultless;
   started = h.started;
 }
 

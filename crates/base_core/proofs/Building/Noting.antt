@@ -30,7 +30,7 @@ noted_preserved s lane build n came h = record {
   from = h.from;
   rows = h.rows;
   formed = record { named = h.formed.named; units = h.formed.units; few = h.formed.few };
-  sound = h.sound;
+  faultless = h.faultless;
 }
 
 -- what is kept after a step by which a unit of a lane's build comes to something, without a row

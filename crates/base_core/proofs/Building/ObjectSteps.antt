@@ -8,6 +8,7 @@ use Rattle.cc_names.specs.declared.steps.StoryStep.{StoryStep}
 use Rattle.cc_names.specs.declared.steps.StoryStep.TheVariants as story_steps
 use Rattle.disk_model.specs.DiskStates.{DiskState}
 use Rattle.base_model.specs.Fits.{fits}
+use Rattle.base_model.proofs.Tables.{find_put_same}
 use Rattle.legal_history.specs.Builds.Active.{Build, Given, build_of, is_outcome}
 use Rattle.legal_history.specs.Laws.BuildLaws.{BuildIsConsistent}
 use Rattle.legal_history.specs.Stories.States.{State, start, ticks_of}
@@ -26,7 +27,7 @@ use Rattle.base_core.proofs.Building.UnitRows.{Gives, given_state, gives_so}
 use Rattle.story_log.proofs.Cases.{some_same}
 use Rattle.base_core.proofs.Keeping.PreservedBuilds.{more_rows}
 use Rattle.base_core.proofs.Keeping.PreservedSteps.{preserved_put}
-use Rattle.base_core.proofs.Keeping.LaneSlots.{lane_slot, found_put}
+use Rattle.base_core.proofs.Keeping.LaneSlots.{lane_slot}
 use Rattle.base_core.proofs.Keeping.Reserving.{rows_for}
 use Rattle.story_log.proofs.Story.Growing.{state_from-more}
 
@@ -95,7 +96,7 @@ object_goes story lane n row object tick g = (
     done = ap (λ t. t.done) state;
     still = λ build is. still build (some_same g.build build (sym g.active ∙ is));
   },
-  record { build = given; active = active; outcome = ap is_outcome (found_put n (Given object) g.build.comes) },
+  record { build = given; active = active; outcome = ap is_outcome (find_put_same n (Given object) g.build.comes) },
 )
   where
     s : State
@@ -111,7 +112,7 @@ object_goes story lane n row object tick g = (
     state = state_from-more start story x ∙ g.leaves tick
 
     active : build_of (state_of (story ++ x ∷ [])).active lane ≡ Some given
-    active = ap (λ t. build_of t.active lane) state ∙ found_put lane given s.active
+    active = ap (λ t. build_of t.active lane) state ∙ find_put_same lane given s.active
 
     still : (build : Build) → g.build ≡ build → BuildsOn (state_of (story ++ x ∷ [])) lane build
     still build e = subst (λ b. BuildsOn (state_of (story ++ x ∷ [])) lane b) e

@@ -8,10 +8,12 @@ use Rattle.cc_names.specs.declared.steps.Step.TheVariants as steps
 use Rattle.cc_names.specs.declared.steps.StoryStep.{StoryStep}
 use Rattle.cc_names.specs.declared.steps.StoryStep.TheVariants as story_steps
 use Rattle.base_model.specs.Rows.{size}
+use Rattle.base_model.proofs.Tables.{find_put_same}
 use Rattle.legal_history.specs.Builds.Active.{Build, build_of}
 use Rattle.legal_history.specs.Commands.Decisions.{Begins}
 use Rattle.legal_history.specs.Stories.States.{State, start, done_of, with_done, next_tag}
 use Rattle.legal_history.specs.Stories.Steps.{after, build_begun_by, state_of, with_build}
+use Rattle.legal_history.proofs.Stories.LaterSteps.{own_done}
 use Rattle.base_core.specs.Calls.Acting.{Acts, IsStepOf}
 use Rattle.clearmake.specs.Calls.{IsBuilding}
 use Rattle.base_core.specs.Calls.Building.{IsNextBuild}
@@ -21,8 +23,7 @@ use Rattle.base_core.specs.Keeping.Lanes.{LaneState, put_build}
 use Rattle.story_log.specs.Logging.Logs.{Logged, with_step}
 use Rattle.story_log.proofs.Story.Growing.{state_from-more}
 use Rattle.base_core.proofs.Keeping.Idle.{decided_is_free, not_both}
-use Rattle.base_core.proofs.Keeping.LaneCounts.{done_same, done_other}
-use Rattle.base_core.proofs.Keeping.LaneSlots.{found_put}
+use Rattle.base_core.proofs.Keeping.LaneCounts.{done_other}
 use Rattle.base_core.proofs.Building.BuildBegins.{preserved_begin}
 
 -- what is kept where a build begins
@@ -58,7 +59,7 @@ opened_so log rows count story tag build same next tagged = (
   record {
     build = build;
     active = ap (λ t. build_of t.active build.tag.lane) state
-        ∙ found_put build.tag.lane build s.active;
+        ∙ find_put_same build.tag.lane build s.active;
     of_units = refl;
     few = next.kept.formed.few;
   },
@@ -92,7 +93,7 @@ step_finishes old new lane step e own phase number moment done =
             ∙ number;
         moment = ap (λ t. t.moment) state ∙ moment;
       };
-      done = ap (λ t. done_of t.done lane) state ∙ ap (λ d. done_of d lane) done ∙ done_same (state_of old).done lane;
+      done = ap (λ t. done_of t.done lane) state ∙ ap (λ d. done_of d lane) done ∙ own_done (state_of old).done lane;
       others = λ other differs. ap (λ t. done_of t.done other) state ∙ ap (λ d. done_of d other) done
           ∙ done_other (state_of old).done lane other differs;
     }

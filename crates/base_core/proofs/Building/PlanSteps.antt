@@ -29,14 +29,14 @@ use Rattle.base_core.proofs.Acting.NextCommands.{in_phase, next_is}
 pub record IsNew (tag : Tag) (rows : ℕ) (build : Build) : Type 0 where
   pub tagged : build.tag ≡ tag
   pub at_rows : build.rows ≡ rows
-  pub sound : build.faulted ≡ false
+  pub faultless : build.faulted ≡ false
 
 new_is : (tag : Tag) (rows : ℕ) (units : List Unit) (asked : Clearmake) (build : Build) → build ≡ build_asked tag rows units asked
     → IsNew tag rows build
 new_is tag rows units asked build e = record {
   tagged = ap (λ (b : Build). b.tag) e;
   at_rows = ap (λ (b : Build). b.rows) e;
-  sound = ap (λ (b : Build). b.faulted) e;
+  faultless = ap (λ (b : Build). b.faulted) e;
 }
 
 -- what was planned, where the tag is that of the lane's next command
@@ -61,7 +61,7 @@ planned s lane asked (Ok build) free waiting e plans formed room =
       from = omega (arith, new.at_rows);
       rows = omega (arith, new.at_rows);
       formed = formed;
-      sound = new.sound;
+      faultless = new.faultless;
     } in (
       record {
         of_next = record {

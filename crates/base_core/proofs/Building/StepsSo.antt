@@ -39,7 +39,7 @@ opens : (s : State) (lane n : ℕ) (build : Build) (unit : Unit) → BuildInvari
     → unit_steps.IsUnitOpen (first_rows build.rows s.base) build unit → IsOpen s (next_tag s lane) n build unit
 opens s lane n build unit kept active is waits runs = record {
   waits = waiting_unit s lane n build unit kept active is waits;
-  sound = kept.sound;
+  faultless = kept.faultless;
   ready = runs.ready;
   runs = runs.runs;
 }
@@ -93,7 +93,7 @@ steps_so s b lane n build step kept active within consistent same h = here step
             build = build;
             unit = h.unit;
             waits = waiting_unit s lane n build h.unit kept active h.is_unit h.waits;
-            sound = kept.sound;
+            faultless = kept.faultless;
             ready = h.next.ready;
             ends = h.next.ends;
           });
@@ -159,7 +159,7 @@ steps_so s b lane n build step kept active within consistent same h = here step
         unit = h.unit;
         running = record {
           waits = waiting_unit s lane n build h.unit kept active h.is_unit h.waits;
-          sound = kept.sound;
+          faultless = kept.faultless;
           started = h.next.started;
         };
         fails = ap (λ read. (carried_out (λ path. text_of_row s.base path (visible s.base build n h.unit path))

@@ -3,10 +3,12 @@ use Rattle.std.proofs.Common.{◌≡◌, ◌≢◌, ℕ, ◌⊎◌, inl, inr, Bo
 use Rattle.std.proofs.lemmas.List.{append-nil}
 use Rattle.std.specs.Ordering.{nat_cmp}
 use Rattle.std.specs.FinMap.Entries.{put}
+use Rattle.std.proofs.lemmas.Bool.{cases_eq}
 use Rattle.cc_names.specs.declared.replies.Reply.{Reply}
 use Rattle.cc_names.specs.declared.steps.Step.{Step}
 use Rattle.cc_names.specs.declared.steps.StoryStep.{StoryStep}
 use Rattle.cc_names.specs.declared.steps.StoryStep.TheVariants as story_steps
+use Rattle.base_model.proofs.Tables.{find_put_same}
 use Rattle.legal_history.specs.Builds.Active.{Build, Came, build_of, came_to, is_outcome}
 use Rattle.legal_history.specs.Stories.States.{State, start}
 use Rattle.legal_history.specs.Stories.Steps.{state_of, with_came}
@@ -19,8 +21,7 @@ use Rattle.base_core.specs.Story.Replying.{replies_after, replies_by, replies_of
 use Rattle.story_log.specs.Story.Telling.{stands_alone}
 use Rattle.story_log.proofs.Story.Growing.{state_from-more}
 use Rattle.story_log.proofs.Cases.{some_same}
-use Rattle.base_core.proofs.Keeping.LaneCounts.{one_or_two}
-use Rattle.base_core.proofs.Keeping.LaneSlots.{lane_slot, found_put, found_else}
+use Rattle.base_core.proofs.Keeping.LaneSlots.{lane_slot, found_else}
 use Rattle.base_core.proofs.Building.Noting.{preserved_note}
 
 -- the replies after a step that names no phase
@@ -43,12 +44,12 @@ preserved_noted log lanes more now story lane n step came same h notes set_so =
     subst (λ ls. CoreInvariant (with_step log step) ls now) (sym (set_so here.build slot.held))
     (preserved_note log lanes now step lane n here.build came h slot.from slot.upto here.active here.lawful here.leaves
     (λ l. replies_alone (state_of log.story) step (replies_of log.story) l here.alone
-    ∙ ap (λ more. replies_of log.story l ++ more) (here.silent l) ∙ append-nil (replies_of log.story l)) here.sound)
+    ∙ ap (λ more. replies_of log.story l ++ more) (here.silent l) ∙ append-nil (replies_of log.story l)) here.faultless)
 
 -- a unit's outcomes after it was noted
 pub outcome_noted : (build : Build) (n m : ℕ) (came : Came) → is_outcome (came_to build n) ≡ false
     → is_outcome (came_to build m) ≡ true → is_outcome (came_to (with_came build (Some n) came) m) ≡ true
-outcome_noted build n m came waits over = by (one_or_two m n)
+outcome_noted build n m came waits over = by (cases_eq m n)
   where
     by : (m ≡ n) ⊎ (m ≢ n) → is_outcome (came_to (with_came build (Some n) came) m) ≡ true
     by (inl e) = absurd (let here : is_outcome (came_to build n) ≡ true = ap (λ k. is_outcome (came_to build k)) (sym e) ∙ over in
@@ -69,7 +70,7 @@ noted_so log story lane n step came same notes = record {
   };
   build = noted;
   active = active;
-  came_to_it = found_put n came notes.build.comes;
+  came_to_it = find_put_same n came notes.build.comes;
 }
   where
     s : State
@@ -83,7 +84,7 @@ noted_so log story lane n step came same notes = record {
         ∙ notes.leaves
 
     active : build_of (state_of (log.story ++ story_steps.Other step ∷ [])).active lane ≡ Some noted
-    active = ap (λ t. build_of t.active lane) state ∙ found_put lane noted s.active
+    active = ap (λ t. build_of t.active lane) state ∙ find_put_same lane noted s.active
 
     still : (build : Build) → notes.build ≡ build → BuildsOn (state_of (log.story ++ story_steps.Other step ∷ [])) lane build
     still build e = subst (λ b. BuildsOn (state_of (log.story ++ story_steps.Other step ∷ [])) lane b) e

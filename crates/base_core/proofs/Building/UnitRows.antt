@@ -1,12 +1,10 @@
 -- The rows that give a unit of a lane's build an object: each may be committed, and leaves the unit with that object.
-use Rattle.std.proofs.Common.{◌≡◌, ◌≢◌, ℕ, zero, suc, ◌<◌, ◌||◌, inl, inr, true, false, Some, None, Result, Ok, Err, List, []}
+use Rattle.std.proofs.Common.{◌≡◌, ◌≢◌, ℕ, ◌<◌, ◌||◌, inl, inr, true, false, Some, None, Result, Ok, Err, List, []}
 use Rattle.std.proofs.Common.{◌∷◌, length, refl, ap, sym, subst, ◌∙◌}
 use Rattle.std.proofs.lemmas.Option.{slice_get_within}
 use Rattle.std.proofs.lemmas.Slice.Eq.{bytes_eq-Decides}
-use Rattle.std.specs.List.{AllByRecursion}
 use Rattle.std.specs.Ordering.{nat_cmp}
 use Rattle.std.specs.FinMap.Entries.{put}
-use Rattle.std.specs.Prelude.{slice_get}
 use Rattle.cc_names.specs.Formed.{Plain}
 use Rattle.cc_names.specs.declared.refusals.ScriptFault.{ScriptFault}
 use Rattle.cc_names.specs.declared.rows.Deed.{Deed}
@@ -15,6 +13,7 @@ use Rattle.cc_names.specs.declared.rows.ReadOf.{ReadOf}
 use Rattle.cc_names.specs.declared.rows.Tag.{Tag}
 use Rattle.cc_names.specs.declared.steps.StoryStep.TheVariants as story_steps
 use Rattle.cc_names.specs.declared.units.Unit.{Unit}
+use Rattle.cc_names.proofs.Common.{all_at}
 use Rattle.build_core.specs.BuildForms.{IsUnitFormed}
 use Rattle.base_model.specs.Changes.{targets_of}
 use Rattle.base_model.specs.Closures.{is_path_among}
@@ -54,12 +53,6 @@ pub record Gives (s : State) (lane n : ℕ) (row : Plain) (object : ℕ) : Type 
   pub may : MayCommit s row
   pub leaves : (tick : ℕ) → after s (story_steps.Commit row tick) ≡ given_state s lane n build row object tick
   pub silent : reply_to_row (row ∷ s.base) row.deed ≡ None
-
--- a list that holds at each place holds at this one
-pub all_at : {A : Type 0} (P : A → Type 0) (xs : List A) (n : ℕ) (x : A) → AllByRecursion P xs → slice_get xs n ≡ Some x → P x
-all_at P [] n x all e = absurd (cc)
-all_at P (y ∷ ys) zero x all e = subst P (some_same y x e) all.0
-all_at P (y ∷ ys) (suc n) x all e = all_at P ys n x all.1 e
 
 -- the unit with a unit's first target is that unit
 first_place : (b : Base) (build : Build) (n : ℕ) (unit : Unit) (targets : List (List ℕ)) → IsConsistent b build
@@ -135,7 +128,7 @@ published_gives s lane n row h kept consistent = record {
           is_unit = h.is_unit;
           waits = ap is_outcome h.started;
         };
-        sound = kept.sound;
+        faultless = kept.faultless;
         started = h.started;
       };
       nothing = h.nothing;

@@ -2,7 +2,7 @@
 use Rattle.std.proofs.Common.{◌≡◌, ℕ, zero, suc, ◌+◌, ◌==◌, Bool, true, false, ◌&&◌, Option, Some, None, Result, List, [], ◌∷◌}
 use Rattle.std.proofs.Common.{length, refl, ap, sym, subst, ◌∙◌, arith}
 use Rattle.std.specs.Prelude.{IsSome, option_and_then, option_map, is_none, slice_get}
-use Rattle.std.proofs.lemmas.Bool.{eqb-true}
+use Rattle.std.proofs.lemmas.Bool.{eqb-true, and_parts}
 use Rattle.std.proofs.lemmas.Option.{slice_get_past}
 use Rattle.cc_names.specs.Commands.{lane_at}
 use Rattle.cc_names.specs.declared.commands.Command.{Command}
@@ -19,12 +19,12 @@ use Rattle.legal_history.specs.Stories.Commanded.{next_command_of}
 use Rattle.legal_history.specs.Stories.States.{State, scene, done_of, command_behind, lanes_done, all_done, same_tag, next_tag}
 use Rattle.legal_history.specs.Stories.States.{decision_for}
 use Rattle.legal_history.specs.Stories.Steps.{state_of}
+use Rattle.legal_history.proofs.Builds.CommandStays.{none_left}
 use Rattle.base_core.specs.Keeping.CoreInvariants.{CoreInvariant}
 use Rattle.base_core.specs.Keeping.Lanes.{LaneState, builds_in}
 use Rattle.story_log.specs.Logging.Logs.{Logged}
 use Rattle.clearmake.specs.Nexts.{next_by, next_of_lane}
 use Rattle.build_core.proofs.SlotLaws.{find_numbered}
-use Rattle.story_log.proofs.Cases.{both}
 
 -- nothing is not something
 pub not_both : {A : Type 0} (found : Option A) (a : A) → found ≡ None → found ≡ Some a → ⊥
@@ -36,22 +36,14 @@ none_behind : (done : List (ℕ × ℕ)) (n i : ℕ) (lanes : List Lane) → lan
 none_behind done n i [] h = refl
 none_behind done n zero (lane ∷ lanes) h =
     let finished : done_of done n ≡ length lane.commands = eqb-true (done_of done n) (length lane.commands)
-    (both (done_of done n == length lane.commands) (lanes_done done (n + 1) lanes) h).0 in
+    (and_parts (done_of done n == length lane.commands) (lanes_done done (n + 1) lanes) h).0 in
     let here : n + 0 ≡ n = omega arith in
     ap (λ m. slice_get lane.commands (done_of done m)) here ∙ slice_get_past lane.commands (done_of done n)
     (omega (arith, finished))
 none_behind done n (suc i) (lane ∷ lanes) h =
     let there : n + suc i ≡ (n + 1) + i = omega arith in
     ap (λ m. option_and_then (command_behind (done_of done m)) (slice_get lanes i)) there
-    ∙ none_behind done (n + 1) i lanes (both (done_of done n == length lane.commands) (lanes_done done (n + 1) lanes) h).1
-
--- where each command is finished, no lane waits for one
-pub none_waits : (s : State) (lane : ℕ) → all_done s ≡ true → next_command_of s lane ≡ None
-none_waits s zero h = refl
-none_waits s (suc i) h =
-    let here : suc i ≡ 1 + i = omega arith in
-    ap (λ n. option_and_then (command_behind (done_of s.done n)) (slice_get s.phase.lanes i)) here
-    ∙ none_behind s.done 1 i s.phase.lanes h
+    ∙ none_behind done (n + 1) i lanes (and_parts (done_of done n == length lane.commands) (lanes_done done (n + 1) lanes) h).1
 
 -- slots that hold nothing have no numbers
 none_numbered : {A : Type 0} (k : ℕ) (slots : List (Option A)) → ((i : ℕ) → held_in slots i ≡ None) → numbered_slots k slots ≡ []
@@ -80,7 +72,7 @@ nobody_builds log lanes now h finished = h.builds.active ∙ none_numbered 1 bui
         kept.waits in
         let done : next_of_lane (state_of log.story) (suc i) ≡ nexts.Done =
         ap (λ command. next_by command (next_tag (state_of log.story) (suc i)))
-        (none_waits (state_of log.story) (suc i) finished) in
+        (none_left (state_of log.story) (suc i) finished) in
         absurd (cc)
 
 -- a lane that is to act does not build

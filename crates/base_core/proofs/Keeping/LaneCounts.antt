@@ -1,23 +1,15 @@
 -- How many commands the lanes have finished, and the reply to one more.
-use Rattle.std.proofs.Common.{◌≡◌, ◌≢◌, ℕ, ◌+◌, ◌==◌, ◌⊎◌, inl, inr, Bool, true, false, cond, Some, List, [], ◌∷◌, refl, ap, ◌∙◌}
+use Rattle.std.proofs.Common.{◌≡◌, ◌≢◌, ℕ, ◌+◌, ◌==◌, ◌⊎◌, true, false, cond, Some, List, [], ◌∷◌, refl, ap, ◌∙◌}
 use Rattle.std.proofs.Common.{arith}
 use Rattle.std.specs.Ordering.{nat_cmp, eq_by_cmp}
 use Rattle.std.specs.FinMap.Entries.{find, find-put}
 use Rattle.std.specs.Prelude.{unwrap_or}
 use Rattle.std.proofs.lemmas.Cmp.{nat_cmp_total}
-use Rattle.std.proofs.lemmas.Bool.{eqb-true}
 use Rattle.std.proofs.lemmas.Bool.Decides.{nat_tests}
 use Rattle.cc_names.specs.declared.replies.Reply.{Reply}
 use Rattle.cc_names.specs.declared.rows.Tag.{Tag}
 use Rattle.legal_history.specs.Stories.States.{done_of, with_done}
 use Rattle.base_core.specs.Story.Replying.{in_lane}
-
--- how many commands the lane has finished then
-pub done_same : (done : List (ℕ × ℕ)) (lane : ℕ) → done_of (with_done done lane) lane ≡ done_of done lane + 1
-done_same done lane =
-    let same : eq_by_cmp nat_cmp lane lane ≡ true = grind (arith, nat_tests) in
-    ap (λ found. unwrap_or found 0) (find-put nat_cmp nat_cmp_total lane lane (done_of done lane + 1) done
-    ∙ ap (λ is. cond is (Some (done_of done lane + 1)) (find nat_cmp lane done)) same)
 
 -- the other lanes have finished what they had
 pub done_other : (done : List (ℕ × ℕ)) (lane other : ℕ) → other ≢ lane → done_of (with_done done lane) other ≡ done_of done other
@@ -36,11 +28,3 @@ pub in_other : (tag : Tag) (lane other : ℕ) (reply : Reply) → tag.lane ≡ l
 in_other tag lane other reply e differs =
     let apart : (tag.lane == other) ≡ false = grind (arith, nat_tests) in
     rw (apart, in_lane) refl
-
--- two lanes are one or they differ
-pub one_or_two : (a b : ℕ) → (a ≡ b) ⊎ (a ≢ b)
-one_or_two a b = by_test (a == b) refl
-  where
-    by_test : (is : Bool) → (a == b) ≡ is → (a ≡ b) ⊎ (a ≢ b)
-    by_test true e = inl (eqb-true a b e)
-    by_test false e = inr (λ same. absurd (grind (arith, nat_tests)))

@@ -2,18 +2,18 @@
 use Rattle.std.proofs.Common.{◌≡◌, ◌≢◌, ℕ, zero, suc, ◌-◌, ◌<◌, ◌≤◌, ◌⊎◌, inl, inr, Option, None, List, [], ◌∷◌, length, get_or}
 use Rattle.std.proofs.Common.{set, refl, ap, sym, ◌∙◌, arith}
 use Rattle.std.proofs.lemmas.List.{get_or-set_same, get_or-set_other, length-map, map-set, set-get_or}
+use Rattle.std.proofs.lemmas.Bool.{cases_eq}
 use Rattle.build_core.specs.Slots.{numbered_slots, held_in}
 use Rattle.legal_history.specs.Builds.Active.{Build, build_of}
 use Rattle.cc_names.specs.declared.commands.Command.{Command}
 use Rattle.cc_names.specs.declared.replies.Reply.{Reply}
 use Rattle.base_core.specs.Keeping.Lanes.{LaneState, no_lane, lane_state, builds_in, put_build}
 use Rattle.build_core.proofs.SlotLaws.{find_numbered}
-use Rattle.base_core.proofs.Keeping.LaneCounts.{one_or_two}
 
 -- what a lane that was set has in common with the one before it, all lanes keep
 pub shared : {A : Type 0} (f : LaneState → A) (lanes : List LaneState) (i j : ℕ) (lane : LaneState) → i < length lanes
     → f lane ≡ f (get_or lanes i no_lane) → f (get_or (set lanes i lane) j no_lane) ≡ f (get_or lanes j no_lane)
-shared {A} f lanes i j lane within same = by (one_or_two j i)
+shared {A} f lanes i j lane within same = by (cases_eq j i)
   where
     by : (j ≡ i) ⊎ (j ≢ i) → f (get_or (set lanes i lane) j no_lane) ≡ f (get_or lanes j no_lane)
     by (inl e) = ap (λ k. f (get_or (set lanes i lane) k no_lane)) e ∙ ap f (get_or-set_same lanes i lane no_lane within) ∙ same

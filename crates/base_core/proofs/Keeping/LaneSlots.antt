@@ -102,12 +102,6 @@ has_room log lanes now (suc n) h waits = by (slice_get s.phase.lanes n) refl wai
     by None is some = absurd (cc)
     by (Some one) is some = behind one is (slice_get one.commands done) refl some
 
--- what is found at a number that was put, and at another
-pub found_put : {A : Type 0} (n : ℕ) (a : A) (entries : List (ℕ × A)) → find nat_cmp n (put nat_cmp n a entries) ≡ Some a
-found_put n a entries =
-    let same : eq_by_cmp nat_cmp n n ≡ true = grind (arith, nat_tests) in
-    find-put nat_cmp nat_cmp_total n n a entries ∙ ap (λ is. cond is (Some a) (find nat_cmp n entries)) same
-
 pub found_else : {A : Type 0} (n m : ℕ) (a : A) (entries : List (ℕ × A)) → m ≢ n
     → find nat_cmp m (put nat_cmp n a entries) ≡ find nat_cmp m entries
 found_else n m a entries differs =

@@ -2,6 +2,7 @@
 use Rattle.std.proofs.Common.{◌≡◌, ◌≢◌, ℕ, ◌+◌, ◌-◌, ◌≤◌, ◌⊎◌, inl, inr, Option, Some, List, ◌∷◌, length, set, ap, sym, subst}
 use Rattle.std.proofs.Common.{◌∙◌, arith}
 use Rattle.std.proofs.lemmas.List.{length-set}
+use Rattle.std.proofs.lemmas.Bool.{cases_eq}
 use Rattle.cc_names.specs.Formed.{Plain}
 use Rattle.build_core.specs.Slots.{numbered_slots, held_in}
 use Rattle.base_model.specs.Fits.{row_limit}
@@ -11,7 +12,6 @@ use Rattle.legal_history.specs.Stories.States.{State, done_of}
 use Rattle.base_core.specs.Calls.Building.{BuildInvariant}
 use Rattle.clearmake.specs.Going.{SamePhase}
 use Rattle.base_core.specs.Keeping.CoreInvariants.{AreBuilds}
-use Rattle.base_core.proofs.Keeping.LaneCounts.{one_or_two}
 use Rattle.base_core.proofs.Keeping.Reserving.{found_set, found_other, reserved_set, rows_for}
 use Rattle.base_core.proofs.Keeping.Staying.{build_stays}
 
@@ -54,7 +54,7 @@ pub builds_put : (s t : State) (builds : List (Option Build)) (lane : ℕ) (buil
 builds_put s t builds lane build h low high same rows done active kept room = record {
   count = length-set builds (lane - 1) build ∙ h.count ∙ ap (λ p. length p.lanes) (sym same.phase);
   active = active;
-  kept = λ other found is. by other found (one_or_two other lane) is;
+  kept = λ other found is. by other found (cases_eq other lane) is;
   reserves = omega (
     arith,
     room,

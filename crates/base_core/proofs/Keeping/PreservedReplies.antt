@@ -2,6 +2,7 @@
 use Rattle.std.proofs.Common.{◌≡◌, ◌≢◌, ℕ, zero, suc, ◌+◌, ◌-◌, ◌≤◌, ◌⊎◌, inl, inr, Some, List, [], ◌∷◌, ◌++◌, length}
 use Rattle.std.proofs.Common.{length-append, set, drop, drop-drop, refl, ap, sym, subst, ◌∙◌, arith}
 use Rattle.std.proofs.lemmas.List.{append-nil, length-set, get_or-set_same, get_or-set_other}
+use Rattle.std.proofs.lemmas.Bool.{cases_eq}
 use Rattle.cc_names.specs.Commands.{lane_at}
 use Rattle.cc_names.specs.declared.commands.Lane.{Lane}
 use Rattle.cc_names.specs.declared.replies.Reply.{Reply}
@@ -9,12 +10,13 @@ use Rattle.cc_names.specs.declared.rows.Tag.{Tag}
 use Rattle.cc_names.specs.declared.steps.StoryStep.{StoryStep}
 use Rattle.legal_history.specs.Stories.States.{start, done_of, with_done}
 use Rattle.legal_history.specs.Stories.Steps.{after, state_of}
+use Rattle.legal_history.proofs.Stories.LaterSteps.{own_done}
 use Rattle.base_core.specs.Keeping.CoreInvariants.{AreReplies}
 use Rattle.base_core.specs.Keeping.Lanes.{LaneState, no_lane, commands_at, replies_at, room_at}
 use Rattle.base_core.specs.Story.Replying.{in_lane, replies_after, replies_of, no_replies}
 use Rattle.story_log.proofs.Story.Growing.{state_from-more}
 use Rattle.base_core.proofs.Story.Growing.{replies_from-more}
-use Rattle.base_core.proofs.Keeping.LaneCounts.{done_same, done_other, in_same, in_other, one_or_two}
+use Rattle.base_core.proofs.Keeping.LaneCounts.{done_other, in_same, in_other}
 use Rattle.base_core.proofs.Keeping.LaneSets.{shared}
 
 -- a step with which one lane finishes a command
@@ -28,14 +30,14 @@ pub replies_more : (story : List StoryStep) (x : StoryStep) (lanes : List LaneSt
     → AreReplies (story ++ x ∷ []) (set lanes (tag.lane - 1) kept)
 replies_more story x lanes tag reply kept h low high said done phase replies_are room_is commands_are = record {
   count = length-set lanes (tag.lane - 1) kept ∙ h.count ∙ ap (λ p. length p.lanes) (sym same_phase);
-  replies = λ l from upto. by l from upto (one_or_two l tag.lane);
-  done = λ l. counted l (one_or_two l tag.lane);
+  replies = λ l from upto. by l from upto (cases_eq l tag.lane);
+  done = λ l. counted l (cases_eq l tag.lane);
   room = λ l one is. omega (
     arith,
     h.room l one (ap (λ p. lane_at p l) (sym same_phase) ∙ is),
     shared (λ lane. lane.room) lanes (tag.lane - 1) (l - 1) kept (omega arith) room_is,
   );
-  left = λ l one is. still l one (ap (λ p. lane_at p l) (sym same_phase) ∙ is) (one_or_two l tag.lane);
+  left = λ l one is. still l one (ap (λ p. lane_at p l) (sym same_phase) ∙ is) (cases_eq l tag.lane);
 }
   where
     more : List StoryStep
@@ -68,7 +70,7 @@ replies_more story x lanes tag reply kept h low high said done phase replies_are
 
     counted : (l : ℕ) → (l ≡ tag.lane) ⊎ (l ≢ tag.lane) → done_of (state_of more).done l ≡ length (replies_of more l)
     counted l (inl e) = ap (done_of (state_of more).done) e ∙ ap (λ d. done_of d tag.lane) state
-        ∙ done_same (state_of story).done tag.lane ∙ ap (λ n. n + 1) (h.done tag.lane)
+        ∙ own_done (state_of story).done tag.lane ∙ ap (λ n. n + 1) (h.done tag.lane)
         ∙ sym (ap length same ∙ length-append (replies_of story tag.lane) (reply ∷ []))
         ∙ ap (λ k. length (replies_of more k)) (sym e)
     counted l (inr differs) = ap (λ d. done_of d l) state ∙ done_other (state_of story).done tag.lane l differs ∙ h.done l
@@ -82,7 +84,7 @@ replies_more story x lanes tag reply kept h low high said done phase replies_are
         ∙ ap (drop 1) (h.left tag.lane one (ap (lane_at (state_of story).phase) (sym e) ∙ is))
         ∙ drop-drop 1 (done_of (state_of story).done tag.lane) one.commands
         ∙ ap (λ k. drop k one.commands) (sym (ap (λ d. done_of d (suc n)) state
-        ∙ ap (done_of (with_done (state_of story).done tag.lane)) e ∙ done_same (state_of story).done tag.lane))
+        ∙ ap (done_of (with_done (state_of story).done tag.lane)) e ∙ own_done (state_of story).done tag.lane))
     still (suc n) one is (inr differs) = ap (λ lane. lane.commands) (get_or-set_other lanes (tag.lane - 1) (suc n - 1) kept
         no_lane (λ e. differs (omega arith)))
         ∙ h.left (suc n) one is ∙ ap (λ k. drop k one.commands) (sym (ap (λ d. done_of d (suc n)) state

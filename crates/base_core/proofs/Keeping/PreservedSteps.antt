@@ -1,5 +1,5 @@
 -- What a core keeps after one more step of its story: one lemma for each kind of step.
-use Rattle.std.proofs.Common.{◌≡◌, ℕ, ◌+◌, ◌-◌, ◌≤◌, true, Some, None, List, [], ◌∷◌, ◌++◌, drop, length, set, refl, ap, sym}
+use Rattle.std.proofs.Common.{◌≡◌, ℕ, ◌+◌, ◌-◌, ◌≤◌, Some, None, List, [], ◌∷◌, ◌++◌, drop, length, set, refl, ap, sym}
 use Rattle.std.proofs.Common.{subst, ◌∙◌, arith}
 use Rattle.std.specs.FinMap.Entries.{put}
 use Rattle.std.specs.Ordering.{nat_cmp}
@@ -7,9 +7,7 @@ use Rattle.std.specs.Prelude.{is_some}
 use Rattle.cc_names.specs.declared.commands.Phase.{Phase}
 use Rattle.cc_names.specs.declared.replies.Reply.{Reply}
 use Rattle.cc_names.specs.declared.rows.Tag.{Tag}
-use Rattle.cc_names.specs.declared.steps.Step.TheVariants as steps
 use Rattle.cc_names.specs.declared.steps.StoryStep.{StoryStep}
-use Rattle.cc_names.specs.declared.steps.StoryStep.TheVariants as story_steps
 use Rattle.build_core.specs.Slots.{numbered_slots}
 use Rattle.disk_model.specs.DiskStates.{DiskState}
 use Rattle.base_model.specs.Fits.{row_limit}
@@ -25,6 +23,7 @@ use Rattle.base_core.specs.Keeping.Lanes.{LaneState, lane_state, commands_at, re
 use Rattle.story_log.specs.Logging.Logs.{Logged}
 use Rattle.story_log.specs.Story.Formed.{NamesOnly}
 use Rattle.cc_names.specs.Formed.{IsFormed}
+use Rattle.legal_history.proofs.Stories.Grows.{stays_opened}
 use Rattle.base_core.specs.Story.Replying.{in_lane, replies_after, replies_of}
 use Rattle.build_core.proofs.SlotLaws.{put_numbered}
 use Rattle.story_log.proofs.Story.Growing.{state_from-more, legal_more}
@@ -53,11 +52,6 @@ pub record MayTell (s : State) (x : StoryStep) (base : Base) : Type 0 where
   pub names : NamesOnly IsFormed x
   pub leads : (after s x).base ≡ base
 
-opened_more : (s : State) (x : StoryStep) → is_some s.opened ≡ true → is_some (after s x).opened ≡ true
-opened_more s (story_steps.Opened rows counts tells) h = refl
-opened_more s (story_steps.Other (steps.Fault tag left before faults tick)) h = h
-opened_more s x h = h
-
 -- the story
 pub story_more : (log : Logged) (x : StoryStep) (base : Base) (ghost_state : DiskState) → StoryInvariant log
     → MayTell (state_of log.story) x base → StoryInvariant (log_more log x base ghost_state)
@@ -65,7 +59,7 @@ story_more log x base ghost_state h may =
     let more : state_of (log.story ++ x ∷ []) ≡ after (state_of log.story) x = state_from-more start log.story x in
     record {
       legal = legal_more start log.story x h.legal may.lawful;
-      opened = ap (λ t. is_some t.opened) more ∙ opened_more (state_of log.story) x h.opened;
+      opened = ap (λ t. is_some t.opened) more ∙ stays_opened (state_of log.story) x h.opened;
       base = ap (λ t. t.base) more ∙ may.leads;
       formed = names_more IsFormed log.story x h.formed may.names;
     }

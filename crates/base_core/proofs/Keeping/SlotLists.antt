@@ -6,6 +6,7 @@ use Rattle.cc_names.specs.declared.rows.Tag.{Tag}
 use Rattle.build_core.specs.Slots.{numbered_slots, held_in}
 use Rattle.legal_history.specs.Builds.Active.{Build, build_of, building, is_of_view, build_tag, rows_reserved}
 use Rattle.build_core.proofs.SlotLaws.{find_below, find_numbered}
+use Rattle.build_core.proofs.Cames.{held_in_past}
 
 -- the rows that the builds in some slots reserve
 abbrev pub rows_of : List (Option Build) → ℕ
@@ -36,24 +37,12 @@ building_tag k (Some build ∷ slots) v =
     tag_of_found (bytes_eq build.view v) k build (find (is_of_view v) (numbered_slots (k + 1) slots))
     ∙ ap (cond (bytes_eq build.view v) (Some build.tag)) (building_tag (k + 1) slots v)
 
--- one more slot that holds nothing has no number
-pub numbered_slots-none : {A : Type 0} (k : ℕ) (slots : List (Option A))
-    → numbered_slots k (slots ++ None ∷ []) ≡ numbered_slots k slots
-numbered_slots-none k [] = refl
-numbered_slots-none k (None ∷ slots) = numbered_slots-none (k + 1) slots
-numbered_slots-none k (Some a ∷ slots) = ap (λ rest. (k, a) ∷ rest) (numbered_slots-none (k + 1) slots)
-
 -- what a slot holds
 pub held_there : {A : Type 0} (slots : List (Option A)) (i : ℕ) (d : Option A) → i < length slots
     → held_in slots i ≡ get_or slots i d
 held_there [] i d h = absurd (omega arith)
 held_there (slot ∷ slots) zero d h = refl
 held_there (slot ∷ slots) (suc i) d h = held_there slots i d (omega arith)
-
-held_past : {A : Type 0} (slots : List (Option A)) (i : ℕ) → length slots ≤ i → held_in slots i ≡ None
-held_past [] i h = refl
-held_past (slot ∷ slots) zero h = absurd (omega arith)
-held_past (slot ∷ slots) (suc i) h = held_past slots i (omega arith)
 
 -- the build of a lane
 pub build_there : (slots : List (Option Build)) (lane : ℕ) (d : Option Build) → 1 ≤ lane → lane ≤ length slots
@@ -62,7 +51,7 @@ build_there slots lane d low high = find_numbered lane 1 (lane - 1) slots (omega
     ∙ held_there slots (lane - 1) d (omega arith)
 
 pub build_nowhere : (slots : List (Option Build)) (lane : ℕ) → length slots < lane → build_of (numbered_slots 1 slots) lane ≡ None
-build_nowhere slots lane h = find_numbered lane 1 (lane - 1) slots (omega arith) ∙ held_past slots (lane - 1) (omega arith)
+build_nowhere slots lane h = find_numbered lane 1 (lane - 1) slots (omega arith) ∙ held_in_past slots (lane - 1) (omega arith)
 
 pub build_zero : (slots : List (Option Build)) → build_of (numbered_slots 1 slots) 0 ≡ None
 build_zero slots = find_below 0 1 slots (omega arith)

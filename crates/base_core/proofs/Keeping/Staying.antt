@@ -32,5 +32,5 @@ build_stays s t lane build h phase number done grows =
       from = h.from;
       rows = omega (arith, h.rows, grows);
       formed = h.formed;
-      sound = h.sound;
+      faultless = h.faultless;
     }

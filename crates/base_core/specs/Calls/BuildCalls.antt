@@ -41,7 +41,7 @@ pub record Notes (s : State) (lane n : ℕ) (step : Step) (came : Came) : Type 0
   pub within : n < length build.units
   pub waits : is_outcome (came_to build n) ≡ false
   pub alone : stands_alone step ≡ true
-  pub sound : is_fault (story_steps.Other step) ≡ false
+  pub faultless : is_fault (story_steps.Other step) ≡ false
   pub lawful : LawfulStep s step
   pub leaves : after s (story_steps.Other step) ≡ record s { active = put nat_cmp lane (with_came build (Some n) came) s.active }
   pub silent : (other : ℕ) → replies_by s other (story_steps.Other step) ≡ []

@@ -21,7 +21,7 @@ pub record BuildInvariant (s : State) (lane : ℕ) (build : Build) : Type 0 wher
   pub from : 1 ≤ build.rows
   pub rows : build.rows ≤ size s.base
   pub formed : IsBuildFormed build
-  pub sound : build.faulted ≡ false
+  pub faultless : build.faulted ≡ false
 
 -- the build that was decided to begin for the next command of its lane, and there is room for its units
 pub record IsNextBuild (s : State) (build : Build) : Type 0 where

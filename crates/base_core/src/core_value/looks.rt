@@ -88,7 +88,8 @@ impl<D: Disk> Core<D> {
         requires { next_of_lane (state_of self.now.story) lane
             ≡ nexts.Build (next_tag (state_of self.now.story) lane) }
         ensures next { IfOk result
-            (λ asked. next_command_of (state_of self.now.story) lane ≡ Some (commands.Build asked)) }
+            (λ asked. next_command_of (state_of self.now.story) lane
+            ≡ Some (commands.Build asked)) }
         ensures formed { IfOk result (λ asked. IsClearmake command_limit asked) }
     {
         match self.command(alloc, lane)? {

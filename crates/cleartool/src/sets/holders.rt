@@ -74,8 +74,7 @@ fn add_winkers(
 }
 
 /// How many views hold the object. Takes for each of its targets the time of `held_object`: once for the view that made it, and
-/// once for
-/// each wink of it.
+/// once for each wink of it.
 pub(crate) fn count_holders(
     alloc: Global,
     rows: &FirstRows<'_>,

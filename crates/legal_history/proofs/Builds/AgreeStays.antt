@@ -3,12 +3,12 @@ use Rattle.std.proofs.Common.{◌≡◌, refl, sym, subst, ◌∙◌, ℕ, Bool,
 use Rattle.cc_names.specs.Formed.{Plain}
 use Rattle.cc_names.specs.declared.steps.UnitEnd.TheVariants.{Kept}
 use Rattle.cc_names.specs.declared.units.Unit.{Unit}
+use Rattle.cc_names.proofs.Common.{same_number}
 use Rattle.base_model.specs.Rows.{Base, first_rows}
 use Rattle.legal_history.specs.Builds.Active.{Build, Came, Started, Concluded, Given, came_to, is_outcome, unit_at}
 use Rattle.legal_history.specs.Builds.Freshness.{Agrees, HasOutputs, AgreesSoFar, outcome_in, early_from_nothing}
 use Rattle.legal_history.specs.Builds.Serials.{Outcome, Made, Without}
 use Rattle.legal_history.specs.Stories.Steps.{with_came}
-use Rattle.base_model.proofs.Tables.{same_number}
 use Rattle.base_model.proofs.Stay.{first_rows_stay, text_stays}
 use Rattle.legal_history.proofs.Builds.ConsistentStays.{IsBegun, KeepsConsistent, begins_consistent, came_now, consistent_came}
 use Rattle.legal_history.proofs.Builds.ConsistentStays.{consistent_faulted, consistent_row, none_came, is_object_stays}

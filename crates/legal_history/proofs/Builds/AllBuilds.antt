@@ -3,10 +3,10 @@ use Rattle.std.proofs.Common.{◌≡◌, refl, sym, subst, ◌∙◌, ℕ, Bool,
 use Rattle.std.specs.Prelude.{bytes_eq, find, option_map}
 use Rattle.std.specs.Ordering.{nat_cmp, eq_by_cmp}
 use Rattle.std.specs.FinMap.Entries.{put}
+use Rattle.cc_names.proofs.Common.{bytes_equal_themselves, same_number}
 use Rattle.legal_history.specs.Builds.Active.{Active, Build, Came, build_of, building, is_of_view, build_tag}
 use Rattle.legal_history.specs.Stories.Steps.{with_outcome, noted_in, with_came, with_build, without_build, faulted_in}
-use Rattle.legal_history.proofs.Builds.FreshSeen.{bytes_itself}
-use Rattle.base_model.proofs.Tables.{same_number, find_after_put, find_without}
+use Rattle.base_model.proofs.Tables.{find_after_put, find_without}
 
 -- each active build is so, in its lane
 pub record Each (P : ℕ → Build → Type 0) (active : Active) : Type 0 where
@@ -79,6 +79,6 @@ builds_there (entry ∷ active) lane build is none = by (eq_by_cmp nat_cmp lane 
     by true false view is none rest =
         let same : entry.1 ≡ build = cc in
         let own : bytes_eq entry.1.view build.view ≡ true = subst (λ (b : Build). bytes_eq entry.1.view b.view ≡ true) same
-        (bytes_itself entry.1.view) in
+        (bytes_equal_themselves entry.1.view) in
         cc
     by false false view is none rest = rest is none

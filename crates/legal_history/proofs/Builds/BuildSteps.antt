@@ -14,6 +14,7 @@ use Rattle.cc_names.specs.declared.steps.StoryStep.TheVariants as story_steps
 use Rattle.cc_names.specs.declared.steps.UnitEnd.{UnitEnd}
 use Rattle.cc_names.specs.declared.steps.UnitEnd.TheVariants as ends
 use Rattle.cc_names.specs.declared.units.Unit.{Unit}
+use Rattle.cc_names.proofs.Common.{same_inside}
 use Rattle.base_model.specs.Rows.{size}
 use Rattle.legal_history.specs.Builds.Active.{Build, Concluded, Given, build_of, object_of, unit_with_first}
 use Rattle.base_model.specs.Changes.{targets_of}
@@ -36,7 +37,7 @@ use Rattle.legal_history.proofs.Builds.Published.{is_publish, published_object}
 use Rattle.legal_history.proofs.Builds.ReadyUnits.{ready_by}
 use Rattle.legal_history.proofs.Stories.DecidedSteps.{decided_of, says_of, begun_is}
 use Rattle.legal_history.proofs.Builds.UnitsCome.{start_came, start_without}
-use Rattle.legal_history.proofs.Builds.FineBuilds.{IsFine, fine_stays, some_same, waited_fine, takes_for}
+use Rattle.legal_history.proofs.Builds.FineBuilds.{IsFine, fine_stays, waited_fine, takes_for}
 use Rattle.legal_history.proofs.Reuse.KeptObjects.{chosen_object}
 
 early_fine : (s : State) (tag : Tag) (n : ℕ) (end : UnitEnd) → Each (λ lane. IsFine s.base) s.active → EndsEarly s tag n end
@@ -95,7 +96,7 @@ begun_fine : (s : State) (tag : Tag) (us : List Unit) → is_base s.base ≡ tru
 begun_fine s tag us base h build is =
     let says = says_of s tag (Begins us) (decided_of s tag (Begins us) h) in
     let made : Some (build_asked tag (size s.base) us says.asked) ≡ Some build = sym (begun_is s tag us h) ∙ is in
-    subst (IsFine s.base) (some_same made) (record {
+    subst (IsFine s.base) (same_inside made) (record {
       consistent = begins_consistent s.base (build_asked tag (size s.base) us says.asked) (begun_begins s tag us base h);
       there = says.there;
     })

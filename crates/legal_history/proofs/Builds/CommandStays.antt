@@ -7,6 +7,7 @@ use Rattle.cc_names.specs.declared.commands.Command.{Command}
 use Rattle.cc_names.specs.declared.commands.Lane.{Lane}
 use Rattle.cc_names.specs.declared.rows.Tag.{Tag}
 use Rattle.cc_names.specs.declared.units.Unit.{Unit}
+use Rattle.cc_names.proofs.Common.{same_number, and_first, and_second}
 use Rattle.base_model.specs.Rows.{size, first_rows, only_where}
 use Rattle.legal_history.specs.Builds.Active.{Build, Came, build_of}
 use Rattle.legal_history.specs.Commands.Decisions.{Begins}
@@ -14,8 +15,7 @@ use Rattle.legal_history.specs.Builds.Fresh.{all_finished, fresh, fresh_of}
 use Rattle.legal_history.specs.Stories.States.{State, all_done, command_behind, decision_for, done_of, is_next, lanes_done}
 use Rattle.legal_history.specs.Stories.States.{next_command, next_tag, same_tag, with_done}
 use Rattle.legal_history.specs.Stories.Steps.{build_begun_by, build_asked, with_came}
-use Rattle.base_model.proofs.Tables.{same_number, find_put_other}
-use Rattle.base_model.proofs.Owned.{and_first, and_second}
+use Rattle.base_model.proofs.Tables.{find_put_other}
 use Rattle.base_model.proofs.Stay.{all_rows}
 use Rattle.legal_history.specs.Stories.Commanded.{next_command_of, IsOfCommand}
 use Rattle.legal_history.proofs.Stories.DecidedSteps.{decided_of, says_of, begun_is}

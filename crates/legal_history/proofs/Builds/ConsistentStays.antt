@@ -5,6 +5,7 @@ use Rattle.std.specs.Ordering.{nat_cmp}
 use Rattle.std.specs.FinMap.Entries.{find}
 use Rattle.cc_names.specs.Formed.{Plain}
 use Rattle.cc_names.specs.declared.units.Unit.{Unit}
+use Rattle.cc_names.proofs.Common.{same_number}
 use Rattle.base_model.specs.Rows.{Base, size, deed_of}
 use Rattle.legal_history.specs.Builds.Active.{Build, Came, came_to, is_outcome, object_of, unit_at}
 use Rattle.base_model.specs.Changes.{targets_of_deed}
@@ -12,7 +13,7 @@ use Rattle.base_model.specs.Fits.{is_base}
 use Rattle.legal_history.specs.Stories.Steps.{with_came}
 use Rattle.legal_history.specs.Builds.Consistency.{InOrder, IsObjectOf, IsReady, IsConsistent}
 use Rattle.legal_history.proofs.Stories.Goes.{comes_to}
-use Rattle.base_model.proofs.Tables.{same_number, find_after_put}
+use Rattle.base_model.proofs.Tables.{find_after_put}
 use Rattle.base_model.proofs.Stay.{first_rows_stay, all_rows, row_stays}
 
 -- an object keeps its targets when a row is added

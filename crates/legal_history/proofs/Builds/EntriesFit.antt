@@ -1,17 +1,17 @@
 -- The record of a ready unit's run fits: each entry says that nothing was there, or names the text of a file or an output.
 use Rattle.std.proofs.Common.{◌≡◌, refl, ap, sym, subst, ◌∙◌, ℕ, zero, suc, Bool, true, false, ◌&&◌, ◌||◌, ◌==◌, Option, Some}
 use Rattle.std.proofs.Common.{None, List, [], ◌∷◌, map, arith}
-use Rattle.std.proofs.lemmas.Map.Text.{is_eq-slice_cmp}
-use Rattle.std.proofs.lemmas.Slice.Eq.{bytes_eq-Decides}
 use Rattle.std.specs.Bool.{⊤}
 use Rattle.std.specs.Option.{option_or}
 use Rattle.std.specs.Cmp.Lexicographic.{slice_cmp}
 use Rattle.std.specs.List.{AllByRecursion, list_all}
-use Rattle.std.specs.Ordering.{nat_cmp, is_eq}
+use Rattle.std.specs.Ordering.{nat_cmp}
 use Rattle.std.specs.declared.cmp.Ordering.{Ordering}
 use Rattle.std.specs.declared.cmp.Ordering.TheVariants.{Less, Equal, Greater}
 use Rattle.std.specs.FinMap.Entries.{put, by_order}
+use Rattle.std.proofs.lemmas.Bool.{or_left, or_right}
 use Rattle.cc_names.specs.declared.units.Unit.{Unit}
+use Rattle.cc_names.proofs.Common.{texts_tied}
 use Rattle.base_model.specs.Rows.{Base, first_rows, deed_at, only_where}
 use Rattle.legal_history.specs.Builds.Active.{Build, object_of}
 use Rattle.base_model.specs.Changes.{targets_of}
@@ -23,7 +23,6 @@ use Rattle.legal_history.specs.Builds.Consistency.{IsObjectOf, IsReady, IsConsis
 use Rattle.base_model.specs.Seen.{file_at}
 use Rattle.legal_history.specs.Builds.Serials.{makes, needed_units}
 use Rattle.base_model.proofs.FilesBelow.{beyond}
-use Rattle.base_model.proofs.Either.{or_first, or_second}
 use Rattle.legal_history.proofs.Builds.Pairs.{Pair, unit_in, member_of, pairs_before, members_paired, needed_mapped}
 use Rattle.base_model.proofs.FileRows.{FileText, file_is_text, file_text_stays_all}
 use Rattle.legal_history.proofs.Builds.NeededAgree.{needed_each, ready_over}
@@ -71,14 +70,14 @@ entry_fits b build n u path h ready = by (object_among path (needed_units unit_o
         let text : FileText b (suc r) = subst (λ c. FileText c (suc r)) (sym more.is)
         (file_text_stays_all more.more (first_rows build.rows b) (suc r)
         (file_is_text (first_rows build.rows b) build.view path (suc r) h.base is (omega arith))) in
-        or_first ((suc r == 0) || makes_file_text b (suc r) (deed_at b (suc r))) (is_path_among path (targets_of b (suc r)))
-        (or_second (suc r == 0) (makes_file_text b (suc r) (deed_at b (suc r))) text.makes)
+        or_left ((suc r == 0) || makes_file_text b (suc r) (deed_at b (suc r))) (is_path_among path (targets_of b (suc r)))
+        (or_right (suc r == 0) (makes_file_text b (suc r) (deed_at b (suc r))) text.makes)
 
     by : (o file : Option ℕ) → object_among path (needed_units unit_of_member u.prerequisites (members_before build n)) ≡ o
         → file_at (first_rows build.rows b) build.view path ≡ file →
         is_entry b (record { path = path; row = entry_row (option_or o file) }) ≡ true
     by (Some id) file of_object of_path =
-        or_second ((id == 0) || makes_file_text b id (deed_at b id)) (is_path_among path (targets_of b id))
+        or_right ((id == 0) || makes_file_text b id (deed_at b id)) (is_path_among path (targets_of b id))
         (object_has b path id (needed_units unit_in u.prerequisites (pairs_before (first_rows build.rows b) build n))
         (needed_each (HasItsTargets b) b build n u.prerequisites h (λ m unit is outcome id own. h.objects m unit id is own)
         (ready_over b build u h ready)) (sym (ap (object_among path) paired) ∙ of_object))
@@ -90,9 +89,6 @@ abbrev AllFit : Base → List (List ℕ × ℕ) → Type 0
 AllFit b [] = ⊤
 AllFit b (pair ∷ pairs) = (is_entry b (as_entry pair) ≡ true) × AllFit b pairs
 
-tied_bytes : (p q : List ℕ) → slice_cmp nat_cmp p q ≡ Equal → p ≡ q
-tied_bytes p q e = (bytes_eq-Decides p q).0 (sym (is_eq-slice_cmp p q) ∙ ap is_eq e)
-
 put_fits : (b : Base) (path : List ℕ) (row : ℕ) (pairs : List (List ℕ × ℕ))
     → is_entry b (record { path = path; row = row }) ≡ true → AllFit b pairs → AllFit b (put (slice_cmp nat_cmp) path row pairs)
 put_fits b path row [] fit h = (fit, tt)
@@ -102,7 +98,7 @@ put_fits b path row (pair ∷ pairs) fit h = by (slice_cmp nat_cmp path pair.0) 
         AllFit b (by_order o ((path, row) ∷ pair ∷ pairs) ((pair.0, row) ∷ pairs) (pair ∷ put (slice_cmp nat_cmp) path row pairs))
     by Less place rest = (fit, h)
     by Equal place rest = (
-      subst (λ p. is_entry b (record { path = p; row = row }) ≡ true) (tied_bytes path pair.0 place) fit,
+      subst (λ p. is_entry b (record { path = p; row = row }) ≡ true) (texts_tied path pair.0 place) fit,
       h.1,
     )
     by Greater place rest = (h.0, rest)

@@ -8,6 +8,7 @@ use Rattle.cc_names.specs.declared.rows.Deed.{Deed}
 use Rattle.cc_names.specs.declared.rows.Deed.TheVariants as deeds
 use Rattle.cc_names.specs.declared.rows.Tag.{Tag}
 use Rattle.cc_names.specs.declared.units.Unit.{Unit}
+use Rattle.cc_names.proofs.Common.{same_inside}
 use Rattle.base_model.specs.Rows.{Base, size}
 use Rattle.legal_history.specs.Builds.Active.{Build, Came, build_of, building, came_to, is_outcome, unit_at}
 use Rattle.base_model.specs.Conditions.{exists}
@@ -54,9 +55,6 @@ fine_stays s row spares h = record {
   };
 }
 
-pub some_same : {A : Type 0} {a c : A} → Some a ≡ Some c → a ≡ c
-some_same e = cc
-
 -- a unit of the lane's build comes to something, and what holds of each build holds still where it holds of that one
 pub each_waited : (P : Build → Type 0) (s : State) (tag : Tag) (n : ℕ) (build : Build) (number : Build → Option ℕ) (came : Came)
     → Each (λ lane. P) s.active → build_of s.active tag.lane ≡ Some build → number build ≡ Some n →
@@ -65,7 +63,7 @@ each_waited P s tag n build number came h there place after = each_noted (λ lan
   where
     own : (other : Build) → build_of s.active tag.lane ≡ Some other → P (with_came other (number other) came)
     own other is =
-        let same : build ≡ other = some_same (sym there ∙ is) in
+        let same : build ≡ other = same_inside (sym there ∙ is) in
         subst (λ x. P (with_came x (number x) came)) same (subst (λ k. P (with_came build k came)) (sym place) after)
 
 -- so where it comes to what may stand

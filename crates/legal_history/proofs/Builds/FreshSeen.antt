@@ -5,9 +5,11 @@ use Rattle.std.proofs.lemmas.Bool.Decides.{nat_tests}
 use Rattle.std.proofs.lemmas.Slice.Eq.{bytes_eq-Decides}
 use Rattle.std.specs.Prelude.{option_map, find, slice_get, bytes_eq}
 use Rattle.std.specs.List.{list_any}
+use Rattle.std.proofs.lemmas.Bool.{or_left, or_right}
 use Rattle.cc_names.specs.declared.steps.UnitEnd.TheVariants.{Kept, Blocked, Failed}
 use Rattle.cc_names.specs.declared.refusals.UnitFault.TheVariants.{NoRule}
 use Rattle.cc_names.specs.declared.units.Unit.{Unit}
+use Rattle.cc_names.proofs.Common.{bytes_equal_themselves}
 use Rattle.base_model.specs.Rows.{Base, first_rows}
 use Rattle.legal_history.specs.Builds.Active.{Build, Came, Started, Concluded, Given, came_to, is_outcome, number_from, unit_at}
 use Rattle.base_model.specs.Closures.{is_path_among}
@@ -19,10 +21,6 @@ use Rattle.legal_history.specs.Builds.Serials.{standing_or_file, standing_in, is
 use Rattle.legal_history.specs.Builds.Serials.{no_script}
 use Rattle.legal_history.specs.Builds.Turns.{standing_of_came, standing_of_unit, early_in}
 use Rattle.legal_history.proofs.Builds.Pairs.{Pair, finished_of, with_pair, pairs_before, done_paired}
-use Rattle.base_model.proofs.Either.{or_first, or_second}
-
-pub bytes_itself : (xs : List ℕ) → bytes_eq xs xs ≡ true
-bytes_itself xs = (bytes_eq-Decides xs xs).1 refl
 
 pub bytes_turned : (xs ys : List ℕ) → bytes_eq xs ys ≡ true → bytes_eq ys xs ≡ true
 bytes_turned xs ys h = (bytes_eq-Decides ys xs).1 (sym ((bytes_eq-Decides xs ys).0 h))
@@ -32,8 +30,8 @@ find_agree : (f g : List ℕ → Bool) (xs : List (List ℕ)) → ((x : List ℕ
     → find f xs ≡ find g xs
 find_agree f g [] same = refl
 find_agree f g (x ∷ xs) same =
-    let first : f x ≡ g x = same x (or_first (bytes_eq x x) (list_any (bytes_eq x) xs) (bytes_itself x)) in
-    let rest = find_agree f g xs (λ y among. same y (or_second (bytes_eq y x) (list_any (bytes_eq y) xs) among)) in
+    let first : f x ≡ g x = same x (or_left (bytes_eq x x) (list_any (bytes_eq x) xs) (bytes_equal_themselves x)) in
+    let rest = find_agree f g xs (λ y among. same y (or_right (bytes_eq y x) (list_any (bytes_eq y) xs) among)) in
     ap (λ b. cond b (Some x) (find f xs)) first ∙ ap (cond (g x) (Some x)) rest
 
 -- the number that is found for a target is that of a unit with it

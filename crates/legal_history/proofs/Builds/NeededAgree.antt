@@ -3,15 +3,16 @@ use Rattle.std.proofs.Common.{◌≡◌, refl, ap, subst, ℕ, zero, suc, Bool, 
 use Rattle.std.proofs.Common.{◌++◌}
 use Rattle.std.specs.Prelude.{is_some, bytes_eq}
 use Rattle.std.specs.List.{AllByRecursion, list_any}
+use Rattle.std.proofs.lemmas.Bool.{or_left, or_right}
 use Rattle.cc_names.specs.declared.units.Unit.{Unit}
+use Rattle.cc_names.proofs.Common.{bytes_equal_themselves}
 use Rattle.base_model.specs.Rows.{Base, first_rows}
 use Rattle.legal_history.specs.Builds.Active.{Build, Came, came_to, is_outcome, unit_at}
 use Rattle.base_model.specs.Closures.{is_path_among}
 use Rattle.legal_history.specs.Builds.Freshness.{Agrees, AgreesSoFar, outcome_in}
 use Rattle.legal_history.specs.Builds.Consistency.{IsReady, IsConsistent}
 use Rattle.legal_history.specs.Builds.Serials.{makes, needed_units}
-use Rattle.base_model.proofs.Either.{or_first, or_second}
-use Rattle.legal_history.proofs.Builds.FreshSeen.{bytes_itself, outcome_there}
+use Rattle.legal_history.proofs.Builds.FreshSeen.{outcome_there}
 use Rattle.legal_history.proofs.Builds.Pairs.{Pair, unit_in, with_pair, pairs_before}
 
 -- a pair whose unit has an outcome that agrees
@@ -32,8 +33,8 @@ some_made u (path ∷ paths) h = by (makes path u) refl h (some_made u paths)
     by : (t : Bool) → makes path u ≡ t → (t || list_any (λ path. makes path u) paths) ≡ true →
         (list_any (λ path. makes path u) paths ≡ true → (p : List ℕ) × (is_path_among p paths ≡ true) × (makes p u ≡ true))
         → (p : List ℕ) × (is_path_among p (path ∷ paths) ≡ true) × (makes p u ≡ true)
-    by true is h rest = (path, or_first (bytes_eq path path) (list_any (bytes_eq path) paths) (bytes_itself path), is)
-    by false is h rest = let r = rest h in (r.0, or_second (bytes_eq r.0 path) (list_any (bytes_eq r.0) paths) r.1, r.2)
+    by true is h rest = (path, or_left (bytes_eq path path) (list_any (bytes_eq path) paths) (bytes_equal_themselves path), is)
+    by false is h rest = let r = rest h in (r.0, or_right (bytes_eq r.0 path) (list_any (bytes_eq r.0) paths) r.1, r.2)
 
 pub among_both : (path : List ℕ) (xs ys : List (List ℕ)) → is_path_among path (xs ++ ys) ≡ true → (t : Bool)
     × (is_path_among path xs ≡ t) × ((t ≡ false) → is_path_among path ys ≡ true)

@@ -39,18 +39,18 @@ pairs_before rows build zero = []
 pairs_before rows build (suc n) = with_pair rows build n (unit_at build n) (pairs_before rows build n)
 
 -- one more unit
-take_next : {A : Type 0} (xs : List A) (n : ℕ) (x : A) → slice_get xs n ≡ Some x → take (suc n) xs ≡ take n xs ++ (x ∷ [])
+pub take_next : {A : Type 0} (xs : List A) (n : ℕ) (x : A) → slice_get xs n ≡ Some x → take (suc n) xs ≡ take n xs ++ (x ∷ [])
 take_next [] n x h = absurd (cc)
 take_next (y ∷ ys) zero x h = let same : y ≡ x = cc in ap (λ z. z ∷ []) same
 take_next (y ∷ ys) (suc n) x h = ap (λ zs. y ∷ zs) (take_next ys n x h)
 
-take_all : {A : Type 0} (xs : List A) (n : ℕ) → slice_get xs n ≡ None → take (suc n) xs ≡ take n xs
+pub take_all : {A : Type 0} (xs : List A) (n : ℕ) → slice_get xs n ≡ None → take (suc n) xs ≡ take n xs
 take_all [] zero h = refl
 take_all [] (suc n) h = refl
 take_all (y ∷ ys) zero h = absurd (cc)
 take_all (y ∷ ys) (suc n) h = ap (λ zs. y ∷ zs) (take_all ys n h)
 
-length_taken : {A : Type 0} (xs : List A) (n : ℕ) (x : A) → slice_get xs n ≡ Some x → length (take n xs) ≡ n
+pub length_taken : {A : Type 0} (xs : List A) (n : ℕ) (x : A) → slice_get xs n ≡ Some x → length (take n xs) ≡ n
 length_taken [] n x h = absurd (cc)
 length_taken (y ∷ ys) zero x h = refl
 length_taken (y ∷ ys) (suc n) x h = ap suc (length_taken ys n x h)

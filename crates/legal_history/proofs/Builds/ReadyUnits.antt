@@ -8,6 +8,7 @@ use Rattle.cc_names.specs.Files.{Files}
 use Rattle.cc_names.specs.declared.refusals.ScriptFault.{ScriptFault}
 use Rattle.cc_names.specs.declared.steps.UnitEnd.{UnitEnd}
 use Rattle.cc_names.specs.declared.units.Unit.{Unit}
+use Rattle.cc_names.proofs.Common.{bytes_eq_swapped, and_first, and_second}
 use Rattle.script_grammar.specs.Lines.{script_of}
 use Rattle.script_grammar.specs.Run.{State, Done, Ran, run, run_of, after_lines, nothing_written, carried_out, trace_of}
 use Rattle.script_grammar.specs.Run.{unless_fault, output_before, target_outputs}
@@ -23,8 +24,6 @@ use Rattle.legal_history.specs.Builds.Freshness.{AgreesSoFar, done_in, outcome_i
 use Rattle.legal_history.specs.Builds.Consistency.{IsReady}
 use Rattle.legal_history.specs.Builds.Serials.{Without, unit_of, needed_units}
 use Rattle.legal_history.specs.Builds.Turns.{is_over, is_unit_ready}
-use Rattle.legal_history.proofs.Builds.FreshSeen.{bytes_turned}
-use Rattle.base_model.proofs.Owned.{and_first, and_second}
 use Rattle.legal_history.proofs.Builds.FreshRuns.{run_same}
 
 -- a unit that passes the test is ready
@@ -70,15 +69,6 @@ pub unreadable_fails : (script : List ℕ) (targets : List (List ℕ)) (files : 
     → script_of script ≡ Err fault → (run script targets files).result ≡ Err fault
 unreadable_fails script targets files fault h = ap (λ read. (carried_out files (run_of targets read)).result) h
 
-eq_turned : (xs ys : List ℕ) → bytes_eq xs ys ≡ bytes_eq ys xs
-eq_turned xs ys = by (bytes_eq xs ys) (bytes_eq ys xs) refl refl
-  where
-    by : (s t : Bool) → bytes_eq xs ys ≡ s → bytes_eq ys xs ≡ t → s ≡ t
-    by true true one two = refl
-    by false false one two = refl
-    by true false one two = absurd (let back = bytes_turned xs ys one in cc)
-    by false true one two = absurd (let back = bytes_turned ys xs two in cc)
-
 -- a run that succeeded has an output for each target
 outputs_there : (targets outputs : List (List ℕ)) (own : Files) → target_outputs targets own ≡ Ok outputs → (path : List ℕ)
     → is_path_among path targets ≡ true → is_some (output_at path targets outputs) ≡ true
@@ -104,7 +94,7 @@ outputs_there (target ∷ targets) outputs own h path among = by (own target) (t
         let same : bytes ∷ more ≡ outputs = cc in
         subst (λ outs. is_some (output_at path (target ∷ targets) outs) ≡ true) same
         (at_target bytes more (bytes_eq target path) refl (subst (λ t. (t || is_path_among path targets) ≡ true)
-        (eq_turned path target) among) (rest more is))
+        (bytes_eq_swapped path target) among) (rest more is))
 
 written : (targets outputs : List (List ℕ)) (files : Files) (reads : List (List ℕ)) (after : Result State ScriptFault) →
     (trace_of files reads (unless_fault (λ state. Done (target_outputs targets state.own)) after)).value ≡ Ok outputs

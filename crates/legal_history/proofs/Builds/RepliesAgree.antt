@@ -7,6 +7,7 @@ use Rattle.std.specs.Prelude.{reverse, slice_get}
 use Rattle.cc_names.specs.declared.replies.Reply.TheVariants.{Built}
 use Rattle.cc_names.specs.declared.steps.StoryStep.{StoryStep}
 use Rattle.cc_names.specs.declared.units.Unit.{Unit}
+use Rattle.cc_names.proofs.Common.{and_first, and_second}
 use Rattle.base_model.specs.Rows.{Base, first_rows}
 use Rattle.legal_history.specs.Builds.Active.{Build, Came, came_to, is_outcome, unit_at}
 use Rattle.legal_history.specs.Builds.Fresh.{all_finished, serial, sees_file, sees_directory}
@@ -17,11 +18,11 @@ use Rattle.legal_history.specs.Laws.FromNothing.{EndsAsFromNothing}
 use Rattle.legal_history.specs.Builds.Serials.{Finished}
 use Rattle.legal_history.specs.Stories.States.{State}
 use Rattle.legal_history.specs.Builds.Turns.{all_over, is_complete}
-use Rattle.base_model.proofs.Owned.{and_first, and_second}
 use Rattle.legal_history.proofs.Builds.Pairs.{finished_of, with_pair, pairs_before, done_paired}
 use Rattle.legal_history.specs.Builds.Replied.{lines_from, finished_from, reply_of, reply_from_nothing}
 use Rattle.legal_history.proofs.Builds.FreshSeen.{outcome_there}
-use Rattle.legal_history.proofs.Builds.UnitLines.{same_lines, finished_behind, lines_behind, take_next, take_none, length_taken}
+use Rattle.legal_history.proofs.Builds.UnitLines.{same_lines, finished_behind, lines_behind}
+use Rattle.legal_history.proofs.Builds.Pairs.{take_next, take_all, length_taken}
 
 -- the first n units, finished from nothing in their order
 abbrev firsts : Base → Build → ℕ → List Finished
@@ -65,7 +66,7 @@ same_firsts b rows build (suc n) all = by (unit_at build n) refl (same_firsts b 
     by : (o : Option Unit) → unit_at build n ≡ o → SameFirsts b rows build n (firsts rows build n) (take n build.units) →
         SameFirsts b rows build (suc n) (reverse (map finished_of (with_pair rows build n o (pairs_before rows build n))))
         (take (suc n) build.units)
-    by None is h = subst (SameFirsts b rows build (suc n) (firsts rows build n)) (sym (take_none build.units n is))
+    by None is h = subst (SameFirsts b rows build (suc n) (firsts rows build n)) (sym (take_all build.units n is))
         (record { long = h.long; lines = h.lines })
     by (Some u) is h =
         subst (SameFirsts b rows build (suc n) (reverse (map finished_of
@@ -115,7 +116,7 @@ complete_outcome b build n u h complete is =
     }
 
 -- a build is left complete, unless the disk failed under it
-left_complete : (complete faulted : Bool) → (complete || faulted) ≡ true → faulted ≡ false → complete ≡ true
+pub left_complete : (complete faulted : Bool) → (complete || faulted) ≡ true → faulted ≡ false → complete ≡ true
 left_complete true faulted over sound = refl
 left_complete false faulted over sound = absurd (let clash : true ≡ false = sym over ∙ sound in cc)
 

@@ -9,8 +9,9 @@ use Rattle.std.specs.declared.cmp.Ordering.TheVariants.{Less, Equal, Greater}
 use Rattle.std.specs.FinMap.Entries.{put, find, where_key, by_order, below_all, is_sorted}
 use Rattle.cc_names.specs.References.{one_where}
 use Rattle.cc_names.specs.declared.units.Unit.{Unit}
+use Rattle.cc_names.proofs.Common.{test_first, test_second, less_by_test, same_number}
 use Rattle.legal_history.specs.Builds.Active.{Active, Build, Came, build_of, is_outcome, rows_reserved}
-use Rattle.base_model.proofs.Tables.{same_number, find_after_put, find_put_same}
+use Rattle.base_model.proofs.Tables.{find_after_put, find_put_same}
 
 -- how many of some units, numbered from n on, have no outcome
 abbrev pub waits_from : List (ℕ × Came) → ℕ → List Unit → ℕ
@@ -83,28 +84,15 @@ fewer_wait comes n k (suc j) came unit (u ∷ units) place is waits over =
     let rest = fewer_wait comes n (k + 1) j came unit units (omega arith) is waits over in
     omega arith
 
-both_first : (a b : Bool) → T (a && b) → T a
-both_first true b h = tt
-both_first false b h = h
-
-both_second : (a b : Bool) → T (a && b) → T b
-both_second true b h = h
-both_second false b h = absurd h
-
-is_less : (o : Ordering) → T (is_lt o) → o ≡ Less
-is_less Less h = refl
-is_less Equal h = absurd h
-is_less Greater h = absurd h
-
 -- a key below all keys is none of them
 none_below : (k x : ℕ) (active : Active) → nat_cmp k x ≡ Less → T (below_all nat_cmp x active) → build_of active k ≡ None
 none_below k x [] low below = refl
 none_below k x (entry ∷ active) low below =
-    let after : nat_cmp x entry.0 ≡ Less = is_less (nat_cmp x entry.0)
-    (both_first (is_lt (nat_cmp x entry.0)) (below_all nat_cmp x active) below) in
+    let after : nat_cmp x entry.0 ≡ Less = less_by_test (nat_cmp x entry.0)
+    (test_first (is_lt (nat_cmp x entry.0)) (below_all nat_cmp x active) below) in
     let apart : nat_cmp k entry.0 ≡ Less = nat_cmp_total.trans k x entry.0 low after in
     ap (λ o. cond (is_eq o) (Some entry.1) (build_of active k)) apart ∙ none_below k x active low
-    (both_second (is_lt (nat_cmp x entry.0)) (below_all nat_cmp x active) below)
+    (test_second (is_lt (nat_cmp x entry.0)) (below_all nat_cmp x active) below)
 
 -- the units that wait after one lane's build was put in the place of another
 pub put_waiting : (active : Active) (lane : ℕ) (old new : Build) → T (is_sorted nat_cmp active) → build_of active lane ≡ Some old
@@ -112,7 +100,7 @@ pub put_waiting : (active : Active) (lane : ℕ) (old new : Build) → T (is_sor
     all_waiting (put nat_cmp lane new active) + waiting old ≡ all_waiting active + waiting new
 put_waiting [] lane old new sorted is = absurd (cc)
 put_waiting (entry ∷ active) lane old new sorted is = by (nat_cmp lane entry.0) refl is
-    (put_waiting active lane old new (both_second (below_all nat_cmp entry.0 active) (is_sorted nat_cmp active) sorted))
+    (put_waiting active lane old new (test_second (below_all nat_cmp entry.0 active) (is_sorted nat_cmp active) sorted))
   where
     by : (o : Ordering) → nat_cmp lane entry.0 ≡ o → cond (is_eq o) (Some entry.1) (build_of active lane) ≡ Some old →
         (build_of active lane ≡ Some old → all_waiting (put nat_cmp lane new active) + waiting old
@@ -120,7 +108,7 @@ put_waiting (entry ∷ active) lane old new sorted is = by (nat_cmp lane entry.0
         all_waiting (by_order o ((lane, new) ∷ entry ∷ active) ((entry.0, new) ∷ active) (entry ∷ put nat_cmp lane new active)) +
         waiting old ≡ (waiting entry.1 + all_waiting active) + waiting new
     by Less place is rest = absurd (let none = none_below lane entry.0 active place
-        (both_first (below_all nat_cmp entry.0 active) (is_sorted nat_cmp active) sorted) in cc)
+        (test_first (below_all nat_cmp entry.0 active) (is_sorted nat_cmp active) sorted) in cc)
     by Equal place is rest = let build : entry.1 ≡ old = cc in let same : waiting entry.1 ≡ waiting old = ap waiting build in
         omega arith
     by Greater place is rest = let more = rest is in omega arith

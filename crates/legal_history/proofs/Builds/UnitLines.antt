@@ -1,7 +1,7 @@
 -- The lines of a unit whose outcome agrees, and lines behind lines.
-use Rattle.std.proofs.Common.{◌≡◌, refl, ap, sym, ◌∙◌, ℕ, zero, suc, ◌+◌, Some, None, List, [], ◌∷◌, ◌++◌, append_assoc, length}
-use Rattle.std.proofs.Common.{take, arith}
-use Rattle.std.specs.Prelude.{is_some, slice_get}
+use Rattle.std.proofs.Common.{◌≡◌, refl, ap, sym, ◌∙◌, ℕ, suc, ◌+◌, Some, List, [], ◌∷◌, ◌++◌, append_assoc, length}
+use Rattle.std.proofs.Common.{arith}
+use Rattle.std.specs.Prelude.{is_some}
 use Rattle.cc_names.specs.declared.replies.UnitLine.{UnitLine}
 use Rattle.cc_names.specs.declared.steps.UnitEnd.TheVariants.{Kept}
 use Rattle.cc_names.specs.declared.units.Unit.{Unit}
@@ -87,20 +87,3 @@ lines_behind b build k (u ∷ us) vs =
 
     later : (k + 1) + length us ≡ k + suc (length us)
     later = omega arith
-
--- one more unit
-pub take_next : {A : Type 0} (xs : List A) (n : ℕ) (x : A) → slice_get xs n ≡ Some x → take (suc n) xs ≡ take n xs ++ (x ∷ [])
-take_next [] n x h = absurd (cc)
-take_next (y ∷ ys) zero x h = let same : y ≡ x = cc in ap (λ z. z ∷ []) same
-take_next (y ∷ ys) (suc n) x h = ap (λ zs. y ∷ zs) (take_next ys n x h)
-
-pub take_none : {A : Type 0} (xs : List A) (n : ℕ) → slice_get xs n ≡ None → take (suc n) xs ≡ take n xs
-take_none [] zero h = refl
-take_none [] (suc n) h = refl
-take_none (y ∷ ys) zero h = absurd (cc)
-take_none (y ∷ ys) (suc n) h = ap (λ zs. y ∷ zs) (take_none ys n h)
-
-pub length_taken : {A : Type 0} (xs : List A) (n : ℕ) (x : A) → slice_get xs n ≡ Some x → length (take n xs) ≡ n
-length_taken [] n x h = absurd (cc)
-length_taken (y ∷ ys) zero x h = refl
-length_taken (y ∷ ys) (suc n) x h = ap suc (length_taken ys n x h)

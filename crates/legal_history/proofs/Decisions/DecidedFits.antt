@@ -22,6 +22,7 @@ use Rattle.cc_names.specs.declared.rows.Kind.TheVariants.{File, Directory}
 use Rattle.cc_names.specs.declared.rows.Placed.{Placed}
 use Rattle.cc_names.specs.declared.rows.TypeKind.TheVariants as type_kinds
 use Rattle.cc_names.specs.declared.units.Unit.{Unit}
+use Rattle.cc_names.proofs.Common.{and_first, and_second}
 use Rattle.make_grammar.specs.Graphs.{units}
 use Rattle.base_model.specs.Rows.{Base, size}
 use Rattle.legal_history.specs.Commands.Found.{for_object}
@@ -46,7 +47,6 @@ use Rattle.legal_history.proofs.Decisions.Handed.{past_is, object_is, row_is, an
 use Rattle.legal_history.proofs.Decisions.Queried.{query_is}
 use Rattle.base_model.proofs.LabelsHold.{greater, all_listed, version_id_listed}
 use Rattle.base_model.proofs.Tables.{tied}
-use Rattle.base_model.proofs.Owned.{and_first, and_second}
 use Rattle.legal_history.proofs.Decisions.Passed.{AllPass, unless_passes, fits_by}
 use Rattle.base_model.proofs.VersionsStay.{is_version}
 

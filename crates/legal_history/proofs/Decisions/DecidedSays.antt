@@ -1,6 +1,6 @@
 -- What it says of a command that something was decided on it: of a row that there is room for one more, that it takes nothing
 -- from a view in which a build is active, and that it scrubs only where the command does; of a build what its units are.
-use Rattle.std.proofs.Common.{◌≡◌, refl, subst, ℕ, ◌+◌, ◌≤◌, Bool, true, false, Option, Some, None, Result, Ok, Err, List, []}
+use Rattle.std.proofs.Common.{◌≡◌, refl, subst, ℕ, ◌+◌, ◌≤◌, Bool, true, Option, Some, None, Result, Ok, Err, List, []}
 use Rattle.std.proofs.Common.{◌∷◌, ◌++◌, length}
 use Rattle.std.proofs.lemmas.Bool.{ltb-false}
 use Rattle.std.specs.Bool.{⊤}
@@ -34,7 +34,7 @@ use Rattle.base_model.specs.Texts.{texts}
 use Rattle.legal_history.specs.Commands.LabelLines.{labels_or_nothing}
 use Rattle.legal_history.specs.Commands.ObjectLines.{scrub_of, clearmake, clearmake_tests, build_unless}
 use Rattle.legal_history.proofs.Decisions.Handed.{IfDecided, answer_is}
-use Rattle.legal_history.proofs.Decisions.Passed.{AllPass, all_pass, prefix_passes, rest_passes, unless_passes}
+use Rattle.legal_history.proofs.Decisions.Passed.{AllPass, all_pass, prefix_passes, rest_passes, unless_passes, no_refusal}
 
 -- a deed takes a view or an object only where no build of the view is active
 abbrev pub Idle : Active → Deed → Type 0
@@ -96,12 +96,8 @@ passed : (refusal : Option Refusal) (decided d : Decision) → unless_refused re
 passed (Some refusal) decided d h = absurd (cc)
 passed None decided d h = (refl, cc)
 
-not_refused : (b : Bool) (refusal : Refusal) → (if b then Some refusal else None) ≡ None → b ≡ false
-not_refused true refusal h = absurd (cc)
-not_refused false refusal h = refl
-
 has_room : (s : Scene) (rows : ℕ) → needs_room s rows ≡ None → size s.base + rows_reserved s.active + rows ≤ row_limit
-has_room s rows h = ltb-false _ _ (not_refused _ _ h)
+has_room s rows h = ltb-false _ _ (no_refusal _ _ h)
 
 pub by_row : (s : Scene) (command : Command) (tests : List (Option Refusal)) (deed : Deed)
     → (AllPass tests → Suits s.active command deed) → IfDecided (Says s command) (makes s tests deed)

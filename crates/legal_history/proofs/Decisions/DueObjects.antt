@@ -12,10 +12,10 @@ use Rattle.cc_names.specs.Formed.{Plain}
 use Rattle.cc_names.specs.Versions.{put_if}
 use Rattle.cc_names.specs.declared.rows.Deed.{Deed}
 use Rattle.cc_names.specs.declared.rows.Deed.TheVariants as deeds
+use Rattle.cc_names.proofs.Common.{same_number}
 use Rattle.base_model.specs.Rows.{Base, size, row_at}
 use Rattle.legal_history.specs.Commands.Decisions.{Scene, Makes}
 use Rattle.legal_history.specs.Commands.ObjectLines.{due_objects, due_among, is_due, scrub_of}
-use Rattle.base_model.proofs.Tables.{same_number}
 use Rattle.legal_history.proofs.Decisions.Passed.{answers_nothing, made_by}
 use Rattle.legal_history.specs.Laws.Dues.{due_by, is_due_object}
 

@@ -41,7 +41,7 @@ none_refused : (refusal : Option Refusal) (decision other : Decision) → unless
 none_refused (Some refusal) decision other e = absurd (cc)
 none_refused None decision other e = refl
 
-no_refusal : (b : Bool) (refusal : Refusal) → (if b then Some refusal else None) ≡ None → b ≡ false
+pub no_refusal : (b : Bool) (refusal : Refusal) → (if b then Some refusal else None) ≡ None → b ≡ false
 no_refusal true refusal e = absurd (cc)
 no_refusal false refusal e = refl
 

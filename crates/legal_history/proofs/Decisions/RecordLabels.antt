@@ -18,6 +18,7 @@ use Rattle.cc_names.specs.declared.refusals.Refusal.{Refusal}
 use Rattle.cc_names.specs.declared.refusals.Refusal.TheVariants as refusals
 use Rattle.cc_names.specs.declared.rows.Deed.TheVariants as deeds
 use Rattle.cc_names.specs.declared.rows.Placed.{Placed}
+use Rattle.cc_names.proofs.Common.{same_number, and_first, and_second}
 use Rattle.base_model.specs.Rows.{Base, only_where}
 use Rattle.base_model.specs.Changes.{objects_held, targets_of, tree}
 use Rattle.base_model.specs.Closures.{Input, Inputs, Listing, closure, is_path_among, listing, recorded_version, as_placed}
@@ -28,8 +29,6 @@ use Rattle.legal_history.specs.Commands.Found.{for_object}
 use Rattle.legal_history.specs.Commands.Lines.{decision}
 use Rattle.legal_history.specs.Commands.Tests.{needs_view}
 use Rattle.legal_history.proofs.Decisions.Handed.{IfDecided, past_is, object_is, row_is, answer_is}
-use Rattle.base_model.proofs.Tables.{same_number}
-use Rattle.base_model.proofs.Owned.{and_first, and_second}
 use Rattle.legal_history.proofs.Decisions.Passed.{AllPass}
 use Rattle.base_model.specs.Listed.{IsListed}
 use Rattle.base_model.proofs.HeldObjects.{true_by}

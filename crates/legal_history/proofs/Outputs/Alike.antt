@@ -4,6 +4,7 @@ use Rattle.std.proofs.Common.{arith}
 use Rattle.std.specs.Prelude.{is_some}
 use Rattle.cc_names.specs.declared.rows.Deed.{Deed}
 use Rattle.cc_names.specs.declared.rows.Deed.TheVariants as deeds
+use Rattle.cc_names.proofs.Common.{same_number}
 use Rattle.base_model.specs.Blanked.{blank_deed, with_blanks, AreSameButForOutputs, AreSameButForScrubbedOutputs}
 use Rattle.base_model.specs.Changes.{live_row, targets_of}
 use Rattle.base_model.specs.Closures.{is_publish, is_publish_deed}
@@ -17,7 +18,6 @@ use Rattle.legal_history.proofs.Outputs.Reruns.{text_same, rerun_same}
 use Rattle.legal_history.proofs.Outputs.States.{live_same, targets_same, publish_same}
 use Rattle.legal_history.proofs.Reuse.SoundRows.{is_new, live_below, lived_before}
 use Rattle.legal_history.proofs.Reuse.TrueObjects.{live_is_true, object_text}
-use Rattle.base_model.proofs.Tables.{same_number}
 
 -- what is the same of a blanked base is the same of two bases
 by_blanked : {A : Type 0} (f : Base → A) → ((b : Base) → f (with_blanks b) ≡ f b) → (one two : Base) →

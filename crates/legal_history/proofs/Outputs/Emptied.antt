@@ -4,6 +4,7 @@ use Rattle.std.specs.Prelude.{is_some}
 use Rattle.cc_names.specs.Formed.{Plain}
 use Rattle.cc_names.specs.declared.rows.Deed.{Deed}
 use Rattle.cc_names.specs.declared.rows.Deed.TheVariants as deeds
+use Rattle.cc_names.proofs.Common.{same_number}
 use Rattle.base_model.specs.Blanked.{blank_outputs, blank_deed, blank_row, blank_unless, blanked_but, with_blanks, without_bytes}
 use Rattle.base_model.specs.Blanked.{AreSameButForScrubbedOutputs}
 use Rattle.base_model.specs.Changes.{live_row}
@@ -12,7 +13,6 @@ use Rattle.base_model.specs.Rows.{Base, size, deed_at}
 use Rattle.legal_history.specs.Builds.Values.{IsSound}
 use Rattle.legal_history.proofs.Outputs.Alike.{base_alike, sound_alike}
 use Rattle.legal_history.proofs.Outputs.Deeds.{deed_among}
-use Rattle.base_model.proofs.Tables.{same_number}
 
 outputs_twice : (outputs : List (List ℕ)) → blank_outputs (blank_outputs outputs) ≡ blank_outputs outputs
 outputs_twice [] = refl

@@ -1,5 +1,5 @@
 -- What follows a version is a row of the base.
-use Rattle.std.proofs.Common.{◌≡◌, refl, ap, sym, subst, ◌∙◌, ℕ, suc, ◌<◌, Bool, true, false, ◌&&◌, ◌||◌, ◌==◌, Option, Some}
+use Rattle.std.proofs.Common.{◌≡◌, refl, ap, subst, ◌∙◌, ℕ, suc, ◌<◌, Bool, true, false, ◌&&◌, ◌||◌, ◌==◌, Option, Some}
 use Rattle.std.proofs.Common.{None, List, [], ◌∷◌, arith}
 use Rattle.std.specs.Prelude.{cond, find, not, option_and_then, option_map}
 use Rattle.cc_names.specs.Branches.{origin_by}
@@ -8,28 +8,16 @@ use Rattle.cc_names.specs.Versions.{versions_on}
 use Rattle.cc_names.specs.declared.changes.TreeChange.{TreeChange}
 use Rattle.cc_names.specs.declared.rows.Deed.{Deed}
 use Rattle.cc_names.specs.declared.rows.Deed.TheVariants as deeds
+use Rattle.cc_names.proofs.Common.{same_inside, number_found, same_number, and_first, and_second}
 use Rattle.base_model.specs.Rows.{Base, size}
 use Rattle.base_model.specs.Changes.{tree}
 use Rattle.base_model.specs.Closures.{is_version_of}
 use Rattle.base_model.specs.Fits.{deed_fits, is_base}
 use Rattle.legal_history.specs.Queries.Merges.{follows, is_arrow_between, is_branch_from, is_successor, leads}
 use Rattle.base_model.proofs.Below.{within}
-use Rattle.base_model.proofs.Tables.{same_number}
 use Rattle.base_model.proofs.OnBranches.{all_stand}
-use Rattle.base_model.proofs.Owned.{and_first, and_second, row_fits, rows_below}
-use Rattle.base_model.proofs.VersionsStay.{of_element, parts_of}
-
-some_same : {a b : ℕ} → Some a ≡ Some b → a ≡ b
-some_same h = cc
-
-number_is : (n : ℕ) (o : Option ℕ) → is_number n o ≡ true → o ≡ Some n
-number_is n None h = absurd (cc)
-number_is n (Some m) h = ap Some (sym (same_number n m h))
-
--- a version of an element is a row of the base
-version_below : (b : Base) (e r : ℕ) → is_version_of b e r ≡ true → r < size b
-version_below b e r h = let p = of_element b e r h in let parts = parts_of (tree b) r p.0 p.1 in
-    (within b).numbers r parts.change parts.made
+use Rattle.base_model.proofs.Owned.{row_fits, rows_below}
+use Rattle.base_model.proofs.VersionRows.{version_below}
 
 -- a version on a branch is one
 numbered_below : (b : Base) (branch k r : ℕ) → version_of_number (tree b) branch k ≡ Some r → r < size b
@@ -40,10 +28,10 @@ numbered_below b branch k r h = by (find (λ v. v.number == k) (versions_on (tre
     by None found h = absurd (cc)
     by (Some v) found h =
         let stands = (all_stand b).stands branch (λ v. v.number == k) v found in
-        subst (λ n. n < size b) (some_same h) ((within b).numbers v.row stands.change stands.made)
+        subst (λ n. n < size b) (same_inside h) ((within b).numbers v.row stands.change stands.made)
 
 successor_below : (b : Base) (one two : ℕ) → is_successor b one two ≡ true → two < size b
-successor_below b one two h = by (version_at (tree b) one) (number_is two
+successor_below b one two h = by (version_at (tree b) one) (number_found two
     (option_and_then (λ version. version_of_number (tree b) version.branch (suc version.number)) (version_at (tree b) one)) h)
   where
     by : (o : Option Version) → option_and_then (λ version. version_of_number (tree b) version.branch (suc version.number)) o

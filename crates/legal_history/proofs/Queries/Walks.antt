@@ -3,11 +3,10 @@ use Rattle.std.proofs.Common.{◌≡◌, refl, subst, ℕ, zero, suc, Bool, true
 use Rattle.std.specs.Bool.{⊤}
 use Rattle.std.specs.List.{list_any}
 use Rattle.cc_names.specs.Versions.{put_if}
+use Rattle.cc_names.proofs.Common.{same_number, and_second}
 use Rattle.base_model.specs.Rows.{Base, size}
 use Rattle.legal_history.specs.Queries.Merges.{Reaches, Itself, Onward, follows, followers, with_follower, is_in, reaches}
 use Rattle.legal_history.specs.Queries.Merges.{reached_within}
-use Rattle.base_model.proofs.Tables.{same_number}
-use Rattle.base_model.proofs.Owned.{and_second}
 
 -- a walk goes on by one version more
 goes_on : (b : Base) {a c d : ℕ} → Reaches b a c → follows b c d ≡ true → Reaches b a d

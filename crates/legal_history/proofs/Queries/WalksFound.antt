@@ -4,14 +4,14 @@ use Rattle.std.proofs.Common.{◌&&◌, ◌||◌, ◌==◌, ◌⊎◌, List, [],
 use Rattle.std.proofs.lemmas.Bool.Decides.{nat_tests}
 use Rattle.std.proofs.lemmas.List.Folds.{list_any-append}
 use Rattle.std.specs.List.{list_any}
+use Rattle.std.proofs.lemmas.Bool.{or_left, or_right}
 use Rattle.cc_names.specs.References.{one_where}
 use Rattle.cc_names.specs.Versions.{put_if}
+use Rattle.cc_names.proofs.Common.{same_number}
 use Rattle.base_model.specs.Rows.{Base, size}
 use Rattle.base_model.specs.Fits.{is_base}
 use Rattle.legal_history.specs.Queries.Merges.{Itself, Onward, Reaches, follows, followers, is_in, reaches, with_follower}
 use Rattle.legal_history.specs.Queries.Merges.{reached_within}
-use Rattle.base_model.proofs.Either.{or_first, or_second}
-use Rattle.base_model.proofs.Tables.{same_number}
 use Rattle.base_model.proofs.Owned.{same_is_same}
 use Rattle.legal_history.proofs.Queries.FollowersBelow.{follower_below}
 
@@ -83,10 +83,10 @@ having_one_more (suc n) some others d h low before now = by (d == n) refl (havin
 
 -- those before are among those after a round, and after all of them
 later : (n : ℕ) (xs ys : List ℕ) → is_in n ys ≡ true → is_in n (xs ++ ys) ≡ true
-later n xs ys h = list_any-append (λ m. m == n) xs ys ∙ or_second (is_in n xs) (is_in n ys) h
+later n xs ys h = list_any-append (λ m. m == n) xs ys ∙ or_right (is_in n xs) (is_in n ys) h
 
 earlier : (n : ℕ) (xs ys : List ℕ) → is_in n xs ≡ true → is_in n (xs ++ ys) ≡ true
-earlier n xs ys h = list_any-append (λ m. m == n) xs ys ∙ or_first (is_in n xs) (is_in n ys) h
+earlier n xs ys h = list_any-append (λ m. m == n) xs ys ∙ or_left (is_in n xs) (is_in n ys) h
 
 stays_in : (rounds : ℕ) (b : Base) (versions : List ℕ) (n : ℕ) → is_in n versions ≡ true
     → is_in n (reached_within rounds b versions) ≡ true
@@ -103,9 +103,9 @@ some_follows b (version ∷ versions) c d h f = by (version == c) refl h (some_f
     by : (t : Bool) → (version == c) ≡ t → (t || is_in c versions) ≡ true
         → (is_in c versions ≡ true → follows b c d ≡ true → list_any (λ version. follows b version d) versions ≡ true) →
         (follows b version d || list_any (λ version. follows b version d) versions) ≡ true
-    by true e h rest = or_first (follows b version d) (list_any (λ version. follows b version d) versions)
+    by true e h rest = or_left (follows b version d) (list_any (λ version. follows b version d) versions)
         (ap (λ k. follows b k d) (same_number version c e) ∙ f)
-    by false e h rest = or_second (follows b version d) (list_any (λ version. follows b version d) versions) (rest h f)
+    by false e h rest = or_right (follows b version d) (list_any (λ version. follows b version d) versions) (rest h f)
 
 -- a new one is among the followers
 own_in : (b : Base) (versions : List ℕ) (n : ℕ) (found : List ℕ) → is_in n versions ≡ false
@@ -113,14 +113,14 @@ own_in : (b : Base) (versions : List ℕ) (n : ℕ) (found : List ℕ) → is_in
 own_in b versions n found new f =
     ap (λ t. is_in n (put_if (not t && list_any (λ version. follows b version n) versions) n found)) new
     ∙ ap (λ t. is_in n (put_if t n found)) f
-    ∙ or_first (n == n) (is_in n found) (same_is_same n)
+    ∙ or_left (n == n) (is_in n found) (same_is_same n)
 
 other_in : (b : Base) (versions : List ℕ) (n d : ℕ) (found : List ℕ) → is_in d found ≡ true
     → is_in d (with_follower b versions n found) ≡ true
 other_in b versions n d found h = by (not (is_in n versions) && list_any (λ version. follows b version n) versions)
   where
     by : (t : Bool) → is_in d (put_if t n found) ≡ true
-    by true = or_second (n == d) (is_in d found) h
+    by true = or_right (n == d) (is_in d found) h
     by false = h
 
 new_in : (b : Base) (versions : List ℕ) (rows : Base) (d : ℕ) → d < size rows → is_in d versions ≡ false
@@ -165,7 +165,7 @@ none_or_new b versions n most found low (inl none) = by (is_in n versions) (list
       number = n;
       low = low;
       new = e;
-      in_found = or_first (n == n) (is_in n found) (same_is_same n);
+      in_found = or_left (n == n) (is_in n found) (same_is_same n);
     })
 
 walk_adds : (b : Base) (versions : List ℕ) (rows : Base) (most : ℕ) → size rows ≤ most → (followers b versions rows ≡ [])
@@ -220,4 +220,4 @@ walk_in b versions closed (Onward {a = a} {c = c} f rest) h = walk_in b versions
 pub walk_is_found : (b : Base) (one two : ℕ) → is_base b ≡ true → Reaches b one two → reaches b one two ≡ true
 walk_is_found b one two base walk =
     walk_in b (reached_within (size b) b (one ∷ [])) (closed_within (size b) b (one ∷ []) base (omega arith)) walk
-    (stays_in (size b) b (one ∷ []) one (or_first (one == one) false (same_is_same one)))
+    (stays_in (size b) b (one ∷ []) one (or_left (one == one) false (same_is_same one)))

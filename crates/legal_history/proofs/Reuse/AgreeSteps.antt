@@ -12,6 +12,7 @@ use Rattle.cc_names.specs.declared.steps.StoryStep.TheVariants as story_steps
 use Rattle.cc_names.specs.declared.steps.UnitEnd.{UnitEnd}
 use Rattle.cc_names.specs.declared.steps.UnitEnd.TheVariants as ends
 use Rattle.cc_names.specs.declared.units.Unit.{Unit}
+use Rattle.cc_names.proofs.Common.{same_inside}
 use Rattle.base_model.specs.Rows.{size}
 use Rattle.legal_history.specs.Builds.Active.{Build, Concluded, Given, build_of, object_of, unit_with_first}
 use Rattle.base_model.specs.Changes.{targets_of}
@@ -29,7 +30,7 @@ use Rattle.legal_history.specs.Builds.UnitTurns.{EndsEarly, ComesTo, Starts}
 use Rattle.legal_history.proofs.Builds.AgreeStays.{begins_so, came_so, faulted_agrees, row_added}
 use Rattle.legal_history.proofs.Builds.AllBuilds.{Each, each_as, each_begun, each_faulted, each_without}
 use Rattle.legal_history.proofs.Builds.BuildSteps.{begun_begins}
-use Rattle.legal_history.proofs.Builds.FineBuilds.{each_waited, some_same, takes_for}
+use Rattle.legal_history.proofs.Builds.FineBuilds.{each_waited, takes_for}
 use Rattle.legal_history.proofs.Builds.FreshSeen.{early_same}
 use Rattle.legal_history.proofs.Builds.Published.{is_publish}
 use Rattle.legal_history.proofs.Builds.ReadyUnits.{ready_by}
@@ -95,7 +96,7 @@ begun_agrees : (s : State) (tag : Tag) (us : List Unit) → is_base s.base ≡ t
 begun_agrees s tag us base h build is =
     let says = says_of s tag (Begins us) (decided_of s tag (Begins us) h) in
     let made : Some (build_asked tag (size s.base) us says.asked) ≡ Some build = sym (begun_is s tag us h) ∙ is in
-    subst (AgreesSoFar s.base) (some_same made) (begins_so s.base (build_asked tag (size s.base) us says.asked)
+    subst (AgreesSoFar s.base) (same_inside made) (begins_so s.base (build_asked tag (size s.base) us says.asked)
     (begun_begins s tag us base h))
 
 any_step_agrees : (s : State) (step : Step) → values.IsSound s.base → is_base s.base ≡ true → AllHeld s → BuildsAgree s

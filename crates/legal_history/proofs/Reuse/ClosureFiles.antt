@@ -16,13 +16,14 @@ use Rattle.cc_names.specs.declared.rows.Deed.TheVariants as deeds
 use Rattle.cc_names.specs.declared.rows.Kind.{Kind}
 use Rattle.cc_names.specs.declared.rows.Kind.TheVariants.{File, Directory}
 use Rattle.cc_names.specs.declared.rows.ReadOf.{ReadOf}
+use Rattle.cc_names.proofs.Common.{and_first, and_second}
 use Rattle.base_model.specs.Rows.{Base, size, deed_at}
 use Rattle.base_model.specs.Changes.{targets_of_deed, tree}
 use Rattle.base_model.specs.Closures.{Input, Inputs, input_cmp, joined_inputs, inputs_of_entry, inputs_of, closure}
 use Rattle.base_model.specs.Closures.{entries_of_deed, is_path_among, is_publish, is_publish_deed, is_version_of}
 use Rattle.base_model.specs.Conditions.{element_of_text, is_file_kind, is_some_file, makes_file_text, is_entry}
 use Rattle.base_model.specs.Fits.{is_base}
-use Rattle.base_model.proofs.Owned.{and_first, and_second, row_fits, rows_below}
+use Rattle.base_model.proofs.Owned.{row_fits, rows_below}
 use Rattle.base_model.proofs.FileRows.{FileText, file_text_stays}
 use Rattle.base_model.proofs.VersionRows.{version_text}
 use Rattle.base_model.proofs.Covered.{one_input}

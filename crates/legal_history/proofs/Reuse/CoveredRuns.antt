@@ -6,6 +6,7 @@ use Rattle.cc_names.specs.Files.{Files}
 use Rattle.cc_names.specs.declared.rows.Deed.{Deed}
 use Rattle.cc_names.specs.declared.rows.Deed.TheVariants as deeds
 use Rattle.cc_names.specs.declared.rows.ReadOf.{ReadOf}
+use Rattle.cc_names.proofs.Common.{number_found}
 use Rattle.script_grammar.specs.Run.{Ran, run}
 use Rattle.base_model.specs.Rows.{Base, size}
 use Rattle.base_model.specs.Changes.{targets_of}
@@ -21,7 +22,6 @@ use Rattle.base_model.proofs.Stay.{text_stays}
 use Rattle.legal_history.specs.Laws.Objects.{outputs_of, outputs_of_deed}
 use Rattle.base_model.proofs.Covered.{Covers, entry_covered, closure_covered, own_input}
 use Rattle.base_model.proofs.EntriesBelow.{AreBelow, deed_entries_below}
-use Rattle.legal_history.proofs.Reuse.SeenTexts.{number_is}
 use Rattle.legal_history.proofs.Reuse.TrueObjects.{true_object}
 
 -- what is seen at a path with a row of the base is the text of that row
@@ -47,7 +47,7 @@ same_entry rows seen b path (suc r) as_text reruns low covers = by (is_publish b
           | false ↦ text b (suc r) path
         ]
     by true covers = ap (λ o. output_of_run path (targets_of b (suc r)) (outputs_of_run o)) (reruns (suc r) covers)
-    by false covers = as_text path (suc r) low (number_is (suc r) (rows path) (covers (path, suc r) (own_input path (suc r))))
+    by false covers = as_text path (suc r) low (number_found (suc r) (rows path) (covers (path, suc r) (own_input path (suc r))))
 
 same_texts : (rows : List ℕ → Option ℕ) (seen : Files) (b : Base) (entries : List ReadOf) (path : List ℕ) → SeenAsText rows seen b
     → ((id : ℕ) → Covers rows (closure b id) → rerun_on seen b id ≡ rerun b id) → AreBelow (size b) entries →

@@ -8,6 +8,7 @@ use Rattle.cc_names.specs.declared.rows.Deed.TheVariants as deeds
 use Rattle.cc_names.specs.declared.rows.ReadOf.{ReadOf}
 use Rattle.cc_names.specs.declared.rows.Tag.{Tag}
 use Rattle.cc_names.specs.declared.units.Unit.{Unit}
+use Rattle.cc_names.proofs.Common.{same_inside}
 use Rattle.base_model.specs.Rows.{Base, size}
 use Rattle.legal_history.specs.Builds.Active.{Build, Given, build_of, came_to, is_outcome, object_of, number_from, unit_at}
 use Rattle.legal_history.specs.Builds.Active.{unit_with_first}
@@ -24,7 +25,7 @@ use Rattle.legal_history.specs.Builds.UnitTurns.{Winks, Publishes}
 use Rattle.legal_history.proofs.Stories.Goes.{of_lane}
 use Rattle.legal_history.proofs.Builds.AllBuilds.{Each, each_noted}
 use Rattle.legal_history.proofs.Stories.DecidedSteps.{decided_of}
-use Rattle.legal_history.proofs.Builds.FineBuilds.{TakesFor, some_same, takes_for}
+use Rattle.legal_history.proofs.Builds.FineBuilds.{TakesFor, takes_for}
 use Rattle.legal_history.proofs.Builds.Published.{IsPublish, is_publish}
 use Rattle.legal_history.proofs.Stories.ConsistentStories.{IsConsistentState}
 use Rattle.legal_history.specs.Laws.Given.{IsHeld, HoldsGiven}
@@ -78,7 +79,7 @@ leaves_given s tag view targets build other lane n m id unit of_m path sound h t
         (ap (is_path_among path) p.same_targets ∙ among) in
         let m_is : unit_at build m ≡ Some of_m = ap (λ (x : Build). unit_at x m) same ∙ is_m in
         let of_m_too : number_from 0 path build.units ≡ Some m = fine.consistent.in_order.one m of_m path m_is made in
-        let number : n ≡ m = some_same (sym of_n ∙ of_m_too) in
+        let number : n ≡ m = same_inside (sym of_n ∙ of_m_too) in
         let over : is_outcome (came_to other m) ≡ true = object_is_outcome (came_to other m) id own in
         let waiting : is_outcome (came_to other m) ≡ false = sym (ap (λ (x : Build). is_outcome (came_to x m)) same)
         ∙ sym (ap (λ k. is_outcome (came_to build k)) number) ∙ waits in
@@ -94,7 +95,7 @@ leaves_given s tag view targets build other lane n m id unit of_m path sound h t
     by_view true e =
         let of_view : other.view ≡ view = (bytes_eq-Decides other.view view).0 e in
         let lanes : lane ≡ tag.lane = h.apart.one_lane lane tag.lane other build is there (of_view ∙ sym p.same_view) in
-        let same : build ≡ other = some_same (sym there ∙ ap (build_of s.active) (sym lanes) ∙ is) in
+        let same : build ≡ other = same_inside (sym there ∙ ap (build_of s.active) (sym lanes) ∙ is) in
         by_path same (is_path_among path targets) refl
 
 published_given : (s : State) (tag : Tag) (moment : ℕ) (view : List ℕ) (targets : List (List ℕ)) (script : List ℕ)
@@ -131,11 +132,11 @@ published_given s tag moment view targets script entries outputs sound h fit e =
     own : (build : Build) → build_of s.active tag.lane ≡ Some build → HoldsGiven (row ∷ s.base)
         (with_came build (unit_with_first build targets) (Given (size s.base)))
     own build is =
-        let same : e.build ≡ build = some_same (sym there ∙ is) in
+        let same : e.build ≡ build = same_inside (sym there ∙ is) in
         subst (λ x. HoldsGiven (row ∷ s.base) (with_came x (unit_with_first x targets) (Given (size s.base)))) same
         (subst (λ o. HoldsGiven (row ∷ s.base) (with_came e.build o (Given (size s.base)))) (sym e.place)
         (came_given (row ∷ s.base) e.build e.n (Given (size s.base))
-        (λ id object. let number : size s.base ≡ id = some_same object in
+        (λ id object. let number : size s.base ≡ id = same_inside object in
         subst (IsHeld (row ∷ s.base) e.build e.n) number
         (publish_held tag moment view targets script entries outputs s.base e.build e.n e.unit p.same_view p.same_targets
         e.running.waits.is_unit e.place))
@@ -178,11 +179,11 @@ winked_given s tag moment view id sound h fit e = each_noted (λ lane. HoldsGive
     own : (build : Build) → build_of s.active tag.lane ≡ Some build → HoldsGiven (row ∷ s.base)
         (with_came build (unit_with_first build (targets_of s.base id)) (Given id))
     own build is =
-        let same : e.build ≡ build = some_same (sym w.there ∙ is) in
+        let same : e.build ≡ build = same_inside (sym w.there ∙ is) in
         subst (λ x. HoldsGiven (row ∷ s.base) (with_came x (unit_with_first x (targets_of s.base id)) (Given id))) same
         (subst (λ o. HoldsGiven (row ∷ s.base) (with_came e.build o (Given id))) (sym e.place)
         (came_given (row ∷ s.base) e.build e.n (Given id)
-        (λ other object. let number : id ≡ other = some_same object in
+        (λ other object. let number : id ≡ other = same_inside object in
         subst (IsHeld (row ∷ s.base) e.build e.n) number
         (wink_held tag moment view id s.base e.build e.n e.unit p.same_view p.same_targets
         (reusable_matches s.base e.build e.n e.unit id sound.base e.chosen).lives w.is_unit e.place))

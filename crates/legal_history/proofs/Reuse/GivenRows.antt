@@ -4,6 +4,7 @@ use Rattle.std.proofs.Common.{List, [], ◌∷◌}
 use Rattle.std.proofs.lemmas.Slice.Eq.{bytes_eq-Decides}
 use Rattle.std.specs.Bool.{⊤}
 use Rattle.std.specs.Prelude.{is_some, bytes_eq}
+use Rattle.std.proofs.lemmas.Bool.{or_left}
 use Rattle.cc_names.specs.Formed.{Plain}
 use Rattle.cc_names.specs.Last.{Sets, only_if, value_after}
 use Rattle.cc_names.specs.References.{held_at}
@@ -12,6 +13,7 @@ use Rattle.cc_names.specs.declared.rows.Deed.TheVariants as deeds
 use Rattle.cc_names.specs.declared.rows.ReadOf.{ReadOf}
 use Rattle.cc_names.specs.declared.rows.Tag.{Tag}
 use Rattle.cc_names.specs.declared.units.Unit.{Unit}
+use Rattle.cc_names.proofs.Common.{bytes_equal_themselves, same_number}
 use Rattle.base_model.specs.Rows.{Base, size}
 use Rattle.legal_history.specs.Builds.Active.{Active, Build, Came, Started, Concluded, Given, build_of, building, came_to}
 use Rattle.legal_history.specs.Builds.Active.{is_outcome, object_of, unit_at, unit_with_first}
@@ -20,9 +22,6 @@ use Rattle.base_model.specs.Closures.{is_path_among}
 use Rattle.base_model.specs.Fits.{deed_fits}
 use Rattle.legal_history.specs.Builds.Serials.{makes}
 use Rattle.legal_history.specs.Stories.Steps.{with_came}
-use Rattle.base_model.proofs.Either.{or_first}
-use Rattle.legal_history.proofs.Builds.FreshSeen.{bytes_itself}
-use Rattle.base_model.proofs.Tables.{same_number}
 use Rattle.base_model.proofs.Owned.{same_is_same}
 use Rattle.legal_history.proofs.Builds.ConsistentStays.{came_now}
 use Rattle.legal_history.proofs.Builds.AllBuilds.{builds_there}
@@ -119,8 +118,8 @@ pub target_there : (build : Build) (targets : List (List ℕ)) (n : ℕ) → uni
 target_there build [] n h = absurd (cc)
 target_there build (target ∷ targets) n h = (
   target,
-  or_first (bytes_eq target target) (is_path_among target targets)
-      (bytes_itself target),
+  or_left (bytes_eq target target) (is_path_among target targets)
+      (bytes_equal_themselves target),
 )
 
 -- the object that a unit's publish makes is held at each target of the unit

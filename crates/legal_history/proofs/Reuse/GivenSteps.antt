@@ -8,6 +8,7 @@ use Rattle.cc_names.specs.declared.steps.StoryStep.TheVariants as story_steps
 use Rattle.cc_names.specs.declared.steps.UnitEnd.{UnitEnd}
 use Rattle.cc_names.specs.declared.steps.UnitEnd.TheVariants as ends
 use Rattle.cc_names.specs.declared.units.Unit.{Unit}
+use Rattle.cc_names.proofs.Common.{same_inside}
 use Rattle.base_model.specs.Rows.{size}
 use Rattle.legal_history.specs.Builds.Active.{Build, Came, Concluded, build_of, object_of, unit_at}
 use Rattle.legal_history.specs.Commands.Decisions.{Begins}
@@ -22,7 +23,6 @@ use Rattle.legal_history.proofs.Stories.Goes.{of_lane}
 use Rattle.base_model.proofs.Owned.{row_fits}
 use Rattle.legal_history.proofs.Builds.AllBuilds.{Each, each_noted, each_without, each_begun, each_faulted}
 use Rattle.legal_history.proofs.Stories.DecidedSteps.{decided_of, says_of, begun_is}
-use Rattle.legal_history.proofs.Builds.FineBuilds.{some_same}
 use Rattle.legal_history.proofs.Builds.UnitsCome.{start_without}
 use Rattle.legal_history.proofs.Stories.ConsistentStories.{IsConsistentState, consistent_step}
 use Rattle.legal_history.specs.Laws.Given.{IsHeld, HoldsGiven}
@@ -58,10 +58,10 @@ kept_given s tag n id base h e =
     own : (build : Build) → build_of s.active tag.lane ≡ Some build → HoldsGiven s.base
         (with_came build (Some n) (Concluded (ends.Kept id)))
     own build is =
-        let same : e.build ≡ build = some_same (sym there ∙ is) in
+        let same : e.build ≡ build = same_inside (sym there ∙ is) in
         subst (λ x. HoldsGiven s.base (with_came x (Some n) (Concluded (ends.Kept id)))) same
         (came_given s.base e.build n (Concluded (ends.Kept id))
-        (λ other object. let number : id ≡ other = some_same object in
+        (λ other object. let number : id ≡ other = same_inside object in
         subst (IsHeld s.base e.build n) number (kept_held s.base e.build n e.unit id base e.open_unit.waits.is_unit e.holds))
         (h.given.holds tag.lane e.build there))
 
@@ -78,7 +78,7 @@ begun_given : (s : State) (tag : Tag) (us : List Unit) → decision_for s tag �
     → build_begun_by s tag ≡ Some build → HoldsGiven s.base build
 begun_given s tag us h build is =
     let says = says_of s tag (Begins us) (decided_of s tag (Begins us) h) in
-    let made : build_asked tag (size s.base) us says.asked ≡ build = some_same (sym (begun_is s tag us h) ∙ is) in
+    let made : build_asked tag (size s.base) us says.asked ≡ build = same_inside (sym (begun_is s tag us h) ∙ is) in
     subst (HoldsGiven s.base) made (record { given = λ n id own. absurd (cc) })
 
 any_step_given : (s : State) (step : Step) → is_base s.base ≡ true → AllHeld s → LawfulStep s step

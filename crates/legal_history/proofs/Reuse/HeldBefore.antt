@@ -2,6 +2,7 @@
 use Rattle.std.proofs.Common.{◌≡◌, refl, ap, sym, subst, ◌∙◌, ℕ, Bool, true, false, cond, ◌&&◌, ◌==◌, Option, Some, None, Ok}
 use Rattle.std.proofs.Common.{List, [], ◌∷◌}
 use Rattle.std.specs.Prelude.{bytes_eq, is_some, slice_get}
+use Rattle.std.proofs.lemmas.Bool.{or_left, or_right}
 use Rattle.cc_names.specs.References.{held_at}
 use Rattle.cc_names.specs.Versions.{is_number}
 use Rattle.cc_names.specs.declared.rows.Deed.{Deed}
@@ -12,6 +13,7 @@ use Rattle.cc_names.specs.declared.steps.Step.TheVariants as steps
 use Rattle.cc_names.specs.declared.steps.StoryStep.{StoryStep}
 use Rattle.cc_names.specs.declared.steps.StoryStep.TheVariants as story_steps
 use Rattle.cc_names.specs.declared.units.Unit.{Unit}
+use Rattle.cc_names.proofs.Common.{same_inside, bytes_equal_themselves, same_number, number_found}
 use Rattle.base_model.specs.Rows.{Base, deed_at, deed_of, only_where, size}
 use Rattle.base_model.specs.Changes.{objects_held, targets_of}
 use Rattle.base_model.specs.Closures.{is_path_among}
@@ -32,13 +34,10 @@ use Rattle.legal_history.specs.Stories.Steps.{active_after, after, after_step, b
 use Rattle.legal_history.specs.Stories.Steps.{with_outcome, state_from, state_of, with_came}
 use Rattle.base_model.proofs.Stay.{row_stays_all}
 use Rattle.legal_history.proofs.Builds.AllBuilds.{Each, each_begun, each_faulted, each_noted, each_without}
-use Rattle.legal_history.proofs.Builds.FineBuilds.{some_same}
-use Rattle.legal_history.proofs.Builds.FreshSeen.{bytes_itself}
-use Rattle.base_model.proofs.Either.{or_first, or_second}
 use Rattle.legal_history.proofs.Builds.ReadyUnits.{ready_by}
 use Rattle.legal_history.proofs.Stories.DecidedSteps.{begun_is, decided_of, says_of}
 use Rattle.legal_history.proofs.Stories.Goes.{of_lane, step_goes}
-use Rattle.base_model.proofs.Tables.{same_number, find_after_put}
+use Rattle.base_model.proofs.Tables.{find_after_put}
 use Rattle.legal_history.proofs.Stories.GoingOn.{GoesOnSo}
 use Rattle.legal_history.proofs.Stories.Grows.{step_extends}
 use Rattle.legal_history.proofs.Stories.ConsistentStories.{IsConsistentState, none_active, consistent_first, consistent_step}
@@ -48,7 +47,6 @@ use Rattle.legal_history.proofs.Reuse.GivenCommits.{AllHeld}
 use Rattle.legal_history.proofs.Reuse.GivenSteps.{held_step}
 use Rattle.legal_history.proofs.Reuse.PlaceStays.{place_step}
 use Rattle.legal_history.proofs.Reuse.Reusables.{held_lives, reusable_matches}
-use Rattle.legal_history.proofs.Reuse.SeenTexts.{number_is}
 use Rattle.legal_history.proofs.Reuse.SoundBases.{held_first}
 use Rattle.legal_history.proofs.Reuse.SoundRows.{live_below}
 
@@ -83,9 +81,10 @@ each_same : (b later : Base) (v : List ℕ) (targets : List (List ℕ)) (id : �
     ≡ held_at (objects_held b) v path) → held_at_each later v targets id ≡ held_at_each b v targets id
 each_same b later v [] id h = refl
 each_same b later v (target ∷ targets) id h =
-    let rest = each_same b later v targets id (λ path among. h path (or_second (bytes_eq path target) (is_path_among path targets)
+    let rest = each_same b later v targets id (λ path among. h path (or_right (bytes_eq path target) (is_path_among path targets)
     among)) in
-    λ i. is_number id (h target (or_first (bytes_eq target target) (is_path_among target targets) (bytes_itself target)) i)
+    λ i. is_number id (h target (or_left (bytes_eq target target) (is_path_among target targets) (bytes_equal_themselves target))
+    i)
     && rest i
 
 all_same : (b later : Base) (v : List ℕ) (targets : List (List ℕ)) → ((path : List ℕ) → is_path_among path targets ≡ true
@@ -93,13 +92,13 @@ all_same : (b later : Base) (v : List ℕ) (targets : List (List ℕ)) → ((pat
     → held_at_all later v targets ≡ held_at_all b v targets
 all_same b later v [] h = refl
 all_same b later v (target ∷ targets) h =
-    ap (held_at_others later v targets) (h target (or_first (bytes_eq target target) (is_path_among target targets)
-    (bytes_itself target))) ∙ others (held_at (objects_held b) v target)
+    ap (held_at_others later v targets) (h target (or_left (bytes_eq target target) (is_path_among target targets)
+    (bytes_equal_themselves target))) ∙ others (held_at (objects_held b) v target)
   where
     others : (o : Option ℕ) → held_at_others later v targets o ≡ held_at_others b v targets o
     others None = refl
     others (Some id) = ap (λ t. only_where t (Some id)) (each_same b later v targets id
-        (λ path among. h path (or_second (bytes_eq path target) (is_path_among path targets) among)))
+        (λ path among. h path (or_right (bytes_eq path target) (is_path_among path targets) among)))
 
 -- so it passes on where a build goes on and its view holds the same at the unit's targets
 passes_on : (b later : Base) (old new : Build) (n : ℕ) (unit : Unit) → GoesOnSo b later old new unit → is_base b ≡ true
@@ -162,7 +161,7 @@ begun_before : (s : State) (tag : Tag) (us : List Unit) → decision_for s tag �
     → build_begun_by s tag ≡ Some build → (n : ℕ) → came_to build n ≡ Some Started → StartedBy s tag.lane n
 begun_before s tag us h build is n e =
     let says = says_of s tag (Begins us) (decided_of s tag (Begins us) h) in
-    let made : build_asked tag (size s.base) us says.asked ≡ build = some_same (sym (begun_is s tag us h) ∙ is) in
+    let made : build_asked tag (size s.base) us says.asked ≡ build = same_inside (sym (begun_is s tag us h) ∙ is) in
     let nothing : None ≡ Some Started = ap (λ (b : Build). came_to b n) made ∙ e in
     absurd (cc)
 
@@ -224,7 +223,7 @@ passes_after s x lane old new n unit sound objects_held e was is is_unit started
 
     by : StaysTheBuild old (build_of (after s x).active lane) → PassesItsOwn (after s x).base new n unit
     by (Over none) = absurd (cc)
-    by (On on is_on c) = on_by (subst (Continues old) (some_same (sym is_on ∙ is)) c)
+    by (On on is_on c) = on_by (subst (Continues old) (same_inside (sym is_on ∙ is)) c)
 
 passes_step : (s : State) (x : StoryStep) → IsConsistentState s → AllHeld s → AllPass s → Lawful s x → AllPass (after s x)
 passes_step s x sound objects_held h e = record {
@@ -244,7 +243,7 @@ passes_step s x sound objects_held h e = record {
         let was : build_of s.active lane ≡ Some starts.build = ap (build_of s.active) (sym same)
         ∙ of_lane s tag starts.build starts.open_unit.waits.active in
         passes_after s x lane starts.build new n unit sound objects_held e was is is_unit started
-        (λ of_old. subst (WasPassed s starts.build n) (some_same (sym starts.open_unit.waits.is_unit ∙ of_old))
+        (λ of_old. subst (WasPassed s starts.build n) (same_inside (sym starts.open_unit.waits.is_unit ∙ of_old))
         (record {
           ready = ready_by starts.build starts.unit starts.open_unit.ready;
           passes = nothing_passes s.base starts.build n starts.unit starts.nothing;
@@ -282,7 +281,7 @@ not_held s tag n build unit id base h running chosen = by (is_number id (held_at
         let passes = h.holds tag.lane build (of_lane s tag build running.waits.active) n unit running.waits.is_unit
         running.started in
         sym (reusable_matches s.base build n unit id base chosen).matches_unit
-        ∙ passes.passed id reuses (number_is id (held_at_all s.base build.view unit.targets) e)
+        ∙ passes.passed id reuses (number_found id (held_at_all s.base build.view unit.targets) e)
 
 -- The law.
 pub found_is_not_held : (story : List StoryStep) (tag : Tag) (n : ℕ) (build : Build) (unit : Unit) (id : ℕ) → Legal story

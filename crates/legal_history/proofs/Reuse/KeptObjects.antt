@@ -2,9 +2,11 @@
 use Rattle.std.proofs.Common.{◌≡◌, refl, ap, subst, ◌∙◌, ℕ, Bool, true, false, ◌||◌, Option, Some, None, List, [], ◌∷◌}
 use Rattle.std.proofs.lemmas.Slice.Eq.{bytes_eq-Decides}
 use Rattle.std.specs.Prelude.{bytes_eq}
+use Rattle.std.proofs.lemmas.Bool.{or_left}
 use Rattle.cc_names.specs.References.{held_at}
 use Rattle.cc_names.specs.Versions.{is_number}
 use Rattle.cc_names.specs.declared.units.Unit.{Unit}
+use Rattle.cc_names.proofs.Common.{bytes_equal_themselves, and_first, and_second, number_found}
 use Rattle.base_model.specs.Rows.{Base}
 use Rattle.legal_history.specs.Builds.Active.{Build, unit_at}
 use Rattle.base_model.specs.Changes.{objects_held}
@@ -13,13 +15,9 @@ use Rattle.base_model.specs.Fits.{is_base}
 use Rattle.legal_history.specs.Builds.Consistency.{IsObjectOf}
 use Rattle.base_model.specs.Objects.{held_at_all, held_at_each, held_at_others}
 use Rattle.legal_history.specs.Builds.Reuse.{reusable}
-use Rattle.base_model.proofs.Either.{or_first}
-use Rattle.legal_history.proofs.Builds.FreshSeen.{bytes_itself}
-use Rattle.base_model.proofs.Owned.{and_first, and_second}
 use Rattle.legal_history.specs.Laws.Given.{IsHeld}
 use Rattle.legal_history.proofs.Reuse.Matched.{match_targets}
 use Rattle.legal_history.proofs.Reuse.Reusables.{held_lives, only_one, reusable_matches}
-use Rattle.legal_history.proofs.Reuse.SeenTexts.{number_is}
 use Rattle.legal_history.proofs.Reuse.SoundRows.{live_below}
 
 -- an object that a unit may reuse is one of the unit
@@ -46,7 +44,7 @@ held_each : (b : Base) (v : List ℕ) (targets : List (List ℕ)) (id : ℕ) (pa
     → is_path_among path targets ≡ true → held_at (objects_held b) v path ≡ Some id
 held_each b v [] id path h among = absurd (cc)
 held_each b v (target ∷ targets) id path h among =
-    among_others b v path target targets id (number_is id (held_at (objects_held b) v target)
+    among_others b v path target targets id (number_found id (held_at (objects_held b) v target)
     (and_first (is_number id (held_at (objects_held b) v target)) (held_at_each b v targets id) h))
     (held_each b v targets id path (and_second (is_number id (held_at (objects_held b) v target)) (held_at_each b v targets id)
     h)) among
@@ -69,8 +67,8 @@ some_target : (b : Base) (v : List ℕ) (targets : List (List ℕ)) (id : ℕ) �
 some_target b v [] id h = absurd (cc)
 some_target b v (target ∷ targets) id h = (
   target,
-  or_first (bytes_eq target target) (is_path_among target targets)
-      (bytes_itself target),
+  or_left (bytes_eq target target) (is_path_among target targets)
+      (bytes_equal_themselves target),
 )
 
 pub kept_held : (b : Base) (build : Build) (n : ℕ) (unit : Unit) (id : ℕ) → is_base b ≡ true → unit_at build n ≡ Some unit

@@ -8,6 +8,7 @@ use Rattle.cc_names.specs.declared.rows.Tag.{Tag}
 use Rattle.cc_names.specs.declared.steps.Step.TheVariants as steps
 use Rattle.cc_names.specs.declared.steps.StoryStep.{StoryStep}
 use Rattle.cc_names.specs.declared.steps.StoryStep.TheVariants as story_steps
+use Rattle.cc_names.proofs.Common.{same_inside}
 use Rattle.base_model.specs.Rows.{Base}
 use Rattle.base_model.specs.Fits.{is_base}
 use Rattle.legal_history.specs.Builds.Values as values
@@ -16,7 +17,6 @@ use Rattle.legal_history.specs.Stories.Committing.{MayCommit, LeavesRow}
 use Rattle.legal_history.specs.Stories.Lawful.{Commits, Lawful, Legal, LegalFrom}
 use Rattle.legal_history.specs.Stories.States.{State, Opening, hanging, start, ticks_of}
 use Rattle.legal_history.specs.Stories.Steps.{after, state_from, state_of}
-use Rattle.legal_history.proofs.Builds.FineBuilds.{some_same}
 use Rattle.legal_history.proofs.Reuse.GivenCommits.{AllHeld}
 use Rattle.legal_history.proofs.Reuse.GivenSteps.{held_step}
 use Rattle.legal_history.proofs.Reuse.SoundBases.{base_step, held_first, opened_from, opened_is_base}
@@ -56,7 +56,7 @@ in_flight given s row h may =
 fault_leaves : (given : Type 0) (s : State) (tag : Tag) (left : Option Plain) (row : Plain) → IsKnown given s
     → LeavesRow s tag left → left ≡ Some row → IsGood given (row ∷ s.base)
 fault_leaves given s tag None row h leaves is = absurd (cc)
-fault_leaves given s tag (Some own) row h (inl made) is = subst (λ r. IsGood given (r ∷ s.base)) (some_same is)
+fault_leaves given s tag (Some own) row h (inl made) is = subst (λ r. IsGood given (r ∷ s.base)) (same_inside is)
     (in_flight given s own h made.1)
 fault_leaves given s tag (Some own) row h (inr earlier) is = h.left row (earlier ∙ is)
 

@@ -9,6 +9,7 @@ use Rattle.cc_names.specs.declared.rows.Deed.{Deed}
 use Rattle.cc_names.specs.declared.rows.Deed.TheVariants as deeds
 use Rattle.cc_names.specs.declared.rows.ReadOf.{ReadOf}
 use Rattle.cc_names.specs.declared.units.Unit.{Unit}
+use Rattle.cc_names.proofs.Common.{and_first, and_second}
 use Rattle.script_grammar.specs.Frame.{Agree}
 use Rattle.script_grammar.specs.Run.{Ran, run}
 use Rattle.script_grammar.proofs.FrameLemmas.{run_framed}
@@ -24,7 +25,6 @@ use Rattle.legal_history.specs.Queries.RecordTexts.{recorded_script, script_of_d
 use Rattle.legal_history.specs.Builds.Reuse.{entry_agrees, record_matches, matches}
 use Rattle.legal_history.specs.Builds.Values.{outputs_of_run, outputs_of_result, has_entries, reads_of_run, text_of_entry}
 use Rattle.legal_history.specs.Builds.Values.{texts_of_entries, rerun, is_true, IsSound}
-use Rattle.base_model.proofs.Owned.{and_first, and_second}
 use Rattle.legal_history.specs.Laws.Objects.{outputs_of_deed, GivesLive, IsTheRun}
 use Rattle.legal_history.proofs.Reuse.Reruns.{rerun_now}
 use Rattle.legal_history.proofs.Reuse.SeenTexts.{SeesTrue, unit_sees_true, entry_text}

@@ -3,6 +3,7 @@ use Rattle.std.proofs.Common.{◌≡◌, ℕ, suc, true, Option, Some, None, Lis
 use Rattle.cc_names.specs.declared.rows.Deed.{Deed}
 use Rattle.cc_names.specs.declared.rows.Deed.TheVariants as deeds
 use Rattle.cc_names.specs.declared.units.Unit.{Unit}
+use Rattle.cc_names.proofs.Common.{number_found}
 use Rattle.base_model.specs.Rows.{Base, deed_at}
 use Rattle.legal_history.specs.Builds.Active.{Build}
 use Rattle.legal_history.specs.Builds.Choices.{visible}
@@ -13,7 +14,7 @@ use Rattle.legal_history.specs.Builds.Reuse.{matches, record_matches}
 use Rattle.legal_history.specs.Laws.Given.{SeenBy}
 use Rattle.legal_history.proofs.Reuse.Matched.{matching, named_agrees}
 use Rattle.legal_history.proofs.Reuse.Members.{seen_by}
-use Rattle.legal_history.proofs.Reuse.SeenTexts.{none_is, number_is}
+use Rattle.legal_history.proofs.Reuse.SeenTexts.{none_is}
 
 entry_agrees_at : (b : Base) (build : Build) (n : ℕ) (unit : Unit) (id : ℕ) (path : List ℕ) (r : ℕ)
     → matches b build n unit id ≡ true → row_in (record_of b id) path ≡ Some r → agrees r (visible b build n unit path) ≡ true
@@ -34,7 +35,7 @@ entry_agrees_at b build n unit id path r match is = by (deed_at b id) match is
 pub entry_is_seen : (b : Base) (build : Build) (n : ℕ) (unit : Unit) (id : ℕ) (path : List ℕ) (r : ℕ)
     → matches b build n unit id ≡ true → row_in (record_of b id) path ≡ Some (suc r) → SeenBy b build n unit path (suc r)
 entry_is_seen b build n unit id path r match is = seen_by b build n unit path (suc r)
-    (number_is (suc r) (visible b build n unit path) (entry_agrees_at b build n unit id path (suc r) match is))
+    (number_found (suc r) (visible b build n unit path) (entry_agrees_at b build n unit id path (suc r) match is))
 
 pub absent_is_unseen : (b : Base) (build : Build) (n : ℕ) (unit : Unit) (id : ℕ) (path : List ℕ)
     → matches b build n unit id ≡ true → row_in (record_of b id) path ≡ Some 0 → visible b build n unit path ≡ None

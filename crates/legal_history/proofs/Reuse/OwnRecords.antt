@@ -20,6 +20,7 @@ use Rattle.cc_names.specs.declared.selection.Picked.{Picked}
 use Rattle.cc_names.specs.declared.selection.Seen.{Seen}
 use Rattle.cc_names.specs.declared.selection.Seen.TheVariants.{Private, Element, Unselected, Nothing}
 use Rattle.cc_names.specs.declared.units.Unit.{Unit}
+use Rattle.cc_names.proofs.Common.{bytes_equal_themselves}
 use Rattle.base_model.specs.Rows.{Base, first_rows, deed_at}
 use Rattle.legal_history.specs.Builds.Active.{Build}
 use Rattle.base_model.specs.Changes.{live_row, tree}
@@ -31,7 +32,6 @@ use Rattle.base_model.specs.Objects.{agrees}
 use Rattle.legal_history.specs.Builds.Reuse.{entry_agrees, matches, record_matches, reusable}
 use Rattle.base_model.specs.Seen.{at, file_at, file_seen, row_of_file}
 use Rattle.base_model.proofs.PrivateFiles.{private_at}
-use Rattle.legal_history.proofs.Builds.FreshSeen.{bytes_itself}
 use Rattle.base_model.proofs.Makings.{seen_element}
 use Rattle.base_model.proofs.Owned.{same_is_same}
 use Rattle.base_model.proofs.Picks.{IsPick, picked_is}
@@ -135,7 +135,7 @@ same_matches : (b : Base) (build : Build) (n : ℕ) (unit : Unit) (id : ℕ) (v 
 same_matches b build n unit id v outputs base gives is =
     ap (record_matches unit.targets script rows) is
     ∙ ap (λ t. (t && bytes_eq script script) && list_all (entry_agrees rows) (entries rows reads)) (texts_alike unit.targets)
-    ∙ ap (λ t. t && list_all (entry_agrees rows) (entries rows reads)) (bytes_itself script)
+    ∙ ap (λ t. t && list_all (entry_agrees rows) (entries rows reads)) (bytes_equal_themselves script)
     ∙ all_entries rows (in_order rows reads) (in_order_agrees rows reads (λ path. own_agrees b build n unit path base gives))
   where
     script : List ℕ

@@ -5,12 +5,12 @@ use Rattle.std.proofs.lemmas.Bool.Decides.{nat_tests}
 use Rattle.std.specs.Option.{option_or}
 use Rattle.std.specs.Prelude.{is_some}
 use Rattle.cc_names.specs.declared.units.Unit.{Unit}
+use Rattle.cc_names.proofs.Common.{same_number}
 use Rattle.base_model.specs.Rows.{Base, size}
 use Rattle.legal_history.specs.Builds.Active.{Build}
 use Rattle.base_model.specs.Changes.{live_row}
 use Rattle.legal_history.specs.Builds.Reuse.{matches, if_matches, newest_match, by_options, reusable}
 use Rattle.base_model.specs.Objects.{held_at_all}
-use Rattle.base_model.proofs.Tables.{same_number}
 use Rattle.legal_history.proofs.Reuse.SoundRows.{live_below, live_above}
 
 lower_one : (older : Base) (id : ℕ) → (size older == id) ≡ false → id < suc (size older) → id < size older

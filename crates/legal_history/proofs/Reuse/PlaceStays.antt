@@ -10,6 +10,7 @@ use Rattle.cc_names.specs.declared.steps.Step.TheVariants as steps
 use Rattle.cc_names.specs.declared.steps.StoryStep.{StoryStep}
 use Rattle.cc_names.specs.declared.steps.StoryStep.TheVariants as story_steps
 use Rattle.cc_names.specs.declared.units.Unit.{Unit}
+use Rattle.cc_names.proofs.Common.{same_inside}
 use Rattle.base_model.specs.Rows.{size}
 use Rattle.legal_history.specs.Builds.Active.{Active, Build, Came, Given, build_of, came_to, is_outcome, number_from, unit_at}
 use Rattle.legal_history.specs.Builds.Active.{unit_with_first}
@@ -24,7 +25,7 @@ use Rattle.legal_history.specs.Stories.Lawful.{Lawful, Legal}
 use Rattle.legal_history.proofs.Stories.Goes.{of_lane}
 use Rattle.base_model.proofs.Tables.{find_put_same}
 use Rattle.legal_history.proofs.Stories.DecidedSteps.{decided_of}
-use Rattle.legal_history.proofs.Builds.FineBuilds.{some_same, takes_for}
+use Rattle.legal_history.proofs.Builds.FineBuilds.{takes_for}
 use Rattle.legal_history.proofs.Builds.Published.{is_publish}
 use Rattle.legal_history.proofs.Stories.ConsistentStories.{IsConsistentState, story_is_consistent}
 use Rattle.base_model.proofs.HeldPaths.{Leaves, path_stays}
@@ -64,7 +65,7 @@ given_leaves s tag view targets object lane old new n unit path build m of_m sou
         let now = noted_is s.active tag.lane build (λ build. unit_with_first build targets) m (Given object) there place in
         let is_new : build_of (with_outcome s.active tag.lane (λ build. unit_with_first build targets) (Given object)) tag.lane
         ≡ Some new = ap (build_of _) (sym lanes) ∙ u.is in
-        let same : with_came build (Some m) (Given object) ≡ new = some_same (sym now ∙ is_new) in
+        let same : with_came build (Some m) (Given object) ≡ new = same_inside (sym now ∙ is_new) in
         ap (λ (b : Build). came_to b m) (sym same) ∙ find_put_same m (Given object) build.comes
 
     finished : lane ≡ tag.lane → build ≡ old → is_path_among path targets ≡ true → ⊥
@@ -74,7 +75,7 @@ given_leaves s tag view targets object lane old new n unit path build m of_m sou
         (ap (is_path_among path) p.same_targets ∙ among) in
         let n_is : unit_at build n ≡ Some unit = ap (λ (b : Build). unit_at b n) same ∙ u.is_unit in
         let of_n : number_from 0 path build.units ≡ Some n = fine.consistent.in_order.one n unit path n_is u.made in
-        let number : m ≡ n = some_same (sym of_its ∙ of_n) in
+        let number : m ≡ n = same_inside (sym of_its ∙ of_n) in
         let over : is_outcome (came_to new n) ≡ true = ap (λ k. is_outcome (came_to new k)) (sym number)
         ∙ ap is_outcome (came_by_it lanes) in
         let clash : true ≡ false = sym over ∙ u.waits in
@@ -89,7 +90,7 @@ given_leaves s tag view targets object lane old new n unit path build m of_m sou
     by_view true e =
         let of_view : old.view ≡ view = (bytes_eq-Decides old.view view).0 e in
         let lanes : lane ≡ tag.lane = h.apart.one_lane lane tag.lane old build u.was there (of_view ∙ sym p.same_view) in
-        let same : build ≡ old = some_same (sym there ∙ ap (build_of s.active) (sym lanes) ∙ u.was) in
+        let same : build ≡ old = same_inside (sym there ∙ ap (build_of s.active) (sym lanes) ∙ u.was) in
         by_path lanes same (is_path_among path targets) refl
 
 commanded_leaves : (s : State) (tag : Tag) (deed : Deed) (lane : ℕ) (old : Build) (path : List ℕ) → IsOfCommand deed

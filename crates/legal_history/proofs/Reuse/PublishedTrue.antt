@@ -8,11 +8,13 @@ use Rattle.std.specs.FinMap.Entries.{find, find-put}
 use Rattle.std.specs.List.{AllByRecursion, list_all}
 use Rattle.std.specs.Ordering.{nat_cmp, eq_by_cmp}
 use Rattle.std.specs.Prelude.{is_some, bytes_eq, option_and_then, option_map, find as find_in}
+use Rattle.std.proofs.lemmas.Bool.{or_left, or_right}
 use Rattle.cc_names.specs.Formed.{Plain}
 use Rattle.cc_names.specs.declared.rows.Deed.{Deed}
 use Rattle.cc_names.specs.declared.rows.Deed.TheVariants as deeds
 use Rattle.cc_names.specs.declared.rows.ReadOf.{ReadOf}
 use Rattle.cc_names.specs.declared.units.Unit.{Unit}
+use Rattle.cc_names.proofs.Common.{bytes_equal_themselves}
 use Rattle.script_grammar.specs.Run.{Ran, run}
 use Rattle.script_grammar.proofs.FrameLemmas.{run_framed}
 use Rattle.base_model.specs.Rows.{Base, size, first_rows, deed_at}
@@ -25,8 +27,6 @@ use Rattle.legal_history.specs.Builds.Fresh.{script_text}
 use Rattle.base_model.specs.Objects.{row_in}
 use Rattle.legal_history.specs.Builds.Values.{outputs_of_result, has_entries, are_stored, text_of_entry, texts_of_entries}
 use Rattle.legal_history.specs.Builds.Values.{run_of_deed, rerun, is_true, is_true_deed, IsSound}
-use Rattle.base_model.proofs.Either.{or_first, or_second}
-use Rattle.legal_history.proofs.Builds.FreshSeen.{bytes_itself}
 use Rattle.base_model.proofs.Owned.{same_is_same}
 use Rattle.legal_history.proofs.Builds.Published.{IsPublish}
 use Rattle.base_model.proofs.VersionRows.{newest_deed}
@@ -77,8 +77,8 @@ all_of : (P : List ℕ → Type 0) (paths : List (List ℕ)) → ((path : List �
     → AllByRecursion P paths
 all_of P [] each = tt
 all_of P (path ∷ paths) each = (
-  each path (or_first (bytes_eq path path) (is_path_among path paths) (bytes_itself path)),
-  all_of P paths (λ other among. each other (or_second (bytes_eq other path) (is_path_among other paths) among)),
+  each path (or_left (bytes_eq path path) (is_path_among path paths) (bytes_equal_themselves path)),
+  all_of P paths (λ other among. each other (or_right (bytes_eq other path) (is_path_among other paths) among)),
 )
 
 each_of : (test : List ℕ → Bool) (paths : List (List ℕ)) → AllByRecursion (λ path. test path ≡ true) paths

@@ -14,12 +14,10 @@ use Rattle.base_model.specs.Fits.{is_base}
 use Rattle.base_model.specs.Objects.{row_in}
 use Rattle.legal_history.specs.Builds.Values.{output_of_run, outputs_of_run, text_of_entry, texts_of_entries, run_of_deed, rerun}
 use Rattle.base_model.proofs.Owned.{row_fits, rows_below}
-use Rattle.base_model.proofs.Stay.{row_stays, text_stays}
+use Rattle.base_model.proofs.Stay.{text_stays}
 use Rattle.base_model.proofs.VersionsStay.{apart_below}
 use Rattle.base_model.proofs.EntriesBelow.{AreBelow, deed_entries_below}
-
-pub deed_stays : (row : Plain) (b : Base) (r : ℕ) → r < size b → deed_at (row ∷ b) r ≡ deed_at b r
-deed_stays row b r low = ap deed_of (row_stays row b r low)
+use Rattle.base_model.proofs.VersionRows.{deed_stays}
 
 pub rerun_stays : (row : Plain) (b : Base) (id : ℕ) → id < size b → rerun (row ∷ b) id ≡ rerun b id
 rerun_stays row b id low =

@@ -3,13 +3,14 @@ use Rattle.std.proofs.Common.{◌≡◌, refl, ap, subst, ◌∙◌, ℕ, Bool, 
 use Rattle.std.specs.Prelude.{is_some, nat_lt}
 use Rattle.cc_names.specs.References.{held_at}
 use Rattle.cc_names.specs.declared.units.Unit.{Unit}
+use Rattle.cc_names.proofs.Common.{and_first, and_second}
 use Rattle.base_model.specs.Rows.{Base, size, first_rows, only_where}
 use Rattle.legal_history.specs.Builds.Active.{Build}
 use Rattle.base_model.specs.Changes.{objects_held, live_row}
 use Rattle.base_model.specs.Fits.{is_base}
 use Rattle.legal_history.specs.Builds.Reuse.{matches, if_matches, newest_match, by_options, reusable}
 use Rattle.base_model.specs.Objects.{held_at_each, held_at_others, held_at_all}
-use Rattle.base_model.proofs.Owned.{rows_below, and_first, and_second}
+use Rattle.base_model.proofs.Owned.{rows_below}
 use Rattle.base_model.proofs.HeldObjects.{held_is_live}
 
 -- an object that is live and whose record matches the unit

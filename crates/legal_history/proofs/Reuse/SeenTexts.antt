@@ -3,10 +3,10 @@ use Rattle.std.proofs.Common.{◌≡◌, refl, ap, sym, subst, ◌∙◌, ℕ, z
 use Rattle.std.proofs.Common.{arith}
 use Rattle.std.proofs.lemmas.Bool.Decides.{nat_tests}
 use Rattle.std.specs.Prelude.{is_none}
-use Rattle.cc_names.specs.Versions.{is_number}
 use Rattle.cc_names.specs.declared.rows.Deed.{Deed}
 use Rattle.cc_names.specs.declared.rows.Deed.TheVariants as deeds
 use Rattle.cc_names.specs.declared.units.Unit.{Unit}
+use Rattle.cc_names.proofs.Common.{number_found}
 use Rattle.base_model.specs.Rows.{Base, first_rows, deed_at}
 use Rattle.legal_history.specs.Builds.Active.{Build}
 use Rattle.base_model.specs.Changes.{targets_of, targets_of_deed}
@@ -89,15 +89,11 @@ pub none_is : (o : Option ℕ) → is_none o ≡ true → o ≡ None
 none_is None h = refl
 none_is (Some n) h = absurd (cc)
 
-pub number_is : (n : ℕ) (o : Option ℕ) → is_number n o ≡ true → o ≡ Some n
-number_is n None h = absurd (cc)
-number_is n (Some m) h = grind (arith, nat_tests)
-
 -- an entry that agrees with what is seen has the text that is seen
 pub entry_text : (b : Base) (rows : List ℕ → Option ℕ) (path : List ℕ) (r : ℕ) → SeesTrue b rows → agrees r (rows path) ≡ true
     → text_of_entry b (rerun b) path r ≡ text_of_row b path (rows path)
 entry_text b rows path zero sees h = sym (ap (text_of_row b path) (none_is (rows path) h))
-entry_text b rows path (suc r) sees h = let is = number_is (suc r) (rows path) h in row_text b rows path r sees is
+entry_text b rows path (suc r) sees h = let is = number_found (suc r) (rows path) h in row_text b rows path r sees is
     ∙ sym (ap (text_of_row b path) is)
 
 -- and so has the entry that is made of what is seen

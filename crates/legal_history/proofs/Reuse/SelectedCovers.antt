@@ -11,6 +11,7 @@ use Rattle.cc_names.specs.Versions.{version_id, kind_of}
 use Rattle.cc_names.specs.declared.changes.VersionId.{VersionId}
 use Rattle.cc_names.specs.declared.rows.Kind.TheVariants.{File}
 use Rattle.cc_names.specs.declared.selection.Picked.{Picked}
+use Rattle.cc_names.proofs.Common.{same_number}
 use Rattle.base_model.specs.ConfigSpecs.Rules.{finds, is_checkout, picked_by}
 use Rattle.base_model.specs.Rows.{Base, only_where}
 use Rattle.base_model.specs.Changes.{targets_of, tree}
@@ -19,7 +20,7 @@ use Rattle.base_model.specs.Closures.{recorded_version, listing, listing_of, ver
 use Rattle.base_model.specs.Fits.{is_base}
 use Rattle.base_model.specs.Objects.{uncovered_path, uncovered_among, agrees}
 use Rattle.base_model.specs.Seen.{file_at, file_seen, row_of_file, selection_at, sources}
-use Rattle.base_model.proofs.Tables.{same_number, find_after_put}
+use Rattle.base_model.proofs.Tables.{find_after_put}
 use Rattle.base_model.proofs.LabelsHold.{greater, version_id_listed}
 use Rattle.base_model.proofs.Makings.{seen_element}
 use Rattle.base_model.proofs.Owned.{same_is_same}

@@ -7,12 +7,13 @@ use Rattle.cc_names.specs.Formed.{Plain}
 use Rattle.cc_names.specs.Last.{Ends, Sets, only_if, value_after}
 use Rattle.cc_names.specs.declared.rows.Deed.{Deed}
 use Rattle.cc_names.specs.declared.rows.Deed.TheVariants as deeds
+use Rattle.cc_names.proofs.Common.{same_number}
 use Rattle.base_model.specs.Rows.{Base, size}
 use Rattle.base_model.specs.Changes.{live_row, live_effect}
 use Rattle.base_model.specs.Closures.{is_publish_deed}
+use Rattle.base_model.proofs.VersionRows.{deed_stays}
 use Rattle.legal_history.specs.Builds.Values.{is_true, is_true_deed, IsSound}
-use Rattle.base_model.proofs.Tables.{same_number}
-use Rattle.legal_history.proofs.Reuse.Reruns.{deed_stays, rerun_stays}
+use Rattle.legal_history.proofs.Reuse.Reruns.{rerun_stays}
 use Rattle.legal_history.proofs.Reuse.TrueObjects.{live_is_true}
 
 -- an object that lives after a row is the one that the row published, or lived before

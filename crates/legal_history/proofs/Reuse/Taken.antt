@@ -10,6 +10,7 @@ use Rattle.cc_names.specs.declared.steps.StoryStep.{StoryStep}
 use Rattle.cc_names.specs.declared.steps.StoryStep.TheVariants as story_steps
 use Rattle.cc_names.specs.declared.steps.UnitEnd.TheVariants as ends
 use Rattle.cc_names.specs.declared.units.Unit.{Unit}
+use Rattle.cc_names.proofs.Common.{same_inside}
 use Rattle.base_model.specs.Changes.{live_row}
 use Rattle.base_model.specs.Fits.{is_base}
 use Rattle.base_model.specs.Rows.{deed_at}
@@ -26,7 +27,6 @@ use Rattle.legal_history.specs.Stories.Committing.{MakesRow}
 use Rattle.legal_history.specs.Stories.Lawful.{Legal}
 use Rattle.legal_history.specs.Stories.States.{State, build_by, start}
 use Rattle.legal_history.specs.Stories.Steps.{state_of}
-use Rattle.legal_history.proofs.Builds.FineBuilds.{some_same}
 use Rattle.legal_history.proofs.Builds.Published.{is_publish}
 use Rattle.legal_history.proofs.Stories.Prefixes.{prefix_is_legal, rest_is_legal}
 use Rattle.legal_history.proofs.Stories.Goes.{of_lane}
@@ -99,8 +99,8 @@ pub story_starts : (prefix rest : List StoryStep) (tag : Tag) (n : ℕ) (build :
 story_starts prefix rest tag n build unit id legal any is_unit lives =
     let b = (state_of prefix).base in
     let starts = (rest_is_legal start prefix (story_steps.Other (steps.Start tag n) ∷ rest) legal).0 in
-    let same_build : starts.build ≡ build = some_same (sym starts.open_unit.waits.active ∙ any.active) in
-    let same_unit : starts.unit ≡ unit = some_same (sym starts.open_unit.waits.is_unit
+    let same_build : starts.build ≡ build = same_inside (sym starts.open_unit.waits.active ∙ any.active) in
+    let same_unit : starts.unit ≡ unit = same_inside (sym starts.open_unit.waits.is_unit
     ∙ ap (λ (x : Build). unit_at x n) same_build ∙ is_unit) in
     nothing_passed_over b build n unit id any.of_any any.reuses (subst (λ x. reusable b build n x ≡ None) same_unit
     (subst (λ x. reusable b x n starts.unit ≡ None) same_build starts.nothing)) lives
@@ -113,7 +113,7 @@ publishes_new : (s : State) (row : Plain) (build : Build) (id : ℕ) (view other
 publishes_new s row build id view other targets script reads outputs stored base e is held any object =
     let b = s.base in
     let made = is_publish b e.build e.n e.unit row.deed e.made in
-    let same : e.build ≡ build = some_same (sym e.running.waits.active ∙ any.active) in
+    let same : e.build ≡ build = same_inside (sym e.running.waits.active ∙ any.active) in
     let whole : deeds.Publish view targets script reads outputs ≡ deeds.Publish e.build.view e.unit.targets
     (script_text e.unit.script) (entries (visible b e.build e.n e.unit) (here b e.build e.n e.unit).reads) made.outputs =
     sym is ∙ made.is in
@@ -174,11 +174,11 @@ publishes_unmatched : (s : State) (row : Plain) (build : Build) (n : ℕ) (unit 
     is_some (live_row s.base id) ≡ true → matches s.base build n unit id ≡ false
 publishes_unmatched s row build n unit id targets e any place is_unit lives =
     let b = s.base in
-    let same_build : e.build ≡ build = some_same (sym e.running.waits.active ∙ any.active) in
-    let same_place : e.n ≡ n = some_same (sym e.place ∙ ap (λ (x : Build). unit_with_first x targets) same_build ∙ place) in
+    let same_build : e.build ≡ build = same_inside (sym e.running.waits.active ∙ any.active) in
+    let same_place : e.n ≡ n = same_inside (sym e.place ∙ ap (λ (x : Build). unit_with_first x targets) same_build ∙ place) in
     let own : unit_at build n ≡ Some e.unit = subst (λ k. unit_at build k ≡ Some e.unit) same_place
     (subst (λ (x : Build). unit_at x e.n ≡ Some e.unit) same_build e.running.waits.is_unit) in
-    let same_unit : e.unit ≡ unit = some_same (sym own ∙ is_unit) in
+    let same_unit : e.unit ≡ unit = same_inside (sym own ∙ is_unit) in
     let nothing : reusable b build n unit ≡ None = subst (λ x. reusable b build n x ≡ None) same_unit
     (subst (λ k. reusable b build k e.unit ≡ None) same_place (subst (λ x. reusable b x e.n e.unit ≡ None) same_build
     e.nothing)) in

@@ -7,6 +7,7 @@ use Rattle.cc_names.specs.declared.rows.Deed.TheVariants as deeds
 use Rattle.cc_names.specs.declared.rows.Tag.{Tag}
 use Rattle.cc_names.specs.declared.steps.UnitEnd.TheVariants.{Kept}
 use Rattle.cc_names.specs.declared.units.Unit.{Unit}
+use Rattle.cc_names.proofs.Common.{same_inside}
 use Rattle.base_model.specs.Rows.{Base, first_rows}
 use Rattle.legal_history.specs.Builds.Active.{Build, Came, Started, Concluded, Given, came_to, is_outcome, object_of, unit_at}
 use Rattle.base_model.specs.Changes.{live_row}
@@ -22,7 +23,6 @@ use Rattle.legal_history.specs.Builds.Values.{IsSound}
 use Rattle.legal_history.proofs.Builds.FreshSeen.{early_same}
 use Rattle.legal_history.proofs.Builds.AgreeStays.{came_so, row_added}
 use Rattle.legal_history.proofs.Builds.ConsistentStays.{came_now, keeps_with}
-use Rattle.legal_history.proofs.Builds.FineBuilds.{some_same}
 use Rattle.legal_history.proofs.Builds.ReadyUnits.{ready_by}
 use Rattle.legal_history.specs.Laws.FromNothing.{IsAsFromNothing, MayTake, MayRun, IsStarted, IsReadyToStart}
 use Rattle.legal_history.specs.Laws.Objects.{GivesLive}
@@ -101,7 +101,7 @@ came_lives b build n id came own lives gives = record { lives = λ m other is. b
     by : (m other : ℕ) (t : Bool) → (m == n) ≡ t → object_of (came_to (with_came build (Some n) came) m) ≡ Some other
         → is_some (live_row b other) ≡ true
     by m other true e is =
-        let same : id ≡ other = some_same (sym own ∙ sym (ap object_of (came_now build n m came true e)) ∙ is) in
+        let same : id ≡ other = same_inside (sym own ∙ sym (ap object_of (came_now build n m came true e)) ∙ is) in
         subst (λ k. is_some (live_row b k) ≡ true) same lives
     by m other false e is = gives.lives m other (sym (ap object_of (came_now build n m came false e)) ∙ is)
 

@@ -7,13 +7,13 @@ use Rattle.cc_names.specs.Formed.{Plain}
 use Rattle.cc_names.specs.declared.rows.Deed.{Deed}
 use Rattle.cc_names.specs.declared.rows.Deed.TheVariants as deeds
 use Rattle.cc_names.specs.declared.rows.ReadOf.{ReadOf}
+use Rattle.cc_names.proofs.Common.{and_first, and_second}
 use Rattle.base_model.specs.Rows.{Base, size, row_at, deed_of, deed_at}
 use Rattle.base_model.specs.Changes.{live_row}
 use Rattle.base_model.specs.Objects.{are_same_paths}
 use Rattle.base_model.specs.Texts.{Bytes, OfRow, NoText, of_output, output_at, source_of, text}
 use Rattle.legal_history.specs.Builds.Values.{outputs_of_run, reads_of_run, has_entries, are_stored, is_true, is_true_deed}
 use Rattle.legal_history.specs.Builds.Values.{rerun, IsSound}
-use Rattle.base_model.proofs.Owned.{and_first, and_second}
 
 -- lists of the same texts are one list
 pub same_texts : (xs ys : List (List ℕ)) → are_same_paths xs ys ≡ true → xs ≡ ys
@@ -40,7 +40,7 @@ pub record TrueObject (b : Base) (id : ℕ) : Type 0 where
   pub ran : outputs_of_run (rerun b id) ≡ Some outputs
   pub asked : has_entries entries (reads_of_run (rerun b id)) ≡ true
 
-stored_is : (outputs : List (List ℕ)) (o : Option (List (List ℕ))) → are_stored outputs o ≡ true → o ≡ Some outputs
+pub stored_is : (outputs : List (List ℕ)) (o : Option (List (List ℕ))) → are_stored outputs o ≡ true → o ≡ Some outputs
 stored_is outputs None h = absurd (cc)
 stored_is outputs (Some others) h = ap Some (sym (same_texts outputs others h))
 

@@ -7,6 +7,7 @@ use Rattle.cc_names.specs.declared.commands.Command.TheVariants as commands
 use Rattle.cc_names.specs.declared.refusals.Refusal.{Refusal}
 use Rattle.cc_names.specs.declared.rows.Tag.{Tag}
 use Rattle.cc_names.specs.declared.units.Unit.{Unit}
+use Rattle.cc_names.proofs.Common.{same_number, same_inside}
 use Rattle.make_grammar.specs.Graphs.{units}
 use Rattle.base_model.specs.Rows.{size}
 use Rattle.legal_history.specs.Builds.Active.{Active, Build, Came, build_of, building}
@@ -17,12 +18,11 @@ use Rattle.legal_history.specs.Commands.ObjectLines.{clearmake_tests, build_unle
 use Rattle.legal_history.specs.Stories.States.{State, scene, decision_for}
 use Rattle.legal_history.specs.Stories.Steps.{build_begun_by, build_asked, with_outcome, with_came, with_build, without_build}
 use Rattle.legal_history.specs.Stories.Steps.{faulted_in}
-use Rattle.base_model.proofs.Tables.{same_number, find_after_put}
+use Rattle.base_model.proofs.Tables.{find_after_put}
 use Rattle.legal_history.proofs.Decisions.Passed.{all_pass}
 use Rattle.legal_history.proofs.Builds.AllBuilds.{Each, each_noted, each_without, each_faulted, builds_there}
 use Rattle.legal_history.proofs.Decisions.DecidedSays.{was_idle}
 use Rattle.legal_history.proofs.Stories.DecidedSteps.{decided_of, says_of, begun_is}
-use Rattle.legal_history.proofs.Builds.FineBuilds.{some_same}
 
 pub record ViewsApart (active : Active) : Type 0 where
   pub one_lane : (lane other : ℕ) (one two : Build) → build_of active lane ≡ Some one → build_of active other ≡ Some two
@@ -84,9 +84,9 @@ apart_put active lane new idle h = record {
         → one.view ≡ two.view → a ≡ b
     by a b one two true true at_a at_b is_one is_two same = same_number a lane at_a ∙ sym (same_number b lane at_b)
     by a b one two true false at_a at_b is_one is_two same = absurd (clash b two is_two (sym same
-        ∙ ap (λ (x : Build). x.view) (sym (some_same is_one))))
+        ∙ ap (λ (x : Build). x.view) (sym (same_inside is_one))))
     by a b one two false true at_a at_b is_one is_two same = absurd (clash a one is_one (same
-        ∙ ap (λ (x : Build). x.view) (sym (some_same is_two))))
+        ∙ ap (λ (x : Build). x.view) (sym (same_inside is_two))))
     by a b one two false false at_a at_b is_one is_two same = h.one_lane a b one two is_one is_two same
 
 pub apart_begun : (active : Active) (lane : ℕ) (o : Option Build) → ((build : Build) → o ≡ Some build
@@ -109,7 +109,7 @@ pub begun_idle : (s : State) (tag : Tag) (us : List Unit) → decision_for s tag
 begun_idle s tag us h build is =
     let d = decided_of s tag (Begins us) h in
     let says = says_of s tag (Begins us) d in
-    let made : build_asked tag (size s.base) us says.asked ≡ build = some_same (sym (begun_is s tag us h) ∙ is) in
+    let made : build_asked tag (size s.base) us says.asked ≡ build = same_inside (sym (begun_is s tag us h) ∙ is) in
     let of_command : decision (scene s) (commands.Build says.asked) ≡ Ok (Begins us) = ap (decision (scene s)) (sym says.is)
     ∙ d.is in
     subst (λ (x : Build). building s.active x.view ≡ None) made

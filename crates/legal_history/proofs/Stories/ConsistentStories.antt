@@ -11,6 +11,7 @@ use Rattle.cc_names.specs.declared.steps.Step.TheVariants as steps
 use Rattle.cc_names.specs.declared.steps.StoryStep.{StoryStep}
 use Rattle.cc_names.specs.declared.steps.StoryStep.TheVariants as story_steps
 use Rattle.cc_names.specs.declared.units.Unit.{Unit}
+use Rattle.cc_names.proofs.Common.{and_first}
 use Rattle.base_model.specs.Rows.{Base, size}
 use Rattle.legal_history.specs.Builds.Active.{Build, build_of}
 use Rattle.base_model.specs.Changes.{live_row}
@@ -27,7 +28,6 @@ use Rattle.legal_history.proofs.Decisions.DecidedFits.{decided_fits}
 use Rattle.legal_history.proofs.Stories.Prefixes.{first_opens}
 use Rattle.legal_history.proofs.Stories.Goes.{of_lane}
 use Rattle.legal_history.proofs.Stories.Grows.{stays_opened}
-use Rattle.base_model.proofs.Owned.{and_first}
 use Rattle.legal_history.proofs.Builds.AllBuilds.{Each}
 use Rattle.legal_history.proofs.Builds.BuildSteps.{step_fine}
 use Rattle.legal_history.proofs.Stories.DecidedSteps.{decided_of}
@@ -99,7 +99,7 @@ consistent_from s [] h e = h
 consistent_from s (x ∷ story) h e = consistent_from (after s x) story (consistent_step s x h e.0) e.1
 
 -- a base has no more rows than the limit
-base_within : (b : Base) → is_base b ≡ true → size b ≤ row_limit
+pub base_within : (b : Base) → is_base b ≡ true → size b ≤ row_limit
 base_within [] h = omega arith
 base_within (row ∷ older) h = let low : size older < row_limit = ltb-true _ _ (and_first _ _ (and_first _ _ h)) in omega arith
 

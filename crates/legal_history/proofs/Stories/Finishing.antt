@@ -15,6 +15,7 @@ use Rattle.cc_names.specs.declared.steps.Step.TheVariants as steps
 use Rattle.cc_names.specs.declared.steps.StoryStep.{StoryStep}
 use Rattle.cc_names.specs.declared.steps.StoryStep.TheVariants as story_steps
 use Rattle.cc_names.specs.declared.units.Unit.{Unit}
+use Rattle.cc_names.proofs.Common.{same_inside, same_number}
 use Rattle.make_grammar.specs.Graphs.{units}
 use Rattle.legal_history.specs.Builds.Active.{Build, build_of}
 use Rattle.legal_history.specs.Stories.Committing.{FaultsAt, MakesRow}
@@ -28,10 +29,8 @@ use Rattle.legal_history.specs.Stories.Steps.{after, after_step, done_after, don
 use Rattle.legal_history.specs.Stories.Lawful.{Lawful, LawfulStep}
 use Rattle.legal_history.specs.Laws.Ends.{IsLeft, IsRefused}
 use Rattle.legal_history.proofs.Builds.CommandStays.{next_is, other_done}
-use Rattle.legal_history.proofs.Builds.FineBuilds.{some_same}
 use Rattle.legal_history.proofs.Decisions.DecidedIdle.{builds_nothing}
 use Rattle.legal_history.proofs.Stories.Goes.{decided_is_idle, of_lane}
-use Rattle.base_model.proofs.Tables.{same_number}
 use Rattle.legal_history.proofs.Stories.Leaving.{ends_so}
 
 -- a lane that finishes a command has one more
@@ -65,7 +64,7 @@ next_of s tag r h = by (next_command s tag) refl h
   where
     by : (o : Option Command) → next_command s tag ≡ o → option_map (decision (scene s)) o ≡ Some r → NextOf s tag r
     by None next h = absurd (cc)
-    by (Some command) next h = record { command = command; next = next; is = some_same h }
+    by (Some command) next h = record { command = command; next = next; is = same_inside h }
 
 -- what is decided of a command of the lane is decided of its next one
 same_decision : (s : State) (tag other : Tag) (command : Command) (r : Result Decision Refusal)
@@ -73,7 +72,7 @@ same_decision : (s : State) (tag other : Tag) (command : Command) (r : Result De
 same_decision s tag other command r next h number =
     let o = next_of s other r h in
     let same : tag ≡ other = one_next s tag other command o.command next o.next number in
-    let one : o.command ≡ command = some_same (sym o.next ∙ ap (next_command s) (sym same) ∙ next) in
+    let one : o.command ≡ command = same_inside (sym o.next ∙ ap (next_command s) (sym same) ∙ next) in
     subst (λ c. decision (scene s) c ≡ r) one o.is
 
 -- a command that builds makes no row by itself, and is answered nothing

@@ -21,6 +21,7 @@ use Rattle.legal_history.specs.Builds.Active.{Active, Build, Came, build_of, cam
 use Rattle.base_model.specs.Changes.{targets_of}
 use Rattle.legal_history.specs.Stories.Growth.{Continues, StaysTheBuild, Over, On}
 use Rattle.cc_names.specs.declared.refusals.Refusal.{Refusal}
+use Rattle.cc_names.proofs.Common.{same_number}
 use Rattle.legal_history.specs.Commands.Decisions.{Decision}
 use Rattle.legal_history.specs.Commands.Lines.{decision}
 use Rattle.legal_history.specs.Stories.States.{State, scene, decision_for, command_behind, done_of, is_next, build_by, build_if}
@@ -30,7 +31,7 @@ use Rattle.legal_history.specs.Stories.Steps.{without_build, faulted_in, active_
 use Rattle.legal_history.specs.Stories.Committing.{MakesRow}
 use Rattle.legal_history.specs.Stories.Lawful.{Lawful, LawfulStep}
 use Rattle.legal_history.specs.Builds.UnitTurns.{ComesTo, Waits}
-use Rattle.base_model.proofs.Tables.{find_after_put, find_put_same, find_put_other, find_without, same_number}
+use Rattle.base_model.proofs.Tables.{find_after_put, find_put_same, find_put_other, find_without}
 
 pub continues_itself : (b : Build) → Continues b b
 continues_itself b = record {

@@ -3,6 +3,7 @@ use Rattle.std.proofs.Common.{◌≡◌, ap, sym, subst, ◌∙◌, ℕ, true, S
 use Rattle.std.specs.Prelude.{is_some}
 use Rattle.cc_names.specs.declared.steps.StoryStep.{StoryStep}
 use Rattle.cc_names.specs.declared.units.Unit.{Unit}
+use Rattle.cc_names.proofs.Common.{same_inside}
 use Rattle.base_model.specs.Rows.{Base, first_rows, Extends}
 use Rattle.legal_history.specs.Builds.Active.{Build, build_of, came_to, unit_at}
 use Rattle.legal_history.specs.Builds.Consistency.{IsReady, IsConsistent}
@@ -29,9 +30,6 @@ pub rows_stay : (b later : Base) (old new : Build) (unit : Unit) → GoesOnSo b 
 rows_stay b later old new unit h = ap (λ t. first_rows t later) h.on.rows ∙ ap (first_rows old.rows) h.grown.is
     ∙ first_rows_stay_all h.grown.more b old.rows h.consistent.rows
 
-some_same : {a b : Build} → Some a ≡ Some b → a ≡ b
-some_same h = cc
-
 -- it does where one of its units was started
 pub goes_on_so : (story : List StoryStep) (x : StoryStep) (lane : ℕ) (old new : Build) (n : ℕ) (unit : Unit) → Legal story
     → Lawful (state_of story) x → build_of (state_of story).active lane ≡ Some old →
@@ -50,7 +48,7 @@ goes_on_so (first ∷ story) x lane old new n unit legal e is later of_n came = 
     by (Over none) = absurd (cc)
     by (On on is_on c) = record {
       grown = step_extends s x (is_opened (after start first) story (first_opens first legal.0)) e;
-      on = subst (Continues old) (some_same (sym is_on ∙ later)) c;
+      on = subst (Continues old) (same_inside (sym is_on ∙ later)) c;
       consistent = consistent;
       ready = consistent.ready n unit of_n came;
     }

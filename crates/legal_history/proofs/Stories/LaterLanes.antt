@@ -15,6 +15,7 @@ use Rattle.cc_names.specs.declared.steps.Step.{Step}
 use Rattle.cc_names.specs.declared.steps.Step.TheVariants as steps
 use Rattle.cc_names.specs.declared.steps.StoryStep.{StoryStep}
 use Rattle.cc_names.specs.declared.steps.StoryStep.TheVariants as story_steps
+use Rattle.cc_names.proofs.Common.{same_number}
 use Rattle.legal_history.specs.Builds.Active.{Build}
 use Rattle.legal_history.specs.Commands.Decisions.{Decision}
 use Rattle.legal_history.specs.Commands.Lines.{decision}
@@ -28,7 +29,6 @@ use Rattle.legal_history.specs.Stories.Lawful.{Lawful, LawfulStep, Legal, LegalF
 use Rattle.legal_history.proofs.Builds.CommandStays.{next_is, other_done}
 use Rattle.legal_history.proofs.Builds.CommandSteps.{AllCommanded, none_begun, step_commanded}
 use Rattle.legal_history.proofs.Stories.Goes.{of_lane}
-use Rattle.base_model.proofs.Tables.{same_number}
 use Rattle.legal_history.proofs.Stories.LaterSteps.{own_done}
 use Rattle.legal_history.proofs.Stories.LaterStories.{story_later}
 use Rattle.legal_history.proofs.Stories.ConsistentStories.{IsConsistentState, consistent_first, consistent_step}

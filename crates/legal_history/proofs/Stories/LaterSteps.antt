@@ -7,6 +7,7 @@ use Rattle.cc_names.specs.declared.steps.Step.{Step}
 use Rattle.cc_names.specs.declared.steps.Step.TheVariants as steps
 use Rattle.cc_names.specs.declared.steps.StoryStep.{StoryStep}
 use Rattle.cc_names.specs.declared.steps.StoryStep.TheVariants as story_steps
+use Rattle.cc_names.proofs.Common.{same_number}
 use Rattle.legal_history.specs.Builds.Active.{Build, build_of}
 use Rattle.legal_history.specs.Stories.Growth.{GoesLater, StaysTheBuild, Over, On, StillBuilds}
 use Rattle.legal_history.specs.Stories.States.{State, build_by, done_of, with_done}
@@ -14,7 +15,7 @@ use Rattle.legal_history.specs.Stories.Steps.{after, after_step, done_after, don
 use Rattle.legal_history.specs.Stories.Lawful.{Lawful}
 use Rattle.legal_history.specs.Laws.Ends.{IsLeft}
 use Rattle.legal_history.proofs.Builds.CommandStays.{other_done}
-use Rattle.base_model.proofs.Tables.{same_number, find_put_same}
+use Rattle.base_model.proofs.Tables.{find_put_same}
 use Rattle.legal_history.proofs.Stories.Goes.{step_goes}
 use Rattle.legal_history.proofs.Stories.Leaving.{is_left}
 

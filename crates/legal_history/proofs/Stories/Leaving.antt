@@ -9,6 +9,7 @@ use Rattle.cc_names.specs.declared.steps.Step.{Step}
 use Rattle.cc_names.specs.declared.steps.Step.TheVariants as steps
 use Rattle.cc_names.specs.declared.steps.StoryStep.{StoryStep}
 use Rattle.cc_names.specs.declared.steps.StoryStep.TheVariants as story_steps
+use Rattle.cc_names.proofs.Common.{same_inside, same_number}
 use Rattle.base_model.specs.Rows.{Base}
 use Rattle.legal_history.specs.Builds.Active.{Active, Build, Came, build_of}
 use Rattle.legal_history.specs.Stories.States.{State, build_by}
@@ -17,7 +18,7 @@ use Rattle.legal_history.specs.Stories.Steps.{active_after, build_begun_by}
 use Rattle.legal_history.specs.Stories.Lawful.{Lawful, LawfulStep, EndsBuild}
 use Rattle.legal_history.specs.Builds.Turns.{is_complete}
 use Rattle.legal_history.proofs.Stories.Goes.{of_lane}
-use Rattle.base_model.proofs.Tables.{same_number, find_after_put, find_without}
+use Rattle.base_model.proofs.Tables.{find_after_put, find_without}
 use Rattle.legal_history.specs.Laws.Ends.{IsLeft}
 
 -- where one build is put, every active lane still builds
@@ -54,15 +55,12 @@ committed_there b active lane other build (deeds.Wink view id) is none =
     noted_there active lane other build (build_of active other) _ _ is none
 committed_there b active lane other build deed is none = cc
 
-some_build : {a b : Build} → Some a ≡ Some b → a ≡ b
-some_build h = cc
-
 -- a build ends in its lane
 pub ends_so : (s : State) (tag : Tag) (lane : ℕ) (build : Build) → build_of s.active lane ≡ Some build → EndsBuild s tag
     → lane ≡ tag.lane → IsLeft s (story_steps.Other (steps.End tag)) lane build
 ends_so s tag lane build is e number =
     let there : build_of s.active tag.lane ≡ Some e.build = of_lane s tag e.build e.active in
-    let same : e.build ≡ build = some_build (sym there ∙ ap (build_of s.active) (sym number) ∙ is) in
+    let same : e.build ≡ build = same_inside (sym there ∙ ap (build_of s.active) (sym number) ∙ is) in
     record {
       tag = tag;
       is = refl;

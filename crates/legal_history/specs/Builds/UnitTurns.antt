@@ -26,14 +26,14 @@ pub record Waits (s : State) (tag : Tag) (n : ℕ) (build : Build) (unit : Unit)
 -- nothing ends it without a run.
 pub record IsOpen (s : State) (tag : Tag) (n : ℕ) (build : Build) (unit : Unit) : Type 0 where
   pub waits : Waits s tag n build unit
-  pub sound : build.faulted ≡ false
+  pub faultless : build.faulted ≡ false
   pub ready : is_unit_ready build unit ≡ true
   pub runs : early s.base build unit ≡ None
 
 -- a unit runs where it was started and has no outcome, and its build has met no fault
 pub record IsRunning (s : State) (tag : Tag) (n : ℕ) (build : Build) (unit : Unit) : Type 0 where
   pub waits : Waits s tag n build unit
-  pub sound : build.faulted ≡ false
+  pub faultless : build.faulted ≡ false
   pub started : came_to build n ≡ Some Started
 
 -- a unit's script is started, once, where the unit is open and may reuse no object
@@ -64,7 +64,7 @@ pub record EndsEarly (s : State) (tag : Tag) (n : ℕ) (outcome : UnitEnd) : Typ
   pub build : Build
   pub unit : Unit
   pub waits : Waits s tag n build unit
-  pub sound : build.faulted ≡ false
+  pub faultless : build.faulted ≡ false
   pub ready : is_unit_ready build unit ≡ true
   pub ends : early s.base build unit ≡ Some outcome
 

@@ -19,8 +19,7 @@ use Rattle.vob_journal.specs.Frames.{frames}
 use Rattle.vob_journal.specs.Reads.{SameFiles}
 use Rattle.vob_journal.proofs.Journals.{stable_image}
 use Rattle.vob_journal.specs.Added.{Adds, may_read}
-use Rattle.vob_journal.proofs.Adding.{adds_none}
-use Rattle.vob_journal.proofs.Staying.{modeled_stay}
+use Rattle.vob_journal.proofs.Staying.{modeled_stay, modeled_adds_none}
 use Rattle.story_log.specs.Stopping.Backed.{IsAccounted, IsSettled}
 use Rattle.story_log.specs.Stopping.Founds.{OpensAgain}
 use Rattle.story_log.specs.Stopping.Standing.{MayBeFound}
@@ -68,15 +67,15 @@ opened_stays s (story_steps.Other step ∷ story) opened legal = opened_stays (a
 -- a story without a fault leaves no row behind
 none_hangs : (s : State) (story : List StoryStep) → hanging s.ends ≡ None → rises_of story ≡ []
     → hanging (state_from s story).ends ≡ None
-none_hangs s [] none sound = none
-none_hangs s (story_steps.Opened rows counts tells ∷ story) none sound =
-    none_hangs (after s (story_steps.Opened rows counts tells)) story none sound
-none_hangs s (story_steps.PhaseBegun phase moment ∷ story) none sound =
-    none_hangs (after s (story_steps.PhaseBegun phase moment)) story none sound
-none_hangs s (story_steps.Commit row tick ∷ story) none sound = none_hangs (after s (story_steps.Commit row tick)) story refl
-    sound
-none_hangs s (story_steps.Other (steps.Fault tag left before faults tick) ∷ story) none sound = absurd (cc)
-none_hangs s (story_steps.Other step ∷ story) none sound = none_hangs (after s (story_steps.Other step)) story none sound
+none_hangs s [] none faultless = none
+none_hangs s (story_steps.Opened rows counts tells ∷ story) none faultless =
+    none_hangs (after s (story_steps.Opened rows counts tells)) story none faultless
+none_hangs s (story_steps.PhaseBegun phase moment ∷ story) none faultless =
+    none_hangs (after s (story_steps.PhaseBegun phase moment)) story none faultless
+none_hangs s (story_steps.Commit row tick ∷ story) none faultless = none_hangs (after s (story_steps.Commit row tick)) story refl
+    faultless
+none_hangs s (story_steps.Other (steps.Fault tag left before faults tick) ∷ story) none faultless = absurd (cc)
+none_hangs s (story_steps.Other step ∷ story) none faultless = none_hangs (after s (story_steps.Other step)) story none faultless
 
 -- what a story that begins with this opening came from
 abbrev pub opening_of : List Plain → Counts → Bool → Opening
@@ -104,7 +103,7 @@ is_begun (x ∷ story) rows counts tells first legal = subst (λ y. IsBegun (y �
     }
 
 none_without : (story : List StoryStep) → rises_of story ≡ [] → hanging (state_of story).ends ≡ None
-none_without story sound = none_hangs start story refl sound
+none_without story faultless = none_hangs start story refl faultless
 
 same_counts : (one : Opening) (rows : List Plain) (counts : Counts) (tells : Bool) (found : Option Opening) → found ≡ Some one
     → found ≡ Some (opening_of rows counts tells) → (one.counts ≡ counts) × (one.tells ≡ tells)
@@ -136,7 +135,7 @@ keeps_prefix before now story begins legal accounted mended again = record {
         → OpensAgain accounted.opening.base (frames image)) accounted.stops
         (λ d h k image later may. again accounted.opening k (frames image) accounted.opened
         (h k image (omega (arith, later, ap (λ c. c.ticks) counts.0, begins.on.ticks)) may));
-    sound = λ sound. accounted.settled (none_without story sound);
+    settled = λ none. accounted.settled (none_without story none);
     mended = mended;
     apart =
         apart_wider before.faults (rises_of story) (faults_of (state_of story).opened (state_of story).ends) now.faults
@@ -181,17 +180,13 @@ first_stable (Some d) h = h.0
 pub journal_stable : (disk : DiskState) → IsHandedIn disk → IfModeled disk.modeled (λ d. file_of 0 d ≡ stable (bytes_now 0 d))
 journal_stable disk h = first_stable disk.modeled h
 
-none_read : (modeled : Option Device) → Both (Adds may_read) modeled modeled
-none_read None = tt
-none_read (Some d) = adds_none may_read d
-
 pub stays_untouched : (disk : DiskState) → IsCounted disk → IsHandedIn disk → IsStopped disk disk []
 stays_untouched disk counted handed = record {
   tells = refl;
   on_base = λ opened. absurd (cc);
   on_none = λ closed. frames_stay disk.modeled disk.ticks counted.modeled (journal_stable disk handed);
   files = λ closed. modeled_stay disk.modeled;
-  reads = λ closed. none_read disk.modeled;
+  reads = λ closed. modeled_adds_none disk.modeled;
 }
 
 pub stays_closed : (before now : DiskState) (story : List StoryStep) → story ≡ [] → is_some now.modeled ≡ is_some before.modeled

@@ -77,8 +77,7 @@ unfolding device put opened
 unblamed h = absurd (omega (arith, h.behind))
 
 -- Or the fault before takes it in: the sync of tick 7 fails under command 2, the write of tick 8 under command 3, which is
--- answered by
--- something else, and the fault is told with both.
+-- answered by something else, and the fault is told with both.
 blamed_as_settling : (before faults : ℕ) → IsBlamed 0 (opened ∷ story_steps.Commit (row 1) 5 ∷ fault 2 before faults 8 ∷ [])
     (device (Measured 0 ∷ put ++ put ++ Wrote 0 0 1 (0 ∷ []) ∷ Failed ∷ Failed ∷ [])) → ⊥
 unfolding device put opened fault
@@ -118,8 +117,7 @@ reread : reads_first (Measured 0 ∷ Failed ∷ Fetched 0 0 4 ∷ []) ≡ false
 reread = refl
 
 -- What calls cannot tell: one that was made without need under a query, and failed, may be told of the command behind the query,
--- since
--- these are the calls of a run that is right. The calls of the core tell it.
+-- since these are the calls of a run that is right. The calls of the core tell it.
 without_need : IsBlamed 0 (opened ∷ story_steps.Other (steps.Answer (tag 1) []) ∷ fault 2 0 1 2 ∷ [])
     (device (Measured 0 ∷ Failed ∷ []))
 unfolding device opened fault

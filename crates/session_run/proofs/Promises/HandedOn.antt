@@ -2,8 +2,8 @@
 use Rattle.std.proofs.Common.{◌≡◌, ℕ, ◌<◌, true, Option, Some, List, [], ◌∷◌, refl, ap, sym, subst, ◌∙◌}
 use Rattle.std.proofs.lemmas.List.{reverse-reverse}
 use Rattle.cc_names.specs.declared.steps.StoryStep.{StoryStep}
-use Rattle.disk_model.specs.Devices.{Device, MayLeave, bytes_now}
-use Rattle.disk_model.specs.DiskStates.{DiskState, IfModeled}
+use Rattle.disk_model.specs.Devices.{MayLeave, bytes_now}
+use Rattle.disk_model.specs.DiskStates.{DiskState}
 use Rattle.legal_history.specs.Builds.Values.{IsSound}
 use Rattle.legal_history.specs.Stories.States.{Opening}
 use Rattle.legal_history.specs.Stories.Steps.{state_of}
@@ -11,6 +11,7 @@ use Rattle.vob_journal.specs.Frames.{frames}
 use Rattle.story_log.specs.Stopping.Founds.{FoundBaseIsSound, OpensAgain}
 use Rattle.base_rows.specs.Order.{oldest_first}
 use Rattle.story_log.proofs.Cases.{some_same}
+use Rattle.story_log.proofs.Stopping.FoundBases.{modeled_is}
 use Rattle.session_run.specs.Faults.Stopped.{KeepsPrefix}
 use Rattle.session_run.specs.Promises.HandedOn.{SoundnessIsHandedOn}
 use Rattle.session_run.specs.Promises.Headline.{BeginsOn, IsOneHistory}
@@ -23,10 +24,6 @@ use Rattle.session_run.proofs.Faults.Stopping.{is_begun, opening_of}
 has_opened : (story : List StoryStep) (opening : Opening) → (state_of story).opened ≡ Some opening → is_opened story ≡ true
 has_opened [] opening is = absurd (cc)
 has_opened (x ∷ story) opening is = refl
-
-modeled_so : (modeled : Option Device) (device : Device) (P : Device → Type 0) → modeled ≡ Some device → IfModeled modeled P
-    → P device
-modeled_so modeled device P is h = subst (λ t. IfModeled t P) is h
 
 -- the base that was opened is the one on which the history begins
 opened_on : (disk : DiskState) (story : List StoryStep) (opened : Opening) (form : Option Form) (status : Status)
@@ -46,7 +43,7 @@ handed_on law before after next left read k story later form status held holds s
       base = λ opened begun.
           let keeps : KeepsPrefix before after story = stopped.on_base is_open in
           let again : OpensAgain keeps.opening.base (frames (bytes_now 0 read)) =
-          modeled_so after.modeled left (λ d. (k : ℕ) (image : List ℕ) → before.ticks < k → MayLeave 0 d k image
+          modeled_is after.modeled left (λ d. (k : ℕ) (image : List ℕ) → before.ticks < k → MayLeave 0 d k image
           → OpensAgain keeps.opening.base (frames image)) modeled keeps.again k (bytes_now 0 read) since may
           in
           let begins : BeginsOn next later = history.base (has_opened later opened begun) in

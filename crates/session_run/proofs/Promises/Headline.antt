@@ -10,6 +10,7 @@ use Rattle.cc_names.specs.declared.memory.Or.TheVariants.{NoMemory, Is}
 use Rattle.cc_names.specs.declared.steps.StoryStep.{StoryStep}
 use Rattle.cc_names.specs.declared.steps.StoryStep.TheVariants as story_steps
 use Rattle.cc_names.specs.Counts.{Rose, raised_count, rises}
+use Rattle.cc_names.proofs.Common.{and_false}
 use Rattle.cc_outside.specs.Feeds.{AppendsPrefix}
 use Rattle.cc_outside.specs.declared.sinks.WriteFault.{WriteFault}
 use Rattle.disk_model.specs.Devices.{bytes_now}
@@ -30,7 +31,8 @@ use Rattle.vob_replica.specs.Runs.{run_of}
 use Rattle.vob_replica.specs.declared.events.SiteError.{SiteError}
 use Rattle.vob_replica.specs.declared.runs.Replies.{Replies}
 use Rattle.session_run.specs.Calls.Asked.{is_session, phases_spelled, session_text_of, writes_behind}
-use Rattle.session_run.specs.Calls.Causes.{Change, DiskUndamaged, Intake, IsAsked, IsIntakeRead, IsUntouched, IsWholeRun, HasCause, disk_rose}
+use Rattle.session_run.specs.Calls.Causes.{Change, DiskUndamaged, Intake, IsAsked, IsIntakeRead, IsUntouched, IsWholeRun}
+use Rattle.session_run.specs.Calls.Causes.{HasCause, disk_rose}
 use Rattle.session_run.specs.Calls.Causes.{session_text}
 use Rattle.session_run.specs.Calls.Sites.{sites_status, sites_text, status_of_sites, text_of_sites, text_unopened}
 use Rattle.session_run.specs.Calls.Statuses.{is_cut}
@@ -42,7 +44,8 @@ use Rattle.session_run.specs.Promises.Headline.{clock_moments}
 use Rattle.session_run.specs.Running.Forms.{HasDone, HasRunSo, IsCutSo, IsGivenUp, IsRunThrough}
 use Rattle.session_run.specs.Running.Outcomes.{RunsOpened, RunsSession}
 use Rattle.session_run.specs.Running.Runs.{IsJustOpened, Outside, OnWriteFault, run_status}
-use Rattle.session_run.specs.Running.Unstarted.{GivesPhases, GivesSites, IsUnstarted, IsWithoutBase, WritesReplies, WritesUnstarted, WritesWithoutBase}
+use Rattle.session_run.specs.Running.Unstarted.{GivesPhases, GivesSites, IsUnstarted, IsWithoutBase, WritesReplies}
+use Rattle.session_run.specs.Running.Unstarted.{WritesUnstarted, WritesWithoutBase}
 use Rattle.session_run.specs.Running.Unstarted.{of_unopened, unstarted_line, unstarted_status}
 use Rattle.session_run.specs.Story.Begun.{IsPrefixOf, first_step, is_opened, is_through, phases_begun, moments_begun}
 use Rattle.session_run.specs.Story.Rendered.{earlier_text}
@@ -270,17 +273,17 @@ run_cause : (result : Result Bool (Or WriteFault)) (rose : Bool) (story : List S
     → GivesPhases intake form phases → HasRunSo form result phases story outside
     → OnWriteFault result (Rose faults.before faults.after) → DiskUndamaged disk
     → HasCause (run_status result rose) intake faults disk story
-run_cause (Ok true) true story form phases intake outside faults disk by gives ran wrote sound =
+run_cause (Ok true) true story form phases intake outside faults disk by gives ran wrote faultless =
     (asked intake form phases gives, by, λ opened. ran.finished)
-run_cause (Ok false) true story form phases intake outside faults disk by gives ran wrote sound =
+run_cause (Ok false) true story form phases intake outside faults disk by gives ran wrote faultless =
     (asked intake form phases gives, by, λ opened. ran.finished)
-run_cause (Ok true) false story form phases intake outside faults disk by gives ran wrote sound =
-    inl (whole intake story form phases outside true gives ran, by, sound)
-run_cause (Ok false) false story form phases intake outside faults disk by gives ran wrote sound =
-    inl (whole intake story form phases outside false gives ran, by, sound)
-run_cause (Err NoMemory) rose story form phases intake outside faults disk by gives left wrote sound =
+run_cause (Ok true) false story form phases intake outside faults disk by gives ran wrote faultless =
+    inl (whole intake story form phases outside true gives ran, by, faultless)
+run_cause (Ok false) false story form phases intake outside faults disk by gives ran wrote faultless =
+    inl (whole intake story form phases outside false gives ran, by, faultless)
+run_cause (Err NoMemory) rose story form phases intake outside faults disk by gives left wrote faultless =
     λ closed. not_false (is_opened story) left.opened closed
-run_cause (Err (Is fault)) rose story form phases intake outside faults disk by gives left wrote sound = wrote
+run_cause (Err (Is fault)) rose story form phases intake outside faults disk by gives left wrote faultless = wrote
 
 -- the steps since a base was opened, and the settling of its journal, have the disk's counts
 counts_from : (one ran : Shown) (settled : List StoryStep) (ghost_state : DiskState) → IsJustOpened one.story → KeepsCount one ran
@@ -361,10 +364,6 @@ cut_cause : (status : Status) (intake : Intake) (faults : Change ℕ) (disk : Ch
 cut_cause statuses.WriteFault intake faults disk e rose stood = rose refl
 cut_cause statuses.NoMemory intake faults disk e rose stood = λ closed. stood refl
 cut_cause status intake faults disk e rose stood = absurd (cc)
-
-and_false : (b : Bool) → (b && false) ≡ false
-and_false true = refl
-and_false false = refl
 
 cut_not_through : (form : Option Form) (status : Status) → is_cut status ≡ true → is_through form status [] ≡ false
 cut_not_through form statuses.WriteFault e = and_false (writes_behind form)
@@ -506,14 +505,24 @@ refusal_cause : (refused : Bool) (intake : Intake) (faults : Change ℕ) (disk :
     → IsIntakeRead intake
     → IfSome intake.text.before (λ bytes. sites_status bytes ≡ (if refused then statuses.SomeFailed else statuses.Good))
     → HasCause (if refused then statuses.SomeFailed else statuses.Good) intake faults (record { before = disk; after = disk }) []
-refusal_cause true intake faults disk words read comes = inr (record { words = words; read = read; comes = comes }, untouched disk)
-refusal_cause false intake faults disk words read comes = inr (record { words = words; read = read; comes = comes }, untouched disk)
+refusal_cause true intake faults disk words read comes = inr (
+  record { words = words; read = read; comes = comes },
+  untouched disk,
+)
+refusal_cause false intake faults disk words read comes = inr (
+  record { words = words; read = read; comes = comes },
+  untouched disk,
+)
 
-cause_by : (run : Result Replies SiteError) (intake : Intake) (faults : Change ℕ) (disk : DiskState) → intake.form ≡ Some forms.Sites
+cause_by : (run : Result Replies SiteError) (intake : Intake) (faults : Change ℕ) (disk : DiskState)
+    → intake.form ≡ Some forms.Sites
     → IsIntakeRead intake → IfSome intake.text.before (λ bytes. sites_status bytes ≡ status_of_sites run)
     → HasCause (status_of_sites run) intake faults (record { before = disk; after = disk }) []
 cause_by (Ok replies) intake faults disk words read comes = refusal_cause replies.refused intake faults disk words read comes
-cause_by (Err error) intake faults disk words read comes = inr (record { words = words; read = read; comes = comes }, untouched disk)
+cause_by (Err error) intake faults disk words read comes = inr (
+  record { words = words; read = read; comes = comes },
+  untouched disk,
+)
 
 replied_cause : (intake : Intake) (text : List ℕ) (faults : Change ℕ) (disk : DiskState) → GivesSites intake text
     → HasCause (sites_status text) intake faults (record { before = disk; after = disk }) []
@@ -621,11 +630,11 @@ promised_run form phases status story intake outside faults disk was now gives (
       checked = tells_soundness _ intake faults disk story outside.held outside.holds cause history;
       accounted = λ opened. record {
         opened = run.opened;
-        sound = run.sound;
+        faultless = run.faultless;
         reads = run.adds;
         files = run.files;
         counted = ran.counted;
-        calls = blamed disk.before run.opened disk.after story _ _ _ was run.fit now run.sound run.adds run.begins.first
+        calls = blamed disk.before run.opened disk.after story _ _ _ was run.fit now run.faultless run.adds run.begins.first
             ran.counted;
       };
       files = keeps_files disk run.opened story run.files ran.counted;

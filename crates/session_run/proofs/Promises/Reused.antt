@@ -16,10 +16,11 @@ use Rattle.legal_history.specs.Stories.Steps.{after, state_of}
 use Rattle.legal_history.proofs.Stories.Prefixes.{prefix_is_legal, rest_is_legal}
 use Rattle.legal_history.proofs.Stories.ConsistentStories.{consistent_first, story_is_consistent}
 use Rattle.legal_history.proofs.Reuse.SoundBases.{opened_from}
+use Rattle.legal_history.proofs.Stories.Goes.{of_lane}
 use Rattle.session_run.specs.Promises.Headline.{AreFromNothing, AreOfTheirCommands}
 use Rattle.session_run.specs.Promises.Reused.{HaveTheirOutcomes, NewBaseWasSound, PassNothingOver, RecordWhatTheyRead}
 use Rattle.session_run.specs.Promises.Reused.{TakeWhatTheySee, WasSound}
-use Rattle.session_run.proofs.Story.FromNothing.{Law, are_from_nothing, ends_over, is_active}
+use Rattle.session_run.proofs.Story.FromNothing.{Law, are_from_nothing, ends_over}
 
 -- a prefix of a history was opened on a sound base
 record BeganSound (prefix : List StoryStep) : Type 0 where
@@ -66,7 +67,7 @@ prefix_at story prefix rest legal grows = prefix_is_legal start prefix rest (sub
 pub commanded_so : BuildIsOfItsCommand → (story : List StoryStep) → Legal story → AreOfTheirCommands story
 commanded_so law story legal = record {
   each = λ prefix rest tag build grows is. law prefix tag.lane build (prefix_at story prefix
-      (story_steps.Other (steps.End tag) ∷ rest) legal grows) (is_active (state_of prefix) tag build is);
+      (story_steps.Other (steps.End tag) ∷ rest) legal grows) (of_lane (state_of prefix) tag build is);
 }
 
 pub built_so : BuildIsAsFromNothing → (story : List StoryStep) → Legal story → WasSound story → AreFromNothing story
@@ -85,7 +86,7 @@ outcomes_so law story legal sound = record {
   each = λ prefix rest tag build n unit grows is well of_n.
       let ends : EndsBuild (state_of prefix) tag = (rest_is_legal start prefix (story_steps.Other (steps.End tag) ∷ rest)
       (subst Legal grows legal)).0 in
-      let active = is_active (state_of prefix) tag build is in
+      let active = of_lane (state_of prefix) tag build is in
       let began = began_at story prefix (story_steps.Other (steps.End tag) ∷ rest) tag.lane build legal sound grows active in
       law prefix began.opening (story_steps.Other (steps.End tag)) tag.lane build n unit
       (prefix_at story prefix (story_steps.Other (steps.End tag) ∷ rest) legal grows) began.opened began.sound active

@@ -11,6 +11,7 @@ use Rattle.cc_names.specs.declared.steps.StoryStep.{StoryStep}
 use Rattle.cc_names.specs.Counts.{raised_count}
 use Rattle.cc_outside.specs.Feeds.{AppendsPrefix}
 use Rattle.cc_outside.specs.declared.sinks.WriteFault.{WriteFault}
+use Rattle.cc_outside.proofs.Flows.{Appends-none}
 use Rattle.large_session.specs.Summaries.{summary}
 use Rattle.legal_history.specs.Stories.States.{all_done}
 use Rattle.legal_history.specs.Stories.Steps.{state_of}
@@ -22,7 +23,7 @@ use Rattle.session_run.specs.Story.Rendered.{text_of_story}
 use Rattle.session_run.specs.Story.Modeled.{tells_failure, text_modeled}
 use Rattle.session_run.specs.declared.words.Form.{Form}
 use Rattle.session_run.specs.declared.words.Form.TheVariants as forms
-use Rattle.session_run.proofs.Running.Runs.{clock_length, nothing_more, raised_none}
+use Rattle.session_run.proofs.Running.Runs.{clock_length, raised_none}
 
 -- `run`: its text is that of the phases
 pub run_done : (phases : List Phase) (story : List StoryStep) (outside : Outside) (failed : Bool)
@@ -61,7 +62,7 @@ run_given_up (Is fault) phases story outside left = record {
 
 -- nothing was written
 pub nothing_written : (held : Option (List ℕ)) (text : List ℕ) → AppendsPrefix held held text
-nothing_written held text = (0, omega arith, nothing_more held)
+nothing_written held text = (0, omega arith, Appends-none held)
 
 -- the outside of a run whose transcripts went into memory: its sink was not touched, or holds more
 abbrev pub moved : Outside → Option (List ℕ) → Option (List ℕ) → Outside

@@ -18,6 +18,7 @@ use Rattle.cc_names.specs.declared.steps.StoryStep.TheVariants as story_steps
 use Rattle.base_core.proofs.Acting.PlainRows.{change_finishes}
 use Rattle.base_core.proofs.Keeping.Idle.{decided_is_free}
 use Rattle.base_core.specs.Calls.Acting.{Acts, IsStepOf}
+use Rattle.base_core.proofs.Keeping.LaneCounts.{done_other}
 use Rattle.legal_history.specs.Stories.Commanded.{next_command_of}
 use Rattle.clearmake.specs.Going.{SamePhase, Finishes, lane_of}
 use Rattle.clearmake.specs.Nexts.{next_of_lane, next_by}
@@ -29,9 +30,9 @@ use Rattle.legal_history.proofs.Decisions.Queried.{query_is}
 use Rattle.legal_history.specs.Stories.States.{State, start, scene, done_of, with_done, is_next, next_tag, decision_for}
 use Rattle.legal_history.specs.Stories.States.{build_if, build_by}
 use Rattle.legal_history.specs.Stories.Steps.{after, done_after, done_by_fault, state_of}
+use Rattle.legal_history.proofs.Stories.LaterSteps.{own_done}
+use Rattle.legal_history.proofs.Stories.Prefixes.{state_goes_on}
 use Rattle.session_run.specs.Running.Phases.{Goes}
-use Rattle.session_run.proofs.Running.Within.{done_same, done_other}
-use Rattle.session_run.proofs.Story.MoreSteps.{state_more}
 
 -- what is decided finishes the command: its row, where it makes one, is none of a build
 EndsCommand : Option (Result Decision Refusal) → Type 0
@@ -133,13 +134,13 @@ act_finishes old new lane done acts by_act =
     let s = state_of old in
     let x = by_act.step in
     let step = lane_step s lane done x (decided_ends s lane acts) by_act.is in
-    let state : state_of new ≡ after s x = ap state_of by_act.grows ∙ state_more start old (x ∷ []) in
+    let state : state_of new ≡ after s x = ap state_of by_act.grows ∙ state_goes_on start old (x ∷ []) in
     record {
       steps = x ∷ [];
       grows = by_act.grows;
       one = step_lane s lane done x by_act.is;
       phase = subst (SamePhase s) (sym state) step.phase;
-      done = ap (λ t. done_of t.done lane) state ∙ ap (λ d. done_of d lane) step.done ∙ done_same s.done lane;
+      done = ap (λ t. done_of t.done lane) state ∙ ap (λ d. done_of d lane) step.done ∙ own_done s.done lane;
       others = λ other differs. ap (λ t. done_of t.done other) state ∙ ap (λ d. done_of d other) step.done
           ∙ done_other s.done lane other differs;
     }

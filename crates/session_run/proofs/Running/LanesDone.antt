@@ -1,27 +1,14 @@
 -- Where each lane of a phase has nothing left to do, all of its commands are finished.
-use Rattle.std.proofs.Common.{◌≡◌, refl, ℕ, true, Option, Some, None, Result, Ok, Err, List, length, arith}
+use Rattle.std.proofs.Common.{◌≡◌, ℕ, true, Result, Ok, Err, List, length, arith}
 use Rattle.std.specs.Prelude.{OnOk}
-use Rattle.cc_names.specs.declared.commands.Command.{Command}
-use Rattle.cc_names.specs.declared.commands.Command.TheVariants as commands
-use Rattle.cc_names.specs.declared.occasions.Next.TheVariants as nexts
-use Rattle.cc_names.specs.declared.rows.Tag.{Tag}
 use Rattle.cc_names.specs.declared.steps.StoryStep.{StoryStep}
 use Rattle.legal_history.specs.Stories.Commanded.{next_command_of}
 use Rattle.legal_history.specs.Stories.Lanes.{IsWithin}
 use Rattle.legal_history.specs.Stories.States.{all_done, next_tag}
 use Rattle.legal_history.specs.Stories.Steps.{state_of}
-use Rattle.clearmake.specs.Nexts.{next_by}
 use Rattle.clearmake.specs.Passes.{AreLanesDone}
+use Rattle.clearmake.proofs.Nexts.{none_by}
 use Rattle.session_run.proofs.Running.Within.{all_finished, finished_where}
-
--- a lane that has nothing left to do has no command left
-none_by : (found : Option Command) (tag : Tag) → next_by found tag ≡ nexts.Done → found ≡ None
-none_by None tag e = refl
-none_by (Some command) tag e = by_command command e
-  where
-    by_command : (command : Command) → next_by (Some command) tag ≡ nexts.Done → Some command ≡ None
-    by_command (commands.Build asked) e = absurd (cc)
-    by_command command e = absurd (cc)
 
 phase_is_done : (story : List StoryStep) (lanes number : ℕ) → lanes ≡ length (state_of story).phase.lanes
     → ((k : ℕ) → IsWithin (state_of story) k) → AreLanesDone story 1 lanes number → all_done (state_of story) ≡ true

@@ -7,11 +7,12 @@ use Rattle.cc_names.specs.declared.steps.StoryStep.{StoryStep}
 use Rattle.cc_names.specs.declared.steps.StoryStep.TheVariants as story_steps
 use Rattle.legal_history.specs.Stories.States.{start, all_done}
 use Rattle.legal_history.specs.Stories.Steps.{after, state_of}
+use Rattle.legal_history.proofs.Stories.Prefixes.{state_goes_on}
 use Rattle.base_core.specs.Story.Replying.{no_replies, replies_after}
 use Rattle.session_run.specs.Running.Phases.{Goes, GoesInPhase, RunsPhase, LeavesPhase}
 use Rattle.session_run.specs.Story.Begun.{phases_begun, moments_begun, first_step, is_opened}
 use Rattle.session_run.specs.Story.Rendered.{earlier_phases, last_ended_phase, replies_over}
-use Rattle.session_run.proofs.Story.MoreSteps.{state_more, phases_more, moments_more, closed_more, first_more}
+use Rattle.session_run.proofs.Story.MoreSteps.{phases_more, moments_more, closed_more, first_more}
 
 ends_opened : (story : List StoryStep) (x : StoryStep) → is_opened (story ++ x ∷ []) ≡ true
 ends_opened [] x = refl
@@ -22,7 +23,7 @@ pub phase_begins : (old new : List StoryStep) (phase : Phase) (moment : ℕ) →
     → GoesInPhase phase moment old new
 phase_begins old new phase moment is =
     let x = story_steps.PhaseBegun phase moment in
-    let state : state_of new ≡ after (state_of old) x = ap state_of is ∙ state_more start old (x ∷ []) in
+    let state : state_of new ≡ after (state_of old) x = ap state_of is ∙ state_goes_on start old (x ∷ []) in
     record {
       phases = ap phases_begun is ∙ phases_more old (x ∷ []);
       moments = ap moments_begun is ∙ moments_more old (x ∷ []);

@@ -17,6 +17,7 @@ use Rattle.cc_names.specs.Counts.{raised_count}
 use Rattle.cc_outside.specs.Feeds.{AppendsPrefix}
 use Rattle.cc_outside.specs.Moments.{moment_at}
 use Rattle.cc_outside.specs.declared.sinks.WriteFault.{WriteFault}
+use Rattle.cc_outside.proofs.Flows.{Appends-none}
 use Rattle.legal_history.specs.Stories.States.{State, all_done, start}
 use Rattle.legal_history.specs.Stories.Steps.{after, state_of}
 use Rattle.legal_history.specs.Stories.Lawful.{last_moment}
@@ -38,11 +39,6 @@ both_modeled : (clock : Option (List ℕ)) (P Q R : List ℕ → Type 0) → IfS
     → ((modeled : List ℕ) → P modeled → Q modeled → R modeled) → IfSome clock R
 both_modeled None P Q R p q h = tt
 both_modeled (Some modeled) P Q R p q h = h modeled p q
-
--- bytes that are told
-pub nothing_more : (held : Option (List ℕ)) → Appends held held []
-nothing_more None = tt
-nothing_more (Some xs) = sym (append-nil xs)
 
 pub appends_more : (one two three : Option (List ℕ)) (xs ys : List ℕ) → Appends one two xs → Appends two three ys
     → Appends one three (xs ++ ys)
@@ -172,7 +168,7 @@ run_starts story held clock first just = record {
       (λ modeled. ap moments_begun is);
   reading_is = sym (raised_none first);
   failures = ap (λ s. list_any phase_fails (ended_phases s)) is;
-  written = subst (Appends held held) (sym (ap (λ s. transcripts (ended_phases s)) is)) (nothing_more held);
+  written = subst (Appends held held) (sym (ap (λ s. transcripts (ended_phases s)) is)) (Appends-none held);
 }
   where
     is : story ≡ story_steps.Opened just.rows just.counts just.tells ∷ []
@@ -216,7 +212,8 @@ run_goes_on phases phase old new outside holds reading moment number failed more
           before so_far.reading_is now ∙ ap (clock_moments modeled outside.first) (sym (one_more phases phase)));
       reading_is = reads ∙ ap (λ r. raised_count r 1) so_far.reading_is ∙ raised_last outside.first (length phases)
           ∙ ap (raised_count outside.first) (sym (one_more phases phase));
-      failures = failures_more old new phase moment number failed more runs.goes runs.finished (omega (arith, count, so_far.number))
+      failures = failures_more old new phase moment number failed more runs.goes runs.finished
+          (omega (arith, count, so_far.number))
           so_far.failures fails;
       written =
           subst (Appends outside.held holds) (sym (rendered_more old new phase moment number runs.goes runs.finished

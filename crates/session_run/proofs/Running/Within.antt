@@ -1,29 +1,14 @@
 -- How many commands a lane has finished, of those that it has.
-use Rattle.std.proofs.Common.{◌≡◌, ◌≢◌, ℕ, zero, suc, ◌+◌, ◌<◌, ◌≤◌, ◌==◌, true, false, cond, Option, Some, None, List, [], ◌∷◌}
+use Rattle.std.proofs.Common.{◌≡◌, ◌≢◌, ℕ, zero, suc, ◌+◌, ◌<◌, ◌≤◌, ◌==◌, true, Option, Some, None, List, [], ◌∷◌}
 use Rattle.std.proofs.Common.{length, refl, ap, ap₂, ◌∙◌, arith}
-use Rattle.std.specs.Prelude.{unwrap_or, option_and_then, slice_get, ◌&&◌}
-use Rattle.std.specs.Ordering.{nat_cmp, eq_by_cmp}
-use Rattle.std.specs.FinMap.Entries.{find, find-put}
-use Rattle.std.proofs.lemmas.Cmp.{nat_cmp_total}
+use Rattle.std.specs.Prelude.{option_and_then, slice_get, ◌&&◌}
 use Rattle.std.proofs.lemmas.Bool.Decides.{nat_tests}
 use Rattle.cc_names.specs.Commands.{lane_at}
 use Rattle.cc_names.specs.declared.commands.Command.{Command}
 use Rattle.cc_names.specs.declared.commands.Lane.{Lane}
 use Rattle.legal_history.specs.Stories.Commanded.{next_command_of}
 use Rattle.legal_history.specs.Stories.Lanes.{IsFinished, IsWithin, count_of}
-use Rattle.legal_history.specs.Stories.States.{State, done_of, with_done, command_behind, lanes_done, all_done}
-
-pub done_same : (done : List (ℕ × ℕ)) (lane : ℕ) → done_of (with_done done lane) lane ≡ done_of done lane + 1
-done_same done lane =
-    let same : eq_by_cmp nat_cmp lane lane ≡ true = grind (arith, nat_tests) in
-    ap (λ found. unwrap_or found 0) (find-put nat_cmp nat_cmp_total lane lane (done_of done lane + 1) done
-    ∙ ap (λ is. cond is (Some (done_of done lane + 1)) (find nat_cmp lane done)) same)
-
-pub done_other : (done : List (ℕ × ℕ)) (lane other : ℕ) → other ≢ lane → done_of (with_done done lane) other ≡ done_of done other
-done_other done lane other differs =
-    let apart : eq_by_cmp nat_cmp other lane ≡ false = grind (arith, nat_tests) in
-    ap (λ found. unwrap_or found 0) (find-put nat_cmp nat_cmp_total other lane (done_of done lane + 1) done
-    ∙ ap (λ is. cond is (Some (done_of done lane + 1)) (find nat_cmp other done)) apart)
+use Rattle.legal_history.specs.Stories.States.{State, done_of, command_behind, lanes_done, all_done}
 
 past : (xs : List Command) (n : ℕ) → slice_get xs n ≡ None → length xs ≤ n
 past [] n e = omega arith

@@ -67,8 +67,7 @@ text_of forms.Verify left = Some []
 text_of forms.Sites left = left
 
 -- The text of the session that a form runs, where contracts know it. `verify` and `sites` run none: they have the text without
--- lines,
--- which has no phase.
+-- lines, which has no phase.
 abbrev pub session_text_of : Form → Option (List ℕ) → Option (List ℕ)
 session_text_of forms.Run left = left
 session_text_of (forms.Big seed size) left = Some (large_session seed size)

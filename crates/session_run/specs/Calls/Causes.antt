@@ -64,7 +64,7 @@ pub record IsIntakeRead (intake : Intake) : Type 0 where
   pub within : count ≤ text_limit
   pub given : intake.given.after ≡ raised_count intake.given.before count
   pub bytes : IfSome intake.text.before (λ bytes. length bytes ≡ count)
-  pub sound : intake.faults.after ≡ intake.faults.before
+  pub faultless : intake.faults.after ≡ intake.faults.before
 
 -- the source was not read
 pub record IsUnread (intake : Intake) : Type 0 where
@@ -123,7 +123,7 @@ pub record GaveTooMuch (intake : Intake) : Type 0 where
   pub words : reads_source intake.form ≡ true
   pub rose : RoseAbove text_limit intake.given.before intake.given.after
   pub bytes : IfSome intake.text.before (λ bytes. text_limit < length bytes)
-  pub sound : intake.faults.after ≡ intake.faults.before
+  pub faultless : intake.faults.after ≡ intake.faults.before
 
 -- whether the count of the disk's faults rose in the call
 abbrev pub disk_rose : Change DiskState → Bool
@@ -179,7 +179,7 @@ HasCause statuses.TooLong intake sink_faults disk story = GaveTooMuch intake × 
 pub record IsToOpen (intake : Intake) : Type 0 where
   pub asked : IsAsked intake
   pub text : is_some (session_text intake) ≡ true
-  pub sound : SourceFailed intake → ⊥
+  pub faultless : SourceFailed intake → ⊥
 
 -- *A damaged journal*, the other way. Where the base was to be opened on a disk that tells a damaged journal, and the count of
 -- the disk's faults did not rise, the status says so with the frame's number, unless the sink fails or memory runs out.

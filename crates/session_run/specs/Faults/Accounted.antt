@@ -39,7 +39,7 @@ pub record CountsFrom (opened closed : DiskState) (story : List StoryStep) : Typ
 -- one step and the next. Where the disk models its device, the calls that it tells say at which tick each of them failed.
 pub record IsAccountedFor (disk : Change DiskState) (story : List StoryStep) : Type 0 where
   pub opened : DiskState
-  pub sound : opened.faults ≡ disk.before.faults
+  pub faultless : opened.faults ≡ disk.before.faults
   pub reads : Both (Adds may_read) disk.before.modeled opened.modeled
   pub files : Both SameFiles disk.before.modeled opened.modeled
   pub counted : CountsFrom opened disk.after story

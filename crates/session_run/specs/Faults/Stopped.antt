@@ -52,7 +52,7 @@ pub record KeepsPrefix (before after : DiskState) (story : List StoryStep) : Typ
       → MayBeFound opening (state_of story).ends k (frames image))
   pub again : IfModeled after.modeled (λ d. (k : ℕ) (image : List ℕ) → before.ticks < k
       → MayLeave 0 d k image → OpensAgain opening.base (frames image))
-  pub sound : rises_of story ≡ [] → IsSettled (state_of story) after
+  pub settled : rises_of story ≡ [] → IsSettled (state_of story) after
   pub mended : IsMended (state_of story) after
   pub apart : AreApart before.faults (rises_of story) after.faults
 

@@ -5,10 +5,9 @@
 -- base that was opened is sound, whatever objects were reused; stopped at any device call, the disk holds a prefix of the
 -- history's commits with every acknowledged one.
 --
--- So it is for FILE `run`. Two other forms of words say the same of another session: FILE `big` SEED SIZE of the large
--- session, of whose replies it prints the summary, and FILE `verify` of a session without phases, with the line of the base that
--- was opened. `Asked.session_text_of` has the session of each form, and `Modeled` what it prints of a history. FILE `sites` opens
--- no
+-- So it is for FILE `run`. Two other forms of words say the same of another session: FILE `big` SEED SIZE of the large session,
+-- of whose replies it prints the summary, and FILE `verify` of a session without phases, with the line of the base that was
+-- opened. `Asked.session_text_of` has the session of each form, and `Modeled` what it prints of a history. FILE `sites` opens no
 -- base: it prints the replies to a text of sites, by `Sites`.
 --
 -- A call of the program is seen as plain values: its words, what the source had left and gave, what the sink holds, what the

@@ -45,7 +45,7 @@ pub record RunsOn (form : Form) (phases : List Phase) (status : Status) (story :
   pub begins : BeginsOn disk.before story
   pub first : Option StoryStep
   pub opened : DiskState
-  pub sound : opened.faults ≡ disk.before.faults
+  pub faultless : opened.faults ≡ disk.before.faults
   pub fit : IsCounted opened
   pub adds : Both (Adds may_read) disk.before.modeled opened.modeled
   pub files : Both SameFiles disk.before.modeled opened.modeled

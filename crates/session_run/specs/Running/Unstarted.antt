@@ -142,8 +142,7 @@ pub record WritesUnstarted (unstarted : Unstarted) (status : Status) (old new : 
     pub line : status ≡ statuses.WriteFault → is_cut (unstarted_status unstarted) ≡ false
 
 -- The replies to a text of sites were written, or the line that says which of its lines says nothing, unless the sink failed,
--- which
--- then took a prefix of that, or memory ran out before.
+-- which then took a prefix of that, or memory ran out before.
 pub record WritesResult (run : Result Replies SiteError) (status : Status) (old new : Option (List ℕ)) (faults : Change ℕ) : Type
     0 where
   pub answer : is_cut status ≡ false → status ≡ status_of_sites run

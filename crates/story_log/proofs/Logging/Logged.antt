@@ -132,6 +132,7 @@ logged_fault on kept more base phases tag row earlier found before faults tick o
           (let s = logged_state on kept base phases in
           backed_fault s tag row found before faults tick old new list leftover list' leftover' ended ended' left left' settled
           settled' (after s (story_steps.Other (steps.Fault tag found before faults tick))) refl refl refl h.backed moves stays
-          (subst (λ o. LeftSo o row left' found) (copied ∙ sym (hanging_is on 1 0 kept (oldest_first base) phases start h.modeled))
+          (subst (λ o. LeftSo o row left' found) (copied ∙ sym (hanging_is on 1 0 kept (oldest_first base) phases start
+          h.modeled))
           so) at counts was counted end set ajar);
     }

@@ -68,7 +68,8 @@ backed_commit s row tick old new list leftover list' leftover' ended ended' left
       base = ap (λ b. row ∷ b) h.base;
       ticks = omega (arith, at);
       faults = omega (arith, h.faults, same);
-      covered = commit_covered h.opening s.ends row tick list leftover list' leftover' left left' old.modeled new.modeled h.covered
+      covered = commit_covered h.opening s.ends row tick list leftover list' leftover' left left' old.modeled new.modeled
+          h.covered
           (ticks_counted h.opening s old h.opened h.ticks was) moves
           (if_modeled new.modeled (λ e. new.ticks ≡ length e.calls) (λ e. tick ≡ length e.calls) (λ e modeled. at
           ∙ modeled) counted.modeled) grown;

@@ -243,7 +243,7 @@ opens_again laws story opening k found legal named opened may =
     }
 
 -- the base that is opened on a disk that reads so is that one
-modeled_is : (modeled : Option Device) (device : Device) (P : Device → Type 0) → modeled ≡ Some device → IfModeled modeled P
+pub modeled_is : (modeled : Option Device) (device : Device) (P : Device → Type 0) → modeled ≡ Some device → IfModeled modeled P
     → P device
 modeled_is modeled device P is h = subst (λ t. IfModeled t P) is h
 

@@ -36,7 +36,7 @@ pub record IsOpened (old : DiskState) (log : Logged) : Type 0 where
   pub handed : Handed
   pub on : IsBaseOn old base handed
   pub is : log ≡ opened_log base handed log.ghost_state
-  pub sound : log.ghost_state.faults ≡ old.faults
+  pub faultless : log.ghost_state.faults ≡ old.faults
   pub fit : IsCounted log.ghost_state
   pub adds : Both (Adds may_read) old.modeled log.ghost_state.modeled
   pub files : Both SameFiles old.modeled log.ghost_state.modeled
@@ -68,7 +68,7 @@ pub record OpensCore (old : DiskState) (story : List StoryStep) (new : DiskState
   pub on : IsBaseOn old base handed
   pub undamaged : IfModeled old.modeled (λ d. IsUndamaged (frames (bytes_now 0 d)))
   pub story_is : story ≡ story_steps.Opened (oldest_first base) handed.counts handed.tells ∷ []
-  pub sound : new.faults ≡ old.faults
+  pub faultless : new.faults ≡ old.faults
   pub fit : IsCounted new
   pub adds : Both (Adds may_read) old.modeled new.modeled
   pub files : Both SameFiles old.modeled new.modeled

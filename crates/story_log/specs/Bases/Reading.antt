@@ -38,7 +38,7 @@ EndsAt (Some payload) ended = Unit {0}
 pub record NextIs {D : Type 0} (ghost_state : D → DiskState) (found : Option (List ℕ)) (old new : Shown D) : Type 0 where
   pub leftover : new.leftover ≡ []
   pub ends : EndsAt found new.ended
-  pub sound : (ghost_state new.disk).faults ≡ (ghost_state old.disk).faults
+  pub faultless : (ghost_state new.disk).faults ≡ (ghost_state old.disk).faults
   pub gives : IfModeled (ghost_state old.disk).modeled (λ _. GivesNext found old.rest new.rest)
 
 -- why no payload was read, with the disk's counts of faults before and after

@@ -16,7 +16,8 @@ pub record IsMirrored (opening : Opening) (ends : List End) (list leftover : Lis
     pub list_is : list ≡ payloads (base_by opening ends)
     pub leftover_is : StandsFor (base_by opening ends) (hanging ends) (list ++ leftover)
     pub nothing : left ≡ lefts.Nothing → leftover ≡ []
-    pub stops : (k : ℕ) (image : List ℕ) → opening.counts.ticks < k → Leaves 0 d k image → MayBeFound opening ends k (frames image)
+    pub stops : (k : ℕ) (image : List ℕ) → opening.counts.ticks < k → Leaves 0 d k image
+        → MayBeFound opening ends k (frames image)
     pub now : (image : List ℕ) → LeavesNow 0 d image → Stands list leftover image
 
 -- whether a row was committed since the base was opened, or a fault left one

@@ -1,6 +1,6 @@
-use Rattle.std.proofs.Common.{◌≡◌, ◌+◌, ◌-◌, ◌<◌, ◌++◌, ℕ, List, length, take, drop, sym, ap, ◌∙◌, arith, subst}
+use Rattle.std.proofs.Common.{◌≡◌, ◌+◌, ◌-◌, ◌<◌, ◌++◌, ℕ, List, length, take, drop, sym, ap, ◌∙◌}
 use Rattle.std.proofs.lemmas.Result.{err_from_is_err_and}
-use Rattle.std.proofs.lemmas.Grind.{common_steps}
+use Rattle.cc_names.proofs.Common.{rest_is_whole}
 use Rattle.script_grammar.specs.Forms.{replaced_behind}
 use Rattle.build_script.specs.MadeOf.{made_of}
 use Rattle.build_script.specs.Making.{output_by_parts}
@@ -8,10 +8,6 @@ use Rattle.script_grammar.specs.Run.{with_output}
 use Rattle.build_script.proofs.FormLemmas.{with_replaced-at, with_replaced-none}
 use Rattle.build_script.proofs.SaidLemmas.{gave_prefix, gave_rest}
 use Rattle.build_script.proofs.making.say_replaced.Goals as goal
-
--- what `&xs[n..]` is
-behind : (n : ℕ) (xs : List ℕ) → take (length xs - n) (drop n xs) ≡ drop n xs
-behind n xs = grind (arith, common_steps)
 
 pub returns-in_err-say : goal.returns-in_err-say
 returns-in_err-say c =
@@ -54,7 +50,7 @@ loop-place-preserved c =
       with_output = gave_rest output c.args.to.now more (made_of c.say-in-Some.new.made) (made_of c.say-in-Some-2.new.made) _ then
           c.in_ok-say-2.ensures
           ∙ ap (λ (l : List ℕ). with_output output (replaced_behind c.args.from.now c.args.to.now 0 l)
-          (made_of c.say-in-Some-2.new.made)) (sym (behind (c.in-Some.place + length c.args.from.now) rest));
+          (made_of c.say-in-Some-2.new.made)) (sym (rest_is_whole (c.in-Some.place + length c.args.from.now) rest));
       filled = c.loop-place.invariant.filled;
     }
 

@@ -1,4 +1,4 @@
-use Rattle.std.proofs.Common.{arith, ℕ, length-drop}
+use Rattle.std.proofs.Common.{◌∙◌, arith, ℕ, length-drop}
 use Rattle.cc_outside.proofs.Flows.{Appends-then, AppendsPrefix-then, on_err}
 use Rattle.cc_outside.proofs.sinks.write_whole.Goals as goal
 
@@ -13,4 +13,5 @@ loop-done-preserved g c = record {
   written = Appends-then _ (g.K.Sink.ghost_state c.loop-done.sink).held _ c.loop-done.done c.in_ok-done.field-0 c.args.text.now
       c.loop-done.invariant.written c.in_ok-done.ensures.bytes;
   kept = omega (arith, c.write.ensures.kept);
+  faultless = c.in_ok-done.ensures.faultless ∙ c.loop-done.invariant.faultless;
 }

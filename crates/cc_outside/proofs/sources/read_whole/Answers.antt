@@ -8,7 +8,7 @@ loop-bytes-init g c = record {
   bytes = rw c.new-bytes.ensures.items (Consumes-none (g.S.Source.ghost_state c.args.source.now).left);
   short = omega (arith, c.new-bytes.ensures.len);
   counted = omega (arith, c.new-bytes.ensures.len);
-  sound = refl;
+  faultless = refl;
 }
 
 pub returns-then-count-eq0-clause-bytes : goal.returns-then-count-eq0-clause-bytes
@@ -38,7 +38,7 @@ loop-bytes-preserved g c = record {
       );
   counted =
       omega (arith, c.in_ok-extend_from_slice.ensures.len, c.in-Ok.ensures.counted, c.in-Ok.ensures.within, length-take {A = ℕ});
-  sound = c.in-Ok.ensures.sound ∙ c.loop-bytes.invariant.sound;
+  faultless = c.in-Ok.ensures.faultless ∙ c.loop-bytes.invariant.faultless;
 }
 
 pub returns-clause-modeled : goal.returns-clause-modeled

@@ -10,7 +10,7 @@ invariant-loop-bytes g l = record {
   short : vec_len l.bytes ≤ l.limit + 1;
   counted : (g.S.Source.ghost_state l.source).given ≡ raised_count (g.S.Source.ghost_state l.initial.source).given
       (vec_len l.bytes);
-  sound : (g.S.Source.ghost_state l.source).faults ≡ (g.S.Source.ghost_state l.initial.source).faults;
+  faultless : (g.S.Source.ghost_state l.source).faults ≡ (g.S.Source.ghost_state l.initial.source).faults;
 }
 
 abbrev pub decreases-loop-bytes : goal.decreases-loop-bytes

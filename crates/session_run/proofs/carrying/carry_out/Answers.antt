@@ -19,7 +19,8 @@ returns-in-Big-clause-err g c = rw c.in-Big.is (c.run_summed.ensures.err c.in-Bi
 
 pub returns-in-Verify-clause-ok : goal.returns-in-Verify-clause-ok
 returns-in-Verify-clause-ok g c =
-    rw c.in-Verify.is (check_ok c.write_check-found.result c.args.core.story c.args.phases.items (g.K.Sink.ghost_state c.args.sink.now).held
+    rw c.in-Verify.is (check_ok c.write_check-found.result c.args.core.story c.args.phases.items
+    (g.K.Sink.ghost_state c.args.sink.now).held
     (g.K.Sink.ghost_state c.write_check-found.new.sink).held
     (g.C.Clock.ghost_state c.args.clock.now).modeled (g.C.Clock.ghost_state c.args.clock.now).readings c.requires.opened
     (c.requires.none c.in-Verify.is)
@@ -27,7 +28,8 @@ returns-in-Verify-clause-ok g c =
 
 pub returns-in-Verify-clause-err : goal.returns-in-Verify-clause-err
 returns-in-Verify-clause-err g c =
-    rw c.in-Verify.is (check_err c.write_check-found.result c.args.core.story c.args.phases.items (g.K.Sink.ghost_state c.args.sink.now).held
+    rw c.in-Verify.is (check_err c.write_check-found.result c.args.core.story c.args.phases.items
+    (g.K.Sink.ghost_state c.args.sink.now).held
     (g.K.Sink.ghost_state c.write_check-found.new.sink).held
     (g.C.Clock.ghost_state c.args.clock.now).modeled (g.C.Clock.ghost_state c.args.clock.now).readings c.requires.opened
     (c.requires.none c.in-Verify.is)

@@ -14,12 +14,14 @@ pub returns-in-Ok-clause-ok : goal.returns-in-Ok-clause-ok
 returns-in-Ok-clause-ok g c =
     let bytes : c.as_bytes.result.now ≡ c.verdict_line.result.bytes = cc in
     subst (Appends (g.K.Sink.ghost_state c.args.sink.now).held (g.K.Sink.ghost_state c.write_whole.new.sink).held)
-    (bytes ∙ c.verdict_line.ensures ∙ line_so (state_of c.args.core.now.story).base c.in_ok-verdict.verdict c.in_ok-verdict.ensures)
+    (bytes ∙ c.verdict_line.ensures ∙ line_so (state_of c.args.core.now.story).base c.in_ok-verdict.verdict
+    c.in_ok-verdict.ensures)
     c.in-Ok.ensures.written
 
 pub returns-in-Err-clause-err : goal.returns-in-Err-clause-err
 returns-in-Err-clause-err g c =
     let bytes : c.as_bytes.result.now ≡ c.verdict_line.result.bytes = cc in
     subst (AppendsPrefix (g.K.Sink.ghost_state c.args.sink.now).held (g.K.Sink.ghost_state c.write_whole.new.sink).held)
-    (bytes ∙ c.verdict_line.ensures ∙ line_so (state_of c.args.core.now.story).base c.in_ok-verdict.verdict c.in_ok-verdict.ensures)
+    (bytes ∙ c.verdict_line.ensures ∙ line_so (state_of c.args.core.now.story).base c.in_ok-verdict.verdict
+    c.in_ok-verdict.ensures)
     c.in-Err.ensures.prefix

@@ -33,7 +33,7 @@ returns-in-Ok g c =
           c.in-Ok.ensures.ok refl c.run_opened.ensures.first_is;
       first = first_step core.story;
       opened = core.ghost_state;
-      sound = c.in-Ok.ensures.ok.sound;
+      faultless = c.in-Ok.ensures.ok.faultless;
       fit = c.in-Ok.ensures.ok.fit;
       adds = c.in-Ok.ensures.ok.adds;
       files = c.in-Ok.ensures.ok.files;

@@ -10,7 +10,8 @@ text_given-requires g c = are_said c.args.words.now c.in-Some.form (sym c.in-Som
 
 pub returns-in-Ok-clause-gives : goal.returns-in-Ok-clause-gives
 returns-in-Ok-clause-gives g c =
-    given_so (intake_of c.args.words.now (g.S.Source.ghost_state c.args.source.now) (g.S.Source.ghost_state c.text_given.new.source))
+    given_so (intake_of c.args.words.now (g.S.Source.ghost_state c.args.source.now)
+    (g.S.Source.ghost_state c.text_given.new.source))
     c.in-Some.form c.in-Ok.text c.session_of.result (sym c.in-Some.ensures)
     (subst (λ form. GivesText c.in-Some.form (intake_by form (g.S.Source.ghost_state c.args.source.now)
     (g.S.Source.ghost_state c.text_given.new.source)) c.in-Ok.text) c.in-Some.ensures c.in-Ok.ensures.gives)
@@ -18,7 +19,8 @@ returns-in-Ok-clause-gives g c =
 
 pub returns-in-Ok-clause-why : goal.returns-in-Ok-clause-why
 returns-in-Ok-clause-why g c =
-    not_given_so (intake_of c.args.words.now (g.S.Source.ghost_state c.args.source.now) (g.S.Source.ghost_state c.text_given.new.source))
+    not_given_so (intake_of c.args.words.now (g.S.Source.ghost_state c.args.source.now)
+    (g.S.Source.ghost_state c.text_given.new.source))
     c.in-Some.form c.in-Ok.text c.session_of.result (sym c.in-Some.ensures)
     (subst (λ form. GivesText c.in-Some.form (intake_by form (g.S.Source.ghost_state c.args.source.now)
     (g.S.Source.ghost_state c.text_given.new.source)) c.in-Ok.text) c.in-Some.ensures c.in-Ok.ensures.gives)

@@ -40,7 +40,7 @@ open-requires-2 g c =
     opened_backed ghost_state first (handed_disk c.counts-handed.result g.D.Disk.tells) c.in-Ok-read_rows.rows.base opened
     c.read_rows.new.journal
     (g.met.D.Disk.counted c.args.disk) c.counts-handed.ensures.ticks c.counts-handed.ensures.faults
-    (sym (g.met.D.Disk.as_typed c.args.disk)) new rows.reads rows.sound rows.ok
+    (sym (g.met.D.Disk.as_typed c.args.disk)) new rows.reads rows.faultless rows.ok
 
 pub returns-in-Ok-open-clause-ok : goal.returns-in-Ok-open-clause-ok
 returns-in-Ok-open-clause-ok g c =
@@ -54,7 +54,7 @@ returns-in-Ok-open-clause-ok g c =
     is_opened ghost_state first (handed_disk c.counts-handed.result g.D.Disk.tells) c.in-Ok-read_rows.rows.base opened
     c.read_rows.new.journal
     (g.met.D.Disk.counted c.args.disk) c.counts-handed.ensures.ticks c.counts-handed.ensures.faults
-    (sym (g.met.D.Disk.as_typed c.args.disk)) new rows.reads rows.sound rows.ok c.in-Ok-open.log c.in-Ok-open.ensures.ok
+    (sym (g.met.D.Disk.as_typed c.args.disk)) new rows.reads rows.faultless rows.ok c.in-Ok-open.log c.in-Ok-open.ensures.ok
     (g.met.D.Disk.counted c.read_rows.new.journal.disk)
 
 pub returns-in-Err-open-clause-err : goal.returns-in-Err-open-clause-err
@@ -71,5 +71,5 @@ returns-in-Err-open-clause-err g c =
     (fails_to_open first (ghost_state read.disk) causes.NoMemory (g.met.D.Disk.counted c.args.disk)
     (keeps_first ghost_state first opened read new c.in-Ok-read_rows.ensures.reads)
     (read_since ghost_state first opened read new c.in-Ok-read_rows.ensures.reads)
-    (files_first ghost_state first opened read new c.in-Ok-read_rows.ensures.reads) (c.in-Ok-read_rows.ensures.sound
+    (files_first ghost_state first opened read new c.in-Ok-read_rows.ensures.reads) (c.in-Ok-read_rows.ensures.faultless
     ∙ new.counts.1))

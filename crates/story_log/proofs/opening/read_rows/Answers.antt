@@ -47,7 +47,7 @@ frames-preserved g c =
       reads = reads_then ghost_state c.args.journal.now c.frames.journal c.read_next_row.new.journal c.frames.invariant.reads
           c.in-Ok-Some.ensures.reads;
       so_far = subst (λ (b : Base). IsReadSoFar ghost_state b c.read_next_row.new.journal) (sym grown) found;
-      sound = c.in-Ok-Some.ensures.sound ∙ c.frames.invariant.sound;
+      faultless = c.in-Ok-Some.ensures.faultless ∙ c.frames.invariant.faultless;
     }
 
 pub returns-then-is_err-clause-reads : goal.returns-then-is_err-clause-reads
@@ -73,4 +73,4 @@ returns-in-Err-clause-reads g c = reads_then g.D.Disk.ghost_state c.args.journal
 pub returns-in-Err-clause-err : goal.returns-in-Err-clause-err
 returns-in-Err-clause-err g c =
     stops_behind g.D.Disk.ghost_state c.in-Err.cause c.args.journal.now c.frames.journal _ c.frames.invariant.reads
-    c.frames.invariant.sound c.in-Err.ensures.err
+    c.frames.invariant.faultless c.in-Err.ensures.err

@@ -7,7 +7,7 @@ abbrev pub invariant-frames : goal.invariant-frames
 invariant-frames g l = record {
   reads : OnlyReads g.D.Disk.ghost_state l.initial.journal l.journal;
   so_far : IsReadSoFar g.D.Disk.ghost_state l.rows.base l.journal;
-  sound : (g.D.Disk.ghost_state l.journal.disk).faults ≡ (g.D.Disk.ghost_state l.initial.journal.disk).faults;
+  faultless : (g.D.Disk.ghost_state l.journal.disk).faults ≡ (g.D.Disk.ghost_state l.initial.journal.disk).faults;
 }
 
 abbrev pub decreases-frames : goal.decreases-frames

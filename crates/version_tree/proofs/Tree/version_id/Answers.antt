@@ -25,7 +25,8 @@ returns c =
     grind (arith, common_steps, c.change_at.ensures, c.in_ok-change_at.was) in
     let belongs : element_of_branch c.args.self.now.changes (branch_of_change change) ≡ Some c.in_ok-element.element =
     grind (arith, common_steps, c.element_of.ensures, c.in_ok-element.was, c.branch_changed-branch.ensures) in
-    let kept : versions_stored c.in_ok-branch_at.field-0.now ≡ versions_on c.args.self.now.changes c.branch_changed-branch.result =
+    let kept : versions_stored c.in_ok-branch_at.field-0.now ≡ versions_on c.args.self.now.changes
+    c.branch_changed-branch.result =
     grind (arith, common_steps, c.branch_at.ensures.versions, c.in_ok-branch_at.was) in
     let numbers : option_map number_of_version (find (λ v. eqb v.row c.args.version)
     (versions_on c.args.self.now.changes (branch_of_change change))) ≡ Some c.in_ok-number.number =

@@ -1,19 +1,16 @@
 -- A name stands for another one in a catalog of fewer rows, until a row tells its element.
-use Rattle.std.proofs.Common.{ℕ, ◌<◌, ◌≤◌, length, sym, ap, subst, ◌∙◌, arith}
+use Rattle.std.proofs.Common.{ℕ, ◌<◌, ◌≤◌, length, sym, ap, subst, ◌∙◌, le_refl}
 use Rattle.base_model.specs.Catalogs.{element_named}
 use Rattle.base_model.specs.Rows.{Base, first_rows, size}
 use Rattle.base_model.proofs.Stay.{all_rows}
 use Rattle.view_lookup.specs.Resolving.{catalog_in}
 use Rattle.view_lookup.proofs.catalogs.named_in.Goals as goal
 
-at_most_itself : (n : ℕ) → n ≤ n
-at_most_itself n = omega arith
-
 pub loop-found-init : goal.loop-found-init
 loop-found-init c =
     ap (λ (b : Base). element_named c.args.name.now (catalog_in b c.args.catalog))
     (c.first_rows-rows.ensures ∙ ap (λ n. first_rows n c.args.rows.now) c.size.ensures.size
-    ∙ all_rows c.args.rows.now (size c.args.rows.now) (at_most_itself (size c.args.rows.now)))
+    ∙ all_rows c.args.rows.now (size c.args.rows.now) (le_refl (size c.args.rows.now)))
 
 pub returns-in-Is : goal.returns-in-Is
 returns-in-Is c = sym c.in-Is.ensures ∙ c.loop-found.invariant

@@ -2,10 +2,10 @@
 use Rattle.std.proofs.Common.{ℕ, ◌+◌, Bool, ◌||◌, List, drop, get_or, ap, sym, ◌∙◌, refl}
 use Rattle.std.proofs.lemmas.List.{at_drop_all, at_drop_more}
 use Rattle.std.specs.List.{list_any}
+use Rattle.cc_names.proofs.Common.{or_moved}
 use Rattle.base_model.specs.Closures.{is_path_among}
 use Rattle.view_lookup.specs.GivenNames.{is_name, name_at}
 use Rattle.view_lookup.proofs.GivenRows.{names_found}
-use Rattle.view_lookup.proofs.PathSets.{moved_over}
 use Rattle.view_lookup.proofs.directory_names.names_given.Goals as goal
 
 pub loop-number-preserved : goal.loop-number-preserved
@@ -18,7 +18,7 @@ loop-number-preserved c = λ q.
     let more = list_any is (drop (i + 1) numbers) in
     ap (λ among. more || among) (c.in_ok-add_name.ensures q ∙ ap (λ name. is_name q name || is_path_among q old.keys)
     c.name_at.ensures)
-    ∙ moved_over more (is (get_or numbers i 0)) (is_path_among q old.keys)
+    ∙ or_moved more (is (get_or numbers i 0)) (is_path_among q old.keys)
     ∙ sym (at_drop_more (λ (left : List ℕ). list_any is left || is_path_among q old.keys) numbers i 0 c.loop-number-test.true)
     ∙ c.loop-number.invariant q
 

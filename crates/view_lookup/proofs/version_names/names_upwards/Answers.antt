@@ -1,5 +1,5 @@
 -- Each branch on the way up leaves the next one, among fewer rows.
-use Rattle.std.proofs.Common.{◌≡◌, ℕ, zero, suc, ◌<◌, ◌≤◌, List, [], ◌∷◌, ◌++◌, Option, length, map, reverse, append-nil}
+use Rattle.std.proofs.Common.{◌≡◌, ℕ, zero, suc, ◌<◌, ◌≤◌, List, [], ◌∷◌, ◌++◌, Option, length, map, reverse, append-nil, le_refl}
 use Rattle.std.proofs.Common.{append_assoc, ap, ap₂, sym, subst, ◌∙◌, arith, Bor}
 use Rattle.view_lookup.specs.Naming.{names_above}
 use Rattle.base_model.specs.Changes.{tree}
@@ -8,9 +8,6 @@ use Rattle.base_model.proofs.Stay.{all_rows}
 use Rattle.base_rows.proofs.Prefixes.{size_of_first}
 use Rattle.view_lookup.proofs.NamesBack.{one_more}
 use Rattle.view_lookup.proofs.version_names.names_upwards.Goals as goal
-
-at_most_itself : (n : ℕ) → n ≤ n
-at_most_itself n = omega arith
 
 -- the rows below one of a base are fewer
 fewer : (b : Base) (n : ℕ) → 1 ≤ n → n < size b → length (first_rows n b) < length b
@@ -23,7 +20,7 @@ pub loop-next-init : goal.loop-next-init
 loop-next-init c =
     let rows = c.args.rows.now in
     let all : c.first_rows-older.result ≡ rows = c.first_rows-older.ensures ∙ ap (λ n. first_rows n rows) c.size.ensures.size
-    ∙ all_rows rows (size rows) (at_most_itself (size rows)) in
+    ∙ all_rows rows (size rows) (le_refl (size rows)) in
     ap₂ (λ (b : Base) (items : List (Bor (List ℕ))). names_above (tree b) c.args.branch
     ++ reverse (map (λ (name : Bor (List ℕ)). name.now) items)) all c.new-names.ensures.items
     ∙ append-nil (names_above (tree rows) c.args.branch)

@@ -2,8 +2,9 @@
 use Rattle.std.proofs.Common.{ℕ, ◌+◌, ◌||◌, List, drop, ap, sym, ◌∙◌, bytes_eq}
 use Rattle.std.proofs.lemmas.List.{at_drop_all, at_drop_more}
 use Rattle.cc_names.specs.declared.rows.ReadOf.{ReadOf}
+use Rattle.cc_names.proofs.Common.{or_moved}
 use Rattle.base_model.specs.Closures.{is_path_among}
-use Rattle.view_lookup.proofs.PathSets.{moved_over, one_inserted}
+use Rattle.view_lookup.proofs.PathSets.{one_inserted}
 use Rattle.vob_history.specs.Differences.{is_path_read}
 use Rattle.vob_history.proofs.record_differences.add_paths.Goals as goal
 
@@ -15,7 +16,7 @@ loop-entry-preserved c = λ q.
     let entry = c.entry-item.result in
     let more = is_path_read q (drop (i + 1) entries) in
     ap (λ among. more || among) (one_inserted old c.insert.new.self c.in_ok-copy.field-0 q (c.in_ok-insert.ensures.updates.0 q))
-    ∙ moved_over more (bytes_eq q c.in_ok-copy.field-0) (is_path_among q old.keys)
+    ∙ or_moved more (bytes_eq q c.in_ok-copy.field-0) (is_path_among q old.keys)
     ∙ ap (λ (path : List ℕ). (bytes_eq q path || more) || is_path_among q old.keys) c.in_ok-copy.ensures.copy
     ∙ ap (λ (one : ReadOf). (bytes_eq q one.path || more) || is_path_among q old.keys) c.entry-item.is
     ∙ sym (at_drop_more (λ (left : List ReadOf). is_path_read q left || is_path_among q old.keys) entries i entry

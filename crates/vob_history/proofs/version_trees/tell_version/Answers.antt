@@ -4,10 +4,11 @@ use Rattle.std.specs.Prelude.{slice_get}
 use Rattle.std.specs.List.{concat}
 use Rattle.std.proofs.lemmas.List.{length-map, length-reverse}
 use Rattle.cc_names.specs.Versions.{row_of_version, versions_on}
+use Rattle.cc_names.proofs.Common.{drop_past}
 use Rattle.base_model.specs.Changes.{tree}
 use Rattle.legal_history.specs.Queries.ElementTexts.{branch_lines, branches_leaving, in_brackets, labels_on}
 use Rattle.legal_history.specs.Queries.VersionNames.{at_version, line, version_name}
-use Rattle.base_rows.proofs.AtIndex.{drop_at, drop_past, within_at}
+use Rattle.base_rows.proofs.AtIndex.{drop_at, within_at}
 use Rattle.vob_history.specs.VersionTrees.{left_lines, row_lines, rows_on, steps_left, steps_of}
 use Rattle.vob_history.specs.declared.version_trees.Part.{Part}
 use Rattle.vob_history.specs.declared.version_trees.Part.TheVariants.{Branch, Versions}

@@ -1,6 +1,7 @@
 -- the decision on a lane's next command is that of its state
-use Rattle.std.proofs.Common.{◌≡◌, None, ap, sym, subst, ◌∙◌}
+use Rattle.std.proofs.Common.{◌≡◌, None, ap, sym, subst, ◌∙◌, arith}
 use Rattle.cc_names.specs.Commands.{view_of}
+use Rattle.base_model.specs.Rows.{size}
 use Rattle.legal_history.specs.Builds.Active.{build_of, building}
 use Rattle.legal_history.specs.Stories.Lawful.{Legal}
 use Rattle.legal_history.specs.Stories.Steps.{state_of}
@@ -12,6 +13,13 @@ use Rattle.base_core.proofs.core_value.Core.decide.Goals as goal
 
 pub occasion-occasion-requires : goal.occasion-occasion-requires
 occasion-occasion-requires g c = acts_waits (state_of c.args.self.now.story) c.args.lane c.requires.act
+
+pub decide-requires-clause-rows : goal.decide-requires-clause-rows
+decide-requires-clause-rows g c =
+    let same = ap (λ v. v.story) c.self.view_is in
+    let base : c.rows.result ≡ (state_of c.args.self.now.story).base =
+    c.rows.ensures ∙ sym c.self.invariant.story.base ∙ ap (λ t. (state_of t).base) same in
+    omega (arith, c.occasion-occasion.ensures.taken, ap size base)
 
 pub returns : goal.returns
 returns g c =

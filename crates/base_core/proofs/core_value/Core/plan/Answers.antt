@@ -1,5 +1,6 @@
 -- what is planned is what is decided of the lane's next command
-use Rattle.std.proofs.Common.{ap, ◌∙◌}
+use Rattle.std.proofs.Common.{ap, ◌∙◌, arith}
+use Rattle.base_model.specs.Rows.{size}
 use Rattle.legal_history.specs.Builds.Active.{building}
 use Rattle.legal_history.specs.Stories.States.{next_tag}
 use Rattle.legal_history.specs.Stories.Steps.{state_of}
@@ -10,6 +11,9 @@ use Rattle.base_core.proofs.core_value.Core.plan.Goals as goal
 pub occasion-occasion-requires : goal.occasion-occasion-requires
 occasion-occasion-requires g c = builds_waits (state_of c.args.self.now.story) c.args.lane
     (next_tag (state_of c.args.self.now.story) c.args.lane) c.requires.builds
+
+pub plan_build-requires-clause-rows : goal.plan_build-requires-clause-rows
+plan_build-requires-clause-rows g c = omega (arith, c.occasion-occasion.ensures.taken, ap size c.rows.ensures)
 
 pub returns : goal.returns
 returns g c =

@@ -2,10 +2,10 @@
 use Rattle.std.proofs.Common.{ℕ, ◌+◌, Bool, ◌||◌, List, drop, get_or, ap, sym, ◌∙◌}
 use Rattle.std.proofs.lemmas.List.{at_drop_all, at_drop_more}
 use Rattle.std.specs.List.{list_any}
+use Rattle.cc_names.proofs.Common.{or_moved}
 use Rattle.base_model.specs.Closures.{is_path_among}
 use Rattle.view_lookup.specs.GivenNames.{is_name}
 use Rattle.cleartool.specs.Owned.{winker_at}
-use Rattle.view_lookup.proofs.PathSets.{moved_over}
 use Rattle.cleartool.proofs.sets.holders.add_winkers.Goals as goal
 
 pub loop-wink-preserved : goal.loop-wink-preserved
@@ -18,7 +18,7 @@ loop-wink-preserved c = λ q.
     let more = list_any is (drop (i + 1) winks) in
     ap (λ among. more || among) (c.in_ok-add_name.ensures q ∙ ap (λ view. is_name q view || is_path_among q old.keys)
     c.winker_at.ensures)
-    ∙ moved_over more (is (get_or winks i 0)) (is_path_among q old.keys)
+    ∙ or_moved more (is (get_or winks i 0)) (is_path_among q old.keys)
     ∙ sym (at_drop_more (λ (left : List ℕ). list_any is left || is_path_among q old.keys) winks i 0 c.loop-wink-test.true)
     ∙ c.loop-wink.invariant q
 

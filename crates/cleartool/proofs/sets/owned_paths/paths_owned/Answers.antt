@@ -3,10 +3,10 @@ use Rattle.std.proofs.Common.{◌≡◌, ℕ, ◌+◌, true, false, ◌||◌, Li
 use Rattle.std.proofs.lemmas.List.{at_drop_all, at_drop_more}
 use Rattle.std.specs.List.{list_any}
 use Rattle.cc_names.specs.Formed.{IsBelowRoot}
+use Rattle.cc_names.proofs.Common.{or_moved}
 use Rattle.base_model.specs.Closures.{is_path_among}
 use Rattle.cleartool.specs.Owned.{is_given_by}
 use Rattle.cleartool.proofs.GivenPaths.{paths_found}
-use Rattle.view_lookup.proofs.PathSets.{moved_over}
 use Rattle.cleartool.proofs.sets.owned_paths.paths_owned.Goals as goal
 
 pub loop-number-preserved : goal.loop-number-preserved
@@ -20,7 +20,7 @@ loop-number-preserved c =
       found = λ q.
           let more = list_any (is_given_by b q) (drop (i + 1) numbers) in
           ap (λ among. more || among) (c.in_ok-add_paths_of_row.ensures.found q)
-          ∙ moved_over more (is_given_by b q n) (is_path_among q old.keys)
+          ∙ or_moved more (is_given_by b q n) (is_path_among q old.keys)
           ∙ sym (at_drop_more (λ (left : List ℕ). list_any (is_given_by b q) left || is_path_among q old.keys) numbers i 0
           c.loop-number-test.true)
           ∙ c.loop-number.invariant.found q;

@@ -8,7 +8,8 @@ use Rattle.story_log.proofs.logs.Log.tell.Goals as goal
 
 pub invariant_of-self-2 : goal.invariant_of-self-2
 invariant_of-self-2 g c = logged_step (handed_disk c.self.inside.handed g.D.Disk.tells) c.self.inside.steps.items _
-    c.self.inside.rows.base c.self.inside.phases.items c.args.step _ _ _ _ _ _ c.self.invariant c.requires.alone c.requires.sound
+    c.self.inside.rows.base c.self.inside.phases.items c.args.step _ _ _ _ _ _ c.self.invariant c.requires.alone
+    c.requires.faultless
     c.in_ok-push_step.ensures.ok
 
 pub returns-clause-ok : goal.returns-clause-ok
