@@ -88,7 +88,8 @@ self-equal site = by (order site site) (is_eq-slice_cmp site site ∙ (bytes_eq-
     by Equal is = refl
     by Greater is = cc is
 
-twice-by : (o : Ordering) (site : List ℕ) (number more : ℕ) (entry : Identity) (others : List Identity) → order site entry.site ≡ o
+twice-by : (o : Ordering) (site : List ℕ) (number more : ℕ) (entry : Identity) (others : List Identity)
+    → order site entry.site ≡ o
     → number ≤ more
     → with_operation (with_operation others (made_at site number)) (made_at site more) ≡ with_operation others (made_at site more)
     → with_operation (raised_by_order o entry others (made_at site number)) (made_at site more)

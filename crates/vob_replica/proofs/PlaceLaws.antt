@@ -55,7 +55,8 @@ entry-place-is site (entry ∷ others) (suc i) within point =
       (λ k d low high. point.0 (suc k) d (omega arith) (omega arith)),
       (λ k d low high. point.1 (suc k) d (omega arith) (omega arith)),
     ) in
-    ap suc rest ∙ sym (ap (λ (b : Bool). cond b (suc (entry_place_in site others)) 0) (point.0 0 entry (omega arith) (omega arith)))
+    ap suc rest ∙ sym (ap (λ (b : Bool). cond b (suc (entry_place_in site others)) 0)
+    (point.0 0 entry (omega arith) (omega arith)))
 
 -- what stands before all entries stands before the site of one
 before-entry : (x site : List ℕ) (table : List Identity) (place : ℕ) → IsBeforeSites x table → is_entry_at table place site ≡ true
@@ -105,7 +106,8 @@ there-by Equal site entry others d is there later = ap (λ (b : Bool). number_fi
 there-by Greater site entry others d is there later = ap (λ (b : Bool). number_first b entry others site) there
 
 -- the number of a site stands in its entry
-pub number-there : (site : List ℕ) (table : List Identity) (d : Identity) → is_entry_at table (entry_place_in site table) site ≡ true
+pub number-there : (site : List ℕ) (table : List Identity) (d : Identity)
+    → is_entry_at table (entry_place_in site table) site ≡ true
     → number_in table site ≡ (get_or table (entry_place_in site table) d).number
 number-there site [] d there = cc there
 number-there site (entry ∷ others) d there = there-by (order entry.site site) site entry others d refl there

@@ -66,7 +66,8 @@ pub packet-found : (entries : List (List ℕ × Packet)) (name : List ℕ) → l
     ≡ packet_in (sents_of entries) name
 packet-found [] name = refl
 packet-found (entry ∷ entries) name =
-    ap (λ (b : Bool). cond b (Some entry.1) (lookup (bytes_eq name) entries)) (bytes_swapped entry.0 name (bytes_eq entry.0 name) refl)
+    ap (λ (b : Bool). cond b (Some entry.1) (lookup (bytes_eq name) entries))
+    (bytes_swapped entry.0 name (bytes_eq entry.0 name) refl)
     ∙ ap (λ (found : Option Packet). cond (bytes_eq entry.0 name) (Some entry.1) found) (packet-found entries name)
 
 -- one packet more

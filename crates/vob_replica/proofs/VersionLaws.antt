@@ -69,7 +69,8 @@ behind-place number (suc place) (version ∷ versions) last are count is le =
 
 -- a version of the greatest number
 pub behind-all : (number : ℕ) (versions : List VersionMade) (last : VersionMade) → AreByNumber versions
-    → Some last ≡ slice_get versions (length versions - 1) → last.number ≤ number → length versions ≡ version_place number versions
+    → Some last ≡ slice_get versions (length versions - 1) → last.number ≤ number
+    → length versions ≡ version_place number versions
 behind-all number [] last are is le = cc is
 behind-all number (version ∷ versions) last are is le =
     sym (behind-place number (length (version ∷ versions) - 1) (version ∷ versions) last are (omega arith) (sym is) le)

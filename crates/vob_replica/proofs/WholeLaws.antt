@@ -11,7 +11,8 @@ use Rattle.vob_replica.specs.declared.events.Identity.{Identity}
 use Rattle.vob_replica.specs.declared.operations.Operation.{Operation}
 use Rattle.vob_replica.specs.Logs.{HasNextNumber, HaveNextNumbers, IsWhole}
 use Rattle.vob_replica.specs.Replicas.{above, operations_after_import, unless_gap}
-use Rattle.vob_replica.specs.Tables.{first_gap, holds, number_in, with_operation, raised_by, identity_of, table_of, Ascends, IsWithin}
+use Rattle.vob_replica.specs.Tables.{first_gap, holds, number_in, with_operation, raised_by, identity_of, table_of, Ascends}
+use Rattle.vob_replica.specs.Tables.{IsWithin}
 use Rattle.vob_replica.proofs.TableLaws.{Ascends-with_operation}
 use Rattle.vob_replica.proofs.LogLaws.{at_most, number_in-most, IsOn, IsOn-next}
 use Rattle.vob_replica.proofs.ImportLaws.{ascends_of}

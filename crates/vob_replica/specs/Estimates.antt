@@ -23,9 +23,9 @@ is_peer site peer = bytes_eq peer.estimate.site site
 abbrev pub peer_in : List Peer → List ℕ → Option Peer
 peer_in peers site = find (is_peer site) peers
 
--- how many of the operations a site was told of
-abbrev pub told_in : List Peer → List ℕ → ℕ
-told_in peers site = option_map_or (λ peer. peer.told) (peer_in peers site) 0
+-- how many of the operations were exported to a site
+abbrev pub exported_in : List Peer → List ℕ → ℕ
+exported_in peers site = option_map_or (λ peer. peer.exported) (peer_in peers site) 0
 
 -- how many peers stand before a site
 abbrev pub peer_place_in : List Peer → List ℕ → ℕ
@@ -34,20 +34,20 @@ peer_place_in (peer ∷ others) site = if is_peer site peer then 0 else suc (pee
 
 -- a peer by what is thought of a site
 abbrev pub peer_by : List ℕ → List Identity → ℕ → Peer
-peer_by site table told = record { estimate = record { site = site; table = table }; told = told }
+peer_by site table exported = record { estimate = record { site = site; table = table }; exported = exported }
 
 -- the peers with one changed
 abbrev pub with_peer : List Peer → List ℕ → List Identity → ℕ → List Peer
-with_peer [] site table told = peer_by site table told ∷ []
-with_peer (peer ∷ others) site table told =
-    if is_peer site peer then peer_by peer.estimate.site table told ∷ others else peer ∷ with_peer others site table told
+with_peer [] site table exported = peer_by site table exported ∷ []
+with_peer (peer ∷ others) site table exported =
+    if is_peer site peer then peer_by peer.estimate.site table exported ∷ others else peer ∷ with_peer others site table exported
 
 -- a site is thought to know the first ones of some operations
-pub record IsTold (known : List Operation) (table : List Identity) (told : ℕ) : Type 0 where
-  pub within : told ≤ length known
-  pub all : above table (take told known) ≡ []
+pub record IsExported (known : List Operation) (table : List Identity) (exported : ℕ) : Type 0 where
+  pub within : exported ≤ length known
+  pub all : above table (take exported known) ≡ []
 
 -- so is each peer
-abbrev pub AreTold : List Operation → List Peer → Type 0
-AreTold known [] = Unit {0}
-AreTold known (peer ∷ peers) = IsTold known peer.estimate.table peer.told × AreTold known peers
+abbrev pub AreExported : List Operation → List Peer → Type 0
+AreExported known [] = Unit {0}
+AreExported known (peer ∷ peers) = IsExported known peer.estimate.table peer.exported × AreExported known peers

@@ -1,6 +1,7 @@
 -- Epoch tables: of each site the highest number of its operations that is known, in byte order of sites, without the sites of
 -- which none is known.
-use Rattle.std.specs.Prelude.{ℕ, suc, ◌+◌, ◌≤◌, max, Bool, false, ◌&&◌, nat_lt, nat_le, Option, Some, None, List, [], ◌∷◌, fold, map}
+use Rattle.std.specs.Prelude.{ℕ, suc, ◌+◌, ◌≤◌, max, Bool, false, ◌&&◌, nat_lt, nat_le, Option, Some, None, List, [], ◌∷◌, fold}
+use Rattle.std.specs.Prelude.{map}
 use Rattle.std.specs.Prelude.{find, slice_get, ◌≡◌, if◌then◌else◌}
 use Rattle.std.specs.Option.{option_map_or}
 use Rattle.std.specs.Str.{bytes_eq}

@@ -137,10 +137,15 @@ fn is_or_needs(operation: &Operation, other: &Operation) -> bool
     is_same_identity(&other.identity, &operation.identity) || operation.needs.holds(&other.identity)
 }
 
-/// Whether an operation needs all others of some.
+/// Whether an operation needs all others of some. The last one is looked at first, since most operations lack it.
 fn needs_all_others(operations: &[Shared], operation: &Operation) -> bool
     ensures { result ≡ needs_all_others operations.now operation.now }
 {
+    if let Some(last) = operations.last()
+        && !is_or_needs(operation, last.operation())
+    {
+        return false;
+    }
     for other in operations {
         if !is_or_needs(operation, other.operation()) {
             return false;
@@ -187,7 +192,8 @@ impl Model for Branch {
 
     ghost Value = { Tree };
 
-    ghost view = { λ branch. branch_made_by branch.made branch.element branch.masters.items branch.versions.items };
+    ghost view = { λ branch. branch_made_by branch.made branch.element branch.masters.items
+        branch.versions.items };
 
     ghost invariant = { λ branch. AreByNumber branch.versions.items };
 }

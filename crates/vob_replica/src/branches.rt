@@ -149,7 +149,8 @@ fn put_on_branch(
     requires place { place ≡ branch_place_in branch.now trees.old.items }
     ensures ok { OnOk result
         (trees.new.items
-        ≡ with_branch_changed branch.now (λ tree. with_version_by tree number made) trees.old.items) }
+        ≡ with_branch_changed branch.now
+        (λ tree. with_version_by tree number made) trees.old.items) }
     ensures err { OnErr result (trees.new.items ≡ trees.old.items) }
 {
     if is_branch_at(trees, place, branch) {

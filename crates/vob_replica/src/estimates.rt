@@ -15,11 +15,11 @@ pub struct Estimate {
     pub table: Table,
 }
 
-/// A site of which something is thought. It is thought to know the first `told` operations of the log.
+/// A site of which something is thought. It is thought to know the first `exported` operations of the log.
 #[derive(Debug, Drop)]
 pub struct Peer {
     pub estimate: Estimate,
-    pub told: usize,
+    pub exported: usize,
 }
 
 /// What is thought of a site, where anything is. Takes time linear in the peers.
@@ -49,27 +49,27 @@ fn peer_place(peers: &[Peer], site: &Name) -> usize
     place
 }
 
-/// Thinks that a site knows what a table holds, and the first `told` operations. Takes time linear in the peers, and memory for a
-/// new one. An `Err` changes nothing.
+/// Thinks that a site knows what a table holds, and the first `exported` operations. Takes time linear in the peers, and memory
+/// for a new one. An `Err` changes nothing.
 pub fn set_peer(
     alloc: Global,
     peers: &mut Vec<Peer>,
     site: &Name,
     table: Table,
-    told: usize,
+    exported: usize,
 ) -> Result<(), NoMemory>
-    ensures ok { OnOk result (peers.new.items ≡ with_peer peers.old.items site.now table told) }
+    ensures ok { OnOk result (peers.new.items ≡ with_peer peers.old.items site.now table exported) }
     ensures err { OnErr result (peers.new.items ≡ peers.old.items) }
 {
     let place = peer_place(peers, site);
     if place < peers.len() {
         let peer = &mut peers[place];
         peer.estimate.table = table;
-        peer.told = told;
+        peer.exported = exported;
         return Ok(());
     }
     let site = site.copy(alloc)?;
     let estimate = Estimate { site, table };
-    peers.push(Peer { estimate, told })?;
+    peers.push(Peer { estimate, exported })?;
     Ok(())
 }

@@ -134,8 +134,8 @@ fn news_of_whole(
     Ok(news)
 }
 
-/// The same, where they need nothing that a floor, or an operation before them, lacks. Where the table holds the floor, no need is
-/// looked up.
+/// The same, where they need nothing that a floor, or an operation before them, lacks. Where the table holds the floor, no need
+/// is looked up.
 fn news_above(
     alloc: Global,
     table: &mut Table,
@@ -224,9 +224,9 @@ impl Log {
     }
 
     /// Takes in the operations of a packet that are not known yet, and answers how many; or answers the first operation that is
-    /// missing. They need nothing that the floor, or an operation before them, lacks. An `Err` changes nothing. Where the floor is
-    /// known, takes time linear in the operations, and in the sites for each whose site is not that of the one before. Else each
-    /// new one also takes the time of `first_gap`.
+    /// missing. They need nothing that the floor, or an operation before them, lacks. An `Err` changes nothing. Where the floor
+    /// is known, takes time linear in the operations, and in the sites for each whose site is not that of the one before. Else
+    /// each new one also takes the time of `first_gap`.
     pub fn import_operations(
         &mut self,
         alloc: Global,

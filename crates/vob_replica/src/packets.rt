@@ -24,7 +24,8 @@ impl Model for Packet {
 
     ghost Value = { replicas.Packet };
 
-    ghost view = { λ packet. record { sender = packet.sender; operations = packet.operations.items; table = packet.table } };
+    ghost view = { λ packet. record
+        { sender = packet.sender; operations = packet.operations.items; table = packet.table } };
 
     ghost invariant = { λ packet. IsWhole packet.floor packet.operations.items };
 }
@@ -32,7 +33,8 @@ impl Model for Packet {
 impl Packet {
     pub(crate) fn new(sender: Name, operations: Vec<Shared>, table: Table, floor: Table) -> Packet
         requires { IsWhole floor operations.items }
-        ensures { result ≡ record { sender = sender; operations = operations.items; table = table } }
+        ensures { result
+            ≡ record { sender = sender; operations = operations.items; table = table } }
     {
         Packet {
             sender,

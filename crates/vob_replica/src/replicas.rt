@@ -2,7 +2,7 @@
 
 ghost use Rattle.std.specs.Prelude.{◌≡◌, [], List, IfOk, IfSome, OnOk, OnErr};
 ghost use Rattle.vob_replica.specs.declared.operations.Operation.{Operation};
-ghost use Rattle.vob_replica.specs.Estimates.{estimates_of, told_in, with_peer, AreTold};
+ghost use Rattle.vob_replica.specs.Estimates.{estimates_of, exported_in, with_peer, AreExported};
 ghost use Rattle.vob_replica.specs.Logs.{IsWhole};
 ghost use Rattle.vob_replica.specs.Needs.{IsSharedBy};
 ghost use Rattle.vob_replica.specs.Replicas.{new_site, above, estimate_in, made, imported, packet_for, thinking, gap_fault, AreBranchesOf, Comes};
@@ -43,15 +43,23 @@ pub struct Replica {
 
 impl Model for Replica {
     ghost use Rattle.std.specs.Prelude.{IfSome};
-    ghost use Rattle.vob_replica.specs.Estimates.{estimates_of, AreTold};
+    ghost use Rattle.vob_replica.specs.Estimates.{estimates_of, AreExported};
     ghost use Rattle.vob_replica.specs.Needs.{IsSharedBy};
     ghost use Rattle.vob_replica.specs.Replicas.{Site, AreBranchesOf};
 
     ghost Value = { Site };
 
-    ghost view = { λ replica. record { name = replica.name; known = replica.log; estimates = estimates_of replica.peers.items } };
+    ghost view = { λ replica. record {
+      name = replica.name;
+      known = replica.log;
+      estimates =
+          estimates_of replica.peers.items;
+    } };
 
-    ghost invariant = { λ replica. AreBranchesOf replica.branches replica.taken replica.log × AreTold replica.log replica.peers.items × IfSome replica.shared (λ shared. IsSharedBy replica.name replica.log shared.value) };
+    ghost invariant = { λ replica.
+        AreBranchesOf replica.branches replica.taken replica.log
+        × AreExported replica.log replica.peers.items
+        × IfSome replica.shared (λ shared. IsSharedBy replica.name replica.log shared.value) };
 }
 
 /// Takes the operations in that the branches are not of yet.
@@ -74,14 +82,14 @@ fn catch_up(
 
 /// Those of the operations of a log that an estimate does not hold.
 fn news_for(alloc: Global, log: &Log, peers: &[Peer], to: &Name) -> Result<Vec<Shared>, NoMemory>
-    requires { AreTold log.now peers.now }
+    requires { AreExported log.now peers.now }
     ensures above { IfOk result
         (λ news. news.items ≡ above (estimate_in (estimates_of peers.now) to.now) log.now) }
     ensures whole { IfOk result
         (λ news. IsWhole (estimate_in (estimates_of peers.now) to.now) news.items) }
 {
     match peer_for(peers, to) {
-        Some(peer) => log.above(alloc, peer.told, &peer.estimate.table),
+        Some(peer) => log.above(alloc, peer.exported, &peer.estimate.table),
         None => log.above(alloc, 0, &Table::new(alloc)),
     }
 }
@@ -96,18 +104,18 @@ fn estimate_of(alloc: Global, peers: &[Peer], site: &Name) -> Result<Table, NoMe
     }
 }
 
-/// How many operations of the log a site was told of.
-fn told_of(peers: &[Peer], site: &Name) -> usize
-    ensures { result ≡ told_in peers.now site.now }
+/// How many operations of the log were exported to a site.
+fn exported_to(peers: &[Peer], site: &Name) -> usize
+    ensures { result ≡ exported_in peers.now site.now }
 {
     match peer_for(peers, site) {
-        Some(peer) => peer.told,
+        Some(peer) => peer.exported,
         None => 0,
     }
 }
 
-/// A table that the operations of a site share which it makes next. Where there is none yet, it takes time and memory linear in the
-/// sites.
+/// A table that the operations of a site share which it makes next. Where there is none yet, it takes time and memory linear in
+/// the sites.
 fn shared_table(
     alloc: Global,
     name: &Name,
@@ -135,14 +143,15 @@ fn raise_estimate(
         (peers.new.items
         ≡ with_peer peers.old.items site.now
         (raised_by (estimate_in (estimates_of peers.old.items) site.now) table.now)
-        (told_in peers.old.items site.now)) }
-    ensures told { (known : List Operation) → AreTold known peers.old.items → AreTold known peers.new.items }
+        (exported_in peers.old.items site.now)) }
+    ensures exported { (known : List Operation) → AreExported known peers.old.items
+        → AreExported known peers.new.items }
     ensures err { OnErr result (peers.new.items ≡ peers.old.items) }
 {
     let mut estimate = estimate_of(alloc, peers, site)?;
     estimate.raise_all(alloc, table.entries())?;
-    let told = told_of(peers, site);
-    set_peer(alloc, peers, site, estimate, told)
+    let exported = exported_to(peers, site);
+    set_peer(alloc, peers, site, estimate, exported)
 }
 
 /// The fault of a packet that was not added.
@@ -207,8 +216,8 @@ impl Replica {
     }
 
     /// A packet for another site, with what that is not thought to know, which it is thought to know from then on. An `Err`
-    /// changes nothing. Takes time linear in the sites and in the operations that the site was not told of. Each of these whose
-    /// site is not that of the one before takes time linear in the sites.
+    /// changes nothing. Takes time linear in the sites and in the operations that were not exported to the site. Each of these
+    /// whose site is not that of the one before takes time linear in the sites.
     pub fn export(&mut self, alloc: Global, to: &Name) -> Result<Packet, NoMemory>
         ensures packet { IfOk result (λ packet. packet ≡ packet_for self.old to.now) }
         ensures ok { OnOk result (self.new ≡ thinking self.old to.now (table_of self.old.known)) }
@@ -219,8 +228,8 @@ impl Replica {
         let sender = self.name.copy(alloc)?;
         let table = self.log.table().copy(alloc)?;
         let estimate = self.log.table().copy(alloc)?;
-        let told = self.log.operations().len();
-        set_peer(alloc, &mut self.peers, to, estimate, told)?;
+        let exported = self.log.operations().len();
+        set_peer(alloc, &mut self.peers, to, estimate, exported)?;
         Ok(Packet::new(sender, operations, table, floor))
     }
 

@@ -14,7 +14,8 @@ returns-clause-above c =
     let known = c.args.self.now in
     let all : c.deref.result.now ≡ known = c.deref.ensures.value ∙ c.self.view_is in
     let behind : IfOk c.not_held.result (λ news. news.items ≡ above c.args.table.now (drop c.args.from known)) =
-    subst (λ (l : List Operation). IfOk c.not_held.result (λ (news : Vec Operation Global). news.items ≡ above c.args.table.now l))
+    subst (λ (l : List Operation). IfOk c.not_held.result (λ (news : Vec Operation Global). news.items
+    ≡ above c.args.table.now l))
     (ap (λ (l : List Operation). take (length l - c.args.from) (drop c.args.from l)) all ∙ all_behind c.args.from known)
     c.not_held.ensures in
     ok-above c.not_held.result c.args.table.now c.args.from known c.requires.first behind

@@ -1,10 +1,10 @@
 use Rattle.std.proofs.Common.{◌≡◌, ℕ, Ok, List, sym, ap, ◌∙◌, subst, rules}
 use Rattle.vob_replica.specs.declared.events.Identity.{Identity}
 use Rattle.vob_replica.specs.declared.operations.Operation.{Operation}
-use Rattle.vob_replica.specs.Estimates.{estimates_of, told_in, with_peer}
+use Rattle.vob_replica.specs.Estimates.{estimates_of, exported_in, with_peer}
 use Rattle.vob_replica.specs.Replicas.{Site, AreBranchesOf, estimate_in, imported, operations_after_import}
 use Rattle.vob_replica.specs.Tables.{raised_by}
-use Rattle.vob_replica.proofs.PeerLaws.{site_thinking, told-import, imported-ok}
+use Rattle.vob_replica.proofs.PeerLaws.{site_thinking, exported-import, imported-ok}
 use Rattle.vob_replica.proofs.ReplicaLaws.{taken-import}
 use Rattle.vob_replica.proofs.replicas.Replica.import.Goals as goal
 
@@ -15,11 +15,12 @@ catch_up-requires c =
     (taken-import c.self.inside.log c.operations.result.now c.import_operations.new.self c.self.inside.branches
     c.self.inside.taken c.self.invariant.0 c.in-Ok.ensures.ok)
 
--- the site's peers were told of the first ones still
+-- the first ones stay exported to the site's peers
 pub invariant_of-self-in_err-catch_up : goal.invariant_of-self-in_err-catch_up
 invariant_of-self-in_err-catch_up c = (
   search rules,
-  told-import c.self.inside.log c.operations.result.now c.import_operations.new.self c.self.inside.peers.items c.self.invariant.1
+  exported-import c.self.inside.log c.operations.result.now c.import_operations.new.self c.self.inside.peers.items
+      c.self.invariant.1
       c.in-Ok.ensures.ok,
   tt,
 )
@@ -27,8 +28,8 @@ invariant_of-self-in_err-catch_up c = (
 pub invariant_of-self-in_err-raise_estimate : goal.invariant_of-self-in_err-raise_estimate
 invariant_of-self-in_err-raise_estimate c = (
   search rules,
-  c.raise_estimate.ensures.told c.import_operations.new.self
-      (told-import c.self.inside.log c.operations.result.now c.import_operations.new.self c.self.inside.peers.items
+  c.raise_estimate.ensures.exported c.import_operations.new.self
+      (exported-import c.self.inside.log c.operations.result.now c.import_operations.new.self c.self.inside.peers.items
       c.self.invariant.1 c.in-Ok.ensures.ok),
   tt,
 )
@@ -36,8 +37,8 @@ invariant_of-self-in_err-raise_estimate c = (
 pub invariant_of-self-2 : goal.invariant_of-self-2
 invariant_of-self-2 c = (
   search rules,
-  c.raise_estimate.ensures.told c.import_operations.new.self
-      (told-import c.self.inside.log c.operations.result.now c.import_operations.new.self c.self.inside.peers.items
+  c.raise_estimate.ensures.exported c.import_operations.new.self
+      (exported-import c.self.inside.log c.operations.result.now c.import_operations.new.self c.self.inside.peers.items
       c.self.invariant.1 c.in-Ok.ensures.ok),
   tt,
 )
@@ -54,11 +55,12 @@ returns c =
     let is : operations_after_import known packet.operations ≡ Ok after =
     ap (λ (l : List Operation). operations_after_import known l) (sym c.operations.ensures) ∙ c.in-Ok.ensures.ok in
     let set : new ≡ with_peer peers packet.sender (raised_by (estimate_in (estimates_of peers) packet.sender) packet.table)
-    (told_in peers packet.sender) =
+    (exported_in peers packet.sender) =
     c.in_ok-raise_estimate.ensures.ok
-    ∙ ap (λ (s : List ℕ). with_peer peers s (raised_by (estimate_in (estimates_of peers) s) c.table.result.now) (told_in peers s))
+    ∙ ap (λ (s : List ℕ). with_peer peers s (raised_by (estimate_in (estimates_of peers) s) c.table.result.now)
+    (exported_in peers s))
     c.sender.ensures
     ∙ ap (λ (t : List Identity). with_peer peers packet.sender (raised_by (estimate_in (estimates_of peers) packet.sender) t)
-    (told_in peers packet.sender)) c.table.ensures in
+    (exported_in peers packet.sender)) c.table.ensures in
     subst (λ (s : Site). imported s packet ≡ (Ok c.in-Ok.count, site_thinking name after new)) c.self.view_is
-    (imported-ok name known after peers new packet c.in-Ok.count (told_in peers packet.sender) is c.in-Ok.ensures.count set)
+    (imported-ok name known after peers new packet c.in-Ok.count (exported_in peers packet.sender) is c.in-Ok.ensures.count set)

@@ -6,7 +6,7 @@ use Rattle.vob_replica.specs.Tables.{first_gap, table_of}
 use Rattle.vob_replica.specs.Trees.{trees_of}
 use Rattle.vob_replica.proofs.ImportLaws.{ascends_of}
 use Rattle.vob_replica.proofs.NeedLaws.{shared-push}
-use Rattle.vob_replica.proofs.PeerLaws.{told-pushed}
+use Rattle.vob_replica.proofs.PeerLaws.{exported-pushed}
 use Rattle.vob_replica.proofs.ReplicaLaws.{first_gap-own, made-ok}
 use Rattle.vob_replica.proofs.replicas.Replica.make.Goals as goal
 
@@ -16,11 +16,11 @@ push-requires c =
     ap (λ (o : Operation). first_gap o.needs (table_of c.self.inside.log)) c.in_ok-operation.ensures
     ∙ first_gap-own (table_of c.self.inside.log) (ascends_of c.self.inside.log)
 
--- the site's peers were told of the first ones still
+-- the first ones stay exported to the site's peers
 pub invariant_of-self-in_err-catch_up-2 : goal.invariant_of-self-in_err-catch_up-2
 invariant_of-self-in_err-catch_up-2 c = (
   search rules,
-  told-pushed c.self.inside.log c.push.new.self c.in_ok-operation.operation c.self.inside.peers.items c.in_ok-push.ensures.ok
+  exported-pushed c.self.inside.log c.push.new.self c.in_ok-operation.operation c.self.inside.peers.items c.in_ok-push.ensures.ok
       c.self.invariant.1,
   shared-push c.self.inside.name c.self.inside.log c.push.new.self c.in_ok-operation.operation c.in_ok-next.next.value
       (first_of (search rules, cc)) (ap (λ (o : Operation). o.identity) c.in_ok-operation.ensures) c.in_ok-push.ensures.ok,
@@ -29,7 +29,7 @@ invariant_of-self-in_err-catch_up-2 c = (
 pub invariant_of-self-2 : goal.invariant_of-self-2
 invariant_of-self-2 c = (
   search rules,
-  told-pushed c.self.inside.log c.push.new.self c.in_ok-operation.operation c.self.inside.peers.items c.in_ok-push.ensures.ok
+  exported-pushed c.self.inside.log c.push.new.self c.in_ok-operation.operation c.self.inside.peers.items c.in_ok-push.ensures.ok
       c.self.invariant.1,
   shared-push c.self.inside.name c.self.inside.log c.push.new.self c.in_ok-operation.operation c.in_ok-next.next.value
       (first_of (search rules, cc)) (ap (λ (o : Operation). o.identity) c.in_ok-operation.ensures) c.in_ok-push.ensures.ok,
@@ -38,9 +38,17 @@ invariant_of-self-2 c = (
 -- the change is made
 pub returns : goal.returns
 returns c =
-    let site : Site = record { name = c.self.inside.name; known = c.self.inside.log; estimates = estimates_of c.self.inside.peers.items }
+    let site : Site = record {
+      name = c.self.inside.name;
+      known = c.self.inside.log;
+      estimates = estimates_of c.self.inside.peers.items;
+    }
     in
-    let after : Site = record { name = c.self.inside.name; known = c.push.new.self; estimates = estimates_of c.self.inside.peers.items } in
+    let after : Site = record {
+      name = c.self.inside.name;
+      known = c.push.new.self;
+      estimates = estimates_of c.self.inside.peers.items;
+    } in
     let trees = c.catch_up.new.branches in
     let change = c.args.change.now in
     let are : trees ≡ trees_of c.self.inside.log = search rules in

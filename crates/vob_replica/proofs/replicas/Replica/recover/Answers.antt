@@ -2,15 +2,16 @@ use Rattle.std.proofs.Common.{◌≡◌, List, [], refl, subst}
 use Rattle.std.specs.Prelude.{OnOk}
 use Rattle.vob_replica.specs.declared.events.Identity.{Identity}
 use Rattle.vob_replica.specs.Replicas.{Site, thinking}
-use Rattle.vob_replica.proofs.PeerLaws.{site_thinking, told-after, IsTold-none, ok-thinks}
+use Rattle.vob_replica.proofs.PeerLaws.{site_thinking, exported-after, IsExported-none, ok-thinks}
 use Rattle.vob_replica.proofs.replicas.Replica.recover.Goals as goal
 
--- the site was told of nothing
+-- nothing was exported to the site
 pub invariant_of-self : goal.invariant_of-self
 invariant_of-self c = (
   c.self.invariant.0,
-  told-after c.set_peer.result c.self.inside.log c.self.inside.peers.items c.set_peer.new.peers.items c.args.to.now c.new.result 0
-      c.set_peer.ensures.ok c.set_peer.ensures.err c.self.invariant.1 (IsTold-none c.self.inside.log c.new.result 0 refl),
+  exported-after c.set_peer.result c.self.inside.log c.self.inside.peers.items c.set_peer.new.peers.items c.args.to.now
+      c.new.result 0
+      c.set_peer.ensures.ok c.set_peer.ensures.err c.self.invariant.1 (IsExported-none c.self.inside.log c.new.result 0 refl),
   c.self.invariant.2,
 )
 
