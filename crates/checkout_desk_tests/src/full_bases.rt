@@ -46,13 +46,20 @@ fn rmview(alloc: Global) -> Result<Change, Fail>
     Ok(Change::Rmview { view, force: false })
 }
 
-fn shown(decided: Result<Option<Row>, Or<Refusal>>) -> &'static str {
+fn shown_refusal(refusal: &Refusal) -> &'static str {
+    match refusal {
+        Refusal::Full(4_000_000) => "C23 Full 4000000",
+        Refusal::NoView => "C1 NoView",
+        _ => "another refusal",
+    }
+}
+
+fn shown(decided: &Result<Option<Row>, Or<Refusal>>) -> &'static str {
     match decided {
         Ok(Some(_)) => "a row",
         Ok(None) => "no row",
-        Err(Or::Is(Refusal::Full(4_000_000))) => "C23 Full 4000000",
-        Err(Or::Is(Refusal::NoView)) => "C1 NoView",
-        Err(_) => "another refusal",
+        Err(Or::Is(refusal)) => shown_refusal(refusal),
+        Err(Or::NoMemory) => "no memory",
     }
 }
 
@@ -70,20 +77,32 @@ fn decided(
     if taken < rows.size() {
         return Ok("fewer rows taken than the base has");
     }
-    Ok(shown(decide(alloc, &rows, change, occasion_with(taken))))
+    let found = decide(alloc, &rows, change, occasion_with(taken));
+    Ok(shown(&found))
 }
+
+fn mkview_decided(alloc: Global, hashing: RandomState, taken: u64) -> Result<&'static str, Fail> {
+    let change = mkview(alloc)?;
+    decided(alloc, hashing, &change, taken)
+}
+
+fn rmview_decided(alloc: Global, hashing: RandomState, taken: u64) -> Result<&'static str, Fail> {
+    let change = rmview(alloc)?;
+    decided(alloc, hashing, &change, taken)
+}
+
+const MKVIEWS: [(u64, &str); 4] = [
+    (1, "a row"),
+    (3_999_999, "a row"),
+    (4_000_000, "C23 Full 4000000"),
+    (4_000_001, "C23 Full 4000000"),
+];
 
 #[test]
 fn a_full_base_takes_no_row(rt: HostRuntime) -> Result<(), Fail> {
     let hashing = RandomState::new(&rt)?;
-    let change = mkview(rt.alloc())?;
-    for (taken, wanted) in [
-        (1, "a row"),
-        (3_999_999, "a row"),
-        (4_000_000, "C23 Full 4000000"),
-        (4_000_001, "C23 Full 4000000"),
-    ] {
-        let shown = decided(rt.alloc(), hashing, &change, taken)?;
+    for (taken, wanted) in MKVIEWS {
+        let shown = mkview_decided(rt.alloc(), hashing, taken)?;
         assert_eq!(rt; shown, wanted, "where {taken} rows are taken");
     }
     Ok(())
@@ -92,8 +111,7 @@ fn a_full_base_takes_no_row(rt: HostRuntime) -> Result<(), Fail> {
 #[test]
 fn a_full_base_is_tested_last(rt: HostRuntime) -> Result<(), Fail> {
     let hashing = RandomState::new(&rt)?;
-    let change = rmview(rt.alloc())?;
-    let shown = decided(rt.alloc(), hashing, &change, 4_000_000)?;
+    let shown = rmview_decided(rt.alloc(), hashing, 4_000_000)?;
     assert_eq!(rt; shown, "C1 NoView");
     Ok(())
 }
