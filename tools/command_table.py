@@ -37,6 +37,8 @@ class Command(NamedTuple):
     bazel: str
     body: bool = False
     options: tuple[Option, ...] = ()
+    # Whether it only reads: its reply is a text, and it makes no row.
+    reads: bool = False
 
     @property
     def name(self):
@@ -99,7 +101,7 @@ GROUPS = (
         ),
         Command(
             "catcs V", "prints the config spec",
-            "`catcs -tag V`", "the same", "`git status`", NONE, NONE,
+            "`catcs -tag V`", "the same", "`git status`", NONE, NONE, reads=True,
         ),
     )),
     Group("Elements", (
@@ -200,17 +202,17 @@ GROUPS = (
             "findmerge V P -fversion .../B/LATEST", "lists what is on branch B and not merged yet",
             "`findmerge P -fversion .../B/LATEST -print`",
             "lists, and never merges; `.../B/LATEST` is the only selector, with B a branch type or `main`",
-            "`git log HEAD..B`", NONE, NONE,
+            "`git log HEAD..B`", NONE, NONE, reads=True,
         ),
     )),
     Group("Looking", (
         Command(
             "ls V [P]", "lists a directory: the selected versions, and the rules that select them",
-            "`ls P`", "view-private files and objects are marked", "`git ls-files`", NONE, NONE,
+            "`ls P`", "view-private files and objects are marked", "`git ls-files`", NONE, NONE, reads=True,
         ),
         Command(
             "cat V P", "prints a text as the view sees it",
-            "`cat P` in the view", "also for objects", "`cat P`", "`cat P`", "`cat bazel-bin/P`",
+            "`cat P` in the view", "also for objects", "`cat P`", "`cat P`", "`cat bazel-bin/P`", reads=True,
         ),
         Command(
             "cat V P@@VERSION", "prints the text of any version",
@@ -218,16 +220,16 @@ GROUPS = (
         ),
         Command(
             "describe V P", "prints an element, its selected version and the labels",
-            "`describe P`", "no users, comments, attributes or hyperlinks", "`git log -1 P`", NONE, NONE,
+            "`describe P`", "no users, comments, attributes or hyperlinks", "`git log -1 P`", NONE, NONE, reads=True,
         ),
         Command(
             "lsvtree V P", "prints all versions, branch by branch, with their labels",
             "`lsvtree -all P`", "`-all` always; no `-merge`: `tools/picture.py` draws the arrows",
-            "`git log --graph --all P`", NONE, NONE,
+            "`git log --graph --all P`", NONE, NONE, reads=True,
         ),
         Command(
             "lshistory V P", "prints the events of an element, newest first",
-            "`lshistory P`", "no users, no comments", "`git log P`", NONE, NONE,
+            "`lshistory P`", "no users, no comments", "`git log P`", NONE, NONE, reads=True,
         ),
     )),
     Group("Builds and objects", (
@@ -251,20 +253,20 @@ GROUPS = (
         ),
         Command(
             "lsdo V", "lists the objects that the view references, with reference counts",
-            "`lsdo`", "only objects that the view references", NONE, NONE, NONE,
+            "`lsdo`", "only objects that the view references", NONE, NONE, NONE, reads=True,
         ),
         Command(
             "catcr V P", "prints the configuration record of an object",
             "`catcr P`", "no `-recurse`, `-flat` or `-union`: `tools/picture.py` draws the whole closure",
-            NONE, NONE, "`bazel aquery`",
+            NONE, NONE, "`bazel aquery`", reads=True,
         ),
         Command(
             "diffcr V P W Q", "compares two configuration records",
-            "`diffcr P Q`", "the views are named, in place of view-extended paths", NONE, NONE, "compared execution logs",
+            "`diffcr P Q`", "the views are named, in place of view-extended paths", NONE, NONE, "compared execution logs", reads=True,
         ),
         Command(
             "covers W V P", "tells whether W sees all that an object of V was made from",
-            NONE, "see GUIDE, \"Records\"", NONE, NONE, NONE,
+            NONE, "see GUIDE, \"Records\"", NONE, NONE, NONE, reads=True,
         ),
         Command(
             "rmdo V P", "drops the view's reference to an object, which stays in the base",

@@ -7,6 +7,7 @@ from concurrent.futures import ThreadPoolExecutor
 
 import vob
 import vob_rows as rows
+from command_table import commands
 from vob_rows import join, parent
 from vob_specs import date_text, lines_of
 
@@ -303,7 +304,7 @@ def check_rows(base, replies):
 
 
 def is_query(word):
-    return word in ("catcs", "lsdo", "ls", "describe", "lsvtree", "lshistory", "cat", "findmerge", "catcr", "covers")
+    return any(command.name == word and command.reads for command in commands())
 
 
 def check_ends(base, replies, phase):
