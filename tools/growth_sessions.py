@@ -252,7 +252,7 @@ def empty_references(n):
     return make_session([whole([]), "NONE = " + "$x" * (10 * n), *(f"t{number}: $(NONE)" for number in range(n))])
 
 
-def suffix_fronts(n):
+def suffix_prefixes(n):
     """Suffixes of which many begin the targets of many suffix rules, and each time all are looked through for what stands behind."""
     fronts = ["." + "a" * length for length in range(1, n // 5 + 1)]
     behind = numbered(".b", n - len(fronts))
@@ -368,7 +368,7 @@ ROWS = {
     "branch-chain": Row("a chain of n branches", "quadratic: each name contains those before it", 200, branch_chain),
     "macro-chain": Row("n rules that each use a chain of n macros", "an expansion is kept while no macro changed", 300, macro_chain),
     "empty-references": Row("n rules that each use a macro of 10n references to nothing", "an expansion is kept while no macro changed", 300, empty_references),
-    "suffix-fronts": Row("n suffix rules that n/5 of n suffixes begin", "suffixes in a map", 150, suffix_fronts),
+    "suffix-prefixes": Row("n suffix rules that n/5 of n suffixes begin", "suffixes in a map", 150, suffix_prefixes),
     "suffix-rules": Row("n paths that none of n suffix rules for their suffix serves", "suffix rules in a map", 200, suffix_rules),
     "prerequisites": Row("n targets of one rule with n prerequisites", "prerequisites are shared", 250, prerequisites),
     "targets-of-group": Row("ten builds of n targets without a script that an older build made together", "targets of a large group in a set", 1000, targets_of_group),

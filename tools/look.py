@@ -339,7 +339,7 @@ def check(base, words):
     behind, count = base.journal.behind(), len(base.rows) - 1
     digest = digest_of_frames(base, behind.place)
     lines = [f"frames {count:,}, {several(behind.place, 'byte')}, sha256 {digest}"]
-    state = "foreign: no row, and the next row is written over them" if behind.foreign else "as after a row or a crash"
+    state = "foreign: not rows, and the next commit overwrites them" if behind.foreign else "as after a row or a crash"
     lines.append(f"after them {several(behind.count, 'byte')}" + (f", {state}" if behind.count else ""))
     other = base.path + ".objects"
     size = os.path.getsize(other) if os.path.exists(other) else None

@@ -127,8 +127,8 @@ def main():
                 sys.exit(f"{number}: {fault}")
             if number % PROGRESS == 0:
                 print(f"{number}", flush=True)
-    told = ", ".join(f"{count} with {status}" for status, count in sorted(ends.items()))
-    print(f"{sum(ends.values())} allocations refused: {told or 'none'}")
+    counts = ", ".join(f"{count} with {status}" for status, count in sorted(ends.items()))
+    print(f"{sum(ends.values())} allocations refused: {counts or 'none'}")
     return 0
 
 
