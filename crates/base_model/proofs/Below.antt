@@ -38,7 +38,7 @@ found_change (change ∷ older) r c e = elim (row_of_change change == r) as (λ 
       | false ↦ λ test found. found_change older r c found
     ] refl e
 
--- a change behind a base's newest one is found as before
+-- a change after a base's newest one is found as before
 pub older_change : (change : TreeChange) (before : List TreeChange) (r : ℕ) → (row_of_change change == r) ≡ false
     → change_at (change ∷ before) r ≡ change_at before r
 older_change change before r e = ap (λ b. cond b (Some change) (change_at before r)) e

@@ -1,5 +1,5 @@
 -- What it means that a view covers the closure of an object: each input agrees with what the view sees.
-use Rattle.std.proofs.Common.{◌≡◌, refl, ap, sym, subst, ◌∙◌, ℕ, Bool, true, false, not, cond, ◌&&◌, ◌==◌, Option, Some, None}
+use Rattle.std.proofs.Common.{◌≡◌, refl, ap, sym, subst, ◌∙◌, ℕ, Bool, true, false, not, cond, ◌==◌, Option, Some, None}
 use Rattle.std.proofs.Common.{List, [], ◌∷◌}
 use Rattle.std.proofs.lemmas.Cmp.{then_total, on_total, nat_list_cmp_total, nat_cmp_total}
 use Rattle.std.proofs.lemmas.Map.Text.{is_eq-slice_cmp}
@@ -170,7 +170,7 @@ closure_covered b v id h = none_uncovered b v (closure b id) (closure_keyed b id
 pub own_input : (path : List ℕ) (row : ℕ) → is_some (find input_cmp (path, row) (((path, row), row) ∷ [])) ≡ true
 own_input path row = ap (λ o. is_some (cond (is_eq o) (Some row) None)) (tied_itself inputs_total (path, row))
 
--- the first input of a list is found, and so is each that is found behind it
+-- the first input of a list is found, and so is each that is found after it
 pub prefix_found : (input : Input × ℕ) (rest : Inputs) → is_some (find input_cmp input.0 (input ∷ rest)) ≡ true
 prefix_found input rest = ap (λ o. is_some (cond (is_eq o) (Some input.1) (find input_cmp input.0 rest)))
     (tied_itself inputs_total input.0)

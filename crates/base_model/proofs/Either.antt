@@ -1,2 +1,1 @@
 -- One of two tests holds.
-use Rattle.std.proofs.Common.{◌≡◌, ◌||◌}

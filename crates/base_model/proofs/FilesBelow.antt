@@ -125,7 +125,7 @@ file_is_below b v path r base h = by (at b v path) refl h
     by (Unselected e) is h = absurd (cc)
     by Nothing is h = absurd (cc)
 
--- a base is its first rows with the others behind them
+-- a base is its first rows with the others after them
 pub beyond : (b : Base) (t : ℕ) → Extends (first_rows t b) b
 beyond [] t = record { more = []; is = refl }
 beyond (row ∷ older) t = elim (nat_lt (size older) t) as (λ (x : Bool). nat_lt (size older) t ≡ x

@@ -40,7 +40,7 @@ adds_row older moment (deeds.Branch v e origin name out) changes = One (BranchMa
 adds_row older moment (deeds.Checkin v e) changes = adds_checkin (size older) moment (out older v e) changes
 adds_row older moment deed changes = Nothing refl
 
--- a change by a row at or behind the limit is left out, one before it is kept
+-- a change by a row at or after the limit is left out, one before it is kept
 left_out : (t n : ℕ) (before after : List TreeChange) → t ≤ n → Adds n before after
     → of_first_rows t after ≡ of_first_rows t before
 left_out t n before after h (Nothing e) = ap (of_first_rows t) e
@@ -51,7 +51,7 @@ kept : (t n : ℕ) (before after : List TreeChange) → n < t → of_first_rows 
 kept t n before after h same (Nothing e) = rw e same
 kept t n before after h same (One change r e) = grind (arith, nat_tests, r, e, same)
 
--- no change of a base is by a row behind its last
+-- no change of a base is by a row after its last
 pub tree_below : (b : Base) (t : ℕ) → size b ≤ t → of_first_rows t (tree b) ≡ tree b
 tree_below [] t h = grind (arith, nat_tests)
 tree_below (row ∷ older) t h =
@@ -70,7 +70,7 @@ tree_of_first_rows (row ∷ older) t h = elim (nat_lt (size older) t) as (λ (x 
           ∙ tree_of_first_rows older t h ∙ ap tree (sym (first_rows_stay row older t higher))
     ] refl
 
--- labels that one row places: left out at or behind the limit, kept before it
+-- labels that one row places: left out at or after the limit, kept before it
 places_out : (t n : ℕ) (label : List ℕ) (placed : List Placed) (changes : List LabelChange) → t ≤ n →
     labels_of_first_rows t (all_placed n label placed changes) ≡ labels_of_first_rows t changes
 places_out t n label [] changes h = refl
@@ -98,7 +98,7 @@ labels_kept t n (deeds.Unlabel label e) changes h same = grind (arith, nat_tests
 labels_kept t n (deeds.Labels label placed) changes h same = places_kept t n label placed changes h same
 labels_kept t n deed changes h same = same
 
--- no change of labels is by a row behind the last
+-- no change of labels is by a row after the last
 pub labels_below : (b : Base) (t : ℕ) → size b ≤ t → labels_of_first_rows t (labels b) ≡ labels b
 labels_below [] t h = refl
 labels_below (row ∷ older) t h = labels_kept t (size older) row.deed (labels older) (omega arith)

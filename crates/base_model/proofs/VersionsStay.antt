@@ -60,7 +60,7 @@ parts_of changes r p e = by_change (change_at changes r) refl e
 pub version_id_by : (changes : List TreeChange) (r : ℕ) (p : VersionId) → Parts changes r p → version_id changes r ≡ Some p
 version_id_by changes r p h = rw (h.made, h.found, h.owner) (ap Some (sym h.is))
 
--- a version on a branch is found as before where a change behind it is no such version
+-- a version on a branch is found as before where a change after it is no such version
 pub find_older : (change : TreeChange) (before : List TreeChange) (r branch : ℕ) → (row_of_change change == r) ≡ false →
     find (λ v. v.row == r) (versions_on (change ∷ before) branch) ≡ find (λ v. v.row == r) (versions_on before branch)
 find_older change before r branch apart = by (branch_of_change change == branch)

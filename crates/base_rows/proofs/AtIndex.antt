@@ -1,4 +1,4 @@
--- What stands at an index of a list, and what is left behind it.
+-- What stands at an index of a list, and what is left after it.
 use Rattle.std.proofs.Common.{◌≡◌, ℕ, zero, suc, ◌+◌, ◌<◌, Some, List, [], ◌∷◌, length, drop, ap, ◌∙◌, arith}
 use Rattle.std.specs.List.{slice_get}
 

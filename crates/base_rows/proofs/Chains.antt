@@ -70,7 +70,7 @@ link_at links p d within =
       linked = rw same at here.linked;
     }
 
--- a place that is there is not behind the last one
+-- a place that is there is not after the last one
 pub not_last : (next : Option ℕ) (n : ℕ) → IfSome next (λ place. place < n) → is_place next n ≡ false
 not_last None n within = refl
 not_last (Some p) n within = grind (arith, nat_tests)

@@ -24,7 +24,7 @@ none_where : {A : Type 0} (is : Bool) (a : Option A) → None ≡ a → None ≡
 none_where true a h = h
 none_where false a h = refl
 
--- nothing is left behind the end of the life
+-- nothing is left after the end of the life
 gone : {A : Type 0} (n : ℕ) (row : Option (Update A)) → IfSome row (λ r. r.0 ≤ n) → None ≡ within (Some n) row
 gone n None below = refl
 gone n (Some row) below = sym (ap (λ is. only_where is row.1) (not_behind n row.0 below))
@@ -59,7 +59,7 @@ step n Keeps (Sets a) before ends rows h j same =
     sym (ap (λ is. only_where is (Some a)) (behind_bound (ended_by ends) n (ended_below ends n h)))
 
 -- What is left of a thing of a view: what the newest row leaves that does something to it, unless the view's life ended there or
--- behind.
+-- after.
 pub last_within : {A : Type 0} (all : Deeds A) (one : Deeds ℕ) (two : Deeds A)
     → ((older : Base) (deed : Deed) → all older deed ≡ ended_or (one older deed) (two older deed)) → (b : Base)
     → last_of all b ≡ within (ended_by (newest one b)) (newest two b)

@@ -1,4 +1,4 @@
--- What the first rows of a base made of the trees of versions, by a row that is among them or behind.
+-- What the first rows of a base made of the trees of versions, by a row that is among them or after.
 use Rattle.std.proofs.Common.{◌≡◌, ℕ, ◌<◌, ◌≤◌, None, List, [], ◌∷◌, refl, arith}
 use Rattle.std.proofs.lemmas.Bool.Decides.{nat_tests}
 use Rattle.cc_names.specs.Versions.{change_at, of_first_rows}

@@ -52,7 +52,7 @@ found_before n change before branch r None number low is = refl
 found_before n change before branch r (Some v) number low is =
     stands_before n change before v number (subst (λ k. k < n) (sym (found_on before branch (λ v. v.row == r) v is)) low)
 
--- one change more by a row behind that of a version leaves it its id
+-- one change more by a row after that of a version leaves it its id
 placed_before : (n : ℕ) (change : TreeChange) (before : List TreeChange) (r : ℕ) → row_of_change change ≡ n → Within n before
     → r < n → version_id (change ∷ before) r ≡ version_id before r
 placed_before n change before r number within low =

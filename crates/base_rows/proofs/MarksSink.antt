@@ -57,7 +57,7 @@ module _ {A : Type 0} (at : ℕ → Option (Update A)) (bound : ℕ) (none : (n 
       → first_update at one ≡ first_update at two
   updating_rows_below one two same = sym (only_below one) ∙ ap (first_update at) same ∙ only_below two
 
--- a row behind the last one does nothing
+-- a row after the last one does nothing
 pub no_update : {A : Type 0} (effect : Deeds A) (b : Base) (n : ℕ) → size b ≤ n → update_at effect b n ≡ None
 no_update effect b n behind = ap (λ found. update_by_deed effect (first_rows n b) n (deed_of found))
     (no_later b n (omega (arith, behind)))

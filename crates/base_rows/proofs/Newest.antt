@@ -206,7 +206,7 @@ marks_tell hashing subject effect affecting at (row ∷ older) agree =
           ∙ sym (ap (λ first. option_or first (newest effect older)) nothing)
     ] refl
 
--- no row has a number behind the last one
+-- no row has a number after the last one
 pub no_later : (b : Base) (n : ℕ) → length b < n → row_at b n ≡ None
 no_later [] n behind = refl
 no_later (row ∷ older) n behind =
@@ -222,7 +222,7 @@ first_shorter t (row ∷ older) = elim (nat_lt (size older) t) as (λ within. le
       | false ↦ omega (arith, first_shorter t older)
     ]
 
--- the rows behind the first ones are passed
+-- the rows after the first ones are passed
 only_first : {A : Type 0} (hashing : RandomState) (subject : Subject) (effect : Deeds A)
     (affecting : ActsBySubject subject effect) (t : ℕ) (b : Base) (at : ℕ → Option (Update A))
     → ((n : ℕ) → at n ≡ update_at effect (first_rows t b) n) → first_update at (marked_rows hashing (key hashing subject) b)

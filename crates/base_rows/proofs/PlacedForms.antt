@@ -1,5 +1,5 @@
 -- The versions that the record of an object lists have the form of a row's places of a label.
-use Rattle.std.proofs.Common.{◌≡◌, refl, ap, sym, ◌∙◌, ℕ, suc, ◌+◌, ◌<◌, ◌≤◌, ◌^◌, Bool, true, false, cond, ◌&&◌, ◌==◌, Option}
+use Rattle.std.proofs.Common.{◌≡◌, refl, ap, sym, ◌∙◌, ℕ, suc, ◌+◌, ◌<◌, ◌≤◌, ◌^◌, Bool, true, false, cond, ◌==◌, Option}
 use Rattle.std.proofs.Common.{Some, None, [], ◌∷◌, length, map, arith}
 use Rattle.std.proofs.lemmas.Bool.Decides.{nat_tests}
 use Rattle.std.proofs.lemmas.Cmp.{nat_cmp_total, ranked}
@@ -28,7 +28,7 @@ use Rattle.base_model.proofs.VersionRows.{version_below}
 lower : (x y : ℕ) → T (is_lt (nat_cmp x y)) → x < y
 lower x y h = ranked x y Less (sym (less_by_test (nat_cmp x y) h))
 
--- what is found among entries behind a number is above it
+-- what is found among entries after a number is above it
 found_above : (x e r : ℕ) (entries : Listing) → T (below_all nat_cmp x entries) → find nat_cmp e entries ≡ Some r → x < e
 found_above x e r [] low found = absurd (cc)
 found_above x e r (entry ∷ entries) low found = by (e == entry.0) refl

@@ -8,7 +8,7 @@ use Rattle.cc_names.specs.Formed.{Plain}
 use Rattle.base_model.specs.Rows.{Base, size, row_at}
 use Rattle.base_model.specs.Texts.{output_at}
 
--- no number behind another is 0
+-- no number after another is 0
 not_zero : (n : ℕ) → (suc n == 0) ≡ false
 not_zero n = grind (arith, nat_tests)
 

@@ -1,5 +1,5 @@
 -- A view's config spec, by the row that gave it.
-use Rattle.std.proofs.Common.{◌≡◌, ℕ, suc, ◌<◌, ◌==◌, true, false, Option, Some, None, IfSome, List, [], ◌∷◌, bytes_eq, refl, ap}
+use Rattle.std.proofs.Common.{◌≡◌, ℕ, suc, ◌<◌, true, false, Option, Some, None, IfSome, List, [], ◌∷◌, bytes_eq, refl, ap}
 use Rattle.std.proofs.Common.{sym, ◌∙◌, arith, lt-suc_self}
 use Rattle.std.specs.Prelude.{option_and_then}
 use Rattle.cc_names.specs.Last.{Keeps, Ends, Sets, only_if, value_after}

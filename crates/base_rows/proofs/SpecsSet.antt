@@ -90,7 +90,7 @@ pub row_of_first : (b : Base) (t n : ℕ) → n < t → row_at (first_rows t b) 
 row_of_first [] t n within = refl
 row_of_first (row ∷ older) t n within = grind (arith, nat_tests, row_of_first older t n within)
 
--- no row has a number behind all
+-- no row has a number after all
 pub no_row_past : (b : Base) (n : ℕ) → size b ≤ n → row_at b n ≡ None
 no_row_past [] n past = refl
 no_row_past (row ∷ older) n past =

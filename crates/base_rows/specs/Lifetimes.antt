@@ -14,12 +14,12 @@ ended_or Keeps other = other
 ended_or Ends other = Ends
 ended_or (Sets n) other = Ends
 
--- whether a row lies behind another, where there is another
+-- whether a row lies after another, where there is another
 abbrev pub is_behind : Option ℕ → ℕ → Bool
 is_behind None n = true
 is_behind (Some m) n = nat_lt m n
 
--- what a row leaves that lies behind the end of a life
+-- what a row leaves that lies after the end of a life
 abbrev pub left_behind : {A : Type 0} → Option ℕ → Update A → Option A
 left_behind ended row = only_where (is_behind ended row.0) row.1
 

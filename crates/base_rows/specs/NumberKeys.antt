@@ -17,11 +17,11 @@ key_by hashing number numbers = hash hashing (u64 number ++ writes numbers)
 abbrev pub key_with : RandomState → ℕ → ℕ → List ℕ → ℕ
 key_with hashing number other name = hash hashing (u64 number ++ u64 other ++ name ∷ [])
 
--- the hash of two numbers, the bytes of a name behind their number, and those of another name
+-- the hash of two numbers, the bytes of a name after their number, and those of another name
 abbrev pub key_in : RandomState → ℕ → ℕ → List ℕ → List ℕ → ℕ
 key_in hashing number other view name = hash hashing (u64 number ++ u64 other ++ usize (length view) ++ view ∷ name ∷ [])
 
--- what is written of some paths, each behind its length
+-- what is written of some paths, each after its length
 abbrev pub path_writes : List (List ℕ) → HashWrites
 path_writes [] = []
 path_writes (path ∷ paths) = usize (length path) ++ path ∷ path_writes paths

@@ -10,7 +10,7 @@ use Rattle.base_rows.specs.SetSpecs.{rules_set_if_short}
 use Rattle.base_rows.specs.Subjects.{keys_of}
 use Rattle.base_rows.specs.declared.prepared.Prepared.{Prepared}
 
--- This is at hand for a row of this deed behind a base in which names are found by this hashing: the keys for which it is
+-- This is at hand for a row of this deed after a base in which names are found by this hashing: the keys for which it is
 -- marked, what it adds to the trees, the rules that it gives to its view, and what the record of its object lists.
 pub record IsPrepared (prepared : Prepared) (hashing : RandomState) (b : Base) (deed : Deed) : Type 0 where
   pub keys : prepared.keys.items ≡ keys_of hashing b deed

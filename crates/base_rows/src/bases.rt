@@ -160,7 +160,7 @@ impl Rows {
         put_seen(&mut self.seen, seen);
     }
 
-    /// How many rows there are behind row 0.
+    /// How many rows there are after row 0.
     pub fn len(&self) -> usize
         ensures { result ≡ length self.now.base }
     {

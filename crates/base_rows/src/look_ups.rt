@@ -47,7 +47,7 @@ pub(crate) fn within<T: Copy>(
     if is_behind(ended, number) { item } else { None }
 }
 
-/// Whether a row lies behind another one, where there is one.
+/// Whether a row lies after another one, where there is one.
 fn is_behind(ended: Option<u64>, number: u64) -> bool
     ensures { result ≡ is_behind ended number }
 {
@@ -84,7 +84,7 @@ pub trait LookUp {
 
     ghost about: { Self → model.Subject };
 
-    /// What the row of this deed does to it, which comes behind the older rows.
+    /// What the row of this deed does to it, which comes after the older rows.
     fn effect(&self, older: &FirstRows<'_>, deed: &Deed) -> Does<Self::Item>
         requires { IsDeedFormed deed.now }
         ensures { effect_of result ≡ effect self.now older.now deed.now };

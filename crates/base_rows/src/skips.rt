@@ -1,5 +1,5 @@
 //! Links that lead further back than to the next older one of their key, so that a look-up among the first rows passes few of the
-//! links behind them.
+//! links after them.
 
 ghost use Rattle.std.specs.Prelude.{◌≡◌, ◌<◌, ◌≤◌, ◌∷◌, Some, length, IfSome};
 ghost use Rattle.base_rows.specs.Marked.{AreLinked, IsEnd, IsLinked, LeadsOn, Sink, rows_below, rows_from};

@@ -60,7 +60,7 @@ cames_more (slot ∷ slots) = ap (λ rest. option_map came_of slot ∷ rest) (ca
 pub empty_more : (slots : List (Option Came)) → comes_of slots ≡ [] → comes_of (slots ++ None ∷ []) ≡ []
 empty_more slots e = ap (numbered_slots 0) (cames_more slots) ∙ one_empty 0 (cames_of slots) ∙ e
 
--- a build in which what the units have come to is changed, behind equal builds
+-- a build in which what the units have come to is changed, after equal builds
 pub with_comes : (inside self : model.Build) (comes : List (ℕ × model.Came)) (n : ℕ) (came : model.Came)
     → comes ≡ put nat_cmp n came inside.comes → inside ≡ self →
     (let before : model.Build = record inside { comes = comes } in before)

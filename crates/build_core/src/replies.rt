@@ -99,7 +99,7 @@ fn word_of(
     }
 }
 
-/// Puts the line of a unit at one of its targets behind others, if the unit has its outcome.
+/// Puts the line of a unit at one of its targets after others, if the unit has its outcome.
 fn push_unit_line(
     alloc: Global,
     rows: &FirstRows<'_>,
@@ -121,7 +121,7 @@ fn push_unit_line(
     Ok(())
 }
 
-/// Puts the lines of a unit at these targets behind others.
+/// Puts the lines of a unit at these targets after others.
 fn push_lines(
     alloc: Global,
     rows: &FirstRows<'_>,

@@ -1,4 +1,4 @@
--- How the forms of a text go on behind its first line or its first occurrence of some bytes.
+-- How the forms of a text go on after its first line or its first occurrence of some bytes.
 use Rattle.std.proofs.Common.{◌≡◌, ℕ, zero, suc, ◌+◌, ◌-◌, ◌<◌, ◌≤◌, Bool, true, false, Some, None, List, [], ◌∷◌, ◌++◌, length}
 use Rattle.std.proofs.Common.{take, drop, refl, ap, sym, ◌∙◌, subst, if◌then◌else◌, arith, append_assoc, length-append}
 use Rattle.std.proofs.Common.{length-drop, drop-drop, not}

@@ -38,7 +38,7 @@ pub under_too_long : (path directory : List ℕ) → is_root directory ≡ false
 under_too_long path directory below h =
     rw below (too_long (directory ++ 47 ∷ path) (omega (arith, length-append directory (47 ∷ path))))
 
--- nothing is behind all items
+-- nothing is after all items
 pub all_dropped : {X : Type 0} (items : List X) (n : ℕ) → length items ≤ n → drop n items ≡ []
 all_dropped [] zero low = refl
 all_dropped [] (suc n) low = refl
@@ -85,7 +85,7 @@ pub carried_passed : {F X Y A : Type 0} {stands : F → List ℕ → Option Stan
 carried_passed {stands = stands} {after = after} {old = old} then y e one =
     record { stays = one.stays; asked = one.asked; went = one.went ∙ ap (trace_of (texts (stands old)) after) e }
 
--- what is said or included behind a stack of texts
+-- what is said or included after a stack of texts
 resumed_making-lines : (pp : Preprocessing) (rest : List ℕ) (below : List (List ℕ)) (made : Made) →
     resumed_making pp (rest ∷ below) made ≡ and_then (lines_expanded (includes (depth_limit - length below) pp) pp.output
     (lines_in rest) made) (unless_fault (resumed_making pp below))
@@ -120,7 +120,7 @@ resumed_making-included_text pp rest line behind path below made lines is =
     ∙ ap (λ (f : Made → Asking (Result Made ScriptFault)). and_then (includes (depth_limit - length below) pp path made)
     (unless_fault f)) (λ i made. sym (resumed_making-lines pp behind below made) i)))
 
--- what is behind a line
+-- what is after a line
 pub lines_behind : (rest line behind past : List ℕ) → lines_in rest ≡ line ∷ lines_in behind → rest ≡ line ++ behind
     → past ≡ drop (length line) rest → lines_in rest ≡ line ∷ lines_in past
 lines_behind rest line behind past lines whole is =

@@ -13,7 +13,7 @@ abbrev pub paths_onto : List (List ℕ) → Option (List (List ℕ)) → Option 
 paths_onto read None = None
 paths_onto read (Some more) = Some (read ++ more)
 
--- the directories of a first pair and of the pairs behind it
+-- the directories of a first pair and of the pairs after it
 directories_prefix : (pair rest : List (Bor (List ℕ))) → length pair ≡ min 2 (length (pair ++ rest)) → 0 < length (pair ++ rest) →
     directories_of (map (λ word. word.now) (pair ++ rest)) ≡ path_before (include_directory (map (λ word. word.now) pair))
     (directories_of (map (λ word. word.now) rest))

@@ -17,13 +17,13 @@ use Rattle.script_grammar.specs.Standings.{AreAmong}
 use Rattle.cc_names.specs.declared.refusals.ScriptFault.TheVariants.{StrayWrite}
 use Rattle.cc_names.proofs.Common.{or_true, or_false, bytes_equal_themselves, bytes_eq_swapped}
 
--- words with a space between each two are the first and the others behind a space each
+-- words with a space between each two are the first and the others after a space each
 pub joined_by_spaces : (first : List ℕ) (others : List (List ℕ)) → join_with_byte 32 (first ∷ others) ≡ first
     ++ flat_map (λ word. 32 ∷ word) others
 joined_by_spaces first [] = sym (append-nil first)
 joined_by_spaces first (second ∷ others) = ap (λ (more : List ℕ). first ++ 32 ∷ more) (joined_by_spaces second others)
 
--- the item at an index and those behind it
+-- the item at an index and those after it
 pub item_at : {X : Type 0} (items : List X) (i : ℕ) (item : X) → item ≡ get_or items i item → i < length items
     → drop i items ≡ item ∷ drop (i + 1) items
 item_at {X = X} items i item is low = rw add-one (drop-cons items i item low ∙ ap (λ (x : X). x ∷ drop (suc i) items) (sym is))

@@ -1,5 +1,5 @@
 -- How what a line says goes on.
-use Rattle.std.proofs.Common.{◌≡◌, ℕ, ◌+◌, ◌<◌, ◌≤◌, Bool, true, false, Result, Ok, Err, List, ◌++◌, length, refl, ap, sym, ◌∙◌}
+use Rattle.std.proofs.Common.{◌≡◌, ℕ, ◌+◌, ◌≤◌, Bool, true, false, Result, Ok, Err, List, ◌++◌, length, refl, ap, sym, ◌∙◌}
 use Rattle.std.proofs.Common.{if◌then◌else◌, arith, append_assoc, length-append}
 use Rattle.std.specs.Prelude.{nat_lt}
 use borrow.Author.Tests.{ltb-true, ltb-false}
@@ -10,7 +10,7 @@ use Rattle.script_grammar.specs.Run.{Output, Made, with_output, output_limit}
 use Rattle.script_grammar.specs.declared.halts.Halt.{Halt}
 use Rattle.script_grammar.specs.declared.halts.Halt.TheVariants.{Fault, GivenUp, NoMemory}
 
--- more behind what was said, unless that was a fault
+-- more after what was said, unless that was a fault
 abbrev pub then_said : Output → List ℕ → Result Made ScriptFault → Result Made ScriptFault
 then_said output more (Err fault) = Err fault
 then_said output more (Ok made) = with_output output more made

@@ -65,7 +65,7 @@ runs_cut line [] rest e filled h = absurd (omega arith)
 runs_cut line (b ∷ run) rest e filled h =
     rw e (runs_of b run rest (run_from_prefix b run rest (subst (λ l. IsChunkByPrefix is_alike l (suc (length run))) e h)))
 
--- a line is the words of its first run and the words behind it
+-- a line is the words of its first run and the words after it
 pub words_cut : (line run rest : List ℕ) → line ≡ run ++ rest → 0 < length run → IsChunkByPrefix is_alike line (length run)
     → words line ≡ words_of_run run ++ words rest
 words_cut line run rest e filled h = ap (flat_map words_of_run) (runs_cut line run rest e filled h)
@@ -79,13 +79,13 @@ arrows_prefix (a ∷ []) (b ∷ rest) e h = absurd (omega arith)
 arrows_prefix (a ∷ b ∷ []) rest e h = refl
 arrows_prefix (a ∷ b ∷ c ∷ more) rest e h = absurd (omega arith)
 
--- arrows are a pair and the arrows behind it
+-- arrows are a pair and the arrows after it
 pub arrows_cut : (run pair rest : List ℕ) → run ≡ pair ++ rest → length pair ≡ min 2 (length run) → 0 < length run
     → arrows run ≡ pair ∷ arrows rest
 arrows_cut run pair rest e two filled =
     rw e (arrows_prefix pair rest (rw e at two) (rw e at filled))
 
--- a word behind words that were found, before more
+-- a word after words that were found, before more
 pub pushed : (found : List (Bor (List ℕ))) (word : Bor (List ℕ)) (more : List (List ℕ)) →
     map (λ w. w.now) (found ++ word ∷ []) ++ more ≡ map (λ w. w.now) found ++ (word.now ∷ more)
 pushed found word more = simp (map-append, append_assoc)

@@ -20,7 +20,7 @@ pub(crate) enum Form<'a> {
     Listed,
 }
 
-/// The first line of a text with its newline, which it may lack, and what is behind it.
+/// The first line of a text with its newline, which it may lack, and what is after it.
 pub(crate) fn split_first_line(text: &[u8]) -> Option<(&[u8], &[u8])>
     ensures lines { MatchOption result (text.now ≡ [])
         (λ parts. lines_in text.now ≡ parts.0.now ∷ lines_in parts.1.now) }
@@ -59,7 +59,7 @@ pub(crate) fn digest_line(alloc: Global, text: &[u8]) -> Result<Vec<u8>, NoMemor
     Ok(line)
 }
 
-/// A text behind the line that says its path and length.
+/// A text after the line that says its path and length.
 pub(crate) fn linked_text(alloc: Global, path: &Path, text: &[u8]) -> Result<Vec<u8>, NoMemory>
     ensures { IfOk result (λ bytes. bytes.items ≡ linked_text path.now text.now) }
 {

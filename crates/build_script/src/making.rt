@@ -1,4 +1,4 @@
-//! How the output of a line is made: the parts of its work, one behind the other.
+//! How the output of a line is made: the parts of its work, one after the other.
 
 ghost use Rattle.std.specs.Prelude.{◌≡◌, ◌+◌, ◌++◌, ◌∷◌, [], ℕ, List, Ok, IfOk, OnOk, length, map, nat_lt};
 ghost use Rattle.std.specs.List.{flat_map, join_with_byte};
@@ -143,7 +143,7 @@ fn is_too_big(before: usize, fresh: usize, more: usize) -> bool
     before.saturating_add(fresh).saturating_add(more) > OUTPUT_LIMIT
 }
 
-/// More bytes behind what the line has made, within the limit.
+/// More bytes after what the line has made, within the limit.
 pub(crate) fn say(making: Making<'_>, made: &mut Made, more: &[u8]) -> Result<(), Halt>
     ensures { PartGave
         (with_output (output_by_parts making.entry.path.now making.entry.before) more.now

@@ -173,7 +173,7 @@ fn include<F: Files>(
     find_included(making, reads, files, probes, directories, path)
 }
 
-/// Puts a text back behind the others.
+/// Puts a text back after the others.
 fn put_back(inside: &mut Vec<OpenText>, text: OpenText) -> Result<(), NoMemory>
     ensures rests { OnOk result
         (rests_of inside.new.items ≡ rest_of text ∷ rests_of inside.old.items) }

@@ -20,7 +20,7 @@ use script_grammar::lines::{Line, Work};
 use std::alloc::Global;
 use std::hash::RandomState;
 
-/// Writes what a line made to its output: behind what it has, or in its place. Takes time linear in the fresh bytes and
+/// Writes what a line made to its output: after what it has, or in its place. Takes time linear in the fresh bytes and
 /// the path, spread over the writes to one output.
 fn store(
     alloc: Global,

@@ -29,7 +29,7 @@ impl Model for Script {
     ghost view = { λ script. script.lines.items };
 }
 
-/// The first line of a text, and what is behind its newline, if it has one.
+/// The first line of a text, and what is after its newline, if it has one.
 fn split_line(text: &[u8]) -> (&[u8], Option<&[u8]>)
     ensures pieces { slice_split is_newline text.now
         ≡ result.0.now ∷ pieces (option_copied result.1) }

@@ -97,7 +97,7 @@ module _ {X : Type 0} (n : X → ℕ) (xs : List X) (row i : ℕ) (falls : Falls
         ]
       ]
 
-  -- there is no item behind
+  -- there is no item after
   pub find_past : length xs ≤ i → find (λ x. eqb (n x) row) xs ≡ None
   find_past past = find_nothing (λ x. eqb (n x) row) xs (λ k e in_range. grind (
     arith,

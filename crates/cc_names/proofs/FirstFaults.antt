@@ -26,7 +26,7 @@ pub first_fault-found : (place : ℕ) (rest : List ℕ) (i : ℕ) → position i
 first_fault-found place rest i h fault =
     ap (first_fault place) (slice_split-at is_slash 0 rest i h) ∙ fault_or-some _ _ fault
 
--- the name before the first slash has none, and the search goes on behind the slash
+-- the name before the first slash has none, and the search goes on after the slash
 pub first_fault-passed : (place : ℕ) (rest : List ℕ) (i : ℕ) → position is_slash rest ≡ Some i → i < length rest
     → is_some (fault_at place (take i rest)) ≡ false → first_fault place (slice_split is_slash rest)
     ≡ first_fault (place + (i + 1)) (slice_split is_slash (drop (i + 1) rest))
@@ -36,7 +36,7 @@ first_fault-passed place rest i h inside fault =
     ∙ fault_or-none _ _ fault
     ∙ ap (λ n. first_fault n (slice_split is_slash (drop (i + 1) rest))) next
 
--- behind the last slash stands one name
+-- after the last slash stands one name
 pub first_fault-last : (place : ℕ) (rest : List ℕ) → position is_slash rest ≡ None
     → first_fault place (slice_split is_slash rest) ≡ fault_at place rest
 first_fault-last place rest h =

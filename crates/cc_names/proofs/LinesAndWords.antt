@@ -18,7 +18,7 @@ without_empty_end-more [] [] h = absurd (h refl)
 without_empty_end-more [] (q ∷ qs) h = refl
 without_empty_end-more (b ∷ bs) parts h = refl
 
--- the first line of a text, and the lines behind it
+-- the first line of a text, and the lines after it
 pub lines-next : (text : List ℕ) (found : Option ℕ) → text ≢ [] → found ≡ position is_newline text
     → lines_of text ≡ before text found ∷ lines_of (behind text found)
 lines-next text (Some place) some h =
@@ -37,7 +37,7 @@ without_empty-more : (part : List ℕ) (parts : List (List ℕ)) → part ≢ []
 without_empty-more [] parts h = absurd (h refl)
 without_empty-more (b ∷ bs) parts h = refl
 
--- the first word of a line that begins with one, and the words behind it
+-- the first word of a line that begins with one, and the words after it
 pub words-next : (line : List ℕ) (found : Option ℕ) → starts_with_word line ≡ true → found ≡ position is_blank line
     → words_of line ≡ before line found ∷ words_of (behind line found)
 words-next [] found h e = cc

@@ -87,7 +87,7 @@ parts-of_one path h below none =
       is_name = (subst (AllByRecursion IsName) cut (names_of-names path h)).0;
     }
 
--- the last name stands behind the last slash, and the path of its directory before it
+-- the last name stands after the last slash, and the path of its directory before it
 pub parts-of_two : (directory name : List ℕ) → IsPath (directory ++ 47 ∷ name) → is_root (directory ++ 47 ∷ name) ≡ false
     → All (λ b. is_slash b ≡ false) name → PartsAre (directory ++ 47 ∷ name) directory name
 parts-of_two directory name h below none =

@@ -41,7 +41,7 @@ split-onto_first true x ends l h = refl
 split-onto_first false x ends [] h = absurd (omega arith)
 split-onto_first false x ends (part ∷ parts) h = refl
 
--- the last part begins behind the last element that passes
+-- the last part begins after the last element that passes
 pub slice_split-last : {X : Type 0} (p : X → Bool) (xs : List X) (y : X) (ys : List X) → p y ≡ true → All (λ x. p x ≡ false) ys
     → slice_split p (xs ++ y ∷ ys) ≡ slice_split p xs ++ (ys ∷ [])
 slice_split-last p [] y ys passes h = slice_split_at p [] y ys (λ k d m. absurd (omega arith)) passes

@@ -13,6 +13,6 @@ hash hashing writes = finish (fold write (initial_hasher hashing) writes)
 abbrev pub key_of : RandomState → ℕ → List ℕ → ℕ
 key_of hashing number name = hash hashing (u64 number ++ name ∷ [])
 
--- the hash of a number, the bytes of a name behind their number, and the bytes of a path
+-- the hash of a number, the bytes of a name after their number, and the bytes of a path
 abbrev pub key_at : RandomState → ℕ → List ℕ → List ℕ → ℕ
 key_at hashing number name path = hash hashing (u64 number ++ usize (length name) ++ name ∷ path ∷ [])

@@ -21,7 +21,7 @@ pub trait Copied: Drop {
         ensures { IfOk result (λ copy. copy ≡ self.now) };
 }
 
-/// Puts copies of items behind others, in time linear in their size.
+/// Puts copies of items after others, in time linear in their size.
 pub fn push_copies<X: Copied>(alloc: Global, onto: &mut Vec<X>, items: &[X]) -> Result<(), NoMemory>
     ensures { OnOk result (onto.new.items ≡ onto.old.items ++ items.now) }
 {

@@ -28,7 +28,7 @@ fn first_blank(bytes: &[u8]) -> Option<usize>
     bytes.iter().position(|byte| is_blank(*byte))
 }
 
-/// What stands before a place and what behind it; all and nothing where there is no place.
+/// What stands before a place and what after it; all and nothing where there is no place.
 fn cut_at(bytes: &[u8], place: Option<usize>) -> (&[u8], &[u8])
     requires { IfSome place (λ end. end < length bytes.now) }
     ensures { (result.0.now ≡ before bytes.now place) × (result.1.now ≡ behind bytes.now place) }

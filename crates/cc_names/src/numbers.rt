@@ -49,7 +49,7 @@ pub fn number(bytes: &[u8]) -> Option<u64>
     value(bytes)
 }
 
-/// Writes a number in decimal digits behind a text.
+/// Writes a number in decimal digits after a text.
 pub fn push_number(alloc: Global, text: &mut Vec<u8>, number: u64) -> Result<(), NoMemory>
     ensures { OnOk result (text.new.items ≡ text.old.items ++ decimal number) }
 {

@@ -204,7 +204,7 @@ fn join_bytes(alloc: Global, directory: &[u8], name: &[u8]) -> Result<Text, Or<N
     Ok(Text::of(bytes))
 }
 
-/// The place of the last slash of a path below the root: before it stands the path of the directory, behind it the
+/// The place of the last slash of a path below the root: before it stands the path of the directory, after it the
 /// last name.
 fn last_slash(path: &[u8]) -> Option<usize>
     requires path { IsPath path.now }

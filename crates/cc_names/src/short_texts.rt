@@ -11,7 +11,7 @@ pub(crate) const MOST: usize = 30;
 #[derive(Debug, Drop)]
 pub(crate) struct ShortText {
     length: u8,
-    /// The bytes, and behind them places that say nothing.
+    /// The bytes, and after them places that say nothing.
     places: [u8; MOST],
 }
 

@@ -62,7 +62,7 @@ Consumes-length (Some x) None xs limit p h = absurd p
 Consumes-length (Some x) (Some y) xs limit p h = let e : length x ≡ length xs + length y = ap length p ∙ length-append xs y in
     omega arith
 
--- a source of bytes gives the first of those behind a place, and none only where there are none or no room
+-- a source of bytes gives the first of those after a place, and none only where there are none or no room
 pub takes_prefix : (bytes into piece : List ℕ) (place count : ℕ) → count ≡ min (length (drop place bytes)) (length into)
     → piece ≡ take count (drop place bytes) → ReadConsumes {E = ℕ} (Some (drop place bytes)) (Some (drop (place + count) bytes))
     (Ok count) (piece ++ drop count into)

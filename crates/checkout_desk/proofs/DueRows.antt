@@ -60,7 +60,7 @@ due_read b moment age (row ∷ older) =
     ∙ ap₂ (λ (ids : List ℕ) k. ids ++ put_if (is_due b moment age k row.moment) k []) (due_read b moment age older) number
     ∙ sym (put_back (is_due b moment age (size older) row.moment) (size older) (due_among b moment age older))
 
--- each object that is due among rows behind a number comes behind that number, and before the number behind the rows
+-- each object that is due among rows after a number comes after that number, and before the number after the rows
 due_above : (b : Base) (moment age k n : ℕ) (rows : List Plain) → k < n
     → AllByRecursion (λ y. nat_cmp k y ≡ Less) (due_from b moment age n rows)
 due_above b moment age k n [] low = tt

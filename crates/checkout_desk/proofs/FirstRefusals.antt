@@ -1,4 +1,4 @@
--- The first refusal of some tests and of more behind them.
+-- The first refusal of some tests and of more after them.
 use Rattle.std.proofs.Common.{◌≡◌, Option, Some, None, List, [], ◌∷◌, ◌++◌, refl}
 use Rattle.cc_names.specs.declared.memory.Or.{Or}
 use Rattle.cc_names.specs.declared.memory.Or.TheVariants.{NoMemory, Is}
@@ -14,7 +14,7 @@ refused_first (Is refusal) [] more is = absurd (cc is)
 refused_first (Is refusal) (Some other ∷ tests) more is = is
 refused_first (Is refusal) (None ∷ tests) more is = refused_first (Is refusal) tests more is
 
--- where some tests are passed, the refusal is that of those behind them
+-- where some tests are passed, the refusal is that of those after them
 pub passed_first : (tests more : List (Option Refusal)) → first_refusal tests ≡ None
     → first_refusal (tests ++ more) ≡ first_refusal more
 passed_first [] more is = refl

@@ -47,11 +47,11 @@ branch_named : (word : Option (List ℕ)) → IfOk (branch_type_of word) IsBranc
 branch_named None = tt
 branch_named (Some bytes) = typed bytes (begins_with_letter bytes) (name_fault bytes) refl refl
 
--- what a line does to the rules behind it
+-- what a line does to the rules after it
 abbrev Does : Type 0 → Type 0
 Does B = ℕ → List ℕ → Result B SpecCause → (List ℕ → Result (List Rule) SpecError) → Result (List Rule) SpecError
 
--- what was read of a line keeps rules named: those behind it and its own
+-- what was read of a line keeps rules named: those after it and its own
 abbrev Keeps : {B : Type 0} → Does B → Result B SpecCause → Type 0
 Keeps does read =
     (line : ℕ) (blocks : List ℕ) (behind : List ℕ → Result (List Rule) SpecError)

@@ -19,7 +19,7 @@ use cc_names::rows::{Deed, Row};
 use std::alloc::Global;
 use view_lookup::{FirstRows, may_be_scrubbed};
 
-/// Whether a moment lies this many seconds or more behind another.
+/// Whether a moment lies this many seconds or more after another.
 fn is_as_old(published: u64, moment: u64, age: u64) -> bool
     ensures { result ≡ nat_le (published + age) moment }
 {

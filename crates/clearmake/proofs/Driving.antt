@@ -88,7 +88,7 @@ concluded_so same left (Ok (turn_ends.NotReady m)) P is settled h = absurd (cc)
 concluded_so same left (Ok turn_ends.Over) P is settled h = absurd (cc)
 concluded_so same left (Err error) P is settled h = absurd (cc)
 
--- where a unit that was driven behind all earlier ones has no outcome, the build is over
+-- where a unit that was driven after all earlier ones has no outcome, the build is over
 pub left_so : (was now : List StoryStep) (tag : Tag) (count n : ℕ) (same : NoMemory → NoMemory
     → Bool) (left : Bool) (driven : Result TurnEnd NoMemory) → AreDone was tag count n → IsPrefix was now →
     left ≡ is_left same driven → left ≡ true → IfOk driven (λ end. IsDriven end now tag count n)

@@ -22,7 +22,7 @@ in_phase : (story : List StoryStep) (first lanes number : ℕ) → 1 ≤ lanes �
     → InPhase number story
 in_phase story first lanes number some h = let one = h first (omega arith) (omega arith) in (one.legal, one.of_phase)
 
--- two groups of lanes, one behind the other, that are done in two stories are done in the longer
+-- two groups of lanes, one after the other, that are done in two stories are done in the longer
 pub lanes_joined : (first here others lanes number : ℕ) (one two joined : List StoryStep) → 1 ≤ here → 1 ≤ others
     → here + others ≡ lanes →
     AreLanesDone one first here number → AreLanesDone two (first + here) others number → IsLongerOf one two joined

@@ -94,7 +94,7 @@ abbrev pub Concludes : List StoryStep → List StoryStep → ℕ → ℕ → Typ
 Concludes old new lane n = GoesOn old new lane × HasOutcome (state_of new) lane n
 
 -- what became of a unit that was tried: it has its outcome, it waits for another and nothing changed, or its script is to be run,
--- by this call's start or by an earlier one, behind which nothing changed; or the disk failed and its lane's command is finished
+-- by this call's start or by an earlier one, after which nothing changed; or the disk failed and its lane's command is finished
 abbrev pub Tries : List StoryStep → List StoryStep → ℕ → ℕ → UnitTurn → Type 0
 Tries old new lane n (turns.End turn_ends.Concluded) = Concludes old new lane n
 Tries old new lane n (turns.End (turn_ends.NotReady m)) = (new ≡ old) × WaitsFor (state_of old) lane n m

@@ -1,4 +1,4 @@
--- Texts that are written one behind the other, from the first on.
+-- Texts that are written one after the other, from the first on.
 use Rattle.std.proofs.Common.{◌≡◌, ℕ, List, ◌++◌, append_assoc, ap, ◌∙◌}
 
 pub three_behind : (a b c d : List ℕ) → ((a ++ b) ++ c) ++ d ≡ a ++ ((b ++ c) ++ d)

@@ -72,7 +72,7 @@ own_at v path (entry ∷ objects_held) =
         ∙ nat_list_eq_equiv.symm path entry.0.1) rest
     by false rest = rest
 
--- what lies behind a view path of the view lies behind its path
+-- what lies after a view path of the view lies after its path
 own_below : (v path : List ℕ) (objects_held : ReferencesByPath) → T (below_all view_path_cmp (v, path) objects_held)
     → T (below_all (slice_cmp nat_cmp) path (own v objects_held))
 own_below v path [] h = tt

@@ -146,7 +146,7 @@ found_held (entry ∷ objects_held) w path id is = by (eq_by_cmp view_path_cmp (
         or_left (bytes_eq entry.0.0 w && (entry.1 == id)) (is_held_by objects_held w id) (ap₂ (λ (x y : Bool). x && y) view same)
     by false other found rest = or_right (bytes_eq entry.0.0 w && (entry.1 == id)) (is_held_by objects_held w id) (rest found)
 
--- a path of a view at which it holds an object, behind all view paths that come before those of the table
+-- a path of a view at which it holds an object, after all view paths that come before those of the table
 record FoundBy (objects_held : ReferencesByPath) (w : List ℕ) (id : ℕ) : Type 0 where
   at : ViewPath
   by : bytes_eq at.0 w ≡ true

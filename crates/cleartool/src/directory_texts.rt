@@ -27,7 +27,7 @@ use view_lookup::{
     view_row,
 };
 
-/// Adds the line of a name and words behind it.
+/// Adds the line of a name and words after it.
 fn push_name_with_words(text: &mut Vec<u8>, name: &[u8], words: &[u8]) -> Result<(), NoMemory>
     ensures { OnOk result (text.new.items ≡ text.old.items ++ line (name.now ++ words.now)) }
 {

@@ -1,4 +1,4 @@
--- Extents in order, parted at an index: what lies before it and behind it, and which extents fit there.
+-- Extents in order, parted at an index: what lies before it and after it, and which extents fit there.
 use Rattle.std.proofs.Common.{◌≡◌, ℕ, suc, ◌+◌, ◌-◌, ◌<◌, ◌≤◌, max, Bool, true, false, eqb, ltb, List, [], ◌∷◌, ◌++◌, length}
 use Rattle.std.proofs.Common.{get_or, take, drop, sym, ap, ◌∙◌, subst, inl, inr, arith, drop-cons, get_or-take, get_or-drop}
 use Rattle.std.proofs.Common.{length-take, length-drop}
@@ -76,7 +76,7 @@ module _ (xs : List Extent) (at : ℕ) where
       let back = free_before (place_behind e) (drop at xs) e (omega arith) fits.back in
       free_is e ∙ and_from (is_free (take at xs) e) (is_free (drop at xs) e) prefix back
 
-  -- it fits behind the last extent, and before another
+  -- it fits after the last extent, and before another
   pub fits_last : (e : Extent) → at ≤ length xs → length xs ≤ at → last_behind 0 (take at xs) ≤ e.place → FitsAt xs at e
   fits_last e within past prefix = record {
     within = within;

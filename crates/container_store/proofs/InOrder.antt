@@ -48,7 +48,7 @@ pub longer_holes : (m n from : ℕ) (xs : List Extent) → m ≤ n → HasNoLong
 longer_holes m n from [] le h = tt
 longer_holes m n from (x ∷ xs) le h = (omega (arith, h.0), longer_holes m n (place_behind x) xs le h.1)
 
--- behind another place only the first hole is another one
+-- after another place only the first hole is another one
 pub holes_from : (m n from low : ℕ) (xs : List Extent) → m ≤ n → hole_before low xs ≤ n → HasNoLonger m from xs
     → HasNoLonger n low xs
 holes_from m n from low [] le first h = tt
@@ -122,7 +122,7 @@ before_higher e x some higher apart = elim (or_cases (leb (place_behind e) x.pla
   | inr after ↦ let le : place_behind x ≤ e.place = leb-true (place_behind x) e.place after in absurd (omega arith)
 ]
 
--- an extent behind a prefix, and one before a back
+-- an extent after a prefix, and one before a back
 pub free_behind : (from : ℕ) (xs : List Extent) (e : Extent) → IsInPlace from xs → last_behind from xs ≤ e.place
     → is_free xs e ≡ true
 free_behind from [] e h le = refl
@@ -137,7 +137,7 @@ free_before from (x ∷ xs) e le h =
     and_from (are_apart e x) (is_free xs e) (apart_before e x (omega (arith, h.0)))
     (free_before (place_behind x) xs e (omega (arith, h.0)) h.2)
 
--- what is free lies behind those that begin below it, and before the others
+-- what is free lies after those that begin below it, and before the others
 pub behind_if_free : (from : ℕ) (xs : List Extent) (e : Extent) → 0 < e.length → from ≤ e.place
     → All (λ (x : Extent). x.place < e.place) xs
     → is_free xs e ≡ true → last_behind from xs ≤ e.place

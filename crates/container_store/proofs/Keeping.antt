@@ -31,7 +31,7 @@ module _ (xs : List Extent) (at : ℕ) (within : at ≤ length xs) where
   seam_drop : (ys : List Extent) → drop at (take at xs ++ ys) ≡ ys
   seam_drop ys = subst (λ (n : ℕ). drop n (take at xs ++ ys) ≡ ys) long (drop-append_seam (take at xs) ys)
 
-  -- the hole at the index, with other extents behind it
+  -- the hole at the index, with other extents after it
   hole_at : (ys : List Extent) → hole_before (last_behind 0 (take at (take at xs ++ ys))) (drop at (take at xs ++ ys))
       ≡ hole_before (last_behind 0 (take at xs)) ys
   hole_at ys =

@@ -1,5 +1,5 @@
 -- Extents that were placed one after the other: how far they reach, and that they may be taken so.
-use Rattle.std.proofs.Common.{◌≡◌, ℕ, ◌<◌, ◌≤◌, max, Bool, true, false, leb, List, [], ◌∷◌, ◌++◌, length, map, refl, sym, ap}
+use Rattle.std.proofs.Common.{◌≡◌, ℕ, ◌≤◌, max, Bool, true, false, leb, List, [], ◌∷◌, ◌++◌, length, map, refl, sym, ap}
 use Rattle.std.proofs.Common.{◌∙◌, inl, inr, arith}
 use Rattle.std.specs.Prelude.{◌&&◌}
 use Rattle.std.specs.List.Sorted.{IsPermutation}
@@ -9,7 +9,7 @@ use Rattle.container_store.specs.Extents.{place_behind, are_apart, is_free, end_
 use Rattle.container_store.specs.Placed.{ArePlaced}
 use Rattle.container_store.proofs.InOrder.{is_free-append}
 
--- all is free behind the end
+-- all is free after the end
 pub free_at_end : (taken : List Extent) (place length : ℕ) → end_of taken ≤ place → is_free taken (extent_at place length) ≡ true
 free_at_end [] place length le = refl
 free_at_end (x ∷ more) place length le =
@@ -18,7 +18,7 @@ free_at_end (x ∷ more) place length le =
     (le-leb (place_behind x) place (omega (arith, le))) in
     and_from (are_apart e x) (is_free more e) apart (free_at_end more place length (omega (arith, le)))
 
--- so nothing is placed behind it
+-- so nothing is placed after it
 pub placed_within : (taken : List Extent) (length : ℕ) (e : Extent) → IsFirstFit taken length e → e.place ≤ end_of taken
 placed_within taken length e fit = elim (cases_lt (end_of taken) e.place) [
   | inl further ↦

@@ -21,7 +21,7 @@ last_is_end xs h =
 -- a walk that came to an extent
 module _ (xs : List Extent) (at : ℕ) (e : Extent) (from longest : ℕ) (within : at < length xs) (is : e ≡ get_or xs at e)
     (is_from : from ≡ last_behind 0 (take at xs)) (holes : HasNoLonger longest 0 (take at xs)) where
-  -- it goes on behind it
+  -- it goes on after it
   pub walk_holes : HasNoLonger (max longest (e.place - from)) 0 (take (at + 1) xs)
   walk_holes =
       let prefix = longer_holes longest (max longest (e.place - from)) 0 (take at xs) (omega arith) holes in
@@ -39,7 +39,7 @@ module _ (xs : List Extent) (at : ℕ) (e : Extent) (from longest : ℕ) (within
         fits_before xs at (extent_at last n) e within is h (omega arith) before,
       )
 
--- it ends behind the last one
+-- it ends after the last one
 pub walk_missed : (xs : List Extent) (longest n : ℕ) → HasNoLonger longest 0 xs → longest < n → IsFirstAt xs n (length xs)
 walk_missed xs longest n holes shorter =
     let whole = take_all (length xs) xs (omega arith) in (

@@ -3,7 +3,7 @@ use Rattle.std.specs.Prelude.{◌≡◌, ℕ, ◌+◌, ◌<◌, max, nat_le, Boo
 use Rattle.std.specs.List.{list_all}
 use Rattle.cc_names.specs.declared.rows.Extent.{Extent}
 
--- the place directly behind an extent
+-- the place directly after an extent
 abbrev pub place_behind : Extent → ℕ
 place_behind e = e.place + e.length
 
@@ -15,7 +15,7 @@ are_apart a b = nat_le (place_behind a) b.place || nat_le (place_behind b) a.pla
 abbrev pub is_free : List Extent → Extent → Bool
 is_free taken e = list_all (are_apart e) taken
 
--- the place directly behind the last extent, 0 where there is none
+-- the place directly after the last extent, 0 where there is none
 abbrev pub end_of : List Extent → ℕ
 end_of [] = 0
 end_of (e ∷ more) = max (place_behind e) (end_of more)

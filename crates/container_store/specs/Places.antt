@@ -3,12 +3,12 @@ use Rattle.std.specs.Prelude.{ℕ, ◌+◌, ◌-◌, ◌^◌, ◌<◌, ◌≤◌
 use Rattle.cc_names.specs.declared.rows.Extent.{Extent}
 use Rattle.container_store.specs.Extents.{place_behind, end_of}
 
--- each extent has a byte, and begins behind the one before it
+-- each extent has a byte, and begins after the one before it
 abbrev pub IsInPlace : ℕ → List Extent → Type 0
 IsInPlace from [] = Unit {0}
 IsInPlace from (e ∷ more) = (from ≤ e.place) × (0 < e.length) × IsInPlace (place_behind e) more
 
--- the place behind the last of them, where they begin behind this one
+-- the place after the last of them, where they begin after this one
 abbrev pub last_behind : ℕ → List Extent → ℕ
 last_behind from [] = from
 last_behind from (e ∷ more) = last_behind (place_behind e) more
@@ -23,7 +23,7 @@ abbrev pub hole_before : ℕ → List Extent → ℕ
 hole_before from [] = 0
 hole_before from (e ∷ more) = e.place - from
 
--- an extent fits behind the first so many, and before the others
+-- an extent fits after the first so many, and before the others
 pub record FitsAt (taken : List Extent) (at : ℕ) (e : Extent) : Type 0 where
   pub within : at ≤ length taken
   pub prefix : last_behind 0 (take at taken) ≤ e.place

@@ -12,7 +12,7 @@ pub record HasShorter (taken : List Extent) (at length : ℕ) : Type 0 where
   pub holes : HasNoLonger longest 0 (take at taken)
   pub shorter : longest < length
 
--- the first place where so many bytes are free, before this extent or behind the last
+-- the first place where so many bytes are free, before this extent or after the last
 abbrev pub IsFirstAt : List Extent → ℕ → ℕ → Type 0
 IsFirstAt taken length at = HasShorter taken at length × FitsAt taken at (extent_at (last_behind 0 (take at taken)) length)
 

@@ -25,7 +25,7 @@ pub(crate) fn count_extents_below(taken: &[Extent], place: u64) -> usize
     taken.partition_point(|extent| extent.place < place)
 }
 
-/// The place behind the first so many extents. Takes constant time.
+/// The place after the first so many extents. Takes constant time.
 pub(crate) fn last_behind(taken: &[Extent], count: usize) -> u64
     requires in_place { IsInPlace 0 taken.now }
     requires fits { end_of taken.now < 2 ^ 64 }
@@ -39,7 +39,7 @@ pub(crate) fn last_behind(taken: &[Extent], count: usize) -> u64
     last.place + last.length
 }
 
-/// The length of the hole before an extent, 0 where it would be one behind the last. Takes constant time.
+/// The length of the hole before an extent, 0 where it would be one after the last. Takes constant time.
 pub(crate) fn hole_before(taken: &[Extent], at: usize) -> u64
     requires in_place { IsInPlace 0 taken.now }
     requires fits { end_of taken.now < 2 ^ 64 }
@@ -75,7 +75,7 @@ pub(crate) fn find_free(taken: &[Extent], extent: Extent) -> Option<usize>
 pub(crate) enum Walk {
     /// At the first hole that is long enough, before this extent.
     Found(usize),
-    /// Behind the last extent, where no hole was long enough: none is longer than this.
+    /// After the last extent, where no hole was long enough: none is longer than this.
     Missed(u64),
 }
 

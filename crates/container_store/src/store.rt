@@ -21,7 +21,7 @@ use std::marker::Model;
 pub struct Store {
     /// By place.
     taken: Vec<Extent>,
-    /// No hole between them is longer, so a longer extent goes behind them all at once.
+    /// No hole between them is longer, so a longer extent goes after them all at once.
     longest: u64,
 }
 
@@ -79,7 +79,7 @@ impl Store {
     }
 
     /// Takes an extent of at least a byte, where it lies in a file of this size and overlaps none that is taken: whether that is
-    /// so. Takes time logarithmic in the extents, and moves those behind it.
+    /// so. Takes time logarithmic in the extents, and moves those after it.
     pub fn take(&mut self, size: u64, extent: Extent) -> bool
         requires some { 1 ≤ extent.length }
         requires room { 0 < self.old.room }
@@ -117,7 +117,7 @@ impl Store {
     }
 
     /// Gives back an extent that is taken. What is free beside it is free with it. Takes time logarithmic in the extents, and
-    /// moves those behind it; it takes no memory.
+    /// moves those after it; it takes no memory.
     pub fn free(&mut self, extent: Extent)
         requires { Contains self.old.taken extent }
         ensures { TakesExtent extent self.new self.old }
@@ -138,7 +138,7 @@ impl Store {
         }
     }
 
-    /// The place directly behind the last extent, 0 where none is taken. Takes constant time.
+    /// The place directly after the last extent, 0 where none is taken. Takes constant time.
     pub fn end(&self) -> u64
         ensures { result ≡ end_of self.now.taken }
     {

@@ -14,7 +14,7 @@ use std::marker::Model;
 pub struct DateText {
     /// The date with a day of two digits.
     bytes: [u8; 20],
-    /// Where the text begins: behind a day's first digit that is 0.
+    /// Where the text begins: after a day's first digit that is 0.
     start: usize,
 }
 

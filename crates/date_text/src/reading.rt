@@ -65,7 +65,7 @@ fn moment(civil: Civil) -> Result<u64, BadDate>
 /// Reads a date as a moment: the seconds since the beginning of 1970. The form is `d-Mmm-yyyy.hh:mm:ss` in UTC: a day of
 /// one or two digits, a month from `Jan` to `Dec`, a year from 1970 to 9999, and hours, minutes and seconds of two
 /// digits each. The fault is the place of the first field that is wrong. Each sign between two fields, and what stands
-/// behind the last, is a field of its own here; a day that its month lacks is wrong where all else is right. Looks at no
+/// after the last, is a field of its own here; a day that its month lacks is wrong where all else is right. Looks at no
 /// more than the first twenty-one bytes.
 pub fn read(bytes: &[u8]) -> Result<u64, BadDate>
     ensures { result ≡ date_of bytes.now }

@@ -128,7 +128,7 @@ module _ (file : ℕ) (journal objects : List ℕ) (trace : List TracedCall) (i 
       (sym (device_more journal objects trace i traced within is))
       (gone_over (failing traced.failed_before d) picture_failed, omega (arith, length_failing traced.failed_before d))
 
--- a stop behind the last traced call
+-- a stop after the last traced call
 pub stop_behind : (file : ℕ) (d : Device) (failed call : ℕ) (image : List ℕ) → IsImage (file_of file d) image
     → length d.calls < call
     → call ≤ length (failing failed d).calls + 1 → MayLeave file (failing failed d) call image

@@ -5,7 +5,7 @@ use Rattle.std.specs.Prelude.{codes, slice_index}
 use Rattle.disk_model.specs.Files.{File, IsImage, is_written, overwritten, stable}
 use Rattle.disk_model.specs.Devices.{Device, Event, MayLeave, Measured, Stopped, Synced, Wrote, during, file_after}
 
--- two bytes over the middle of four; two over the last of them and one behind it; two behind them
+-- two bytes over the middle of four; two over the last of them and one after it; two after them
 within : overwritten 1 (codes "XY") (codes "abcd") ≡ codes "aXYd"
 within = refl
 

@@ -19,7 +19,7 @@ pub enum Call {
         place: u64,
         piece: Text,
     },
-    /// A write failed: of the piece these bytes landed from a place on, and so many behind them were lost.
+    /// A write failed: of the piece these bytes landed from a place on, and so many after them were lost.
     Tear {
         file: u8,
         place: u64,

@@ -47,7 +47,7 @@ impl Trouble<'_> {
     }
 }
 
-/// The system's words for a failure, from what std writes of it: behind the words it writes a number.
+/// The system's words for a failure, from what std writes of it: after the words it writes a number.
 fn without_number(modeled: &str) -> &str {
     match modeled.split_once(" (os error ") {
         Some((words, _)) => words,

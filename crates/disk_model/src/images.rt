@@ -53,7 +53,7 @@ impl Picture {
         })
     }
 
-    /// A write of these bytes, and of so many behind them that were lost.
+    /// A write of these bytes, and of so many after them that were lost.
     fn write(
         &mut self,
         alloc: Global,
@@ -156,7 +156,7 @@ impl Picture {
     }
 }
 
-/// Writes a piece over bytes from a place on, or behind them where they end before it. Only the bytes behind their end
+/// Writes a piece over bytes from a place on, or after them where they end before it. Only the bytes after their end
 /// take memory; without it they stay as they were.
 pub(crate) fn overwrite(bytes: &mut Vec<u8>, place: u64, piece: &[u8]) -> Result<(), AllocError>
     ensures ok { OnOk result (bytes.new.items ≡ overwritten place piece.now bytes.old.items) }

@@ -222,7 +222,7 @@ impl MemoryDisk {
         Ok(())
     }
 
-    /// A write that fails: these bytes land, and so many behind them are lost.
+    /// A write that fails: these bytes land, and so many after them are lost.
     fn tear(&mut self, file: u8, place: u64, landed: &[u8], lost: u64) -> DiskFault
         requires { file ≤ 1 }
         ensures modeled { Idles (modeled_device self.old) (modeled_device self.new)

@@ -158,7 +158,7 @@ fn tell_text(rt: &impl Abort, files: &HostRuntime, name: &str, text: &str) -> Re
     Ok(())
 }
 
-/// A disk whose file is moved away goes on with it, also behind a call that failed, and leaves the next file of that name alone.
+/// A disk whose file is moved away goes on with it, also after a call that failed, and leaves the next file of that name alone.
 #[test]
 fn a_file_that_is_moved_away_is_written_on(rt: HostRuntime) -> Result<(), Fail> {
     let name = "disk_model_moved";

@@ -69,7 +69,7 @@ pub fn place_of_label(alloc: Global, labels: &mut Labels, label: &Name) -> Resul
     Ok(place)
 }
 
-/// Adds the changes of a label on an element behind all others, where it has none yet.
+/// Adds the changes of a label on an element after all others, where it has none yet.
 pub fn put_last(moves: &mut Moves, on: LabelOn, changes: Vec<Move>) -> Result<(), NoMemory>
     requires { get is_same_label moves.old on ≡ None }
     ensures put { OnOk result (moves.new.entries ≡ moves.old.entries ++ (on, changes) ∷ []) }

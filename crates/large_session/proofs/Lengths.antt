@@ -29,7 +29,7 @@ files_are_small size number x (suc count) some low few = (
       (omega (arith, few)),
 )
 
--- texts of at most so many bytes each, one behind the other
+-- texts of at most so many bytes each, one after the other
 texts_short : (f : SourceFile → List ℕ) (most : ℕ) (files : List SourceFile)
     → ((file : SourceFile) → IsSmall file → length (f file) ≤ most) → AllByRecursion IsSmall files
     → length (flat_map f files) ≤ most * length files

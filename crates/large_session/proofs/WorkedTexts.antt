@@ -1,6 +1,6 @@
--- Whole summaries, worked out by hand from transcripts: the five lines. The digests are those that `sha256sum` prints of the lines
--- of units, where `kept`, `winked` and `built` are written `made`.
-use Rattle.std.proofs.Common.{◌≡◌, ℕ, List, [], refl}
+-- Whole summaries, worked out by hand from transcripts: the five lines. The digests are those that `sha256sum` prints of the
+-- lines of units, where `kept`, `winked` and `built` are written `made`.
+use Rattle.std.proofs.Common.{◌≡◌, ℕ, List, [], ◌++◌, refl}
 use Rattle.std.specs.Prelude.{codes}
 use Rattle.std.specs.Fmt.{digits}
 use Rattle.hex.specs.Hex.{encode_with}
@@ -21,7 +21,9 @@ no_units = refl
 
 -- one object is built by one lane and winked in by the other, and a unit without a script has no length
 builds : List ℕ
-builds = codes "phase 1\nlane a\n1 clearmake ok\n  out built 3 98ea\n  all made\nlane b\n1 clearmake ok\n  out winked 3 98ea\n  all made\n"
+builds =
+    codes "phase 1\nlane a\n1 clearmake ok\n  out built 3 98ea\n  all made\n"
+    ++ codes "lane b\n1 clearmake ok\n  out winked 3 98ea\n  all made\n"
 
 units : summary builds
     ≡ codes "commands 2\nrefused 0\nunits 4\nbytes 6\ndigest ec01c9a75b500f68f760fd4afee282b283e85229f83b9b3991d21f5b1f3fd952\n"

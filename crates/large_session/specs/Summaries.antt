@@ -17,7 +17,7 @@ abbrev pub is_reply_line : List ℕ → Bool
 is_reply_line [] = false
 is_reply_line (b ∷ bytes) = is_ascii_digit b
 
--- whether the words of such a line say that its command was refused: the third does, behind the number and the command's word
+-- whether the words of such a line say that its command was refused: the third does, after the number and the command's word
 abbrev pub say_refused : List (List ℕ) → Bool
 say_refused (number ∷ command ∷ reply ∷ words) = bytes_eq reply (codes "refused")
 say_refused words = false
@@ -35,7 +35,7 @@ abbrev pub count_of : (List ℕ → Bool) → List (List ℕ) → ℕ
 count_of is [] = 0
 count_of is (bytes ∷ rest) = one_where (is bytes) + count_of is rest
 
--- whether the word behind a unit's path tells of an object
+-- whether the word after a unit's path tells of an object
 abbrev pub is_object_word : List ℕ → Bool
 is_object_word word = bytes_eq word (codes "kept") || bytes_eq word (codes "winked") || bytes_eq word (codes "built")
 

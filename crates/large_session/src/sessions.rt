@@ -11,7 +11,7 @@ use cc_names::numbers::push_number;
 use cc_names::texts::Text;
 use std::alloc::Global;
 
-// The lines before the Makefile's, and those behind the source files'.
+// The lines before the Makefile's, and those after the source files'.
 const OPENING: &[u8] = b"phase\nlane a\nmkview v0\ncheckout v0 .\n";
 
 const VIEWS: &[u8] =
@@ -73,7 +73,7 @@ fn push_script_line(alloc: Global, text: &mut Vec<u8>, file: &SourceFile) -> Res
     push_bytes(text, b"\n")
 }
 
-/// The names of all objects, each behind a blank.
+/// The names of all objects, each after a blank.
 fn push_objects(alloc: Global, text: &mut Vec<u8>, files: &[SourceFile]) -> Result<(), NoMemory>
     ensures { OnOk result (text.new.items ≡ text.old.items ++ flat_map wanted_name files.now) }
 {

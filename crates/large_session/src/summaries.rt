@@ -89,7 +89,7 @@ fn push_line(text: &mut Vec<u8>, bytes: &[u8]) -> Result<(), NoMemory>
     Ok(())
 }
 
-/// Writes words, each behind a space.
+/// Writes words, each after a space.
 fn push_words(text: &mut Vec<u8>, words: Words<'_>) -> Result<(), NoMemory>
     ensures { OnOk result (text.new.items ≡ text.old.items ++ flat_map spaced words.entry) }
 {

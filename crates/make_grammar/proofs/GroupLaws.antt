@@ -164,7 +164,7 @@ unscripted (line ∷ older) path h =
     by true false none = refl
     by false scripted none = refl
 
--- a group that shares no path with others, behind them
+-- a group that shares no path with others, after them
 apart_push : (groups : List (List (List ℕ))) (group : List (List ℕ)) → AreApart groups
     → ((path : List ℕ) → is_among group path ≡ true → has_path groups path ≡ false) → AreApart (groups ++ group ∷ [])
 apart_push [] group apart none = ((λ path among. refl), tt)

@@ -162,7 +162,7 @@ distinct_before (p ∷ paths) others one two apart = (
     differs [] h = tt
     differs (q ∷ qs) h = let none = or_parts (bytes_eq p q) (is_among qs p) h in (none.0, differs qs none.1)
 
--- none has a path that no rule behind it has
+-- none has a path that no rule after it has
 none_has : (rule : MakeRule) (rules : List MakeRule) (path : List ℕ) → is_among rule.targets path ≡ true
     → AllByRecursion (IsApartFrom rule) rules → is_among (flat_map targets_of rules) path ≡ false
 none_has rule [] path among h = refl

@@ -1,5 +1,5 @@
 -- The words of rule lines that have no fault: few, and paths below the root.
-use Rattle.std.proofs.Common.{◌≡◌, refl, subst, ℕ, ◌+◌, ◌<◌, ◌≤◌, ◌^◌, Bool, true, false, not, ◌&&◌, ◌||◌, nat_lt, Option, Some}
+use Rattle.std.proofs.Common.{◌≡◌, refl, subst, ℕ, ◌+◌, ◌<◌, ◌≤◌, ◌^◌, Bool, true, false, not, ◌&&◌, nat_lt, Option, Some}
 use Rattle.std.proofs.Common.{None, List, [], ◌∷◌, ◌++◌, length, fold, is_some, if◌then◌else◌, arith}
 use Rattle.std.proofs.lemmas.Bool.{ltb-false, not-false, and_parts}
 use Rattle.std.proofs.lemmas.List.{length-append}

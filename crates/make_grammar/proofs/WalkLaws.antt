@@ -1,4 +1,4 @@
--- What a walk leaves: each unit that it is done with stands once in its order, behind its prerequisites.
+-- What a walk leaves: each unit that it is done with stands once in its order, after its prerequisites.
 use Rattle.std.proofs.Common.{◌≡◌, ◌≢◌, ◌⊎◌, inl, inr, refl, sym, ap, ◌∙◌, subst, ℕ, zero, suc, ◌<◌, Bool, true, false, ◌||◌}
 use Rattle.std.proofs.Common.{Option, Some, None, Result, Ok, Err, List, [], ◌∷◌, ◌++◌, length, replicate, slice_get, slice_set}
 use Rattle.std.proofs.Common.{length-set, arith}
@@ -17,7 +17,7 @@ use Rattle.make_grammar.specs.Walks.{take_path, walk_of}
 use Rattle.make_grammar.specs.declared.walks.Mark.{Mark}
 use Rattle.make_grammar.specs.declared.walks.Mark.TheVariants.{New, Open, Done}
 
--- the order of a walk: what is done stands in it once, behind its prerequisites
+-- the order of a walk: what is done stands in it once, after its prerequisites
 pub record IsSettled (units : List Serving) (w : Walk) : Type 0 where
   pub size : length w.marks ≡ length units
   pub placed : (n : ℕ) → slice_get w.marks n ≡ Some Done → (k : ℕ) × (slice_get w.order k ≡ Some n)
@@ -277,7 +277,7 @@ nothing_done units = record {
         let is_done = get_or_from_slice_get (replicate (length units) New) n Done Done h in
         cc
 
--- The units of a walk stand once in its order, behind their prerequisites, and those of the goals are done.
+-- The units of a walk stand once in its order, after their prerequisites, and those of the goals are done.
 pub walk_settles : (units : List Serving) (goals : List (List ℕ)) (w : Walk) → walk_of units goals ≡ Ok w →
     HasTaken units goals (record { marks = replicate (length units) New; order = [] }) w
 walk_settles units goals w h = each_taken units (take_path (suc (length units)) units) (taken_path (suc (length units)) units)

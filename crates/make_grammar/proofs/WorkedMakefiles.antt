@@ -31,7 +31,7 @@ joined_lines : logical_lines (text (codes "a \\" ∷ codes "  b" ∷ codes "" �
     ∷ at_line 3 [] ∷ at_line 4 (codes "c") ∷ []
 joined_lines = refl
 
--- the blanks behind a newline go with it, those before the next backslash too
+-- the blanks after a newline go with it, those before the next backslash too
 joined_twice : logical_lines (text (codes "a\\" ∷ codes "  \\" ∷ codes "b" ∷ [])) ≡ at_line 1 (codes "a  b") ∷ []
 joined_twice = refl
 
@@ -42,7 +42,7 @@ joined_at_the_end = refl
 joined_to_nothing : logical_lines (text (codes "a\\" ∷ [])) ≡ at_line 1 (codes "a ") ∷ []
 joined_to_nothing = refl
 
--- a tab behind a joined newline begins no line of a script
+-- a tab after a joined newline begins no line of a script
 joined_script : logical_lines (text (codes "a:\\" ∷ (9 ∷ codes "b") ∷ (9 ∷ codes "c\\") ∷ (9 ∷ codes "d") ∷ []))
     ≡ at_line 1 (codes "a: b") ∷ at_line 3 (9 ∷ codes "c d") ∷ []
 joined_script = refl
@@ -184,7 +184,7 @@ the_suffixes : read (codes ".b.a:" ∷ script (codes "1") ∷ codes ".c.o: x" �
     })
 the_suffixes = refl
 
--- a file is read in place: its macros count behind it, and a script line behind its line belongs to its last rule
+-- a file is read in place: its macros count after it, and a script line after its line belongs to its last rule
 an_included_file : read (codes "y: $A" ∷ codes "include a.mk" ∷ script (codes "two") ∷ codes "z: $A" ∷ []) ≡
     Ok (record {
       rules = rule (codes "y" ∷ []) [] None ∷ rule (codes "x" ∷ []) (codes "1" ∷ [])

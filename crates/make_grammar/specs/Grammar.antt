@@ -1,4 +1,4 @@
--- What a makefile says, or its first line that fails: its lines, and what is tested behind the last of them.
+-- What a makefile says, or its first line that fails: its lines, and what is tested after the last of them.
 use Rattle.std.specs.Prelude.{ℕ, false, ◌&&◌, Option, Some, None, Result, Ok, Err, List, [], ◌∷◌, length, reverse, is_some}
 use Rattle.std.specs.Prelude.{if◌then◌else◌, codes}
 use Rattle.std.specs.List.{list_any}
@@ -73,23 +73,23 @@ abbrev pub contents_of : Reading → List RuleLine → Contents
 contents_of reading lines =
     contents_from reading.suffixes reading.phony (macros_of reading.macros) (groups_of lines) (joined_rules lines)
 
--- what is tested behind the last line: each macro in the order of first definition, and then the phony targets
+-- what is tested after the last line: each macro in the order of first definition, and then the phony targets
 abbrev pub ending_fault : Reading → Option MakeError
 ending_fault reading =
     make_fault_or (macros_fault (macros_of reading.macros) reading.macros) (phony_fault reading.phony (reverse reading.rules))
 
--- what a makefile says, by what was read of it, unless there is a fault behind its last line
+-- what a makefile says, by what was read of it, unless there is a fault after its last line
 abbrev pub checked_contents : Result Reading MakeError → Result Contents MakeError
 checked_contents (Err fault) = Err fault
 checked_contents (Ok reading) = unless_fault (ending_fault reading) (contents_of reading (reverse reading.rules))
 
--- the macros of the command line and then the lines of a makefile, read behind what was read
+-- the macros of the command line and then the lines of a makefile, read after what was read
 abbrev pub lines_behind : Files → List ℕ → List ℕ → List Macro → Reading → Result Reading MakeError
 lines_behind files file text overrides reading =
     if_no_fault (with_overrides file overrides reading)
     (read_lines (reading_of_include files depth_limit file) file (logical_lines text))
 
--- the lines of a makefile, read behind the macros of the command line
+-- the lines of a makefile, read after the macros of the command line
 abbrev pub lines_read : Files → List ℕ → List ℕ → List Macro → Result Reading MakeError
 lines_read files file text overrides = lines_behind files file text overrides nothing_read
 

@@ -46,7 +46,7 @@ abbrev pub behind_include : List ℕ → Option (List ℕ)
 behind_include bytes =
     if bytes_eq (take 7 bytes) (codes "include") && is_blank_byte (slice_get bytes 7) then Some (drop 7 bytes) else None
 
--- the position behind a byte
+-- the position after a byte
 abbrev pub behind_byte : Position → ℕ → Position
 behind_byte Outside b = if b == 36 then Dollar else Outside
 behind_byte Dollar b = if b == 40 then Within 41 else if b == 123 then Within 125 else Outside

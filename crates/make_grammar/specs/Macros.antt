@@ -51,7 +51,7 @@ pub data Scan : Type 0 where
   Dollar : Scan
   Name : ℕ → List ℕ → Scan
 
--- the pieces of a text that goes on behind what was read
+-- the pieces of a text that goes on after what was read
 abbrev pub pieces_from : Scan → List ℕ → List Piece
 pieces_from Plain [] = []
 pieces_from Dollar [] = Bad ∷ []

@@ -99,7 +99,7 @@ abbrev pub without_rule : Contents → List (List ℕ) → List (List ℕ)
 without_rule make goals =
     each_once (filter (λ path. not (is_rule_target make.rules path)) (goals ++ flat_map prerequisites_of make.rules))
 
--- All that may serve a build of these goals: the rules, and behind them the paths without a rule that a suffix rule serves.
+-- All that may serve a build of these goals: the rules, and after them the paths without a rule that a suffix rule serves.
 -- The source of a suffix rule is a file, which needs nothing, or has a rule.
 abbrev pub servings : Contents → (List ℕ → Bool) → List (List ℕ) → List Serving
 servings make is_file goals = map (serving_of make is_file) make.rules

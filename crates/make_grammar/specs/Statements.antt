@@ -113,7 +113,7 @@ unless_cause file n None reading = Ok reading
 
 -- ---- macros
 
--- macros with this definition: in place of that of the same name, unless that is fixed, or behind them
+-- macros with this definition: in place of that of the same name, unless that is fixed, or after them
 abbrev pub with_definition : Definition → List Definition → List Definition
 with_definition definition [] = definition ∷ []
 with_definition definition (older ∷ others) =
@@ -244,7 +244,7 @@ abbrev pub plain_targets : Bool → List (List ℕ) → List (List ℕ)
 plain_targets grouped targets =
     if grouped then each_once targets else filter (λ target. not (is_special target)) targets
 
--- what was read, with a rule line of these words behind it
+-- what was read, with a rule line of these words after it
 abbrev pub with_rule : List ℕ → ℕ → RuleWords → Reading → Reading
 with_rule file n words reading =
     record reading {
@@ -299,7 +299,7 @@ script_line_of file n line rule older reading =
     else unless_cause file n (cause_or (cause_where rule.is_special BadLine) (cause_where (has_bad_dollar line) BadMacro))
     (record reading { rules = with_script_line rule line ∷ older })
 
--- a line behind a tab, by the rule lines that were read and whether it belongs to the newest
+-- a line after a tab, by the rule lines that were read and whether it belongs to the newest
 abbrev pub script_line : List ℕ → ℕ → List ℕ → Bool → List RuleLine → Reading → Result Reading MakeError
 script_line file n line true (rule ∷ older) reading =
     if is_blank_line line then Ok reading else script_line_of file n line rule older reading

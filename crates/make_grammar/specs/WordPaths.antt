@@ -19,7 +19,7 @@ path_below_root word = unless_root (result_ok (path_of word))
 abbrev pub paths_below_root : List (List ℕ) → Option (List (List ℕ))
 paths_below_root words = paths_read path_below_root words
 
--- a path behind paths, unless it stands there
+-- a path after paths, unless it stands there
 abbrev pub with_path_once : List (List ℕ) → List ℕ → List (List ℕ)
 with_path_once paths path = if list_any (bytes_eq path) paths then paths else paths ++ path ∷ []
 

@@ -14,7 +14,7 @@ use Rattle.make_graph.specs.Waits.{is_in, makes_one, makers_of, prerequisites_at
 use Rattle.make_graph.proofs.NeedLemmas.{itself}
 use Rattle.make_graph.proofs.MakerLemmas.{is_maker}
 
--- ---- a number put behind others
+-- ---- a number put after others
 
 behind_is_last : (n : ℕ) (numbers : List ℕ) → is_last n (numbers ++ n ∷ []) ≡ true
 behind_is_last n numbers =
@@ -45,7 +45,7 @@ named_twice true true n numbers = last_twice n numbers
 named_twice true false n numbers = refl
 named_twice false b n numbers = refl
 
--- ---- a number put behind some of the lists
+-- ---- a number put after some of the lists
 
 pub names_none : (n : ℕ) (lists : List (List ℕ)) → NamesDependant (is_in []) n lists lists
 names_none n lists = record { size = refl; lists = λ m h. refl }

@@ -169,7 +169,7 @@ marks_same units unit k marks h set = record {
         let two : nat_le k n ≡ true = grind (arith, nat_tests) in
         ap (λ t. is_in (needed_units units k h.wanted) n || (t && is_marked marks n)) (one ∙ sym two)
 
--- behind the last unit
+-- after the last unit
 pub all_marked : (units : List Unit) (unit : ℕ) (marks : List Bool) → HasMarks units unit 0 marks → (n : ℕ)
     → is_marked marks n ≡ is_in (closure_of units unit) n
 all_marked units unit marks h n =

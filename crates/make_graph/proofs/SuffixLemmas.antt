@@ -1,5 +1,5 @@
 -- The suffix rules for a path, found by its suffix.
-use Rattle.std.proofs.Common.{◌≡◌, refl, sym, ap, ◌∙◌, ℕ, zero, suc, ◌+◌, ◌-◌, ◌<◌, ◌==◌, Bool, true, false, ◌||◌, ◌&&◌, Option}
+use Rattle.std.proofs.Common.{◌≡◌, refl, sym, ap, ◌∙◌, ℕ, zero, suc, ◌+◌, ◌-◌, ◌<◌, ◌==◌, Bool, true, false, ◌||◌, Option}
 use Rattle.std.proofs.Common.{Some, None, List, [], ◌∷◌, ◌++◌, length, take, drop, unwrap_or, if◌then◌else◌, arith, nat_eq}
 use Rattle.std.proofs.Math.Seq.{drop-cons}
 use Rattle.std.proofs.lemmas.List.{get_or-drop, drop-drop, length-drop}
@@ -62,7 +62,7 @@ drop_dotted dotted (suc n) [] h = h
 drop_dotted dotted (suc n) (rule ∷ rules) h = drop_dotted dotted n rules
     (λ e. and_second (is_dotted rule.to) (are_dotted rules) (h e))
 
--- what a rule found, or else what the rules behind it find
+-- what a rule found, or else what the rules after it find
 abbrev passed : Contents → (List ℕ → Bool) → List ℕ → Option Inference → List SuffixRule → Option Inference
 passed make is_file path found rules = elim found [ Some here ↦ Some here | None ↦ first_inference make is_file path rules ]
 
@@ -87,7 +87,7 @@ first_found make is_file path dotted (rule ∷ rules) h =
         ∙ sym (ap (λ stem. passed make is_file path (inference_at make is_file rule stem) rules)
         (no_stem dotted rule.to path (λ d. and_first (is_dotted rule.to) (are_dotted rules) (h d)) e))
 
--- a rule that does not serve a path is passed over, and those with other keys behind it
+-- a rule that does not serve a path is passed over, and those with other keys after it
 pub next_found : (make : Contents) (is_file : List ℕ → Bool) (path : List ℕ) (dotted : Bool) (rules : List SuffixRule) (place : ℕ)
     → AreDotted dotted rules → place < length rules →
     inference_at make is_file (rule_at rules place) (stem_of (rule_at rules place).to path) ≡ None →

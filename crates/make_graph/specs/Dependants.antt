@@ -6,7 +6,7 @@ use Rattle.cc_names.specs.Versions.{is_number}
 abbrev pub is_last : ℕ → List ℕ → Bool
 is_last n numbers = is_number n (slice_get numbers (length numbers - 1))
 
--- these numbers, and behind them another, unless it is their last already
+-- these numbers, and after them another, unless it is their last already
 abbrev pub with_last : ℕ → List ℕ → List ℕ
 with_last n numbers = elim (is_last n numbers) [ true ↦ numbers | false ↦ numbers ++ n ∷ [] ]
 

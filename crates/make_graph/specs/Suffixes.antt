@@ -28,7 +28,7 @@ abbrev pub suffix_key : Bool → List ℕ → List ℕ
 suffix_key true bytes = suffix_of bytes
 suffix_key false bytes = []
 
--- the place of the first rule that is found by a key; behind all where there is none
+-- the place of the first rule that is found by a key; after all where there is none
 abbrev pub rule_place : Bool → List ℕ → List SuffixRule → ℕ
 rule_place dotted key [] = 0
 rule_place dotted key (rule ∷ rules) = if bytes_eq (suffix_key dotted rule.to) key then 0 else suc (rule_place dotted key rules)
@@ -42,7 +42,7 @@ abbrev pub next_place : Bool → List SuffixRule → ℕ → ℕ
 next_place dotted rules place = suc place + rule_place dotted (suffix_key dotted (rule_at rules place).to)
     (drop (suc place) rules)
 
--- the first rule for each key, and behind each rule the next for its key, are known
+-- the first rule for each key, and after each rule the next for its key, are known
 pub record KnowsSuffixes (rules : List SuffixRule) (dotted : Bool) (first : HashMap (List ℕ) ℕ RandomState) (next : List ℕ) : Type
     0 where
   pub suffixes : dotted ≡ are_dotted rules

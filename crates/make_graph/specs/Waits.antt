@@ -33,7 +33,7 @@ abbrev pub dependants_of : List Unit → ℕ → List ℕ
 dependants_of units m = filter (λ n. makes_one units (prerequisites_at units n) m) (range_with_len 0 (length units))
 
 -- The units below a number that make what is wanted, and what those are made of in turn: down the units, the last one first,
--- since a unit stands behind its prerequisites.
+-- since a unit stands after its prerequisites.
 abbrev pub needed_units : List Unit → ℕ → List (List ℕ) → List ℕ
 needed_units units zero wanted = []
 needed_units units (suc n) wanted =

@@ -31,7 +31,7 @@ fn put_maker(set: &mut NumberSet, sets: &[NumberSet], maker: u32)
     }
 }
 
-/// The closure of the unit behind these sets, which are those of the units before it. Takes time linear in the words of a set for
+/// The closure of the unit after these sets, which are those of the units before it. Takes time linear in the words of a set for
 /// each unit that makes one of its prerequisites.
 fn next_set(alloc: Global, makers: &[u32], sets: &[NumberSet]) -> Result<NumberSet, NoMemory>
     requires { HaveRooms sets.now }

@@ -44,7 +44,7 @@ impl Dependants {
         }
     }
 
-    /// Puts a number behind the others, unless it is their last already. Takes constant time.
+    /// Puts a number after the others, unless it is their last already. Takes constant time.
     fn put(&mut self, number: u32) -> Result<(), NoMemory>
         ensures { OnOk result (self.new ≡ with_last number self.old) }
     {

@@ -322,7 +322,7 @@ fn own_servings<E: Exists>(
     Ok(units)
 }
 
-/// Puts those of the paths that have no rule behind others, each once.
+/// Puts those of the paths that have no rule after others, each once.
 fn put_without_rule(
     make: &Makefile,
     rules: &Numbers,
@@ -394,7 +394,7 @@ fn one_path(alloc: Global, path: &Path) -> Result<List<Path>, NoMemory>
     Ok(List::of(paths))
 }
 
-/// Puts what suffix rules make of paths without a rule behind what serves.
+/// Puts what suffix rules make of paths without a rule after what serves.
 fn put_alone<E: Exists>(
     alloc: Global,
     make: &Makefile,

@@ -16,14 +16,14 @@ use std::hash::RandomState;
 /// The place of the first rule for each key.
 type Firsts = HashMap<Text, usize, RandomState>;
 
-/// The suffix rules of a makefile, each found by the suffix of what it makes, and behind it the others of that suffix, in order.
+/// The suffix rules of a makefile, each found by the suffix of what it makes, and after it the others of that suffix, in order.
 #[derive(Drop)]
 pub(crate) struct SuffixTable<'a> {
     rules: &'a [SuffixRule],
     /// Whether each rule makes what has a `.`; else all are found by one key.
     by_suffix: bool,
     first: Firsts,
-    /// The place of the next rule for the same key, behind each rule.
+    /// The place of the next rule for the same key, after each rule.
     next: Vec<usize>,
     ghost knows: { KnowsSuffixes rules.now by_suffix first next.items },
 }
@@ -131,7 +131,7 @@ impl<'a> SuffixTable<'a> {
         &self.rules[place]
     }
 
-    /// The place of the first rule that may serve a path; behind all where there is none. Takes time linear in the path.
+    /// The place of the first rule that may serve a path; after all where there is none. Takes time linear in the path.
     pub(crate) fn first(&self, alloc: Global, path: &[u8]) -> Result<usize, NoMemory>
         ensures { IfOk result
             (λ place.

@@ -149,7 +149,7 @@ impl Graph {
     /// The units that a unit stands on: those that make its prerequisites, and those that these stand on. Fails only where
     /// memory runs out.
     ///
-    /// Takes memory and time linear in the units before it, 64 of them at once. Of a unit behind the first 16,384 it takes time
+    /// Takes memory and time linear in the units before it, 64 of them at once. Of a unit after the first 16,384 it takes time
     /// linear in the prerequisites of the units that it stands on too.
     pub fn closure(&self, alloc: Global, unit: u32) -> Result<Closure, NoMemory>
         requires { unit < length self.now }

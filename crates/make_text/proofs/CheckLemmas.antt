@@ -29,7 +29,7 @@ use Rattle.make_text.proofs.ExpansionLemmas.{followed_nothing}
 use Rattle.make_text.proofs.StepLemmas.{runs_same, referred_went, is_started}
 
 module _ (macros : List Macro) (automatic : ℕ → List ℕ) where
-  -- what there is in the end, where a reference is expanded behind what was written
+  -- what there is in the end, where a reference is expanded after what was written
   abbrev pub total_of : List ℕ → List ℕ → Expansion
   total_of written name =
       one_after_other (plain written)
@@ -122,7 +122,7 @@ named_at (d ∷ definitions) (suc i) = named_at definitions i
 
 -- ---- the fault of a part of what there is
 
--- a part behind what was written, by the whole
+-- a part after what was written, by the whole
 pub part_of_whole : (written whole : List ℕ) (part : Expansion) (loops : Bool)
     → record { bytes = whole; loops = loops } ≡ one_after_other (plain written) part →
     (length part.bytes ≡ length whole - length written) × (part.loops ≡ loops)
@@ -131,7 +131,7 @@ part_of_whole written whole part loops h =
     let len : length whole ≡ length written + length part.bytes = ap length bytes ∙ length-append written part.bytes in
     (omega (arith, len), sym (ap (λ (e : Expansion). e.loops) h))
 
--- a part is too long where so much was written behind
+-- a part is too long where so much was written after
 pub long_behind : (written prefix : List ℕ) (total part : Expansion) → total ≡ one_after_other (plain written) part →
     length prefix ≤ length total.bytes → 65536 < length prefix - length written → is_too_long part ≡ true
 long_behind written prefix total part h prefix_le long =

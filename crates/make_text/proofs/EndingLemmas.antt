@@ -1,4 +1,4 @@
--- What is tested behind the last line of a makefile.
+-- What is tested after the last line of a makefile.
 use Rattle.std.proofs.Common.{◌≡◌, refl, ap, ◌∙◌, ℕ, Option, Some, None, Result, Ok, Err, List, [], unwrap_or}
 use Rattle.cc_names.specs.Answers.{FaultIs}
 use Rattle.cc_names.specs.Files.{Files}

@@ -280,7 +280,7 @@ module _ (macros : List Macro) (automatic : ℕ → List ℕ) where
   abbrev room_in : List Opened → ℕ
   room_in opened = left_of macros automatic opened
 
-  -- what is still to come is what the first pieces of the rest give, and then what is behind them
+  -- what is still to come is what the first pieces of the rest give, and then what is after them
   pub still_cut : (rest behind : List ℕ) (ps : List Piece) (opened : List Opened) → pieces_of rest ≡ ps ++ pieces_of behind
       → still macros automatic rest opened ≡ one_after_other (goes_on macros automatic (room_in opened) (opened_names opened) ps)
       (still macros automatic behind opened)

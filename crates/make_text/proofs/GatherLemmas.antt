@@ -38,7 +38,7 @@ pub put_marked : (lines : List RuleLine) (marks : List Bool) (paths : List (List
     → slice_get marks n ≡ Some true → paths ≡ fold with_path_once paths (prerequisites_at lines n)
 put_marked lines marks paths n has at = sym (has n at)
 
--- behind a line that was put and marked
+-- after a line that was put and marked
 pub put_more : (lines : List RuleLine) (marks : List Bool) (paths : List (List ℕ)) (n : ℕ) → HasPut lines marks paths
     → HasPut lines (set marks n true) (fold with_path_once paths (prerequisites_at lines n))
 put_more lines marks paths n has =
@@ -96,7 +96,7 @@ put_step lines marks new_marks paths new_paths n has one two =
     (subst (λ (l : List Bool). HasPut lines l (fold with_path_once paths (prerequisites_at lines n))) (sym one)
     (put_more lines marks paths n has))
 
--- a rule put behind others
+-- a rule put after others
 pub put_joined : (lines : List RuleLine) (rule : JoinedRule) (paths : List (List ℕ))
     → fold with_path_once paths (flat_map (prerequisites_at lines) rule.lines.items)
     ≡ fold with_path_once paths (joined_rule lines rule).prerequisites

@@ -42,7 +42,7 @@ numbered_more targets i path x items had all within at before =
     let e : drop i items ≡ x ∷ drop (i + 1) items = rw (drop-cons items i x, at, add-one) refl in
     number_next targets i path x (drop (i + 1) items) had ∙ (ap (λ l. number_or targets i path l had) (sym e) ∙ before)
 
--- one more behind a list that is numbered
+-- one more after a list that is numbered
 pub numbered_new : {A : Type 0} (targets : A → List (List ℕ)) (m n : ℕ) (path : List ℕ) (x : A) (items : List A)
     → m ≡ n + length items →
     with_numbers m (targets x) path (number_from targets n path items) ≡ number_from targets n path (items ++ x ∷ [])

@@ -94,7 +94,7 @@ joined_some (path ∷ part) parts h =
       all_longer (fold with_path_once one part) parts,
     ))
 
--- lists of paths, of which one that is not empty is at a place behind empty ones
+-- lists of paths, of which one that is not empty is at a place after empty ones
 pub some_later : {A : Type 0} (paths : A → List (List ℕ)) (i : ℕ) (part : A) (items : List A) → i < length items
     → part ≡ get_or items i part → false ≡ (length (paths part) == 0) →
     once_joined (map paths (drop i items)) ≡ once_joined (map paths items) → false ≡ (length (once_joined (map paths items)) == 0)

@@ -48,7 +48,7 @@ or_swap false true false d = refl
 or_swap false false true d = refl
 or_swap false false false d = refl
 
--- among paths with one behind them
+-- among paths with one after them
 pub among_behind : (paths : List (List ℕ)) (path x : List ℕ) → is_among (paths ++ path ∷ []) x
     ≡ (is_among paths x || bytes_eq x path)
 among_behind paths path x =

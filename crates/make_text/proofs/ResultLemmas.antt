@@ -21,7 +21,7 @@ none_known macros count written states all nothing same =
     subst (λ w. AreResults macros w states) (sym nothing)
     (subst (AreResults macros []) (sym (same ∙ ap (λ n. replicate n Untouched) all)) (runs_start macros no_automatic []))
 
--- a text is expanded behind what was written
+-- a text is expanded after what was written
 pub goes_behind : (macros : List Macro) (text written : List ℕ) (states : List State) (e : Expanding)
     → AreResults macros written states → e.rest.now ≡ text → e.opened.items ≡ [] → e.states ≡ states → e.written.items ≡ written →
     IsExpanding macros no_automatic (one_after_other (plain written) (expanded_by macros text)) [] e
@@ -71,7 +71,7 @@ part_is written whole part loops start h at =
     ap (λ (b : List ℕ). record { bytes = b; loops = loops }) rest
     ∙ ap (λ (l : Bool). record { bytes = part.bytes; loops = l }) (ap (λ (e : Expansion). e.loops) h)
 
--- a part is too long where so much was written behind
+-- a part is too long where so much was written after
 pub part_is_long : (written prefix : List ℕ) (total part : Expansion) (start : ℕ) → total ≡ one_after_other (plain written) part
     → length prefix ≤ length total.bytes → start ≡ length written → 65536 < length prefix - start → is_too_long part ≡ true
 part_is_long written prefix total part start h prefix_le at long = long_behind written prefix total part h prefix_le

@@ -209,7 +209,7 @@ module _ (macros : List Macro) (automatic : ℕ → List ℕ) where
       subst (λ v. StepWent macros automatic total v new) (sym goes) (subst (IsExpanding macros automatic total []) (sym same)
       next)
 
-  -- behind the first part of what is left
+  -- after the first part of what is left
   is_cut : (total : Expansion) (part : parts.Part) (old cut : Expanding) → IsExpanding macros automatic total [] old
       → pieces_of old.rest.now ≡ pieces_in part ++ pieces_of cut.rest.now → cut ≡ record old { rest = cut.rest }
       → IsExpanding macros automatic total (pieces_in part) cut

@@ -46,7 +46,7 @@ abbrev pub HasJoined : JoinedRule → ℕ → JoinedRule → Type 0
 HasJoined old n new =
     (new.targets ≡ old.targets) × ((lines : List RuleLine) → joined_rule lines new ≡ joined_at lines (joined_rule lines old) n)
 
--- rules with a new one behind them
+-- rules with a new one after them
 abbrev pub HasNew : List (List ℕ) → ℕ → List JoinedRule → List JoinedRule → Type 0
 HasNew targets n old new =
     (lines : List RuleLine) → rules_of lines new ≡ rules_of lines old ++ joined_at lines (rule_without targets) n ∷ []

@@ -1,4 +1,4 @@
--- The test of each macro behind the last line.
+-- The test of each macro after the last line.
 use Rattle.std.specs.Prelude.{◌≡◌, ℕ, false, Option, Some, None, Result, Ok, Err, List, [], length, slice_index_or}
 use Rattle.cc_names.specs.declared.commands.Macro.{Macro}
 use Rattle.cc_names.specs.declared.memory.Or.{Or}
@@ -28,7 +28,7 @@ abbrev pub AtEndUnless : List Macro → (ℕ → List ℕ) → Option MakeCause 
 AtEndUnless macros automatic None e = IsAtEnd macros automatic e
 AtEndUnless macros automatic (Some cause) e = Unit {0}
 
--- an expansion that gives a total in the end ran, and told the fault of what the total has behind so many bytes
+-- an expansion that gives a total in the end ran, and told the fault of what the total has after so many bytes
 abbrev pub RunsTo : List Macro → (ℕ → List ℕ) → Expansion → ℕ → Option MakeCause → Expanding → Type 0
 RunsTo macros automatic total start cause e =
     (written : List ℕ) (part : Expansion) → length written ≡ start → total ≡ one_after_other (plain written) part

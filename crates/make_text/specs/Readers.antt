@@ -11,7 +11,7 @@ use Rattle.make_text.specs.ReadingSteps.{ended_rule}
 use Rattle.make_grammar.specs.Statements.{Reading, reading_fault, unless_cause, cause_or, cause_where, is_scripted}
 use Rattle.make_grammar.specs.Statements.{is_second_script, macros_of, include_words, include_line, within_limits}
 
--- the rule lines behind the newest
+-- the rule lines after the newest
 abbrev pub older_of : List RuleLine → List RuleLine
 older_of [] = []
 older_of (rule ∷ older) = older

@@ -54,7 +54,7 @@ rule_line_of_words file n words =
       script = None;
     }
 
--- what was read, with a rule line behind it, to which a script line that comes next belongs
+-- what was read, with a rule line after it, to which a script line that comes next belongs
 abbrev pub with_next_rule : RuleLine → Reading → Reading
 with_next_rule rule reading =
     record reading {
@@ -71,7 +71,7 @@ newest_with line (rule ∷ older) = with_script_line rule line ∷ older
 abbrev pub with_newest_line : List ℕ → Reading → Reading
 with_newest_line line reading = record reading { rules = newest_with line reading.rules }
 
--- a line counted and read, within the limits behind it
+-- a line counted and read, within the limits after it
 abbrev pub counted_line_read : (ℕ → Reading → List ℕ → Result Reading MakeError) → List ℕ → LogicalLine → Reading
     → Result Reading MakeError
 counted_line_read include file line reading =

@@ -26,7 +26,7 @@ rule_of_words grouped targets prerequisites =
     or_cause (rule_words_fault grouped targets prerequisites)
     (record { is_group = grouped; targets = targets; prerequisites = prerequisites })
 
--- a rule line by what stands before its mark and behind it, once both were expanded
+-- a rule line by what stands before its mark and after it, once both were expanded
 abbrev pub rule_of_sides : Bool → List ℕ → List ℕ → Result RuleWords MakeCause
 rule_of_sides grouped before behind = rule_of_words grouped (words_of before) (words_of behind)
 

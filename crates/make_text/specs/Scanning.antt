@@ -11,7 +11,7 @@ pieces_in (variants.Reference name) = Reference name.now ∷ []
 pieces_in (variants.Automatic b) = Automatic b ∷ []
 pieces_in variants.Bad = Bad ∷ []
 
--- behind what was read of a reference a text is cut where the reference ends
+-- after what was read of a reference a text is cut where the reference ends
 pub record CutsFrom (scan : Scan) (text : List ℕ) (part : lent.Part) (rest : List ℕ) : Type 0 where
   pub pieces : pieces_from scan text ≡ pieces_in part ++ pieces_of rest
   pub shorter : length rest ≤ length text

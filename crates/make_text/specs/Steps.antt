@@ -29,7 +29,7 @@ opened_in macros o = record { name = (macro_at macros o.index).name; outer = o.o
 abbrev pub macros_opened : List Macro → List lent.Opened → List Opened
 macros_opened macros items = map (opened_in macros) (reverse items)
 
--- an expansion of the code that gives a total in the end, behind some pieces
+-- an expansion of the code that gives a total in the end, after some pieces
 pub record IsExpanding (macros : List Macro) (automatic : ℕ → List ℕ) (total : Expansion) (pieces : List Piece)
     (e : expandings.Expanding) : Type 0 where
   pub runs : Runs macros automatic total pieces e.rest.now e.written.items (macros_opened macros e.opened.items) e.states
@@ -106,7 +106,7 @@ StepWent macros automatic total Goes new = IsExpanding macros automatic total []
 StepWent macros automatic total Ends new = (total ≡ plain new.written.items) × IsAtEnd macros automatic new
 StepWent macros automatic total Loops new = total ≡ record { bytes = new.written.items; loops = true }
 
--- there is less left to do behind a step, where the expansion goes on
+-- there is less left to do after a step, where the expansion goes on
 abbrev pub FallsBelow : ℕ → Step → ℕ → Type 0
 FallsBelow before Goes after = after < before
 FallsBelow before Ends after = Unit {0}

@@ -1,4 +1,4 @@
-//! What is tested behind the last line of a makefile, and what it says then.
+//! What is tested after the last line of a makefile, and what it says then.
 
 ghost use Rattle.std.specs.Prelude.{◌≡◌, IfOk, filter, flat_map, not, reverse};
 ghost use Rattle.cc_names.specs.Answers.{Gives};
@@ -159,7 +159,7 @@ fn test_ending(alloc: Global, reading: &Reading) -> Result<(), Or<MakeError>>
     }
 }
 
-/// What a makefile says, or the first fault behind its last line.
+/// What a makefile says, or the first fault after its last line.
 pub(crate) fn checked_contents(
     alloc: Global,
     hashing: RandomState,

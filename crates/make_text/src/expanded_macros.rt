@@ -81,7 +81,7 @@ fn take_results(alloc: Global, macros: &MacroTable, results: &mut Results) -> Re
     taken
 }
 
-/// What was written behind so many bytes, unless it is too much; a loop may have ended it.
+/// What was written after so many bytes, unless it is too much; a loop may have ended it.
 fn outcome_behind(
     alloc: Global,
     written: &[u8],
@@ -97,7 +97,7 @@ fn outcome_behind(
     Ok(unless_too_long(part, loops))
 }
 
-/// An outcome behind which no results are known.
+/// An outcome after which no results are known.
 fn outcome_without_results(alloc: Global, macros: &MacroTable, outcome: ExpandedText) -> Ran
     ensures outcome { result.outcome ≡ outcome }
     ensures results { AreResults (macros_of macros.now) result.results.written.items
@@ -109,7 +109,7 @@ fn outcome_without_results(alloc: Global, macros: &MacroTable, outcome: Expanded
     }
 }
 
-/// The outcome of an expansion that came to its end, by what was written behind so many bytes, and what is known then.
+/// The outcome of an expansion that came to its end, by what was written after so many bytes, and what is known then.
 fn expansion_ended(alloc: Global, expanding: Expanding<'_>, start: usize) -> Result<Ran, NoMemory>
     requires { start ≤ length expanding.written.items }
     ensures outcome { IfOk result
@@ -127,7 +127,7 @@ fn expansion_ended(alloc: Global, expanding: Expanding<'_>, start: usize) -> Res
     Ok(Ran { outcome, results })
 }
 
-/// The outcome of an expansion that met a loop, by what was written behind so many bytes.
+/// The outcome of an expansion that met a loop, by what was written after so many bytes.
 fn expansion_looped(
     alloc: Global,
     macros: &MacroTable,
@@ -146,7 +146,7 @@ fn expansion_looped(
     Ok(outcome_without_results(alloc, macros, outcome))
 }
 
-/// Expands a text outside scripts behind the results that are known.
+/// Expands a text outside scripts after the results that are known.
 fn run_behind<'a>(
     alloc: Global,
     macros: &'a MacroTable,

@@ -95,7 +95,7 @@ impl<'a> Expanding<'a> {
         )
     }
 
-    /// The expansion of a text behind what was written, where these states of the macros are known. Takes no memory.
+    /// The expansion of a text after what was written, where these states of the macros are known. Takes no memory.
     pub(crate) fn behind(
         alloc: Global,
         states: States,
@@ -129,7 +129,7 @@ impl<'a> Expanding<'a> {
         (states, written)
     }
 
-    /// How many bytes were written behind so many.
+    /// How many bytes were written after so many.
     pub(crate) fn written_behind(&self, start: usize) -> usize
         ensures { result ≡ length self.now.written.items - start }
     {
@@ -200,7 +200,7 @@ impl<'a> Expanding<'a> {
         }
     }
 
-    /// What a part of the text gives, behind which the text goes on.
+    /// What a part of the text gives, after which the text goes on.
     fn take(
         &mut self,
         alloc: Global,

@@ -50,7 +50,7 @@ impl Gathered {
         }
     }
 
-    /// Puts the prerequisites of the line of this number behind the others, unless it is marked.
+    /// Puts the prerequisites of the line of this number after the others, unless it is marked.
     fn put_line(&mut self, alloc: Global, lines: &[RuleLine], number: u32) -> Result<(), NoMemory>
         requires { HasPut lines.now self.old.marks.items self.old.paths.keys }
         ensures paths { OnOk result
@@ -66,7 +66,7 @@ impl Gathered {
         Ok(())
     }
 
-    /// Puts the prerequisites of the lines of these numbers behind the others.
+    /// Puts the prerequisites of the lines of these numbers after the others.
     fn put_lines(
         &mut self,
         alloc: Global,
@@ -86,7 +86,7 @@ impl Gathered {
         Ok(())
     }
 
-    /// Puts the prerequisites of a rule behind the others.
+    /// Puts the prerequisites of a rule after the others.
     fn put_rule(
         &mut self,
         alloc: Global,

@@ -87,7 +87,7 @@ pub(crate) fn read_lines<X: Texts>(
     Ok(reader)
 }
 
-/// Counts and reads a line, and tests the counts behind it.
+/// Counts and reads a line, and tests the counts after it.
 #[cycle(files)]
 fn counted_line<X: Texts>(
     reader: Reader,
@@ -190,7 +190,7 @@ fn read_behind<X: Texts>(
     }
 }
 
-/// Reads the lines of a makefile behind the macros of the command line. Takes time linear in the texts, in the values of the
+/// Reads the lines of a makefile after the macros of the command line. Takes time linear in the texts, in the values of the
 /// macros that each line is the first to reach since one was last defined, and in what the lines expand to.
 pub(crate) fn read_all<X: Texts>(
     alloc: Global,

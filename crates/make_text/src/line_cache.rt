@@ -66,7 +66,7 @@ fn behind_tab(line: &[u8]) -> &[u8]
     }
 }
 
-/// Puts a line, with its newline, behind a script.
+/// Puts a line, with its newline, after a script.
 fn put_line(script: &mut Vec<u8>, line: &[u8]) -> Result<(), NoMemory>
     ensures { OnOk result (script.new.items ≡ script.old.items ++ line.now ++ (10 ∷ [])) }
 {
@@ -75,7 +75,7 @@ fn put_line(script: &mut Vec<u8>, line: &[u8]) -> Result<(), NoMemory>
     Ok(())
 }
 
-/// A script with a line of it behind, without its tab and with its newline.
+/// A script with a line of it after, without its tab and with its newline.
 fn with_line(alloc: Global, mut script: Vec<u8>, line: &[u8]) -> Result<Rc<Vec<u8>>, NoMemory>
     ensures { IfOk result
         (λ longer. longer.value.items ≡ script.items ++ drop 1 line.now ++ (10 ∷ [])) }

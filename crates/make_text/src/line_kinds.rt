@@ -80,7 +80,7 @@ fn behind_include(bytes: &[u8]) -> Option<&[u8]>
     None
 }
 
-/// The position behind a byte.
+/// The position after a byte.
 fn behind_byte(position: Position, byte: u8) -> Position
     ensures { result ≡ behind_byte position byte }
 {
@@ -108,7 +108,7 @@ fn is_deciding_byte(position: Position, byte: u8) -> bool
     !is_in_reference(position) && (byte == b'=' || byte == b':')
 }
 
-/// The kind of a line that no byte decides, by the position behind its last byte.
+/// The kind of a line that no byte decides, by the position after its last byte.
 fn kind_at_end(position: Position) -> Kind<'static>
     ensures { kind_of_lent result ≡ kind_from position [] }
 {

@@ -66,7 +66,7 @@ impl<'a> LogicalLines<'a> {
     }
 }
 
-/// The bytes of the first logical line of a text, which has this number, what is left of the text behind it, and the
+/// The bytes of the first logical line of a text, which has this number, what is left of the text after it, and the
 /// number of the line there.
 fn first_line<'a>(
     alloc: Global,

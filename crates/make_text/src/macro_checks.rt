@@ -1,4 +1,4 @@
-//! What is tested of each macro behind the last line: whether its expansion is too long, or meets itself.
+//! What is tested of each macro after the last line: whether its expansion is too long, or meets itself.
 
 ghost use Rattle.std.specs.Prelude.{◌≡◌, ◌<◌, ◌-◌, [], IfOk, length};
 ghost use Rattle.make_grammar.specs.Grammar.{macros_fault};
@@ -15,7 +15,7 @@ use cc_names::memory::{NoMemory, Or};
 use cc_names::refusals::{MakeCause, MakeError};
 use std::alloc::Global;
 
-/// The most bytes of results behind which they are forgotten, so that memory stays bounded; no result is longer than a line.
+/// The most bytes of results after which they are forgotten, so that memory stays bounded; no result is longer than a line.
 pub(crate) const RESULTS_LIMIT: usize = 16_777_216;
 
 /// The fault of an expansion of so many bytes, which a loop may have ended.
@@ -36,7 +36,7 @@ fn fault_of_expansion(len: usize, loops: bool) -> Option<MakeCause>
 }
 
 impl<'a> Expanding<'a> {
-    /// Goes on to the end of a macro, which was begun behind so many bytes, and tells its fault.
+    /// Goes on to the end of a macro, which was begun after so many bytes, and tells its fault.
     fn run(
         &mut self,
         alloc: Global,
@@ -65,7 +65,7 @@ impl<'a> Expanding<'a> {
         }
     }
 
-    /// Tells the fault of the macro at an index, by its name: a reference to it is expanded behind what was written, unless
+    /// Tells the fault of the macro at an index, by its name: a reference to it is expanded after what was written, unless
     /// its result is known. Takes time linear in the values of the macros that were not expanded yet, and in what it then
     /// expands to; constant time where the result is known.
     fn test(

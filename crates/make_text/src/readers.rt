@@ -246,7 +246,7 @@ impl Reader {
         Ok(())
     }
 
-    /// Reads a line behind a tab.
+    /// Reads a line after a tab.
     pub(crate) fn script_line(
         mut self,
         alloc: Global,

@@ -347,7 +347,7 @@ impl Reading {
         self.put_rule(rule_line_of_words(alloc, hashing, file, line, words)?)
     }
 
-    /// Puts a rule line behind the others.
+    /// Puts a rule line after the others.
     fn put_rule(&mut self, rule: RuleLine) -> Result<(), NoMemory>
         ensures { OnOk result (self.new ≡ with_next_rule rule self.old) }
     {

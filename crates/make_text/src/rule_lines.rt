@@ -233,7 +233,7 @@ fn fits_line(before: usize, mark: usize, behind: usize) -> bool
     before.saturating_add(mark.saturating_add(behind)) <= EXPANSION_LIMIT
 }
 
-/// The bytes of an expansion that has no fault and is not too long behind what stands before it and a mark.
+/// The bytes of an expansion that has no fault and is not too long after what stands before it and a mark.
 fn bytes_behind(before: &Text, mark: &[u8], outcome: ExpandedText) -> Result<Text, MakeCause>
     ensures { (total : Expansion)
         → IsExpandedText total outcome

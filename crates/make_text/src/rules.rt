@@ -154,7 +154,7 @@ impl MakeRule {
         Ok(list_of_set(alloc, paths)?)
     }
 
-    /// Puts those of the prerequisites that are not there behind paths.
+    /// Puts those of the prerequisites that are not there after paths.
     fn put_prerequisites(
         &self,
         alloc: Global,

@@ -17,7 +17,7 @@ use indexmap::IndexSet;
 use std::alloc::Global;
 use std::hash::RandomState;
 
-/// Puts those of the paths that are not there behind others, in order.
+/// Puts those of the paths that are not there after others, in order.
 pub(crate) fn put_paths(
     alloc: Global,
     set: &mut IndexSet<Path, RandomState>,

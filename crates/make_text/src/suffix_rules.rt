@@ -143,7 +143,7 @@ fn suffix_rule(
     Ok(SuffixRule::of(from.copy(alloc)?, to.copy(alloc)?, script))
 }
 
-/// Puts the suffix rules that make one suffix from another behind others.
+/// Puts the suffix rules that make one suffix from another after others.
 fn put_pair_rules(
     alloc: Global,
     made: &mut Vec<SuffixRule>,
@@ -204,7 +204,7 @@ fn rules_from<'a>(
     Ok(begun)
 }
 
-/// Puts the suffix rules that make any suffix from one behind others. Takes time linear in the suffixes for each rule.
+/// Puts the suffix rules that make any suffix from one after others. Takes time linear in the suffixes for each rule.
 fn put_pairs(
     alloc: Global,
     made: &mut Vec<SuffixRule>,
@@ -223,7 +223,7 @@ fn put_pairs(
     Ok(())
 }
 
-/// Puts the suffix rules that begin from a suffix behind others. Takes time linear in the rules, and in the suffixes for
+/// Puts the suffix rules that begin from a suffix after others. Takes time linear in the rules, and in the suffixes for
 /// each rule of which a target begins with that suffix.
 fn put_from(
     alloc: Global,

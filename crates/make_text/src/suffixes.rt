@@ -72,7 +72,7 @@ impl Suffixes {
         Ok(suffixes)
     }
 
-    /// Puts a suffix behind the others, unless it is there.
+    /// Puts a suffix after the others, unless it is there.
     fn put(&mut self, alloc: Global, suffix: &Path) -> Result<(), NoMemory>
         requires { is_suffix suffix.now ≡ true }
         ensures { OnOk result (self.new ≡ with_path_once self.old suffix.now) }
@@ -82,7 +82,7 @@ impl Suffixes {
         Ok(())
     }
 
-    /// Puts those of the suffixes that are not there behind the others.
+    /// Puts those of the suffixes that are not there after the others.
     fn put_all(&mut self, alloc: Global, suffixes: &[Path]) -> Result<(), NoMemory>
         requires { list_all is_suffix suffixes.now ≡ true }
         ensures { OnOk result (self.new ≡ fold with_path_once self.old suffixes.now) }

@@ -135,7 +135,7 @@ all_live b needed h = λ id within lives. h.lives id (omega arith) within lives
 pub all_closed : (b : Base) (needed : ℕ → Bool) → NeedsFrom b 0 needed → IsClosed b needed
 all_closed b needed h = λ id object needs names. h.closed id object (omega arith) needs names
 
--- behind all rows
+-- after all rows
 pub needs_none : (b : Base) (n : ℕ) (needed : ℕ → Bool) → size b ≤ n → ((id : ℕ) → needed id ≡ false) → NeedsFrom b n needed
 needs_none b n needed past none = record {
   lives = λ id from within lives. absurd (omega (arith, past, from, within));

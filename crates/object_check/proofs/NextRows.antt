@@ -19,7 +19,7 @@ use Rattle.object_check.specs.Verdicts.{IsFoundToBe, live_objects}
 use Rattle.object_check.specs.declared.verdicts.Found.{Found}
 use Rattle.object_check.specs.declared.verdicts.Found.TheVariants.{Dead, Same, Other}
 
--- the row of a number behind those before it
+-- the row of a number after those before it
 pub record NextRow (b : Base) (id : ℕ) : Type 0 where
   pub row : Plain
   pub rows : first_rows (suc id) b ≡ row ∷ first_rows id b

@@ -66,7 +66,7 @@ fn is_needed(rows: &FirstRows<'_>, needed: &BTreeSet<u64>, id: u64) -> bool
     needed.contains(&id) || live_row(rows, id).is_some()
 }
 
-/// Adds a row, where it is needed, and the objects that its entries name. Those behind it are added by now.
+/// Adds a row, where it is needed, and the objects that its entries name. Those after it are added by now.
 fn take_row(rows: &FirstRows<'_>, needed: &mut BTreeSet<u64>, id: u64) -> Result<(), NoMemory>
     requires { NeedsFrom rows.now (suc id) (contains nat_cmp needed.old) }
     ensures { OnOk result (NeedsFrom rows.now id (contains nat_cmp needed.new)) }

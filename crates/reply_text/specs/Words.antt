@@ -5,11 +5,11 @@ use Rattle.cc_names.specs.Cuts.{lines_of}
 use Rattle.cc_names.specs.declared.commands.LaneWords.{LaneWords}
 use Rattle.cc_names.specs.declared.commands.PhaseWords.{PhaseWords}
 
--- a word behind another one, with one space between
+-- a word after another one, with one space between
 abbrev pub spaced_word : List ℕ → List ℕ
 spaced_word word = 32 ∷ word
 
--- words behind another one
+-- words after another one
 abbrev pub spaced_words : List (List ℕ) → List ℕ
 spaced_words words = flat_map spaced_word words
 

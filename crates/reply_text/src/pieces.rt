@@ -1,4 +1,4 @@
-//! The pieces of a line, written one behind the other.
+//! The pieces of a line, written one after the other.
 
 ghost use Rattle.std.specs.Prelude.{◌≡◌, ◌++◌, ◌∷◌, [], OnOk};
 ghost use Rattle.std.specs.Fmt.{decimal};

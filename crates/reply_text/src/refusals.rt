@@ -1,4 +1,4 @@
-//! Refusals and faults, as words behind others.
+//! Refusals and faults, as words after others.
 
 ghost use Rattle.std.specs.Prelude.{◌≡◌, ◌++◌, ◌∷◌, [], OnOk, MatchOption, Some, None};
 ghost use Rattle.std.specs.Fmt.{decimal};
@@ -88,7 +88,7 @@ fn push_arguments(
     }
 }
 
-/// Writes a refusal behind a word: its code and name, and its arguments.
+/// Writes a refusal after a word: its code and name, and its arguments.
 pub(crate) fn push_refusal(
     alloc: Global,
     text: &mut Vec<u8>,
@@ -138,7 +138,7 @@ fn push_script_fault(alloc: Global, text: &mut Vec<u8>, fault: &ScriptFault) -> 
     }
 }
 
-/// Writes the fault of a unit behind a word.
+/// Writes the fault of a unit after a word.
 pub(crate) fn push_fault(
     alloc: Global,
     text: &mut Vec<u8>,

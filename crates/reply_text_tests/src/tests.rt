@@ -25,7 +25,7 @@ fn phase(alloc: Global) -> Result<PhaseWords, Fail> {
     })
 }
 
-// What the command prints for this reply, behind its word.
+// What the command prints for this reply, after its word.
 fn assert_reply(rt: &impl Abort, alloc: Global, reply: Reply, words: &str) -> Result<(), Fail> {
     let phase = phase(alloc)?;
     let replies = [reply];

@@ -55,7 +55,7 @@ all_written before after outputs extents left index all none =
     ∙ append_assoc before (word (length outputs)) (bytes_at outputs extents)
     ∙ ap (λ count. before ++ (word count ++ bytes_at outputs extents)) (sym (as_many outputs extents))
 
--- a head and what is written behind it
+-- a head and what is written after it
 regroup : (a b c d rest : List ℕ) → (a ++ (b ++ (c ++ d))) ++ rest ≡ a ++ (b ++ (c ++ (d ++ rest)))
 regroup a b c d rest =
     append_assoc a (b ++ (c ++ d)) rest ∙ ap (λ s. a ++ s) (append_assoc b (c ++ d) rest

@@ -1,5 +1,5 @@
 -- Rows with outputs in the file of objects, worked out by computation: outputs of 4,095 bytes and of 4,096.
-use Rattle.std.proofs.Common.{◌≡◌, ℕ, true, false, List, [], ◌∷◌, ◌++◌, refl}
+use Rattle.std.proofs.Common.{◌≡◌, ℕ, true, false, List, [], ◌∷◌, refl}
 use Rattle.std.proofs.Math.ListN.{replicate}
 use Rattle.std.specs.Prelude.{codes}
 use Rattle.cc_names.specs.Formed.{Plain}

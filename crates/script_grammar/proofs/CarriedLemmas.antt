@@ -1,5 +1,5 @@
 -- How parts of a run that were carried out follow each other.
-use Rattle.std.proofs.Common.{◌≡◌, true, ℕ, Option, Some, None, Bool, Result, Ok, Err, List, [], ◌∷◌, refl, ap, sym, ◌∙◌, ◌<◌}
+use Rattle.std.proofs.Common.{◌≡◌, true, ℕ, Option, Some, None, Bool, Result, Ok, Err, List, [], refl, ap, sym, ◌∙◌}
 use Rattle.std.proofs.Common.{◌≤◌, subst, arith}
 use Rattle.std.specs.List.{AllByRecursion}
 use Rattle.cc_names.specs.Counts.{Rose}

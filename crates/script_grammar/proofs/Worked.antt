@@ -163,7 +163,7 @@ include_without_end : run (line (codes "pp loop > a")) (codes "a" ∷ []) source
     ≡ record { result = Err (IncludeDepth (codes "loop")); reads = codes "loop" ∷ [] }
 include_without_end = refl
 
--- a text with a letter replaced, and its first line behind it
+-- a text with a letter replaced, and its first line after it
 two_forms : run (line (codes "sub i a in > out") ++ line (codes "head 1 in >> out")) (codes "out" ∷ []) some_files ≡
     record { result = Ok ((line (codes "ha") ++ line (codes "hi")) ∷ []); reads = codes "in" ∷ [] }
 two_forms = refl

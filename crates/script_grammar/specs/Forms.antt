@@ -24,7 +24,7 @@ whole text = text
 abbrev pub first_lines : ℕ → List ℕ → List ℕ
 first_lines number text = flat_map (λ line. line) (take number (lines_in text))
 
--- the same text behind so many bytes that are passed over, with each occurrence of some bytes replaced
+-- the same text after so many bytes that are passed over, with each occurrence of some bytes replaced
 abbrev pub replaced_behind : List ℕ → List ℕ → ℕ → List ℕ → List ℕ
 replaced_behind from to skip [] = []
 replaced_behind from to (suc skip) (b ∷ bytes) = replaced_behind from to skip bytes
@@ -41,6 +41,6 @@ with_replaced (b ∷ from) to text = replaced_behind (b ∷ from) to zero text
 abbrev pub digest_line : List ℕ → List ℕ
 digest_line text = encode_lower (sha256 text) ++ 10 ∷ []
 
--- a text behind the line that says its path and how many bytes it has
+-- a text after the line that says its path and how many bytes it has
 abbrev pub linked_text : List ℕ → List ℕ → List ℕ
 linked_text path text = path ++ 32 ∷ decimal (length text) ++ 10 ∷ text

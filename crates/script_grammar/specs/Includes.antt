@@ -1,5 +1,5 @@
 -- Which lines include a file, and where it is looked for.
-use Rattle.std.specs.Prelude.{ℕ, ◌-◌, Bool, ◌==◌, Option, Some, None, List, [], ◌∷◌, ◌++◌, length, take, drop, nat_eq, codes}
+use Rattle.std.specs.Prelude.{ℕ, ◌-◌, Bool, Option, Some, None, List, [], ◌∷◌, ◌++◌, length, take, drop, nat_eq, codes}
 use Rattle.std.specs.Prelude.{if◌then◌else◌}
 use Rattle.std.specs.List.{starts_with, ends_with, filter_map}
 use Rattle.cc_names.specs.Paths.{is_root}

@@ -129,7 +129,7 @@ abbrev pub pieces : Option (List ℕ) → List (List ℕ)
 pieces None = []
 pieces (Some text) = slice_split is_newline text
 
--- how many bytes are left of a text behind a line, the newline counted
+-- how many bytes are left of a text after a line, the newline counted
 abbrev pub size_of : Option (List ℕ) → ℕ
 size_of None = 0
 size_of (Some text) = length text + 1

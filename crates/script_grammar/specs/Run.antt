@@ -19,7 +19,7 @@ pub data Asking (A : Type 0) : Type 0 where
   Done : A → Asking A
   Asks : List ℕ → (Option (List ℕ) → Asking A) → Asking A
 
--- a path behind paths, unless it stands there
+-- a path after paths, unless it stands there
 abbrev pub with_read : List (List ℕ) → List ℕ → List (List ℕ)
 with_read paths path = if list_any (bytes_eq path) paths then paths else paths ++ path ∷ []
 
@@ -28,7 +28,7 @@ pub record Traced (A : Type 0) : Type 0 where
   pub value : A
   pub reads : List (List ℕ)
 
--- what it comes to over these files, each path that it asks for noted once behind those before
+-- what it comes to over these files, each path that it asks for noted once after those before
 abbrev pub trace_of : {A : Type 0} → Files → List (List ℕ) → Asking A → Traced A
 trace_of files reads (Done a) = record { value = a; reads = reads }
 trace_of files reads (Asks path next) = trace_of files (with_read reads path) (next (files path))
@@ -78,7 +78,7 @@ pub record Made : Type 0 where
   pub bytes : List ℕ
   pub probes : ℕ
 
--- what a line has made with more bytes behind it, where its output stays within the limit
+-- what a line has made with more bytes after it, where its output stays within the limit
 abbrev pub with_output : Output → List ℕ → Made → Result Made ScriptFault
 with_output output more made =
     if nat_lt output_limit (output.before + length made.bytes + length more) then Err (TooBig output.path)
@@ -149,7 +149,7 @@ parts_of (Head lines path) = TextOf (first_lines lines) path ∷ []
 parts_of (Digest path) = TextOf digest_line path ∷ []
 parts_of (Link paths) = map (λ path. TextOf (linked_text path) path) paths
 
--- what a line has made with one part behind it
+-- what a line has made with one part after it
 abbrev pub with_part : Files → Output → Part → Made → Asking (Result Made ScriptFault)
 with_part own output (Says more) made = Done (with_output output more made)
 with_part own output (TextOf form path) made = and_then (needed_text own path)

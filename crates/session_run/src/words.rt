@@ -23,7 +23,7 @@ pub enum Form {
     Sites,
 }
 
-/// The form that one word behind FILE says.
+/// The form that one word after FILE says.
 fn plain_form(word: &Text) -> Option<Form>
     ensures { result ≡ plain_form word.now }
 {
@@ -49,7 +49,7 @@ fn size_of(word: &Text) -> Option<u32>
     }
 }
 
-/// The form that three words behind FILE say: that of a large session, with its seed and its size.
+/// The form that three words after FILE say: that of a large session, with its seed and its size.
 fn big_form(word: &Text, seed: &Text, size: &Text) -> Option<Form>
     ensures { result ≡ big_form word.now seed.now size.now }
 {

@@ -81,7 +81,7 @@ impl<'a> Asked<'a> {
         }
     }
 
-    /// The numbers behind these words; none where no setting begins with them.
+    /// The numbers after these words; none where no setting begins with them.
     pub(crate) fn numbers(&self, alloc: Global, words: &str) -> Result<Vec<u64>> {
         numbers_of(alloc, self.setting(words).unwrap_or(""))
     }

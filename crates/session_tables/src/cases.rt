@@ -64,7 +64,7 @@ fn found_of(outcome: Outcome, preamble: Preamble<'_>, part: Part<'_>) -> Found {
     }
 }
 
-// A session behind a front, on what the one before left.
+// A session after a front, on what the one before left.
 fn run_next<R: Threads + Wait + Sync>(
     host: &Host<'_, R>,
     preamble: Preamble<'_>,
@@ -152,7 +152,7 @@ pub(crate) fn first_difference<R: Threads + Wait + Sync>(
     Ok(None)
 }
 
-// Whether an output ends so, behind a line at least.
+// Whether an output ends so, after a line at least.
 fn ends_as_wanted(written: &str, end: &str) -> bool {
     match written.strip_suffix(end) {
         Some(omitted) => omitted.ends_with("\n") && !omitted.trim().is_empty(),
@@ -160,7 +160,7 @@ fn ends_as_wanted(written: &str, end: &str) -> bool {
     }
 }
 
-// Whether what is written is what is wanted, behind what the front's session writes. Where the first line that is wanted is
+// Whether what is written is what is wanted, after what the front's session writes. Where the first line that is wanted is
 // `...`, only the end is compared.
 fn matches_wanted(written: &str, before: &str, wanted: &str) -> bool {
     match (written.strip_prefix(before), wanted.strip_prefix("...\n")) {

@@ -110,7 +110,7 @@ fn run_folder<R: Threads + Wait + Sync>(
     Ok(tally)
 }
 
-/// The folder of the tables: the first word behind the program's name, else the one that it runs in.
+/// The folder of the tables: the first word after the program's name, else the one that it runs in.
 fn folder_given(rt: &HostRuntime) -> io::Result<String> {
     match env::args(rt)?.nth(1) {
         Some(folder) => Ok(folder),

@@ -69,7 +69,7 @@ fn written_of(alloc: Global, asked: Asked<'_>, written: &[u8]) -> Result<String>
     Ok(written)
 }
 
-// Adds what is to be told behind the status.
+// Adds what is to be told after the status.
 fn add_more(
     alloc: Global,
     asked: Asked<'_>,

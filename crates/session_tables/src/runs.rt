@@ -58,7 +58,7 @@ pub(crate) fn words_of(alloc: Global, line: &str) -> Result<Vec<Text>, NoMemory>
     Ok(words)
 }
 
-// The text of a session behind that of a front. Where a number of bytes is asked for, a note fills it up to so many.
+// The text of a session after that of a front. Where a number of bytes is asked for, a note fills it up to so many.
 fn bytes_of(alloc: Global, preamble: &str, asked: Asked<'_>) -> Result<Vec<u8>> {
     let text = format!(in alloc; "{preamble}{}", asked.text)?;
     let mut bytes = text.as_str().as_bytes().to_vec(alloc)?;
@@ -120,7 +120,7 @@ fn ended_on<R: Threads + Wait + Sync>(
     ))
 }
 
-/// What a session comes to behind the text of a front, on a base with this journal.
+/// What a session comes to after the text of a front, on a base with this journal.
 pub(crate) fn outcome_on<R: Threads + Wait + Sync>(
     host: &Host<'_, R>,
     journal: &[u8],

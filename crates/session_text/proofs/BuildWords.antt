@@ -19,13 +19,13 @@ asked_by-one word [] asked h = ap (λ v. cond v (Err BadWord) (with_one asked wo
 asked_by-one word (next ∷ words) asked h = ap (λ v. cond v (asked_behind (asked_by words) (with_option asked word next))
     (asked_behind (asked_by (next ∷ words)) (with_one asked word))) h
 
--- an option and the word behind it
+-- an option and the word after it
 pub asked_by-option : (word next : List ℕ) (words : List (List ℕ)) (asked : Asked) → is_option word ≡ true
     → asked_by (word ∷ next ∷ words) asked ≡ asked_behind (asked_by words) (with_option asked word next)
 asked_by-option word next words asked h = ap (λ v. cond v (asked_behind (asked_by words) (with_option asked word next))
     (asked_behind (asked_by (next ∷ words)) (with_one asked word))) h
 
--- an option with no word behind it
+-- an option with no word after it
 pub asked_by-cut : (word : List ℕ) (asked : Asked) → is_option word ≡ true → asked_by (word ∷ []) asked ≡ Err BadWord
 asked_by-cut word asked h = ap (λ v. cond v (Err BadWord) (with_one asked word)) h
 

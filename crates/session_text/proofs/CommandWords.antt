@@ -238,7 +238,7 @@ before_reported : (said : Said Command) (word : List ℕ) (commands : List Comma
 before_reported (Ok command) word commands is has = ap (λ w. w ∷ map word_of commands) has
 before_reported (Err cause) word commands is has = cc
 
--- where lines stand right, the word of the next command is the first, before those of the commands behind it
+-- where lines stand right, the word of the next command is the first, before those of the commands after it
 pub words-one : (old new : Rest) (word : List ℕ) (words : List (List ℕ)) → FindsCommand old word words new
     → IsRight (kinds_of old.bytes)
     → map word_of (commands_of (kinds_of old.bytes)) ≡ word ∷ map word_of (commands_of (kinds_of new.bytes))
@@ -248,7 +248,7 @@ words-one old new word words found right =
     ∙ before_reported (command_of word words body) word (commands_of (kinds_of new.bytes))
     (right-command word words (kinds_of new.bytes) (found.found.right right)) (command_has_word word words body)
 
--- a word that was pushed stands behind those before it
+-- a word that was pushed stands after those before it
 pub word-pushed : (all before after rest more : List (List ℕ)) (word text : List ℕ) → all ≡ before ++ rest → rest ≡ word ∷ more
     → text ≡ word → after ≡ before ++ text ∷ []
     → all ≡ after ++ more

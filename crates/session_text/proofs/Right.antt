@@ -26,7 +26,7 @@ said_so : {X : Type 0} (said : Said X) → cause_in said ≡ None → IsOk said
 said_so (Ok x) e = refl
 said_so (Err cause) e = cc
 
--- the lines behind one
+-- the lines after one
 pub right-behind : (kind : Kind) (lines : List Kind) → IsRight (kind ∷ lines) → IsRight lines
 right-behind kind lines r = record {
   number = r.number + 1;
@@ -86,7 +86,7 @@ right_along lines other e r = record {
   right = ap (λ v. first_error r.number r.above v) (sym e) ∙ r.right;
 }
 
--- the line behind those passed was found
+-- the line after those passed was found
 pub past-found : {X : Type 0} (of : List Kind → X) (old rest new : Rest) (kind : Kind) → PassesLines of old rest
     → IsNextLine rest kind new
     → FindsKind old kind new × (of (kinds_of old.bytes) ≡ of (kind ∷ kinds_of new.bytes))
@@ -98,7 +98,7 @@ past-found of old rest new kind past next = (
   past.same ∙ ap of next.kinds,
 )
 
--- the line behind those passed does not count either
+-- the line after those passed does not count either
 pub past-line : {X : Type 0} (of : List Kind → X) (old rest new : Rest) (kind : Kind) → PassesLines of old rest
     → IsNextLine rest kind new
     → of (kind ∷ kinds_of new.bytes) ≡ of (kinds_of new.bytes) → PassesLines of old new
@@ -106,7 +106,7 @@ past-line of old rest new kind past next skips =
     let found = past-found of old rest new kind past next in
     record { end = found.0.end; right = λ r. right-behind kind (kinds_of new.bytes) (found.0.right r); same = found.1 ∙ skips }
 
--- no line is left behind those passed
+-- no line is left after those passed
 pub past-all : {X : Type 0} (of : List Kind → X) (old rest : Rest) (new : Rest) → PassesLines of old rest → HasNoLine rest new
     → of (kinds_of old.bytes) ≡ of []
 past-all of old rest new past end = past.same ∙ ap of end.none

@@ -17,14 +17,14 @@ use Rattle.session_text.proofs.AheadLaws.{command_asks}
 use Rattle.session_text.proofs.Ends.{end-behind, end-from}
 use Rattle.session_text.proofs.Right.{right-behind, right-command, right_along}
 
--- the lines of a place were found behind which a line of this kind stands
+-- the lines of a place were found after which a line of this kind stands
 pub record IsSeen (place : Place) (old : Rest) (kind : Kind) (new : Rest) (bytes : ℕ) : Type 0 where
   pub rest : old ≡ record { number = 0; bytes = drop place.from place.text }
   pub within : place.from ≤ length place.text
   pub found : FindsKind old kind new
   pub left : bytes ≡ length new.bytes
 
--- the place behind that line
+-- the place after that line
 abbrev pub behind : Place → ℕ → Place
 behind place left = record { text = place.text; from = length place.text - left }
 
@@ -42,7 +42,7 @@ right-from place old new kind left seen right =
     let bytes : old.bytes ≡ drop place.from place.text = ap (λ (v : Rest). v.bytes) seen.rest in
     seen.found.right (right_along (lines_at place) (kinds_of old.bytes) (ap kinds_of (sym bytes)) right)
 
--- the lines behind it stand right
+-- the lines after it stand right
 pub right-at : (place other : Place) (old new : Rest) (kind : Kind) (left : ℕ) → other ≡ place → IsSeen place old kind new left
     → IsRight (lines_at place) → IsRight (lines_at (behind other left))
 right-at place other old new kind left same seen right =
@@ -132,7 +132,7 @@ command-past old found new word words finds past = record {
       ∙ ap (drop 1) (sym (finds.same ∙ ap (λ v. before_commands v (commands_of (kinds_of found.bytes))) said.1));
 }
 
--- how many bytes are left where lines stand right behind those of a place
+-- how many bytes are left where lines stand right after those of a place
 pub record IsLeft (place : Place) (last : Rest) (left : ℕ) : Type 0 where
   pub there : drop (length place.text - left) place.text ≡ last.bytes
   pub within : left ≤ length place.text

@@ -27,7 +27,7 @@ first_error-next n m above kind lines rest e h =
     ∙ ap (λ v. error_or v (cause_of above kind (body_of rest)) (first_error v (above_next above kind (body_of rest)) rest))
     (sym h)
 
--- a line stands alike with each text of body lines behind it
+-- a line stands alike with each text of body lines after it
 lines_alike : (above : Above) (kind : Kind) (text other : List ℕ) → (cause_of above kind text ≡ cause_of above kind other)
     × (above_next above kind text ≡ above_next above kind other)
 lines_alike above kinds.Skipped text other = (refl, refl)

@@ -71,16 +71,16 @@ abbrev pub with_file : Asked → List ℕ → Said Asked
 with_file asked p =
     if is_none asked.file then says (λ file. record asked { file = Some file }) (path_word p) else Err BadWord
 
--- what is asked behind what was asked so far
+-- what is asked after what was asked so far
 abbrev pub asked_behind : (Asked → Said Asked) → Said Asked → Said Asked
 asked_behind more (Ok asked) = more asked
 asked_behind more (Err cause) = Err cause
 
--- whether a word is an option, which takes the word behind it
+-- whether a word is an option, which takes the word after it
 abbrev pub is_option : List ℕ → Bool
 is_option word = bytes_eq word (codes "-J") || bytes_eq word (codes "-f")
 
--- with an option and the word behind it
+-- with an option and the word after it
 abbrev pub with_option : Asked → List ℕ → List ℕ → Said Asked
 with_option asked word next = if bytes_eq word (codes "-J") then with_jobs asked next else with_file asked next
 

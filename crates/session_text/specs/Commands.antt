@@ -1,4 +1,4 @@
--- The commands: the word of each, the words behind it, and what they say. Where a command comes, it gets a definition and
+-- The commands: the word of each, the words after it, and what they say. Where a command comes, it gets a definition and
 -- a line of the table or of a part of it here.
 use Rattle.std.specs.Prelude.{ℕ, Bool, true, false, Result, Ok, Err, List, [], ◌∷◌, codes, if◌then◌else◌}
 use Rattle.std.specs.Str.{bytes_eq}
@@ -179,7 +179,7 @@ read_findmerge _ = Err BadWord
 abbrev pub GivesAs : {X : Type 0} → (X → Command) → Result X (Or SessionCause) → Result Command (Or SessionCause) → Type 0
 GivesAs {X} make said result = (read : Said X) → Gives said read → Gives result (says make read)
 
--- a command's word, and what the words behind it and the text of its body say
+-- a command's word, and what the words after it and the text of its body say
 pub record Line : Type 0 where
   pub word : List ℕ
   pub says : List (List ℕ) → List ℕ → Said Command
@@ -253,7 +253,7 @@ said_in [] word words text = Err UnknownCommand
 said_in (line ∷ lines) word words text =
     if bytes_eq word line.word then line.says words text else said_in lines word words text
 
--- The command that a word says with the words behind it and with the text of its body; or the cause where it says
+-- The command that a word says with the words after it and with the text of its body; or the cause where it says
 -- none.
 abbrev pub command_of : List ℕ → List (List ℕ) → List ℕ → Said Command
 command_of word words text = said_in table word words text

@@ -17,7 +17,7 @@ pub record IsTextEnd (bytes text : List ℕ) : Type 0 where
   pub within : length bytes ≤ length text
   pub same : bytes ≡ drop (length text - length bytes) text
 
--- the next line, and what is left behind it
+-- the next line, and what is left after it
 pub record IsNextLine (old : Rest) (kind : Kind) (new : Rest) : Type 0 where
   pub kinds : kinds_of old.bytes ≡ kind ∷ kinds_of new.bytes
   pub number : new.number ≡ old.number + 1
@@ -60,7 +60,7 @@ pub record Place : Type 0 where
 abbrev pub lines_at : Place → List Kind
 lines_at place = kinds_of (drop place.from place.text)
 
--- a line of this kind was found behind others: where the lines stand right, so do those from it on
+-- a line of this kind was found after others: where the lines stand right, so do those from it on
 pub record FindsKind (old : Rest) (kind : Kind) (new : Rest) : Type 0 where
   pub end : IsTextEnd new.bytes old.bytes
   pub right : IsRight (kinds_of old.bytes) → IsRight (kind ∷ kinds_of new.bytes)
@@ -81,12 +81,12 @@ pub record FindsLane (old : Rest) (words : List (List ℕ)) (new : Rest) : Type 
   pub found : FindsKind old (kinds.Lane words) new
   pub same : lanes_of (kinds_of old.bytes) ≡ lanes_of (kinds.Lane words ∷ kinds_of new.bytes)
 
--- the next command was found, whose line says this word and these words behind it
+-- the next command was found, whose line says this word and these words after it
 pub record FindsCommand (old : Rest) (word : List ℕ) (words : List (List ℕ)) (new : Rest) : Type 0 where
   pub found : FindsKind old (kinds.Command word words) new
   pub same : commands_of (kinds_of old.bytes) ≡ commands_of (kinds.Command word words ∷ kinds_of new.bytes)
 
--- the first command was passed: where the lines stand right, so do those behind it, and the other commands stand there
+-- the first command was passed: where the lines stand right, so do those after it, and the other commands stand there
 pub record IsPastCommand (old new : Rest) : Type 0 where
   pub end : IsTextEnd new.bytes old.bytes
   pub right : IsRight (kinds_of old.bytes) → IsRight (kinds_of new.bytes)
@@ -101,6 +101,6 @@ PassesCommand false old new = commands_of (kinds_of old.bytes) ≡ []
 abbrev pub LaneNames : List (List ℕ) → Type 0
 LaneNames words = IsOk (view words)
 
--- a word and the words behind it say a command, with the lines behind them
+-- a word and the words after it say a command, with the lines after them
 abbrev pub Says : List ℕ → List (List ℕ) → List Kind → Type 0
 Says word words lines = IsOk (command_of word words (body_of lines))

@@ -123,7 +123,7 @@ abbrev pub body_follows : Said Command → Bool
 body_follows (Ok command) = takes_body command
 body_follows (Err cause) = false
 
--- what stands above the line behind a line, where the body lines below it have this text
+-- what stands above the line after a line, where the body lines below it have this text
 abbrev pub above_next : Above → Kind → List ℕ → Above
 above_next above kinds.Skipped text = above
 above_next above (kinds.Body bytes) text = above
@@ -155,6 +155,6 @@ unless_wrong_line None session = Ok session
 unless_wrong_line (Some error) session = Err error
 
 -- A text read as a session: each line `phase` with the lanes behind it, each line `lane` with the commands behind it,
--- each command with the body lines behind it; or the line that is wrong, counted from 1, with its cause.
+-- each command with the body lines after it; or the line that is wrong, counted from 1, with its cause.
 abbrev pub session_of : List ℕ → Result Session SessionError
 session_of text = unless_wrong_line (error_in (kinds_of text)) (record { phases = phases_of (kinds_of text) })

@@ -1,4 +1,4 @@
--- What the words behind a command's word say, by their shape. V and W are names of views, P and Q paths, L the name of a
+-- What the words after a command's word say, by their shape. V and W are names of views, P and Q paths, L the name of a
 -- type, and `flag` a word that may be left out.
 use Rattle.std.specs.Prelude.{ℕ, Bool, true, false, Option, Some, None, Ok, Err, is_ok, List, [], ◌∷◌, if◌then◌else◌}
 use Rattle.std.specs.Option.{option_map_or}
@@ -12,7 +12,7 @@ abbrev pub has_flag : List ℕ → List (List ℕ) → Bool
 has_flag flag [] = false
 has_flag flag (word ∷ words) = bytes_eq word flag
 
--- the words behind the flag, where it stands first; else all
+-- the words after the flag, where it stands first; else all
 abbrev pub without_flag : List ℕ → List (List ℕ) → List (List ℕ)
 without_flag flag [] = []
 without_flag flag (word ∷ words) = if bytes_eq word flag then words else word ∷ words
@@ -22,7 +22,7 @@ abbrev pub read_first_name : List (List ℕ) → Said (List ℕ)
 read_first_name [] = Err BadWord
 read_first_name (word ∷ words) = name_word word
 
--- the words behind the first
+-- the words after the first
 abbrev pub behind_first : List (List ℕ) → List (List ℕ)
 behind_first [] = []
 behind_first (word ∷ words) = words

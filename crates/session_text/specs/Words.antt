@@ -60,7 +60,7 @@ abbrev pub version_of_parts : List (List ℕ) → Option ℕ → Said VersionNam
 version_of_parts branches (Some n) = Ok (record { branches = branches; number = n })
 version_of_parts branches None = Err BadWord
 
--- where a word is the name of a type, what it says with that name behind these
+-- where a word is the name of a type, what it says with that name after these
 abbrev pub with_branch : (List (List ℕ) → Said VersionName) → List (List ℕ) → Said (List ℕ) → Said VersionName
 with_branch more branches (Ok branch) = more (branches ++ branch ∷ [])
 with_branch more branches (Err cause) = Err cause

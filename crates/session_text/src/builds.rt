@@ -216,7 +216,7 @@ impl Asked {
         Ok(())
     }
 
-    /// Takes in an option and the word behind it.
+    /// Takes in an option and the word after it.
     fn add_option(
         &mut self,
         alloc: Global,

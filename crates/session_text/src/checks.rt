@@ -85,7 +85,7 @@ fn lane_of(alloc: Global, lanes: &[Name], words: Words<'_>) -> Result<Name, Or<S
     view(alloc, words)
 }
 
-/// The command that a line says where no body lines stand behind it.
+/// The command that a line says where no body lines stand after it.
 fn said_without_body(
     alloc: Global,
     hashing: RandomState,
@@ -196,7 +196,7 @@ impl Above {
         }
     }
 
-    /// Takes in a line that stands right, as it does with any body lines behind it.
+    /// Takes in a line that stands right, as it does with any body lines after it.
     fn take(
         &mut self,
         alloc: Global,

@@ -1,4 +1,4 @@
-//! The commands: the word of each, the words behind it, and what they say. Where a command comes, it gets a function and an
+//! The commands: the word of each, the words after it, and what they say. Where a command comes, it gets a function and an
 //! arm of `command_of`, `said_of_types_on` or `said_of_queries` here.
 
 ghost use Rattle.std.specs.Prelude.{◌≡◌, [], IfOk};
@@ -485,7 +485,7 @@ fn said_of_types_on(
     }
 }
 
-/// The command that a word says with the words behind it and with the body lines behind its line.
+/// The command that a word says with the words after it and with the body lines after its line.
 pub(crate) fn command_of(
     alloc: Global,
     hashing: RandomState,

@@ -42,7 +42,7 @@ pub(crate) fn find_lane<'a>(rest: &mut Rest<'a>) -> Option<Words<'a>>
     None
 }
 
-/// Finds the next command of a lane, and answers its word and the words behind that.
+/// Finds the next command of a lane, and answers its word and the words after that.
 pub(crate) fn find_command<'a>(rest: &mut Rest<'a>) -> Option<(Bytes<'a>, Words<'a>)>
     ensures { MatchOption result (commands_of (kinds_of rest.old.bytes) ≡ [])
         (λ found. FindsCommand rest.old found.0 found.1 rest.new) }

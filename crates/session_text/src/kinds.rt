@@ -54,7 +54,7 @@ pub enum Kind<'a> {
     Phase(Words<'a>),
     /// A line `lane`, with the words behind that.
     Lane(Words<'a>),
-    /// Any other line: its first word, and the words behind it.
+    /// Any other line: its first word, and the words after it.
     Command(Bytes<'a>, Words<'a>),
 }
 

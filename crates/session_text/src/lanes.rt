@@ -179,7 +179,7 @@ impl CommandsLeft {
         Ok(Some(command))
     }
 
-    /// Leaves the next command out, where there is one. Takes time linear in its lines, the line of the one behind it and those
+    /// Leaves the next command out, where there is one. Takes time linear in its lines, the line of the one after it and those
     /// between, and no memory.
     pub fn skip(&mut self)
         ensures { self.new ≡ drop 1 self.old }

@@ -1,4 +1,4 @@
-//! What the words behind a command's word say, by their shape.
+//! What the words after a command's word say, by their shape.
 
 ghost use Rattle.std.specs.Prelude.{◌≡◌};
 ghost use Rattle.cc_names.specs.Answers.{Gives};

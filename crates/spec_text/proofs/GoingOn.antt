@@ -1,4 +1,4 @@
--- What one option leaves to those behind it.
+-- What one option leaves to those after it.
 use Rattle.std.proofs.Common.{◌≡◌, ℕ, Option, Some, None, List, [], ◌∷◌, refl, arith}
 use Rattle.base_model.specs.ConfigSpecs.Lines.{Options, option_named, with_time, with_nocheckout, with_mkbranch}
 use Rattle.spec_text.specs.OptionSteps.{IsNextOption}

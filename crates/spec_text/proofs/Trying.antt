@@ -31,7 +31,7 @@ any_of_ends f (x ∷ xs) h =
       | inr there ↦ rw list_suffixes-later (or_right (f xs) (list_any f (later xs)) (any_of_ends f xs there))
     ]
 
--- where a card that is not wild and those behind it cover a later end, those behind it cover a later end
+-- where a card that is not wild and those after it cover a later end, those after it cover a later end
 any_fit : {A : Type 0} (fits : A → Bool) (behind : List A → Bool) (xs : List A)
     → list_any (first_fits fits behind) (list_suffixes xs) ≡ true → list_any behind (later xs) ≡ true
 any_fit fits behind [] h = cc
@@ -42,12 +42,12 @@ any_fit fits behind (x ∷ xs) h =
       | inr there ↦ rw list_suffixes-later (or_right (behind xs) (list_any behind (later xs)) (any_fit fits behind xs there))
     ]
 
--- what trying the last wild card again could still cover: the cards behind it, and what stood there when it was met
+-- what trying the last wild card again could still cover: the cards after it, and what stood there when it was met
 abbrev pub again_covers : {P A : Type 0} → (P → Bool) → (P → A → Bool) → Option (List P × List A) → Bool
 again_covers wild fits None = false
 again_covers wild fits (Some met) = list_any (cards_match wild fits met.0) (later met.1)
 
--- how many members were left when the last wild card was met, and how many cards stood behind it
+-- how many members were left when the last wild card was met, and how many cards stood after it
 abbrev pub met_members : {P A : Type 0} → ℕ → Option (List P × List A) → ℕ
 met_members all None = all
 met_members all (Some met) = length met.1
@@ -83,7 +83,7 @@ begins wild fits cards left = record {
   tries_fit = omega arith;
 }
 
--- as behind a wild card: the cards may cover any end
+-- as after a wild card: the cards may cover any end
 pub begins_anywhere : {P A : Type 0} (wild : P → Bool) (fits : P → A → Bool) (cards : List P) (left : List A)
     → Searches wild fits (list_any (cards_match wild fits cards) (list_suffixes left)) (length cards) (length left) cards left
     (Some (cards, left))

@@ -31,7 +31,7 @@ MatchesEndsOfPaths =
     (names path : List (List ℕ)) → list_all is_plain names ≡ true →
     (matches (pattern_of_names false names) path ≡ true) ↔ ((above : List (List ℕ)) × (path ≡ above ++ names))
 
--- Rules behind one that decides change nothing.
+-- Rules after one that decides change nothing.
 abbrev pub FirstDecides : Type 0
 FirstDecides =
     (sources : Selectables) (element : ℕ) (names : List (List ℕ)) (rules more : List Rule) →

@@ -23,14 +23,14 @@ abbrev pub state_after_block : List Rule → List ℕ → Result State SpecCause
 state_after_block rules [] = Err NoBlock
 state_after_block rules (innermost ∷ blocks) = Ok (record { rules = rules; blocks = blocks })
 
--- the state behind a line
+-- the state after a line
 abbrev pub rules_after_line : Line → State → Result State SpecCause
 rules_after_line Skipped state = Ok state
 rules_after_line (BeginsBlock moment) state = Ok (record { rules = state.rules; blocks = moment ∷ state.blocks })
 rules_after_line EndsBlock state = state_after_block state.rules state.blocks
 rules_after_line (Gives rule) state = Ok (record { rules = state.rules ++ rule ∷ []; blocks = state.blocks })
 
--- the state behind what a line says, where it says something
+-- the state after what a line says, where it says something
 abbrev pub after_read : Result Line SpecCause → State → Result State SpecCause
 after_read (Ok line) state = rules_after_line line state
 after_read (Err cause) state = Err cause

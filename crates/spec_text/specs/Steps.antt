@@ -13,7 +13,7 @@ pub record IsDotsBefore (segments behind : List Segment) : Type 0 where
   pub prefix : segments ≡ segment ∷ behind
   pub wild : is_dots segment ≡ true
 
--- the first segment is another one and matches the first name; these are behind them
+-- the first segment is another one and matches the first name; these are after them
 pub record IsNameBefore (segments : List Segment) (names : List (List ℕ)) (behind : List Segment) (rest : List (List ℕ)) : Type 0
   where
     pub segment : Segment

@@ -12,7 +12,7 @@ pub fn names_match_ends_of_paths()
     ensures { MatchesEndsOfPaths }
 {}
 
-/// Rules behind one that decides change nothing.
+/// Rules after one that decides change nothing.
 pub fn first_rule_decides()
     ensures { FirstDecides }
 {}

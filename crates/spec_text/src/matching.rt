@@ -1,7 +1,7 @@
 //! Matching with wild cards in time of one list's length times the other's, without memory.
 //!
 //! The cards are compared with what they stand for from the start. A wild card stands for nothing at first; where the
-//! comparison fails behind it, it takes one member more, and the comparison begins again behind it. Only the last wild
+//! comparison fails after it, it takes one member more, and the comparison begins again after it. Only the last wild
 //! card met is ever tried again: what an earlier one could take, the last one can take too.
 
 ghost use Rattle.std.specs.Prelude.{◌≡◌};
@@ -79,7 +79,7 @@ fn fits_name(segment: &Segment, name: &[u8]) -> bool
 enum Step<'a> {
     /// The segment is `...`; these are behind it.
     AnyNames(&'a [Segment]),
-    /// The segment matches the name; these are behind them.
+    /// The segment matches the name; these are after them.
     OneName(&'a [Segment], Option<&'a [u8]>),
     /// Nothing is left.
     End,
@@ -106,7 +106,7 @@ fn next_step<'a>(segments: &'a [Segment], names: Option<&'a [u8]>) -> Step<'a>
 }
 
 /// Whether segments match the names that are left of a path: all of them where they are anchored, else those from some
-/// name on or behind the last.
+/// name on or after the last.
 pub(crate) fn matches_where(anchored: bool, segments: &[Segment], names: Option<&[u8]>) -> bool
     ensures { result
         ≡ matches_where anchored segments.now (parts_left 47 (option_copied names.entry)) }

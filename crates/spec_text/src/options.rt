@@ -8,7 +8,7 @@ ghost use Rattle.base_model.specs.ConfigSpecs.Lines.{no_options, option_named, w
 use base_model::config_specs::Named;
 use cc_names::cuts::Words;
 
-/// The options of a rule as they stand, with the words behind them.
+/// The options of a rule as they stand, with the words after them.
 #[derive(Clone, Copy)]
 pub(crate) struct Options<'a> {
     pub time: Option<&'a [u8]>,
@@ -67,7 +67,7 @@ fn with_mkbranch<'a>(options: Options<'a>, word: &'a [u8]) -> Option<Options<'a>
     }
 }
 
-/// The option that a word names with the word behind it that it takes, beside others.
+/// The option that a word names with the word after it that it takes, beside others.
 fn next_option<'a>(options: Options<'a>, word: &[u8], words: &mut Words<'a>) -> Option<Options<'a>>
     ensures { IsNextOption word.now words.old (plain_options options.entry) words.new
         (option_map plain_options result) }

@@ -12,7 +12,7 @@ fn end_of_part(bytes: &[u8], at: u8) -> Option<usize>
     bytes.iter().position(|byte| *byte == at)
 }
 
-/// The bytes behind a place.
+/// The bytes after a place.
 fn behind(bytes: &[u8], place: usize) -> &[u8]
     requires { place < length bytes.now }
     ensures { result.now ≡ drop (place + 1) bytes.now }
@@ -20,7 +20,7 @@ fn behind(bytes: &[u8], place: usize) -> &[u8]
     &bytes[place + 1..]
 }
 
-/// The first part of what is left of bytes between separators, and what is left behind it.
+/// The first part of what is left of bytes between separators, and what is left after it.
 pub(crate) fn split_part<'a>(left: Option<&'a [u8]>, at: u8) -> Option<(&'a [u8], Option<&'a [u8]>)>
     ensures { MatchOption result (parts_left at (option_copied left.entry) ≡ [])
         (λ part.

@@ -75,7 +75,7 @@ impl<D: Disk> History<D> {
         }
     }
 
-    /// The rows from row 1 on: those of the opened base, and behind them that of each commit.
+    /// The rows from row 1 on: those of the opened base, and after them that of each commit.
     pub fn rows(&self) -> &[Row]
         ensures { result.now ≡ rows_named self.now }
     {

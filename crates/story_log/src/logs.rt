@@ -74,7 +74,7 @@ fn frame_of(alloc: Global, row: &Row) -> Result<Frame, NoMemory>
     Frame::of(alloc, payload.as_bytes())
 }
 
-/// The row that may be found behind the rows: what the newest fault left, if no row was committed since. Looks at the steps
+/// The row that may be found after the rows: what the newest fault left, if no row was committed since. Looks at the steps
 /// since the newest commit or fault.
 fn left_behind(steps: &[Step]) -> Option<&Row>
     ensures { option_copied result ≡ left_in steps.now }

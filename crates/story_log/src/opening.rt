@@ -85,7 +85,7 @@ fn next_row(
     }
 }
 
-/// The next row of a journal behind those that were read, or None at its end.
+/// The next row of a journal after those that were read, or None at its end.
 fn read_next_row<D: Disk>(
     alloc: Global,
     hashing: RandomState,

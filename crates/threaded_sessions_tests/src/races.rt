@@ -61,7 +61,7 @@ setcs w7
 // The rows that it makes.
 const SET_UP_ROWS: usize = 26;
 
-// The rows behind a race: a save of each lane more, its object or wink, four labels, and one branch.
+// The rows after a race: a save of each lane more, its object or wink, four labels, and one branch.
 const ROWS: usize = 47;
 
 const OF_FIRST: &str = "4 b5bb9d8014a0f9b1d61e21e796d78dccdf1352f23cd32812f4850b878ae4944c";
@@ -232,7 +232,7 @@ impl Race {
         }
     }
 
-    // Whether a row of a lane stands behind the causes of its command and of those before.
+    // Whether a row of a lane stands after the causes of its command and of those before.
     fn is_behind_causes(&self, start: Start, number: usize, tag: Tag) -> bool {
         (1..=tag.command).all(|command| self.cause(tag.lane, start.act(tag.lane, command))
             <= number)

@@ -160,7 +160,7 @@ pub(crate) fn outcome_at<G: Hook + Sync>(
     Ok(outcome_of(alloc, outside.sink.bytes(), &ended)?)
 }
 
-/// What a session behind a front comes to on a base with this journal.
+/// What a session after a front comes to on a base with this journal.
 pub(crate) fn outcome_on(
     rt: &impl Runtime,
     alloc: Global,

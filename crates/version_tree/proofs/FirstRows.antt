@@ -1,6 +1,6 @@
 -- The versions that the first rows of a base made, and the order of versions.
 use Rattle.std.proofs.Common.{◌≡◌, ℕ, ◌+◌, ◌<◌, ◌≤◌, Bool, true, false, cond, eqb, ltb, List, [], ◌∷◌, length, map, Option, Some}
-use Rattle.std.proofs.Common.{None, ◌⊎◌, refl, inl, inr, ap, ◌∙◌, arith}
+use Rattle.std.proofs.Common.{None, refl, inl, inr, ap, ◌∙◌, arith}
 use Rattle.std.specs.Prelude.{filter, find}
 use Rattle.std.proofs.lemmas.Bool.Decides.{nat_tests, Decides-eqb}
 use Rattle.std.proofs.lemmas.Bool.{cases_Bool}
@@ -76,7 +76,7 @@ versions_of_first_rows rows (c ∷ older) b falls = elim (cases_Bool (ltb (row_o
       ∙ versions_of_first_rows rows older b falls.1 ∙ rw late refl
 ]
 
--- the versions behind version 0 fall where all versions do
+-- the versions after version 0 fall where all versions do
 later_above : (row b moment : ℕ) (ls : List Later) → IsAbove row (map row_of_version (versions_from b moment ls))
     → IsAbove row (map row_of_later ls)
 later_above row b moment [] above = tt

@@ -33,7 +33,7 @@ module _ (made : List Made) (branches : List Branch) (step : InStep made branche
     versions_found_of_first_rows rows = ap (filter (λ v. ltb v.row rows)) versions_found
         ∙ versions_of_first_rows rows (changes_of made) b changes_fall
 
-  -- the versions behind version 0 are in order
+  -- the versions after version 0 are in order
   pub found_falls : (b : ℕ) (found : Option Branch) → found ≡ branch_at branches b
       → IfSome found (λ branch. Falls (map row_of_later (reverse branch.later.items)))
   found_falls b None is = tt

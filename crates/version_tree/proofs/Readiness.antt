@@ -19,7 +19,7 @@ module _ (q : ℕ) where
   or_keeps true b f is = refl
   or_keeps false b f is = f is
 
-  -- in a list of rows, behind one that is there or not
+  -- in a list of rows, after one that is there or not
   any_more : (t : Bool) (x : ℕ) (xs ys : List ℕ) → (list_any (λ b. eqb b q) xs ≡ true → list_any (λ b. eqb b q) ys ≡ true)
       → list_any (λ b. eqb b q) (put_if t x xs) ≡ true → list_any (λ b. eqb b q) (put_if t x ys) ≡ true
   any_more true x xs ys more any = or_keeps (eqb x q) (list_any (λ b. eqb b q) xs) more any

@@ -160,7 +160,7 @@ module _ (items : List Branch) (branch p : ℕ) (falls : Falls (map row_of_branc
           passed true fails any = rw fails at any
           passed false fails any = any
 
--- a version with its row, moment and branch behind so many others
+-- a version with its row, moment and branch after so many others
 abbrev version_behind : ℕ → Later → List Version → Version
 version_behind branch l vs = record { row = l.row; moment = l.moment; branch = branch; number = length vs }
 

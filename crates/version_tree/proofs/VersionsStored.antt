@@ -15,7 +15,7 @@ use Rattle.cc_names.proofs.ByRows.{filter-reverse, filter_first, find-reverse}
 use Rattle.cc_names.proofs.Common.{slice_get_last}
 use Rattle.version_tree.specs.declared.branches.Later.{Later}
 
--- a branch has one version more than versions behind version 0
+-- a branch has one version more than versions after version 0
 pub length-versions_from : (b moment : ℕ) (ls : List Later) → length (versions_from b moment ls) ≡ suc (length ls)
 length-versions_from b moment [] = refl
 length-versions_from b moment (l ∷ older) = ap suc (length-versions_from b moment older)
@@ -62,7 +62,7 @@ latest_first v before true true e = rw e refl
 latest_first v before true false e = rw e refl
 latest_first v before false early e = refl
 
--- the newest that is before a moment stands behind version 0, or is version 0
+-- the newest that is before a moment stands after version 0, or is version 0
 pub latest_stored : (b moment : ℕ) (ls : List Later) (before : Option ℕ) (rows : ℕ)
     → option_map row_of_version (find (λ v. is_before before v.moment) (filter (λ v. ltb v.row rows) (versions_from b moment ls)))
     ≡ option_or (option_map row_of_later (find (λ l. is_before before l.moment) (filter (λ l. ltb l.row rows) ls)))
@@ -97,7 +97,7 @@ find_over p x xs false fails = refl
 abbrev first_of : ℕ → ℕ → Version
 first_of b moment = record { row = b; moment = moment; branch = b; number = 0 }
 
--- the newest version of a branch with these behind version 0
+-- the newest version of a branch with these after version 0
 abbrev newest_of : ℕ → ℕ → Later → List Later → Version
 newest_of b moment l older = record { row = l.row; moment = l.moment; branch = b; number = length (versions_from b moment older) }
 
@@ -118,7 +118,7 @@ number_newest : (v : Version) (vs : List Version) (n : ℕ) (within : Bool) → 
 number_newest v vs n true same none = rw same refl
 number_newest v vs n false same none = rw none refl
 
--- the version with a number on a branch is version 0, or the one at its place behind it
+-- the version with a number on a branch is version 0, or the one at its place after it
 pub numbered_stored : (b moment : ℕ) (ls : List Later) (rows n : ℕ)
     → option_map row_of_version (find (λ v. eqb v.number n) (filter (λ v. ltb v.row rows) (versions_from b moment ls)))
     ≡ row_within rows (row_numbered b (reverse ls) n)
@@ -146,7 +146,7 @@ numbered_stored b moment (l ∷ older) rows (suc k) = rw (reverse-append (l ∷ 
       ∙ numbered_stored b moment older rows (suc k))
 ])
 
--- no version behind version 0 has the row
+-- no version after version 0 has the row
 pub number_first : (b moment : ℕ) (ls : List Later) (row : ℕ) → find (λ l. eqb l.row row) ls ≡ None
     → option_map number_of_version (find (λ v. eqb v.row row) (versions_from b moment ls)) ≡ cond (eqb b row) (Some 0) None
 number_first b moment [] row none = elim (eqb b row) as (λ t. option_map number_of_version
@@ -156,7 +156,7 @@ number_first b moment (l ∷ older) row none = elim (eqb_cases l.row row) [
   | inr differs ↦ rw differs (number_first b moment older row (rw differs at none))
 ]
 
--- the version at a place behind version 0 has the next number
+-- the version at a place after version 0 has the next number
 pub number_behind : (b moment : ℕ) (ls : List Later) (row k : ℕ) (l : Later) → Falls (map row_of_later ls)
     → slice_get (reverse ls) k ≡ Some l → l.row ≡ row
     → option_map number_of_version (find (λ v. eqb v.row row) (versions_from b moment ls)) ≡ Some (k + 1)
@@ -186,7 +186,7 @@ find_has (k ∷ ls) row l found = elim (eqb_cases k.row row) [
 ]
 
 module _ (b moment : ℕ) (items : List Later) (row : ℕ) (falls : Falls (map row_of_later (reverse items))) where
-  -- the version that a look-up found behind version 0 has the next number
+  -- the version that a look-up found after version 0 has the next number
   pub number_found : (k : ℕ) → k < length items → slice_get items k ≡ find (λ l. eqb (row_of_later l) row) items
       → option_map number_of_version (find (λ v. eqb v.row row) (versions_from b moment (reverse items))) ≡ Some (k + 1)
   number_found k within found =
@@ -199,7 +199,7 @@ module _ (b moment : ℕ) (items : List Later) (row : ℕ) (falls : Falls (map r
       there (x ∷ xs) zero lt = (x, refl)
       there (x ∷ xs) (suc i) lt = there xs i (omega arith)
 
-  -- where nothing is found behind it, the row is that of version 0 or of no version here
+  -- where nothing is found after it, the row is that of version 0 or of no version here
   pub number_missed : find (λ l. eqb (row_of_later l) row) items ≡ None
       → option_map number_of_version (find (λ v. eqb v.row row) (versions_from b moment (reverse items)))
       ≡ cond (eqb b row) (Some 0) None

@@ -5,11 +5,11 @@ use Rattle.cc_names.specs.Versions.{Version}
 use Rattle.version_tree.specs.declared.branches.Later.{Later}
 use Rattle.version_tree.specs.declared.branches.Branch.{Branch}
 
--- the row of a version behind version 0
+-- the row of a version after version 0
 abbrev pub row_of_later : Later → ℕ
 row_of_later later = later.row
 
--- The versions on a branch that begins at a moment, where these are its versions behind version 0, newest first.
+-- The versions on a branch that begins at a moment, where these are its versions after version 0, newest first.
 abbrev pub versions_from : ℕ → ℕ → List Later → List Version
 versions_from b moment [] = record { row = b; moment = moment; branch = b; number = 0 } ∷ []
 versions_from b moment (later ∷ older) =
@@ -28,7 +28,7 @@ stored_of_first_rows rows branch = filter (λ v. nat_lt v.row rows) (versions_st
 abbrev pub row_if : Bool → Bool → ℕ → Option ℕ
 row_if one two row = cond one (cond two (Some row) None) None
 
--- the row of a number, where the versions behind version 0 are given oldest first
+-- the row of a number, where the versions after version 0 are given oldest first
 abbrev pub row_numbered : ℕ → List Later → ℕ → Option ℕ
 row_numbered b ls zero = Some b
 row_numbered b ls (suc behind) = option_map row_of_later (slice_get ls behind)

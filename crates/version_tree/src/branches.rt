@@ -7,7 +7,7 @@ ghost use Rattle.version_tree.specs.Branches.{row_within};
 
 use cc_names::by_row::{ByRow, count_below, place_of};
 
-/// A version behind version 0 of its branch.
+/// A version after version 0 of its branch.
 #[derive(Clone, Copy, Debug)]
 pub struct Later {
     pub row: u64,
@@ -22,7 +22,7 @@ impl ByRow for Later {
     }
 }
 
-/// A branch: the row that made it and its version 0, when that was, and the versions behind, in order of their rows.
+/// A branch: the row that made it and its version 0, when that was, and the versions after, in order of their rows.
 #[derive(Debug, Drop)]
 pub struct Branch {
     pub row: u64,

@@ -1,4 +1,4 @@
--- The names that lead to a branch: those of the branch that it leaves, and its own behind them.
+-- The names that lead to a branch: those of the branch that it leaves, and its own after them.
 use Rattle.std.proofs.Common.{◌≡◌, refl, ap, ap₂, sym, ◌∙◌, ℕ, ◌<◌, ◌≤◌, ◌==◌, Bool, true, false, Option, Some, None, List, []}
 use Rattle.std.proofs.Common.{◌∷◌, ◌++◌, arith}
 use Rattle.std.specs.Prelude.{option_and_then}

@@ -27,7 +27,7 @@ use Rattle.base_rows.specs.Made.{is_target}
 use Rattle.base_rows.proofs.Holdings.{held_by_last, held_effect}
 use Rattle.base_rows.proofs.Newest.{no_later}
 
--- a view path at which an object is found, behind all that come before those of the table
+-- a view path at which an object is found, after all that come before those of the table
 record Found (objects_held : ReferencesByPath) (id : ℕ) : Type 0 where
   at : ViewPath
   is : find view_path_cmp at objects_held ≡ Some id

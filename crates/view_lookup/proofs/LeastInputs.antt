@@ -1,5 +1,5 @@
 -- The least path of an object's closure of which a test holds, by the entries of its record.
-use Rattle.std.proofs.Common.{◌≡◌, refl, ap, sym, subst, ◌∙◌, ℕ, suc, ◌<◌, ◌≤◌, Bool, true, false, cond, ◌&&◌, ◌==◌, max, Option}
+use Rattle.std.proofs.Common.{◌≡◌, refl, ap, sym, subst, ◌∙◌, ℕ, suc, ◌<◌, ◌≤◌, Bool, true, false, cond, ◌==◌, max, Option}
 use Rattle.std.proofs.Common.{Some, None, List, [], ◌∷◌, ◌++◌, length, drop, get_or, ◌+◌, arith}
 use Rattle.std.proofs.lemmas.Bool.Decides.{nat_tests}
 use Rattle.std.proofs.lemmas.Cmp.{nat_list_cmp_total, ranked}
@@ -209,7 +209,7 @@ least_not_below passes path (input ∷ inputs) h = by (passes input.0.0 input.1)
     by true None g = h.0
     by true (Some q) g = lower_not_below path input.0.0 q h.0 g
 
--- the path of an input behind another is not below that one's
+-- the path of an input after another is not below that one's
 path_not_below : (one two : Input) → T (is_lt (input_cmp one two)) → is_lt (slice_cmp nat_cmp two.0 one.0) ≡ false
 path_not_below one two low = by (slice_cmp nat_cmp one.0 two.0) refl low
   where

@@ -2,7 +2,7 @@
 use Rattle.std.proofs.Common.{◌≡◌, ℕ, List, [], ◌∷◌, ◌++◌, map, reverse, ap, ◌∙◌, Bor}
 use Rattle.std.proofs.lemmas.List.{map-append, reverse-append}
 
--- with one name more behind them, that one comes first
+-- with one name more after them, that one comes first
 pub one_more : (items : List (Bor (List ℕ))) (name : Bor (List ℕ)) → reverse
     (map (λ (name : Bor (List ℕ)). name.now) (items ++ name ∷ [])) ≡ name.now
     ∷ reverse (map (λ (name : Bor (List ℕ)). name.now) items)

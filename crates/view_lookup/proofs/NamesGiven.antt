@@ -1,5 +1,5 @@
 -- Each name in a catalog of a directory was given there by a row.
-use Rattle.std.proofs.Common.{◌≡◌, ℕ, Bool, true, false, not, cond, ◌&&◌, ◌||◌, ◌==◌, List, [], ◌∷◌, Option, Some, None, refl}
+use Rattle.std.proofs.Common.{◌≡◌, ℕ, Bool, true, false, not, cond, ◌&&◌, ◌==◌, List, [], ◌∷◌, Option, Some, None, refl}
 use Rattle.std.proofs.Common.{ap, sym, subst, ◌∙◌, bytes_eq}
 use Rattle.std.specs.Prelude.{is_some}
 use Rattle.std.proofs.lemmas.Bool.{or_left, or_right}
@@ -53,7 +53,7 @@ if_left : (t : Bool) (found : Option ℕ) → is_some (cond (not t) found None) 
 if_left true found is = absurd (cc)
 if_left false found is = is
 
--- a name behind an edit was there before, in the catalog of the version as which the checkout began, or is given by the edit
+-- a name after an edit was there before, in the catalog of the version as which the checkout began, or is given by the edit
 edited_given : (P : Type 0) (name : List ℕ) (edit : Edit) (of_version : ℕ → Catalog) (own : Catalog)
     → is_some (element_named name (catalog_after edit of_version own)) ≡ true →
     (is_some (element_named name own) ≡ true → P) → ((origin : ℕ) → edit ≡ BeginsAs origin

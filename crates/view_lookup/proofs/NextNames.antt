@@ -50,7 +50,7 @@ newest_is (change ∷ older) branch v rest h = by (branch_of_change change == br
         let before = below (sym all ∙ h) in
         record { on = before.on; number = before.number ∙ ap length (sym all) }
 
--- a version is found by its row as before, where a change behind it is by another row
+-- a version is found by its row as before, where a change after it is by another row
 found_before : (n : ℕ) (change : TreeChange) (before : List TreeChange) (r : ℕ) (v : Version) → row_of_change change ≡ n
     → Within n before → version_at before r ≡ Some v → version_at (change ∷ before) r ≡ Some v
 found_before n change before r v number low e = by (change_at before r) refl e

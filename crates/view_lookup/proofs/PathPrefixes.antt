@@ -14,7 +14,7 @@ use Rattle.cc_names.proofs.NamesOfPaths.{is_root-root}
 use Rattle.cc_names.proofs.PathParts.{cut_at, names_of-below, names_of-names}
 use Rattle.cc_names.proofs.Splits.{Some-given, slice_split-last}
 
--- a name begins at the start of a path, and behind a slash
+-- a name begins at the start of a path, and after a slash
 abbrev pub BeginsName : List ℕ → ℕ → Type 0
 BeginsName path zero = Unit {0}
 BeginsName path (suc slash) = (slash < length path) × (get_or path slash 0 ≡ 47)
@@ -28,7 +28,7 @@ names_before path (suc slash) = slice_split is_slash (take slash path)
 abbrev pub IsUncut : List ℕ → Type 0
 IsUncut bytes = All (λ b. is_slash b ≡ false) bytes
 
--- a slash parts what is taken up to a place behind it
+-- a slash parts what is taken up to a place after it
 take_behind : (path : List ℕ) (slash len : ℕ) → slash < length path → get_or path slash 0 ≡ 47
     → take (suc slash + len) path ≡ take slash path ++ 47 ∷ take len (drop (suc slash) path)
 take_behind [] slash len inside here = absurd (omega arith)
@@ -80,7 +80,7 @@ first_slash bytes place found =
       here = eqb-true _ 47 (passes_at_first is_slash bytes 0 inside);
     })
 
--- the next name begins behind the slash
+-- the next name begins after the slash
 pub begins_behind : (path : List ℕ) (start len : ℕ) → FirstSlash (drop start path) len → start ≤ length path
     → BeginsName path (start + len + 1)
 begins_behind path start len slash inside =

@@ -12,7 +12,7 @@ use Rattle.base_rows.proofs.Newest.{no_later}
 abbrev pub text_by : Base → List ℕ → TextSource → Option (List ℕ)
 text_by older path source = elim source [ Bytes bytes ↦ Some bytes | OfRow origin ↦ text older origin path | NoText ↦ None ]
 
--- the text of a row behind these, where there is one
+-- the text of a row after these, where there is one
 abbrev pub text_of_row : Base → List ℕ → Option Plain → Option (List ℕ)
 text_of_row older path None = None
 text_of_row older path (Some row) = text_by older path (source_of older path row.deed)
@@ -23,7 +23,7 @@ newest row older r at =
     ap (λ within. elim within as (λ _. Base) [ true ↦ row ∷ older | false ↦ first_rows r older ]) past
     ∙ all_rows older r (omega arith)
 
--- rows behind the number change nothing, and where the number is behind all there is no row
+-- rows after the number change nothing, and where the number is after all there is no row
 older_row : (row : Plain) (older : Base) (r : ℕ) (path : List ℕ) → (size older == r) ≡ false
     → text_of_row (first_rows r older) path (row_at older r) ≡ text_of_row (first_rows r (row ∷ older)) path (row_at older r)
 older_row row older r path apart = by_side (nat_lt (size older) r) refl

@@ -44,7 +44,7 @@ impl LookUp for LeavingOf {
     ghost affects = { λ it. leaving_affects it.version };
 }
 
-/// The branches that leave a version, the newest first. Takes time linear in the rows with its key, those behind these rows too.
+/// The branches that leave a version, the newest first. Takes time linear in the rows with its key, those after these rows too.
 pub fn branches_leaving(
     alloc: Global,
     rows: &FirstRows<'_>,

@@ -89,7 +89,7 @@ fn is_held_by_maker(rows: &FirstRows<'_>, object: u64) -> bool
 }
 
 /// Whether some view holds the object. Takes for each of its targets the time of `held_object`: once for the view that made it,
-/// and once for each wink behind the last one whose view holds it still.
+/// and once for each wink after the last one whose view holds it still.
 pub fn is_held(rows: &FirstRows<'_>, object: u64) -> bool
     ensures { result ≡ is_held (objects_held rows.now) object }
 {

@@ -55,7 +55,7 @@ fn of_output(output: Option<&[u8]>) -> TextSource<'_>
     }
 }
 
-/// Where the text comes from of a row of this deed, which comes behind the older rows; of an object, its output at the path.
+/// Where the text comes from of a row of this deed, which comes after the older rows; of an object, its output at the path.
 fn source_of<'a>(older: &FirstRows<'_>, path: &Path, deed: &'a Deed) -> TextSource<'a>
     ensures { plain_source result ≡ source_of older.now path.now deed.now }
 {

@@ -16,7 +16,7 @@ use Rattle.vob_history.specs.VersionTrees.{steps_of, steps_on}
 use Rattle.vob_history.specs.declared.version_trees.Part.{Part}
 use Rattle.vob_history.specs.declared.version_trees.Part.TheVariants.{Branch, Versions}
 
--- words behind a first one, each with a comma before it
+-- words after a first one, each with a comma before it
 pub commas_more : (word : List ℕ) (words : List (List ℕ)) → with_commas (word ∷ words) ≡ word ++ concat (map behind_comma words)
 commas_more word [] = sym (append-nil word)
 commas_more word (next ∷ words) =
@@ -95,7 +95,7 @@ module _ (b : Base) (path : List ℕ) (e : ℕ) where
       ∙ ap (λ (bytes : List ℕ). text ++ bytes) (sym (append_assoc own versions rest))
       ∙ ap (λ (bytes : List ℕ). text ++ ((own ++ bytes) ++ rest)) (sym (by_rows b path e depth branch))
 
-  -- the line of a version; the branches that leave it and the versions behind it left to tell
+  -- the line of a version; the branches that leave it and the versions after it left to tell
   pub version_is_written : (text : List ℕ) (left : List Part) (depth branch number version : ℕ)
       → drop number (rows_on b branch) ≡ version ∷ drop (number + 1) (rows_on b branch) →
       (text ++ line (at_version path (version_name b version) ++ in_brackets (labels_on b e version)))

@@ -130,7 +130,7 @@ fn tell_branch(
     Ok(())
 }
 
-/// Adds the line of the version of a number on a branch, and leaves to tell the branches that leave it and the versions behind
+/// Adds the line of the version of a number on a branch, and leaves to tell the branches that leave it and the versions after
 /// it.
 fn tell_version(
     alloc: Global,

@@ -43,7 +43,7 @@ head_length bytes payload h =
     let len : length payload ≡ size_of bytes = ap length h.is ∙ simp (length-take, length-drop) (omega (arith, h.fits)) in
     (len, omega (arith, h.fits))
 
--- what is at the head stays there with more behind it
+-- what is at the head stays there with more after it
 pub head_more : (bytes payload rest : List ℕ) → IsHead bytes payload → IsHead (bytes ++ rest) payload
 head_more bytes payload rest h =
     let some : 1 ≤ length bytes = omega (arith, h.fits) in

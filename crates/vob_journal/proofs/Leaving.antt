@@ -26,7 +26,7 @@ enough (suc m) (suc n) bytes hm hn = past_same (head bytes) bytes (λ k. behind_
     (λ k. behind_within n (drop k bytes))
     (λ payload. enough m n (drop (5 + length payload) bytes) (simp length-drop (omega arith)) (simp length-drop (omega arith)))
 
--- behind a whole frame stands what follows the rest, and where there is none, all stands behind the frames
+-- after a whole frame stands what follows the rest, and where there is none, all stands after the frames
 pub behind_some : (bytes payload : List ℕ) → head bytes ≡ Some payload → behind bytes ≡ behind (drop (5 + length payload) bytes)
 unfolding behind
 behind_some bytes payload e =

@@ -47,7 +47,7 @@ prefix_torn list tail place n s left prefix behind torn =
     (omega (arith, prefix.synced, prefix.reads))
     (λ i below. torn.below i (omega (arith, prefix.synced, prefix.reads)) (omega arith))
 
--- a prefix, and what is found behind it
+-- a prefix, and what is found after it
 prefix_split : (list : List (List ℕ)) (tail : ℕ) (s : File) (image : List ℕ) → HoldsPrefix list tail s
     → take tail image ≡ take tail s.bytes
     → frames image ≡ list ++ frames (drop tail image)

@@ -1,4 +1,4 @@
--- Bytes behind the frames of journals, counted by hand and checked by computation.
+-- Bytes after the frames of journals, counted by hand and checked by computation.
 use Rattle.std.proofs.Common.{◌≡◌, ℕ, List, [], ◌∷◌, ◌++◌, refl}
 use Rattle.std.specs.Prelude.{codes}
 use Rattle.vob_journal.specs.Foreign.{behind, foreign}

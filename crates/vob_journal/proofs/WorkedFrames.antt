@@ -34,7 +34,7 @@ gate_byte_7 : frames (7 ∷ behind_gate) ≡ []
 unfolding frames
 gate_byte_7 = refl
 
--- two frames, and one behind which the second is shut
+-- two frames, and one after which the second is shut
 two_frames : frames (1 ∷ 2 ∷ 0 ∷ 0 ∷ 0 ∷ codes "ab" ++ 1 ∷ 1 ∷ 0 ∷ 0 ∷ 0 ∷ codes "c" ++ 0 ∷ []) ≡ codes "ab" ∷ codes "c" ∷ []
 unfolding frames
 two_frames = refl
@@ -89,8 +89,8 @@ four_calls = refl
 objects_as_they_were : bytes_now 1 (device_after_commit false 0 payload (new_device [] (codes "xyz"))) ≡ codes "xyz"
 objects_as_they_were = refl
 
--- After 10 calls, on a settled tail: calls 11 and 12 write the frame and sync it, and leave nothing where one of them fails; calls
--- 13 and 14 open the gate, and leave the row in flight.
+-- After 10 calls, on a settled tail: calls 11 and 12 write the frame and sync it, and leave nothing where one of them fails.
+-- Calls 13 and 14 open the gate, and leave the row in flight.
 frame_not_synced : FailsInPhase true Nothing 10 12
 frame_not_synced = (omega arith, omega arith)
 

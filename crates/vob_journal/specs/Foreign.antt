@@ -1,4 +1,4 @@
--- The bytes behind the frames of a journal that no frame of it can be.
+-- The bytes after the frames of a journal that no frame of it can be.
 use Rattle.std.specs.Prelude.{ℕ, zero, suc, ◌+◌, ◌&&◌, Bool, nat_le, if◌then◌else◌, Option, Some, None, List, length, drop}
 use Rattle.std.specs.Prelude.{slice_index}
 use Rattle.vob_journal.specs.Frames.{size_of, head}
@@ -26,6 +26,6 @@ may_be_cut bytes = nat_le (slice_index bytes 0) 1 && nat_le (length bytes) (6 + 
 abbrev pub foreign_of : List ℕ → ℕ
 foreign_of bytes = if may_be_cut bytes then 0 else length bytes
 
--- how many bytes stand behind the last whole frame of a journal, where no frame cut short can be
+-- how many bytes stand after the last whole frame of a journal, where no frame cut short can be
 abbrev pub foreign : List ℕ → ℕ
 foreign bytes = foreign_of (behind bytes)

@@ -1,10 +1,10 @@
--- What a failed call leaves behind the list.
+-- What a failed call leaves after the list.
 use Rattle.std.specs.Prelude.{◌≡◌, ◌≤◌, ◌+◌, ℕ, Bool, true, false, if◌then◌else◌, List, [], ◌∷◌}
 use Rattle.disk_model.specs.Counting.{next_count}
 use Rattle.vob_journal.specs.declared.left.Left.{Left}
 use Rattle.vob_journal.specs.declared.left.Left.TheVariants.{Nothing, Earlier, InFlight}
 
--- the rows that may be found behind the list, from those before the call and the payload in flight
+-- the rows that may be found after the list, from those before the call and the payload in flight
 abbrev pub leftover_after : Left → List (List ℕ) → List ℕ → List (List ℕ)
 leftover_after Nothing leftover payload = []
 leftover_after Earlier leftover payload = leftover

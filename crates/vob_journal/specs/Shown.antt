@@ -8,8 +8,8 @@ use Rattle.vob_journal.specs.Windows.{IfShows}
 use Rattle.vob_journal.specs.declared.window.Window.{Window}
 use Rattle.disk_model.specs.DiskStates.{IfModeled}
 
--- A journal: its disk; the place behind its last frame read or written; the whole list, what is still to be read of it,
--- and what a fault left over behind it, each of them empty where the disk does not model its device; whether the end
+-- A journal: its disk; the place after its last frame read or written; the whole list, what is still to be read of it,
+-- and what a fault left over after it, each of them empty where the disk does not model its device; whether the end
 -- was read, whether the tail is settled, and what the last failed call left.
 pub record Shown (D : Type 0) : Type 0 where
   pub disk : D

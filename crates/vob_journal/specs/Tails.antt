@@ -1,4 +1,4 @@
--- How a journal's file ends, behind the last frame of its list.
+-- How a journal's file ends, after the last frame of its list.
 use Rattle.std.specs.Prelude.{◌≡◌, ◌≢◌, ◌≤◌, ◌<◌, ◌+◌, ℕ, max, Bool, true, false, List, [], ◌∷◌, ◌++◌, length, take, drop}
 use Rattle.std.specs.Prelude.{slice_index}
 use Rattle.disk_model.specs.Files.{File, is_written, stable}
@@ -24,7 +24,7 @@ pub record IsShut (list : List (List ℕ)) (tail : ℕ) (file : File) : Type 0 w
   pub untouched : (i : ℕ) → i ≤ tail → is_written file.written i ≡ false
 
 -- A tail that is not settled: its gate byte may read as anything after a stop, and if it reads as open, then these are
--- found behind the list.
+-- found after the list.
 pub record IsAjar (list leftover : List (List ℕ)) (tail : ℕ) (file : File) : Type 0 where
   pub prefix : HoldsPrefix list tail file
   pub longest : length file.bytes ≤ file.most
@@ -36,7 +36,7 @@ pub record IsAjar (list leftover : List (List ℕ)) (tail : ℕ) (file : File) :
 abbrev pub list_at : ℕ → Device → List (List ℕ)
 list_at tail d = frames (take tail (bytes_now 0 d))
 
--- what may be found behind this tail, unless it is settled
+-- what may be found after this tail, unless it is settled
 abbrev pub leftover_at : Bool → ℕ → Device → List (List ℕ)
 leftover_at true tail d = []
 leftover_at false tail d = frames (1 ∷ drop (tail + 1) (bytes_now 0 d))

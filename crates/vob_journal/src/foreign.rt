@@ -34,7 +34,7 @@ pub fn foreign_bytes<D: Disk>(alloc: Global, disk: &mut D) -> Result<u64, Or<Dis
     }
 }
 
-/// The place behind the last whole frame of a journal of so many bytes.
+/// The place after the last whole frame of a journal of so many bytes.
 fn tail_of<D: Disk>(alloc: Global, disk: &mut D, size: u64) -> Result<u64, Or<DiskFault>>
     requires small { size ≤ 2 ^ 62 }
     requires all { IfModeled (D.ghost_state disk.old).modeled (λ d. size ≡ length (bytes_now 0 d)) }

@@ -22,7 +22,7 @@ use std::marker::Model;
 #[derive(Drop)]
 pub struct Journal<D: Disk> {
     disk: D,
-    /// The place behind the last frame that was read or written.
+    /// The place after the last frame that was read or written.
     tail: u64,
     /// The journal's length as it was opened.
     size: u64,
@@ -246,7 +246,7 @@ impl<D: Disk> Journal<D> {
         self.left
     }
 
-    /// The disk's counts. A stop now leaves the list, and what is left over behind it or not.
+    /// The disk's counts. A stop now leaves the list, and what is left over after it or not.
     pub fn counts(&self) -> Counts
         ensures ticks { result.ticks ≡ (D.ghost_state self.now.disk).ticks }
         ensures faults { result.faults ≡ (D.ghost_state self.now.disk).faults }

@@ -150,7 +150,7 @@ fn commit(
     Ok(journal.append(&frame))
 }
 
-/// What is left behind the commit of a first row, behind that of a second, and behind a settling, on a disk that fails at
+/// What is left after the commit of a first row, after that of a second, and after a settling, on a disk that fails at
 /// these calls; and how many calls were made.
 fn left_by(alloc: Global, fail: &[u64]) -> Result<([Left; 3], u64), Fail> {
     let disk = MemoryDisk::new(alloc, b"", b"", fail)?;

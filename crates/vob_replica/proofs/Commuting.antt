@@ -48,7 +48,7 @@ differ-turned x y differs = differ-by (is_same_identity y x) x y refl differs
 pub differs-too : (x y z : Identity) → is_same_identity x y ≡ true → is_same_identity y z ≡ false → is_same_identity x z ≡ false
 differs-too x y z same differs = ap (λ (i : Identity). is_same_identity i z) (same-is x y same) ∙ differs
 
--- a branch put before one that stands behind it, and behind one that stands before it
+-- a branch put before one that stands after it, and after one that stands before it
 in-front : (t u : Tree) (trees : List Tree) → identity_cmp t.identity u.identity ≡ Less → with_tree t (u ∷ trees) ≡ t ∷ u ∷ trees
 in-front t u trees lt = ap (λ (o : Ordering). put_by o t u trees) lt
 
@@ -118,7 +118,7 @@ put-put : (t u : Tree) (trees : List Tree) → is_same_identity t.identity u.ide
     → with_tree u (with_tree t trees) ≡ with_tree t (with_tree u trees)
 put-put t u trees differs = put-put-by (identity_cmp t.identity u.identity) t u trees refl differs
 
--- a branch as it is behind a change of another
+-- a branch as it is after a change of another
 abbrev change_at : Identity → (Tree → Tree) → Tree → Tree
 change_at branch change tree = changed change (is_same_identity tree.identity branch) tree
 
@@ -394,7 +394,7 @@ abbrev pub FreeOf : Operation → List Operation → Type 0
 FreeOf x [] = Unit {0}
 FreeOf x (y ∷ ys) = Free x y × FreeOf x ys
 
--- an operation may come behind those that it is free of
+-- an operation may come after those that it is free of
 pub moves : (trees : List Tree) (x : Operation) (ys : List Operation) → FreeOf x ys
     → fold after_operation (after_operation trees x) ys ≡ after_operation (fold after_operation trees ys) x
 moves trees x [] free = refl

@@ -124,7 +124,7 @@ left-new table branch [] has = tt
 left-new table branch (m ∷ made) has = new-by (holds table m.operation.identity) table branch m made refl has
     (left-new table branch made has)
 
--- all branches come to what a site knows, and the others behind it
+-- all branches come to what a site knows, and the others after it
 behind-site : (made : List Made) (known : List Operation) → Knows made known → IsPaired made
     → trees_behind made ≡ fold after_operation (trees_of known) (left (table_of known) made)
 behind-site made known knows paired =

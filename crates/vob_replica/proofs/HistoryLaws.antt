@@ -99,7 +99,7 @@ free-by : (b : Bool) (table : List Identity) (x m : Made) (made : List Made) →
 free-by true table x m made has lacks precedes closed later = ((apart-from table x m precedes lacks (closed has)).free, later)
 free-by false table x m made has lacks precedes closed later = later
 
--- one that is not held is free of those behind it that are
+-- one that is not held is free of those after it that are
 free-of : (table : List Identity) (x : Made) (made : List Made) → holds table x.operation.identity ≡ false → PrecedesAll x made
     → IsClosed table made → FreeOf x.operation (kept table made)
 free-of table x [] lacks precedes closed = tt
@@ -119,7 +119,7 @@ parts-by false table trees m made free later =
     later ∙ ap (λ (l : List Tree). fold after_operation l (left table made))
     (moves trees m.operation (kept table made) (free refl))
 
--- All that was made comes to what is held, and the others behind it.
+-- All that was made comes to what is held, and the others after it.
 pub parts : (table : List Identity) (trees : List Tree) (made : List Made) → IsPaired made → IsClosed table made
     → fold after_operation trees (operations_of made) ≡ fold after_operation (fold after_operation trees (kept table made))
     (left table made)
@@ -174,7 +174,7 @@ adds-by : (b : Bool) (table table' : List Identity) (trees : List Tree) (operati
 adds-by true table table' trees operation m made later = later (after_operation trees m.operation)
 adds-by false table table' trees operation m made later = later trees
 
--- One operation more is known: it comes to what it comes to behind all that was known.
+-- One operation more is known: it comes to what it comes to after all that was known.
 pub adds : (table table' : List Identity) (operation : Operation) (made : List Made) (trees : List Tree) → IsPaired made
     → IsClosed table made → IsMade operation made
     → HoldsSame table table' operation.identity → holds table operation.identity ≡ false → holds table' operation.identity ≡ true

@@ -321,7 +321,7 @@ knows-still made m known knows lacks = record {
     closed-of o has (inr last) = let gone : holds (table_of known) o.identity ≡ false =
         ap (λ (x : Operation). holds (table_of known) x.identity) last ∙ lacks in absurd (cc (has, gone))
 
--- each of what was made has the number behind what it needs of its maker
+-- each of what was made has the number after what it needs of its maker
 abbrev pub AreNext : List Made → Type 0
 AreNext made = (operation : Operation) → IsMade operation made → HasNextNumber operation
 

@@ -167,7 +167,7 @@ pub record IsOn (known : List Operation) (table : List Identity) (news rest oper
   pub held : IsLog table (known ++ news)
   pub same : operations_after_import (known ++ news) rest ≡ operations_after_import known operations
 
--- what is behind a place, by its length
+-- what is after a place, by its length
 pub all_behind : (place : ℕ) (known : List Operation) → take (length known - place) (drop place known) ≡ drop place known
 all_behind place known = take_all (length known - place) (drop place known) (omega (arith, length-drop place known))
 

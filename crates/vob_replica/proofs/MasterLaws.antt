@@ -100,7 +100,7 @@ kept-by true table branch x m made is same apart later =
     (spares-made m branch new unused, later)
 kept-by false table branch x m made is same apart later = later
 
--- where one that is not held used the mastership, none behind it that is held did
+-- where one that is not held used the mastership, none after it that is held did
 kept-spares : (table : List Identity) (branch : Identity) (x : Made) (made : List Made) → holds table x.operation.identity ≡ false
     → x.used ≡ branch → PrecedesAll x made → IsClosed table made
     → SparesAll branch (kept table made)

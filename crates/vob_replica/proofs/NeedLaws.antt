@@ -132,7 +132,7 @@ shared-next table site number =
     by true = twice table site number (number + 1) (omega arith)
     by false = refl
 
--- a table stays shared behind an operation of the site's own
+-- a table stays shared after an operation of the site's own
 pub shared-push : (site : List ℕ) (known known' : List Operation) (operation : Operation) (table : List Identity)
     → IsSharedBy site known table → operation.identity ≡ made_at site (number_in (table_of known) site + 1)
     → known' ≡ known ++ operation ∷ [] → IsSharedBy site known' table

@@ -1,4 +1,4 @@
--- What is thought of a site is set where it stands, or behind all others; and what was exported to it stays known.
+-- What is thought of a site is set where it stands, or after all others; and what was exported to it stays known.
 use Rattle.std.proofs.Common.{◌≡◌, ℕ, suc, ◌+◌, ◌-◌, ◌<◌, ◌≤◌, Bool, true, false, cond, Option, Some, None, Result, Ok, Err}
 use Rattle.std.proofs.Common.{List, []}
 use Rattle.std.proofs.Common.{◌∷◌, ◌++◌, length, take, not, get_or, set, refl, sym, ap, ◌∙◌, subst, length-append, arith}
@@ -80,7 +80,7 @@ set-there peers place site table exported d at within there =
     (sym at)
     (with_peer-there peers site table exported d (subst (λ (p : ℕ). p < length peers) at within))
 
--- or put behind all others
+-- or put after all others
 pub push-new : (peers new : List Peer) (place : ℕ) (site copy : List ℕ) (table : List Identity) (exported : ℕ)
     → new ≡ peers ++ peer_by copy table exported ∷ [] → copy ≡ site
     → place ≡ peer_place_in peers site → length peers ≤ place → new ≡ with_peer peers site table exported

@@ -236,7 +236,7 @@ at P world name act refused acts = by (site_in world.sites name) refl
     by None is = refused (NoSite name)
     by (Some site) is = acts site is
 
--- the world behind it is sound
+-- the world after it is sound
 abbrev Sounds : Stepped → Type 0
 Sounds stepped = IsSound stepped.world
 

@@ -20,7 +20,7 @@ order x y = slice_cmp nat_cmp x y
 pub turned : (x y : List ℕ) (o : Ordering) → order x y ≡ o → order y x ≡ ordering_reverse o
 turned x y o is = nat_list_cmp_total.antisymm y x ∙ ap ordering_reverse is
 
--- where one stands behind the other, they differ
+-- where one stands after the other, they differ
 pub behind-differs : (x y : List ℕ) → order x y ≡ Greater → bytes_eq x y ≡ false
 behind-differs x y is = sym (is_eq-slice_cmp x y) ∙ ap is_eq is
 
@@ -49,7 +49,7 @@ IsBeforeSites-by_order Less x entry others i before lt later = (lt, before)
 IsBeforeSites-by_order Equal x entry others i before lt later = before
 IsBeforeSites-by_order Greater x entry others i before lt later = (before.0, later)
 
--- one more entry behind a site
+-- one more entry after a site
 IsBeforeSites-with_operation : (x : List ℕ) (table : List Identity) (i : Identity) → IsBeforeSites x table → order x i.site ≡ Less
     → IsBeforeSites x (with_operation table i)
 IsBeforeSites-with_operation x [] i before lt = (lt, tt)

@@ -1,4 +1,4 @@
--- Versions stand by number, so one of the greatest number stands behind all others.
+-- Versions stand by number, so one of the greatest number stands after all others.
 use Rattle.std.proofs.Common.{◌≡◌, ℕ, zero, suc, ◌-◌, ◌≤◌, Bool, true, false, cond, Some, List, [], ◌∷◌}
 use Rattle.std.proofs.Common.{length, refl, sym, ap, ◌∙◌, subst, arith}
 use Rattle.std.specs.Prelude.{nat_lt, slice_get}

@@ -1,4 +1,4 @@
--- Operations that need nothing that is missing, and the places of a log behind which there is news.
+-- Operations that need nothing that is missing, and the places of a log after which there is news.
 use Rattle.std.proofs.Common.{◌≡◌, ℕ, ◌+◌, ◌≤◌, Bool, true, false, cond, Option, Some, None, Ok, Err, List, []}
 use Rattle.std.proofs.Common.{◌∷◌, ◌++◌, take, drop, map, not, refl, sym, ap, ◌∙◌, subst, arith}
 use Rattle.std.specs.Prelude.{is_none, IfOk, Result, Vec}
@@ -78,7 +78,7 @@ pub news-whole : (floor : List Identity) (known : List Operation) → Ascends fl
 news-whole floor known ascends whole =
     whole-above floor [] floor known whole (λ site. omega arith) (λ site. omega arith) ascends
 
--- where nothing is above a table up to a place, what is above it is behind the place
+-- where nothing is above a table up to a place, what is above it is after the place
 pub above-behind : (table : List Identity) (place : ℕ) (known : List Operation) → above table (take place known) ≡ []
     → above table (drop place known) ≡ above table known
 above-behind table place known none =
@@ -158,7 +158,7 @@ pub covers-none : (gap : Option Identity) → is_none gap ≡ true → gap ≡ N
 covers-none None is = refl
 covers-none (Some missing) is = cc is
 
--- unless memory ran out, what is above a table stands behind a place, and needs nothing that is missing
+-- unless memory ran out, what is above a table stands after a place, and needs nothing that is missing
 pub ok-above : {E : Type 0} (r : Result (Vec Operation Global) E) (table : List Identity) (place : ℕ) (known : List Operation)
     → above table (take place known) ≡ [] → IfOk r (λ news. news.items ≡ above table (drop place known))
     → IfOk r (λ news. news.items ≡ above table known)

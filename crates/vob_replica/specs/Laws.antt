@@ -11,7 +11,7 @@ use Rattle.vob_replica.specs.Replicas.{Site}
 use Rattle.vob_replica.specs.Showing.{show_text}
 use Rattle.vob_replica.specs.World.{World, site_in, step, world_of}
 
--- the sites behind an import
+-- the sites after an import
 abbrev pub behind_import : World → List ℕ → List ℕ → List Site
 behind_import world name packet = (step world (events.Import name packet)).world.sites
 

@@ -9,7 +9,7 @@ use Rattle.vob_replica.specs.declared.operations.Operation.{Operation}
 use Rattle.vob_replica.specs.Tables.{first_gap, holds, number_in, table_of, with_operation}
 use Rattle.vob_replica.specs.Replicas.{operations_after_import}
 
--- an operation has the number behind those of its maker that it needs
+-- an operation has the number after those of its maker that it needs
 abbrev pub HasNextNumber : Operation → Type 0
 HasNextNumber operation = operation.identity.number ≡ number_in operation.needs operation.identity.site + 1
 

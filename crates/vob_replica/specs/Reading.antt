@@ -59,7 +59,7 @@ mkbranch_event (s ∷ b ∷ n ∷ name ∷ []) =
     (both (both (replica_name_word s) (identity_word b)) (both (number_word n) (replica_name_word name)))
 mkbranch_event _ = Err BadWord
 
--- what the words behind the word of an event between sites say
+-- what the words after the word of an event between sites say
 abbrev pub between_sites : List ℕ → List (List ℕ) → Said Event
 between_sites word words =
     if bytes_eq word (codes "export") then export_event words
@@ -68,7 +68,7 @@ between_sites word words =
     else if bytes_eq word (codes "show") then show_event words
     else Err UnknownCommand
 
--- what a word and the words behind it say
+-- what a word and the words after it say
 abbrev pub event_by : List ℕ → List (List ℕ) → Said Event
 event_by word words =
     if bytes_eq word (codes "site") then site_event words
@@ -96,7 +96,7 @@ event_in (word ∷ words) = says Some (event_by word words)
 abbrev pub event_of_line : List ℕ → Said (Option Event)
 event_of_line line = if is_skipped_line line then Ok None else event_in (words_of line)
 
--- what a line of this number says, before what the lines behind it say
+-- what a line of this number says, before what the lines after it say
 abbrev pub before_events : ℕ → Said (Option Event) → Result (List Event) SiteError → Result (List Event) SiteError
 before_events number (Ok None) others = others
 before_events number (Ok (Some event)) others = before_others (event ∷ []) others

@@ -123,7 +123,7 @@ abbrev pub unless_gap : Option Identity → Result (List Operation) Identity →
 unless_gap (Some gap) known = Err gap
 unless_gap None known = known
 
--- What is known behind the operations of a packet, or the first gap: one that is known is skipped, and none may need what is not
+-- What is known after the operations of a packet, or the first gap: one that is known is skipped, and none may need what is not
 -- known.
 abbrev pub operations_after_import : List Operation → List Operation → Result (List Operation) Identity
 operations_after_import known [] = Ok known

@@ -21,7 +21,7 @@ identity_text identity = identity.site ++ codes ":" ++ decimal identity.number
 abbrev pub epoch_line : Identity → List ℕ
 epoch_line entry = codes "epoch " ++ entry.site ++ codes " " ++ decimal entry.number ++ codes "\n"
 
--- the line of a version behind version 0
+-- the line of a version after version 0
 abbrev pub version_line : VersionMade → List ℕ
 version_line version =
     codes "version " ++ decimal version.number ++ codes " " ++ identity_text version.identity ++ codes " " ++ version.word

@@ -1,4 +1,4 @@
--- Sites and packets as they are kept: packets behind their names.
+-- Sites and packets as they are kept: packets after their names.
 use Rattle.std.specs.Prelude.{ℕ, suc, Result, Ok, Err, List, [], ◌∷◌, map, if◌then◌else◌}
 use Rattle.std.specs.Fmt.{decimal}
 use Rattle.std.specs.Str.{bytes_eq}
@@ -10,7 +10,7 @@ use Rattle.vob_replica.specs.Replicas.{Site, Packet}
 use Rattle.vob_replica.specs.Showing.{identity_text}
 use Rattle.vob_replica.specs.World.{Sent}
 
--- packets behind their names
+-- packets after their names
 abbrev pub sent_as : List ℕ × Packet → Sent
 sent_as entry = record { name = entry.0; packet = entry.1 }
 

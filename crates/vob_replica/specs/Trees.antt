@@ -14,14 +14,14 @@ use Rattle.vob_replica.specs.declared.operations.SiteDeed.{SiteDeed}
 use Rattle.vob_replica.specs.declared.operations.SiteDeed.TheVariants as deeds
 use Rattle.vob_replica.specs.Tables.{holds}
 
--- a version behind version 0
+-- a version after version 0
 pub record VersionMade : Type 0 where
   pub number : ℕ
   pub identity : Identity
   pub word : List ℕ
 
 -- a branch of an element: the operations that gave its mastership away, in the order in which they came to be known, and its
--- versions behind version 0, by number
+-- versions after version 0, by number
 pub record Tree : Type 0 where
   pub identity : Identity
   pub element : Identity

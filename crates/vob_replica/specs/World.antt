@@ -31,7 +31,7 @@ pub record World : Type 0 where
   pub sites : List Site
   pub packets : List Sent
 
--- what an event comes to, and the world behind it
+-- what an event comes to, and the world after it
 pub record Stepped : Type 0 where
   pub world : World
   pub answer : Answer
@@ -140,7 +140,7 @@ step world (events.Import site packet) = import_step world site packet
 step world (events.Recover site to) = recover_step world site to
 step world (events.Show site) = show_step world site
 
--- the world behind events
+-- the world after events
 abbrev pub world_behind : World → List Event → World
 world_behind world [] = world
 world_behind world (event ∷ events) = world_behind (step world event).world events

@@ -42,7 +42,7 @@ fn word_in(deed: &SiteDeed) -> &[u8]
     }
 }
 
-/// A version behind version 0.
+/// A version after version 0.
 #[derive(Drop)]
 pub struct Version {
     number: u64,
@@ -177,7 +177,7 @@ fn given_to<'a>(deed: &'a SiteDeed, maker: &'a Name) -> &'a Name
 }
 
 /// A branch of an element. Contracts see its identity, the element, its name, the operations that gave its mastership away, and
-/// its versions behind version 0.
+/// its versions after version 0.
 #[derive(Drop)]
 pub struct Branch {
     made: Shared,
@@ -232,7 +232,7 @@ impl Branch {
         name_in(&self.made.operation().deed)
     }
 
-    /// The versions behind version 0, by number.
+    /// The versions after version 0, by number.
     pub fn versions(&self) -> &[Version]
         ensures { result.now ≡ self.now.versions }
     {
@@ -264,7 +264,7 @@ impl Branch {
         number == 0 || has_version_number(&self.versions, number)
     }
 
-    /// Puts one operation more behind those that gave the mastership away.
+    /// Puts one operation more after those that gave the mastership away.
     pub(crate) fn push_master(&mut self, operation: Shared) -> Result<(), NoMemory>
         ensures ok { OnOk result (self.new ≡ with_master self.old operation) }
         ensures err { OnErr result (self.new ≡ self.old) }

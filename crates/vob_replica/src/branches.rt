@@ -125,7 +125,7 @@ fn put_version_at(
     trees[place].put_version(number, made)
 }
 
-/// Puts one operation more behind those that gave the mastership of the branch at a place away.
+/// Puts one operation more after those that gave the mastership of the branch at a place away.
 fn push_master_at(trees: &mut Vec<Branch>, place: usize, operation: Shared) -> Result<(), NoMemory>
     requires { place < vec_len trees.old }
     ensures ok { OnOk result
@@ -159,7 +159,7 @@ fn put_on_branch(
     Ok(())
 }
 
-/// Puts one operation more behind those that gave the mastership of a branch away, where that is there.
+/// Puts one operation more after those that gave the mastership of a branch away, where that is there.
 fn push_master(
     trees: &mut Vec<Branch>,
     branch: &Identity,

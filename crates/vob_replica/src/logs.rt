@@ -36,7 +36,7 @@ impl Model for Log {
     ghost invariant = { λ log. IsLog log.table log.operations.items };
 }
 
-/// Puts one operation more behind others, and into their table.
+/// Puts one operation more after others, and into their table.
 fn push_shared(
     alloc: Global,
     operations: &mut Vec<Shared>,
@@ -196,7 +196,7 @@ impl Log {
     }
 
     /// The operations that a table does not hold, in order, where it holds the first `from` ones. Takes time linear in those
-    /// behind them, and for each whose site is not that of the one before also linear in the sites.
+    /// after them, and for each whose site is not that of the one before also linear in the sites.
     pub fn above(&self, alloc: Global, from: usize, table: &Table) -> Result<Vec<Shared>, NoMemory>
         requires within { from ≤ length self.now }
         requires first { above table.now (take from self.now) ≡ [] }
@@ -214,7 +214,7 @@ impl Log {
         self.table.number(site) + 1
     }
 
-    /// Puts one operation more, of which all needs are known, behind the others. Takes time linear in the sites.
+    /// Puts one operation more, of which all needs are known, after the others. Takes time linear in the sites.
     pub fn push(&mut self, alloc: Global, operation: Shared) -> Result<(), NoMemory>
         requires { first_gap operation.needs (table_of self.old) ≡ None }
         ensures ok { OnOk result (self.new ≡ self.old ++ operation ∷ []) }

@@ -187,7 +187,7 @@ fn between_sites(alloc: Global, word: &[u8], words: Words<'_>) -> Result<Event, 
     Err(Or::Is(SiteCause::UnknownCommand))
 }
 
-/// What a word and the words behind it say.
+/// What a word and the words after it say.
 fn event_by(alloc: Global, word: &[u8], words: Words<'_>) -> Result<Event, Or<SiteCause>>
     ensures { Gives result (event_by word.now words.entry) }
 {

@@ -30,7 +30,7 @@ fn is_refused(answer: &Answer) -> bool
     matches!(answer, Answer::Refused(_))
 }
 
-/// Lets events happen, one behind the other, and writes their replies. Answers whether one was refused.
+/// Lets events happen, one after the other, and writes their replies. Answers whether one was refused.
 fn reply_all(
     alloc: Global,
     sites: &mut Sites,

@@ -9,7 +9,7 @@ use std::alloc::Global;
 use std::marker::Model;
 use std::rc::Rc;
 
-/// An operation, shared by the sites that know it and the packets that carry it. It has the number behind those of its maker that
+/// An operation, shared by the sites that know it and the packets that carry it. It has the number after those of its maker that
 /// it needs. Contracts see the operation.
 #[derive(Drop)]
 pub struct Shared {

@@ -23,7 +23,7 @@ fn push(text: &mut Vec<u8>, bytes: &[u8]) -> Result<(), NoMemory>
     Ok(())
 }
 
-/// Writes bytes, and more behind them.
+/// Writes bytes, and more after them.
 fn push_texts(text: &mut Vec<u8>, bytes: &[u8], more: &[u8]) -> Result<(), NoMemory>
     ensures { OnOk result (text.new.items ≡ text.old.items ++ bytes.now ++ more.now) }
 {
@@ -31,7 +31,7 @@ fn push_texts(text: &mut Vec<u8>, bytes: &[u8], more: &[u8]) -> Result<(), NoMem
     push(text, more)
 }
 
-/// Writes bytes, and an identity behind them.
+/// Writes bytes, and an identity after them.
 fn push_identity(
     alloc: Global,
     text: &mut Vec<u8>,
@@ -46,7 +46,7 @@ fn push_identity(
     push_number(alloc, text, identity.number)
 }
 
-/// Writes bytes, and a number behind them.
+/// Writes bytes, and a number after them.
 fn push_with_number(
     alloc: Global,
     text: &mut Vec<u8>,

@@ -87,7 +87,7 @@ fn packet_in<'a>(packets: &'a Packets, name: &Name) -> Option<&'a Packet>
     packets.get(name)
 }
 
-/// Puts a packet of a new name behind the others.
+/// Puts a packet of a new name after the others.
 fn add_packet(packets: &mut Packets, name: Name, packet: Packet) -> Result<(), NoMemory>
     requires { packet_in (sents_of packets.old.entries) name ≡ None }
     ensures { OnOk result

@@ -54,7 +54,7 @@ same_as_itself tag =
     let command : (tag.command == tag.command) ≡ true = grind (arith, nat_tests) in
     ap₂ ◌&&◌ (ap₂ ◌&&◌ phase lane) command
 
--- a lane's next command is the one behind those that are finished, where the lane does not build
+-- a lane's next command is the one after those that are finished, where the lane does not build
 pub next_is : (s : State) (lane : ℕ) (command : Command) → build_of s.active lane ≡ None
     → option_and_then (command_behind (done_of s.done lane)) (lane_at s.phase lane) ≡ Some command
     → next_command s (next_tag s lane) ≡ Some command

@@ -30,7 +30,7 @@ use Rattle.build_core.proofs.SlotLaws.{find_numbered}
 pub not_both : {A : Type 0} (found : Option A) (a : A) → found ≡ None → found ≡ Some a → ⊥
 not_both found a none some = cc
 
--- behind the last command of a lane there is none
+-- after the last command of a lane there is none
 none_behind : (done : List (ℕ × ℕ)) (n i : ℕ) (lanes : List Lane) → lanes_done done n lanes ≡ true
     → option_and_then (command_behind (done_of done (n + i))) (slice_get lanes i) ≡ None
 none_behind done n i [] h = refl

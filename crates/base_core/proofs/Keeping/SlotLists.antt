@@ -1,6 +1,6 @@
 -- What the slots of the lanes say, slot by slot.
 use Rattle.std.proofs.Common.{◌≡◌, ℕ, zero, suc, ◌+◌, ◌-◌, ◌<◌, ◌≤◌, Bool, true, false, cond, Option, Some, None, List, [], ◌∷◌}
-use Rattle.std.proofs.Common.{◌++◌, length, get_or, refl, ap, ◌∙◌, arith}
+use Rattle.std.proofs.Common.{length, get_or, refl, ap, ◌∙◌, arith}
 use Rattle.std.specs.Prelude.{option_map, find, bytes_eq}
 use Rattle.cc_names.specs.declared.rows.Tag.{Tag}
 use Rattle.build_core.specs.Slots.{numbered_slots, held_in}

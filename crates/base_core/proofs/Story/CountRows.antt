@@ -55,7 +55,7 @@ row_too_early tag (before, after, one, at, rose, fits, writes, left) = too_early
     too_early (other, (true, InFlight, stands, found, calls)) = absurd (omega (arith, calls.0))
     too_early (other, (false, InFlight, stands, found, calls)) = absurd (omega (arith, calls.0))
 
--- a fault is of one call: one that adds the failed call of the command behind it is refused
+-- a fault is of one call: one that adds the failed call of the command after it is refused
 fault_of_two : (s : State) (tag : Tag) (left : Option Plain) → CountsStep s (story_steps.Other (steps.Fault tag left 2 4 10))
     (counted 7 2) (counted 10 4) → ⊥
 fault_of_two s tag left h = absurd (omega (arith, h.2))
@@ -74,7 +74,7 @@ fault_last tag = (
   (row tag, (false, Nothing, (λ shut some. absurd (cc)), refl, (omega arith, omega arith))),
 )
 
--- a refusal, a commit and a fault, one after the other: behind the commit the tail is settled
+-- a refusal, a commit and a fault, one after the other: after the commit the tail is settled
 three_rows : (tag : Tag) (refusal : Refusal) → CountsSteps start (story_steps.Other (steps.Refused tag refusal)
     ∷ story_steps.Commit (row tag) 11 ∷ story_steps.Other (steps.Fault tag None 2 3 12) ∷ []) (counted 7 2) (counted 12 3)
 three_rows tag refusal = (

@@ -90,7 +90,7 @@ counts_so log new old row appends.Faulted view became =
       );
     })
 
--- and where the end of a build comes behind it
+-- and where the end of a build comes after it
 pub counts_ended : (log new : Logged) (old : Shown) (row : Plain) (tag : Tag) (appended : Appended) → shown_of log ≡ old
     → Appends log new row (Some (steps.End tag)) appended → KeepsCount old (shown_of new)
 counts_ended log new old row tag appends.Committed view became = counts_committed log new old row view became

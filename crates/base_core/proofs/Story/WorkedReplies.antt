@@ -36,7 +36,7 @@ abbrev newest_first : Base → List (Option Reply)
 newest_first [] = []
 newest_first (row ∷ older) = reply_to_row (row ∷ older) row.deed ∷ newest_first older
 
--- those behind the first twelve rows, oldest first
+-- those after the first twelve rows, oldest first
 abbrev replies_behind : List Deed → List (Option Reply)
 replies_behind deeds = drop 12 (reverse (newest_first (base_of (all_deeds ++ deeds))))
 

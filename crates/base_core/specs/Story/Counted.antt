@@ -21,7 +21,7 @@ IsLeftByCalls ends left old new = (row : Plain) × LeavesByCalls ends row left o
 -- disk's ticks stand at its end; calls were made, and no fault was counted. A fault has the count of faults before and after,
 -- which is the next, so that it is the fault of one call alone, and the ticks at its end, which rose. Where the disk models its
 -- device, the calls of either are added to those that were made before, none of them reads, the file of objects is as it was, and
--- the counts fit the calls. Those of a commit are just the ones that commit its row behind a tail, which is not settled again
+-- the counts fit the calls. Those of a commit are just the ones that commit its row after a tail, which is not settled again
 -- where it is settled by the commits and faults before. What a fault left is what it can have left by so many calls under some
 -- row. At any other step no call was made, and the disk is as it was.
 abbrev pub CountsStep : State → StoryStep → DiskState → DiskState → Type 0

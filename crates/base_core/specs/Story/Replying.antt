@@ -77,7 +77,7 @@ abbrev pub replies_after : State → StoryStep → (ℕ → List Reply) → ℕ 
 replies_after s (story_steps.PhaseBegun phase moment) replies lane = []
 replies_after s step replies lane = replies lane ++ replies_by s lane step
 
--- the replies of each lane of the last phase, behind those that the lanes had in a state
+-- the replies of each lane of the last phase, after those that the lanes had in a state
 abbrev pub replies_from : State → (ℕ → List Reply) → List StoryStep → ℕ → List Reply
 replies_from s replies [] = replies
 replies_from s replies (x ∷ story) = replies_from (after s x) (replies_after s x replies) story

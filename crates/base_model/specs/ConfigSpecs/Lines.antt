@@ -20,7 +20,7 @@ abbrev pub ◌>>=◌ : {A B : Type 0} → Result A SpecCause → (A → Result B
 (Ok x) >>= f = f x
 (Err cause) >>= f = Err cause
 
--- the options of a rule as they stand, with the words behind them
+-- the options of a rule as they stand, with the words after them
 pub record Options : Type 0 where
   pub time : Option (List ℕ)
   pub nocheckout : Bool
@@ -55,7 +55,7 @@ abbrev pub last_option : Named → Options → Option Options
 last_option NoCheckout options = with_nocheckout options
 last_option _ options = None
 
--- what an option adds that has a word behind it, and how reading goes on: behind the option, or behind that word
+-- what an option adds that has a word after it, and how reading goes on: after the option, or after that word
 abbrev pub next_option : Named → List ℕ → Options → (Options → Option Options) → (Options → Option Options) → Option Options
 next_option Time next options behind behind_next = option_and_then behind_next (with_time next options)
 next_option MkBranch next options behind behind_next = option_and_then behind_next (with_mkbranch next options)

@@ -45,7 +45,7 @@ abbrev pub is_lone_star : List Segment → Bool
 is_lone_star (OneName (b ∷ []) ∷ []) = is_star b
 is_lone_star _ = false
 
--- whether segments match names: all of them where they are anchored, else those from some name on or behind the last
+-- whether segments match names: all of them where they are anchored, else those from some name on or after the last
 abbrev pub matches_where : Bool → List Segment → List (List ℕ) → Bool
 matches_where true segments names = matches_names segments names
 matches_where false segments names = list_any (matches_names segments) (list_suffixes names)

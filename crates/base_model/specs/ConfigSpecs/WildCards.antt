@@ -12,12 +12,12 @@ abbrev pub has_none : {A : Type 0} → List A → Bool
 has_none [] = true
 has_none (x ∷ xs) = false
 
--- whether the first member is the one that a card stands for, and the cards behind it cover the others
+-- whether the first member is the one that a card stands for, and the cards after it cover the others
 abbrev pub first_fits : {A : Type 0} → (A → Bool) → (List A → Bool) → List A → Bool
 first_fits fits behind [] = false
 first_fits fits behind (x ∷ xs) = fits x && behind xs
 
--- what one card and those behind it cover: a wild one stands for any members, none and all included
+-- what one card and those after it cover: a wild one stands for any members, none and all included
 abbrev pub matches_from : {A : Type 0} → Bool → (A → Bool) → (List A → Bool) → List A → Bool
 matches_from true fits behind xs = list_any behind (list_suffixes xs)
 matches_from false fits behind xs = first_fits fits behind xs

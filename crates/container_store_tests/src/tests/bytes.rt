@@ -16,7 +16,7 @@ fn journal_over(alloc: Global, objects: &[u8], fail: &[u64]) -> Result<Journal<M
 }
 
 // Writes the bytes of an extent, in two calls: of the length and of the write. Makes no second call where it is not taken, has
-// another length, or begins behind the end of the file.
+// another length, or begins after the end of the file.
 fn put(
     store: &Store,
     journal: &mut Journal<MemoryDisk>,

@@ -82,7 +82,7 @@ apart_from_idle s lane other build is idle = by (lane == other) refl
     by true e = absurd (let same : build_of s.active lane ≡ build_of s.active other = ap (build_of s.active)
         (same_number lane other e) in cc)
 
--- where each command of each lane is finished, no lane has one behind
+-- where each command of each lane is finished, no lane has one after
 behind_all : {A : Type 0} (xs : List A) → slice_get xs (length xs) ≡ None
 behind_all [] = refl
 behind_all (x ∷ xs) = behind_all xs

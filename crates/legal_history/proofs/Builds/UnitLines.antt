@@ -1,4 +1,4 @@
--- The lines of a unit whose outcome agrees, and lines behind lines.
+-- The lines of a unit whose outcome agrees, and lines after lines.
 use Rattle.std.proofs.Common.{◌≡◌, refl, ap, sym, ◌∙◌, ℕ, suc, ◌+◌, Some, List, [], ◌∷◌, ◌++◌, append_assoc, length}
 use Rattle.std.proofs.Common.{arith}
 use Rattle.std.specs.Prelude.{is_some}
@@ -51,7 +51,7 @@ same_lines b build n unit outcome came is h = λ i. unit_lines_of (λ path. word
     made : has_outputs outcome ≡ is_some (object_of (came_to build n))
     made = made_same b unit came outcome h ∙ sym (ap (λ o. is_some (object_of o)) is)
 
--- lines behind lines
+-- lines after lines
 pub finished_behind : (b : Base) (build : Build) (k : ℕ) (fs gs : List Finished)
     → finished_from b build k (fs ++ gs) ≡ finished_from b build k fs ++ finished_from b build (k + length fs) gs
 finished_behind b build k [] gs = ap (λ m. finished_from b build m gs) here

@@ -28,7 +28,7 @@ record IsGood (given : Type 0) (b : Base) : Type 0 where
   fits : is_base b ≡ true
   sound : given → values.IsSound b
 
--- what is known of a state: its rows are such a base, and so they are with the row that a fault left behind them
+-- what is known of a state: its rows are such a base, and so they are with the row that a fault left after them
 record IsKnown (given : Type 0) (s : State) : Type 0 where
   sound : IsConsistentState s
   held : AllHeld s
@@ -82,7 +82,7 @@ kept_from : (given : Type 0) (s : State) (story : List StoryStep) → IsKnown gi
 kept_from given s [] h e = h
 kept_from given s (x ∷ story) h e = kept_from given (after s x) story (kept_step given s x h e.0) e.1
 
--- after the first step nothing is left behind
+-- after the first step nothing is left after
 none_left : (x : StoryStep) (row : Plain) → Lawful start x → hanging (after start x).ends ≡ Some row → ⊥
 none_left (story_steps.Opened rows counts tells) row e is = cc
 none_left x row e is = opens_first x e

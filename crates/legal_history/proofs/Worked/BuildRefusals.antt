@@ -78,14 +78,18 @@ a_directory_is_no_file : fresh (base_of (deeds.Mkview v ∷ deeds.Checkout v 0 0
     } ∷ [])
 a_directory_is_no_file = refl
 
--- A makefile whose last macro has 65,520 bytes and these besides: 16, 256 and 4,096 bytes stand in those before it, and it has
+-- A makefile whose last macro has 65,520 bytes and these besides. The macros before it have 16, 256 and 4,096 bytes, and it has
 -- fifteen of each.
+abbrev four : List ℕ → List ℕ
+four text = text ++ text ++ text ++ text
+
 abbrev fifteen : List ℕ → List ℕ
-fifteen text = text ++ text ++ text ++ text ++ text ++ text ++ text ++ text ++ text ++ text ++ text ++ text ++ text ++ text ++ text
+fifteen text = four text ++ four text ++ four text ++ text ++ text ++ text
 
 abbrev long : List ℕ → List ℕ
 long more =
-    line (codes "A=aaaaaaaaaaaaaaaa") ++ line (codes "B=$A" ++ fifteen (codes "$A")) ++ line (codes "C=$B" ++ fifteen (codes "$B"))
+    line (codes "A=aaaaaaaaaaaaaaaa") ++ line (codes "B=$A" ++ fifteen (codes "$A"))
+    ++ line (codes "C=$B" ++ fifteen (codes "$B"))
     ++ line (codes "D=" ++ fifteen (codes "$C") ++ fifteen (codes "$B") ++ fifteen (codes "$A") ++ more)
     ++ codes "out:\n\techo $D > out\n"
 
@@ -101,7 +105,7 @@ one_byte_too_long : built (long (codes "aaaaa"))
     } ∷ [])
 one_byte_too_long = refl
 
--- it is told last: behind a directory that is missing
+-- it is told last: after a directory that is missing
 no_directory_for_it : early_end (λ path. false) (λ path. Good) (record {
   targets = codes "d/out" ∷ [];
   prerequisites = codes "in" ∷ [];

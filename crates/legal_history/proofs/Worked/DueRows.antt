@@ -57,7 +57,12 @@ just_that_of_row_2 (suc (suc (suc (suc (suc (suc (suc n))))))) =
     let none = no_further (suc (suc (suc (suc (suc (suc (suc n))))))) (omega arith) in grind (arith, nat_tests)
 
 one_is_due : AreDue scrubbing (tag 1 1 1) (2 ∷ [])
-one_is_due = record { age = 50; command = refl; exactly = just_that_of_row_2; ascend = λ k within. absurd (omega (arith, within)) }
+one_is_due = record {
+  age = 50;
+  command = refl;
+  exactly = just_that_of_row_2;
+  ascend = λ k within. absurd (omega (arith, within));
+}
 
 -- the age is that of the command, so none of these lists is the scrub's: with the one that is held, with the young one, without
 -- the one that is due, with one twice, and of another command

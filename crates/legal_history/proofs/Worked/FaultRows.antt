@@ -59,7 +59,7 @@ the_first_build_meets_it : option_map (λ build. build.faulted) (build_by (state
     ≡ Some true
 the_first_build_meets_it = refl
 
--- a stop then may leave the object behind the rows, and it is true; one with another text would not be
+-- a stop then may leave the object after the rows, and it is true; one with another text would not be
 the_object_may_be_left : IsLeftByStop (state_of (before_fault ++ (fault ∷ []))) (published 4 ∷ (state_of before_build).base)
 the_object_may_be_left = WithRowLeft (published 4) refl refl
 

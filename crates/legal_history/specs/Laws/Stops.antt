@@ -6,7 +6,7 @@ use Rattle.legal_history.specs.Stories.Committing.{MayCommit}
 use Rattle.legal_history.specs.Stories.States.{State, hanging}
 
 -- A base that a stop may leave where a story has come to a state: the rows committed so far, or these and one more row, which
--- the fault directly before left behind them or which may be committed next, so is in flight.
+-- the fault directly before left after them or which may be committed next, so is in flight.
 pub data IsLeftByStop (s : State) (b : Base) : Type 0 where
   OfCommits : b ≡ s.base → IsLeftByStop s b
   WithRowLeft : (row : Plain) → hanging s.ends ≡ Some row → b ≡ row ∷ s.base → IsLeftByStop s b

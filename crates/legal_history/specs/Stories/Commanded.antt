@@ -9,7 +9,7 @@ use Rattle.legal_history.specs.Builds.Active.{Build}
 use Rattle.legal_history.specs.Builds.Fresh.{all_finished, fresh}
 use Rattle.legal_history.specs.Stories.States.{State, command_behind, done_of, next_tag}
 
--- the command of a lane behind those that it has finished
+-- the command of a lane after those that it has finished
 abbrev pub next_command_of : State → ℕ → Option Command
 next_command_of s lane = option_and_then (command_behind (done_of s.done lane)) (lane_at s.phase lane)
 

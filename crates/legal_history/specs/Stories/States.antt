@@ -65,7 +65,7 @@ done_of done lane = unwrap_or (find nat_cmp lane done) 0
 abbrev pub with_done : List (ℕ × ℕ) → ℕ → List (ℕ × ℕ)
 with_done done lane = put nat_cmp lane (done_of done lane + 1) done
 
--- the command of a lane behind those that are finished
+-- the command of a lane after those that are finished
 abbrev pub command_behind : ℕ → Lane → Option Command
 command_behind done lane = slice_get lane.commands done
 
@@ -121,7 +121,7 @@ faults_of (Some opening) [] = opening.counts.faults
 faults_of opening (Committed row tick ∷ ends) = faults_of opening ends
 faults_of opening (Faulted left faults tick ∷ ends) = faults
 
--- the row that may be found behind the rows all the same: what the newest end left, where it is a fault
+-- the row that may be found after the rows all the same: what the newest end left, where it is a fault
 abbrev pub hanging : List End → Option Plain
 hanging [] = None
 hanging (Committed row tick ∷ ends) = None

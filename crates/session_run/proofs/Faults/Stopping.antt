@@ -64,7 +64,7 @@ opened_stays s (story_steps.Other (steps.Fault tag left before faults tick) ∷ 
 opened_stays s (story_steps.Other step ∷ story) opened legal = opened_stays (after s (story_steps.Other step)) story opened
     legal.1
 
--- a story without a fault leaves no row behind
+-- a story without a fault leaves no row after
 none_hangs : (s : State) (story : List StoryStep) → hanging s.ends ≡ None → rises_of story ≡ []
     → hanging (state_from s story).ends ≡ None
 none_hangs s [] none faultless = none

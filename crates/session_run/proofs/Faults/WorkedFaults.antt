@@ -27,7 +27,7 @@ put = Wrote 0 0 1 (0 ∷ []) ∷ Synced 0 ∷ []
 device : List Event → Device
 device calls = record { journal = []; objects = []; calls = reverse calls }
 
--- the opening measures the journal; a commit takes ticks 2 to 5; the sync of tick 7 fails; behind it the tail is settled and
+-- the opening measures the journal; a commit takes ticks 2 to 5; the sync of tick 7 fails; after it the tail is settled and
 -- the next row committed by tick 13
 calls : List Event
 calls = Measured 0 ∷ put ++ put ++ Wrote 0 0 1 (0 ∷ []) ∷ Failed ∷ put ++ put ++ put
@@ -92,7 +92,7 @@ hidden : IsBlamed 0 (opened ∷ story_steps.Commit (row 1) 5 ∷ fault 2 0 1 7 �
 unfolding device put opened fault
 hidden h = absurd (omega (arith, h.behind))
 
--- or behind one that left a row, and the tail is settled then, or that fails too
+-- or after one that left a row, and the tail is settled then, or that fails too
 hidden_and_settled : IsBlamed 0 (opened ∷ story_steps.Commit (row 1) 5 ∷ leaving 2 0 1 9 ∷ []) (broken (Failed ∷ put)) → ⊥
 unfolding device broken put opened leaving
 hidden_and_settled h = absurd (omega (arith, h.behind.0))
@@ -102,7 +102,7 @@ hidden_and_not_settled : IsBlamed 0 (opened ∷ story_steps.Commit (row 1) 5 ∷
 unfolding device broken put opened leaving
 hidden_and_not_settled h = absurd (omega (arith, h.behind.1))
 
--- no call stands behind the last commit, whether it failed or not
+-- no call stands after the last commit, whether it failed or not
 behind_commit : IsBlamed 0 (opened ∷ story_steps.Commit (row 1) 5 ∷ []) (device (Measured 0 ∷ put ++ put ++ put)) → ⊥
 unfolding device put opened
 behind_commit h = absurd (omega (arith, h.behind))
@@ -116,7 +116,7 @@ made_up h = absurd (omega (arith, (h.ends.0 (omega arith)).1))
 reread : reads_first (Measured 0 ∷ Failed ∷ Fetched 0 0 4 ∷ []) ≡ false
 reread = refl
 
--- What calls cannot tell: one that was made without need under a query, and failed, may be told of the command behind the query,
+-- What calls cannot tell: one that was made without need under a query, and failed, may be told of the command after the query,
 -- since these are the calls of a run that is right. The calls of the core tell it.
 without_need : IsBlamed 0 (opened ∷ story_steps.Other (steps.Answer (tag 1) []) ∷ fault 2 0 1 2 ∷ [])
     (device (Measured 0 ∷ Failed ∷ []))

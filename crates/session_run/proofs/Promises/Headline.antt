@@ -129,7 +129,7 @@ session_none status intake outside not unread = record {
   read = let times = unread ∙ sym (raised_none outside.first) in record { once = λ other. times; most = inl times };
 }
 
--- a form that writes behind its session had run it through where the sink failed
+-- a form that writes after its session had run it through where the sink failed
 behind : (form : Form) (fault : WriteFault) (phases : List Phase) (story : List StoryStep) (outside : Outside)
     → IsCutSo form (Is fault) phases story outside → (writes_behind (Some form) && is_opened story) ≡ true
     → IsRunThrough phases story

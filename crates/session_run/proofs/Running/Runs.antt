@@ -92,7 +92,7 @@ pub clock_length : (modeled : List ℕ) (first n : ℕ) → length (clock_moment
 clock_length modeled first zero = refl
 clock_length modeled first (suc n) = let h = clock_length modeled (raised_count first 1) n in omega (arith, h)
 
--- a phase that ended is rendered behind the earlier ones
+-- a phase that ended is rendered after the earlier ones
 ended : (s : State) (n : ℕ) → s.number ≡ n + 1 → all_done s ≡ true → is_ended s ≡ true
 ended s n e done =
     let began : nat_lt 0 s.number ≡ true = grind (arith, nat_tests) in
@@ -340,7 +340,7 @@ run_is_cut cut phases rest all phase old new outside holds moment reading number
       });
     }
 
--- the phases that have been taken, the one in hand and those behind it are all
+-- the phases that have been taken, the one in hand and those after it are all
 pub in_hand : (taken left rest all items : List Phase) (phase : Phase) → taken ++ left ≡ all → left ≡ phase ∷ rest → all ≡ items
     → taken ++ phase ∷ rest ≡ items
 in_hand taken left rest all items phase one two three = ap (λ ps. taken ++ ps) (sym two) ∙ one ∙ three

@@ -8,7 +8,7 @@ use Rattle.session_run.specs.Story.Rendered.{Replies, is_failure, lanes_fail}
 no_lane : Lane
 no_lane = record { name = []; commands = [] }
 
--- a command of the lanes behind so many failed, where one of the first of them did or one of a later one
+-- a command of the lanes after so many failed, where one of the first of them did or one of a later one
 pub first_fails : (lanes : List Lane) (replies : Replies) (i : ℕ) (failed : Bool) → i < length lanes
     → list_any is_failure (replies (i + 1)) ≡ failed
     → lanes_fail (i + 1) (drop i lanes) replies ≡ (failed || lanes_fail (i + 1 + 1) (drop (i + 1) lanes) replies)

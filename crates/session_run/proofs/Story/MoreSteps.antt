@@ -1,4 +1,4 @@
--- What a story says with more steps behind it.
+-- What a story says with more steps after it.
 use Rattle.std.proofs.Common.{◌≡◌, ◌+◌, true, List, [], ◌∷◌, ◌++◌, length, refl, ap, sym, ◌∙◌, append_assoc, arith}
 use Rattle.std.proofs.lemmas.List.{append-nil}
 use Rattle.cc_names.specs.declared.steps.Step.{Step}

@@ -32,11 +32,11 @@ abbrev pub big_of : Option ℕ → Option ℕ → Option Form
 big_of (Some seed) (Some size) = Some (forms.Big seed size)
 big_of seed size = None
 
--- the form that three words behind FILE say
+-- the form that three words after FILE say
 abbrev pub big_form : List ℕ → List ℕ → List ℕ → Option Form
 big_form word seed size = if bytes_eq word (codes "big") then big_of (number_of seed) (size_of size) else None
 
--- the form that one word behind FILE says
+-- the form that one word after FILE says
 abbrev pub plain_form : List ℕ → Option Form
 plain_form word =
     if bytes_eq word (codes "run") then Some forms.Run

@@ -23,8 +23,8 @@ pub record SettlesJournal (ajar : Bool) (old new : DiskState) : Type 0 where
   pub writes : Both WritesOn old.modeled new.modeled
   pub rests : ajar ≡ false → new ≡ old
 
--- The steps of a history behind its first, from the disk as the base was opened to the disk as it came back. The disk was
--- called within commits and faults alone, and each of these has its counts as its own call began and as it ended. Behind the
+-- The steps of a history after its first, from the disk as the base was opened to the disk as it came back. The disk was
+-- called within commits and faults alone, and each of these has its counts as its own call began and as it ended. After the
 -- last step the journal was settled.
 pub record CountsFrom (opened closed : DiskState) (story : List StoryStep) : Type 0 where
   pub first : StoryStep

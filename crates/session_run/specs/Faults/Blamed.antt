@@ -33,13 +33,13 @@ FailsAtFaults failed calls (story_steps.Other (steps.Fault tag left before fault
     MeetsFault failed before faults tick calls × FailsAtFaults (failed_by tick calls) calls steps
 FailsAtFaults failed calls (step ∷ steps) = FailsAtFaults failed calls steps
 
--- Behind this tick the journal is settled where its tail may be open, by two calls at most, and at most one of them fails.
+-- After this tick the journal is settled where its tail may be open, by two calls at most, and at most one of them fails.
 -- Elsewhere no call is made.
 abbrev pub SettlesBehind : Bool → ℕ → List Event → Type 0
 SettlesBehind true tick calls = (length calls ≤ tick + 2) × (failures calls ≤ failed_by tick calls + 1)
 SettlesBehind false tick calls = length calls ≡ tick
 
--- Behind the newest end there is no more than settles the journal. Where nothing ended no call failed, since the base was opened.
+-- After the newest end there is no more than settles the journal. Where nothing ended no call failed, since the base was opened.
 abbrev pub RestsBehind : ℕ → List End → List Event → Type 0
 RestsBehind handed [] calls = failures calls ≡ failed_by handed calls
 RestsBehind handed (end ∷ ends) calls = SettlesBehind (may_be_open (end ∷ ends)) (tick_of end) calls
@@ -50,8 +50,8 @@ reads_first [] = true
 reads_first (event ∷ calls) = if is_reading_call event then reads_first calls else list_all may_write calls
 
 -- *Whose fault*, by the calls on a device of which so many had been made as it was handed in: those that opened the base read,
--- none of them failed that another read follows, and no call behind them reads; and a call failed at each fault of the history,
--- at no commit, and behind the last end as its journal was settled alone.
+-- none of them failed that another read follows, and no call after them reads; and a call failed at each fault of the history,
+-- at no commit, and after the last end as its journal was settled alone.
 pub record IsBlamed (handed : ℕ) (story : List StoryStep) (d : Device) : Type 0 where
   pub opening : reads_first (drop handed (reverse d.calls)) ≡ true
   pub ends : FailsAtFaults (failed_by handed (reverse d.calls)) (reverse d.calls) story

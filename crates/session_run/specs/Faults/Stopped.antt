@@ -27,7 +27,7 @@ rises_of [] = []
 rises_of (story_steps.Other (steps.Fault tag left before after tick) ∷ story) = (before, after) ∷ rises_of story
 rises_of (x ∷ story) = rises_of story
 
--- each of these rises is one of its own, behind those before it, and all lie within two counts
+-- each of these rises is one of its own, after those before it, and all lie within two counts
 abbrev pub AreApart : ℕ → List (ℕ × ℕ) → ℕ → Type 0
 AreApart low [] high = low ≤ high
 AreApart low (rise ∷ more) high = (low ≤ rise.0) × (rises rise.0 rise.1 ≡ true) × AreApart rise.1 more high

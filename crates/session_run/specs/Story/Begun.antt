@@ -19,7 +19,7 @@ is_opened [] = false
 is_opened (x ∷ story) = true
 
 -- Whether the session was run through. Where the disk failed it was so unless no base could be opened; where the sink failed,
--- with a form that writes behind its session and a base that was opened.
+-- with a form that writes after its session and a base that was opened.
 abbrev pub is_through : Option Form → Status → List StoryStep → Bool
 is_through form statuses.Good story = true
 is_through form statuses.SomeFailed story = true

@@ -40,7 +40,7 @@ which_prefix (p ∷ xs) (q ∷ ys) r s x y e =
       ]
     ]
 
--- a prefix does not go on behind its last payload
+-- a prefix does not go on after its last payload
 too_long : (prefix more rest : List (List ℕ)) (last next : List ℕ) → prefix ++ last ∷ [] ≡ (prefix ++ last ∷ more) ++ next ∷ rest
     → ⊥
 too_long prefix more rest last next e =

@@ -190,7 +190,7 @@ fails_at_once first now counted after is idles files fault =
     (both_map Idles (Adds may_read) first.modeled now.modeled idle_adds idles) files
     (raised_rises first now counted after fault.1)
 
--- the journal behind a base that was opened
+-- the journal after a base that was opened
 covered_opened : (opening : Opening) (list leftover : List (List ℕ)) (d e : Device) → opening.counts.ticks ≡ length d.calls
     → list ≡ payloads opening.base → leftover ≡ [] → Moves list [] list [] d e
     → IsMirrored opening [] list leftover lefts.Nothing e

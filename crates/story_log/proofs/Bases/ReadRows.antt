@@ -99,7 +99,7 @@ reads_then ghost_state one two three h g =
           g.files;
     }
 
--- why reading stopped behind reads, told of the journal before them
+-- why reading stopped after reads, told of the journal before them
 pub stops_behind : {D : Type 0} (ghost_state : D → DiskState) (cause : OpenCause) (one two : Shown D) (faults : ℕ)
     → OnlyReads ghost_state one two → (ghost_state two.disk).faults ≡ (ghost_state one.disk).faults
     → StopsBy (ghost_state two.disk).modeled (λ _. two.list) cause (ghost_state two.disk).faults faults

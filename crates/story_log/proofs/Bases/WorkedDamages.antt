@@ -1,5 +1,5 @@
--- Journals that stand for a base, and damaged ones, worked by hand from the bytes of rows: which frame is the first that spells no
--- row, or whose row does not fit those before it.
+-- Journals that stand for a base, and damaged ones, worked by hand from the bytes of rows: which frame is the first that spells
+-- no row, or whose row does not fit those before it.
 use Rattle.std.proofs.Common.{◌≡◌, ℕ, None, List, [], ◌∷◌, ◌++◌, refl, ap, ◌∙◌, arith}
 use Rattle.std.specs.Prelude.{codes}
 use Rattle.cc_names.specs.Formed.{IsFormed, IsTag, Plain}

@@ -102,7 +102,7 @@ commits_row ends row frame settled tail (Some d) None stands is h = absurd h
 commits_row ends row frame settled tail (Some d) (Some e) stands is h =
     (settled, tail, stands, h ∙ ap (λ payload. device_after_commit settled tail payload d) is)
 
--- what was left over is so still only behind a tail that is not settled
+-- what was left over is so still only after a tail that is not settled
 pub earlier_unsettled : (settled : Bool) (left : Left) (old new : ℕ) → FailsInPhase settled left old new → left ≡ lefts.Earlier
     → settled ≡ false
 earlier_unsettled settled lefts.Nothing old new h is = absurd (cc)

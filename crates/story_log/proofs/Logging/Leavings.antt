@@ -1,4 +1,4 @@
--- What may be found behind the rows, by the steps as they are kept and by the state of their story.
+-- What may be found after the rows, by the steps as they are kept and by the state of their story.
 use Rattle.std.proofs.Common.{◌≡◌, ℕ, ◌+◌, ◌-◌, Option, None, List, [], ◌∷◌, ◌++◌, refl, drop}
 use Rattle.cc_names.specs.Formed.{Plain}
 use Rattle.cc_names.specs.declared.commands.Phase.{Phase}

@@ -15,7 +15,7 @@ use Rattle.story_log.specs.Story.Handed.{Handed}
 use Rattle.story_log.proofs.Story.Stories.{story_of-phase, named_beginning, story_of-commit, named_commit, story_of-step}
 use Rattle.story_log.proofs.Story.Stories.{named_step}
 
--- a base with one more row is told with that row behind the others, and told back it is the base
+-- a base with one more row is told with that row after the others, and told back it is the base
 pub oldest_more : (row : Plain) (base : Base) → oldest_first (row ∷ base) ≡ oldest_first base ++ row ∷ []
 oldest_more row base = reverse-append (row ∷ []) base
 

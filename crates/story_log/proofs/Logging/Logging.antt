@@ -75,7 +75,7 @@ backed_commit s row tick old new list leftover list' leftover' ended ended' left
           ∙ modeled) counted.modeled) grown;
     }
 
--- where nothing hangs behind a row, no fault may have left the tail open
+-- where nothing hangs after a row, no fault may have left the tail open
 shut_behind : (ends : List End) → hanging ends ≡ None → has_row ends ≡ true → may_be_open ends ≡ false
 shut_behind [] none some = refl
 shut_behind (Committed row tick ∷ ends) none some = refl

@@ -136,7 +136,7 @@ commit_covered opening ends row tick list leftover list' leftover' left left' (S
     covered_end opening ends (Committed row tick) list leftover list' leftover' left left' d e h ticked moves at is (inl all)
     (inr all) (λ none. grown.1)
 
--- what is left over behind the list after a fault
+-- what is left over after the list after a fault
 fault_stands : (opening : Opening) (ends : List End) (row : Plain) (list leftover leftover' : List (List ℕ)) (left' : Left)
     (found : Option Plain) → list ≡ payloads (base_by opening ends) → StandsFor (base_by opening ends) (hanging ends)
     (list ++ leftover) → leftover' ≡ leftover_after left' leftover (spelling_of row) → LeftSo (hanging ends) row left' found

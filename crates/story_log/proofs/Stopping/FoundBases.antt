@@ -50,7 +50,7 @@ record SpellsOnly (P : Plain → Type 0) (opening : Opening) (found : List (List
   only : IsOnly P opening base
   is : found ≡ payloads base
 
--- a row that may stand behind a base makes such a base of it
+-- a row that may stand after a base makes such a base of it
 abbrev FitsBehind : (Plain → Type 0) → Opening → Base → Option Plain → Type 0
 FitsBehind P opening b None = Unit {0}
 FitsBehind P opening b (Some row) = IsOnly P opening (row ∷ b)

@@ -25,7 +25,7 @@ pub names_none : (P : Plain → Type 0) (step : Step) → is_fault (story_steps.
 names_none P (steps.Fault tag left before faults tick) sound = absurd (cc)
 names_none P step sound = tt
 
--- the row that hangs behind the rows is one that the story names
+-- the row that hangs after the rows is one that the story names
 hangs_from : (P : Plain → Type 0) (s : State) (story : List StoryStep) → IfSome (hanging s.ends) P → TellsOnly P story
     → IfSome (hanging (state_from s story).ends) P
 hangs_from P s [] hangs h = hangs

@@ -59,7 +59,7 @@ pub record IsNextRow (b : Base) (payload : List ℕ) (row : Plain) : Type 0 wher
   pub formed : IsFormed row
   pub fits : fits b row.deed ≡ true
 
--- why a payload gave no row behind a base
+-- why a payload gave no row after a base
 abbrev pub IsNoRow : Base → List ℕ → OpenCause → Type 0
 IsNoRow b payload (causes.Damaged n) = (n ≡ size b) × IsUnfit b payload
 IsNoRow b payload causes.DiskFault = ⊥
@@ -80,7 +80,7 @@ pub record IsReadThrough {D : Type 0} (ghost_state : D → DiskState) (base : Ba
   pub ended : journal.ended ≡ true
   pub nothing : IfModeled (ghost_state journal.disk).modeled (λ _. journal.rest ≡ [])
 
--- behind the base that was read there is one more row, or the end
+-- after the base that was read there is one more row, or the end
 abbrev pub ReadsOn : {D : Type 0} → (D → DiskState) → Base → Option Plain → Shown D → Type 0
 ReadsOn ghost_state base None journal = IsReadThrough ghost_state base journal
 ReadsOn ghost_state base (Some row) journal = IsReadSoFar ghost_state (row ∷ base) journal

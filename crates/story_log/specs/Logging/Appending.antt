@@ -23,7 +23,7 @@ use Rattle.story_log.specs.Story.Telling.{stands_alone}
 use Rattle.story_log.specs.declared.logs.Appended.{Appended}
 use Rattle.story_log.specs.declared.logs.Appended.TheVariants as appends
 
--- what a fault may leave behind the base: nothing, the row that was to be committed, or what the fault before it left
+-- what a fault may leave after the base: nothing, the row that was to be committed, or what the fault before it left
 abbrev pub MayLeaveRow : State → Plain → Option Plain → Type 0
 MayLeaveRow s row None = Unit {0}
 MayLeaveRow s row (Some left) = (left ≡ row) ⊎ (hanging s.ends ≡ Some left)
@@ -33,7 +33,7 @@ MayLeaveRow s row (Some left) = (left ≡ row) ⊎ (hanging s.ends ≡ Some left
 abbrev pub StandsSettled : List End → Bool → Type 0
 StandsSettled ends settled = may_be_open ends ≡ false → has_row ends ≡ true → settled ≡ true
 
--- the calls that commit a row behind a tail after these commits and faults, and no others: a settled tail is not settled again
+-- the calls that commit a row after a tail after these commits and faults, and no others: a settled tail is not settled again
 abbrev pub CommitsRow : List End → Plain → Device → Device → Type 0
 CommitsRow ends row d e = (settled : Bool) × (tail : ℕ) × StandsSettled ends settled
     × (e ≡ device_after_commit settled tail (spelling_of row) d)

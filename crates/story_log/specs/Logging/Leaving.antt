@@ -6,7 +6,7 @@ use Rattle.cc_names.specs.declared.steps.Step.TheVariants as steps
 use Rattle.vob_journal.specs.declared.left.Left.{Left}
 use Rattle.vob_journal.specs.declared.left.Left.TheVariants as lefts
 
--- the row that may be found behind the rows after some steps, oldest first, from what may be found before them
+-- the row that may be found after the rows after some steps, oldest first, from what may be found before them
 abbrev pub row_left_by : Option Plain → List Step → Option Plain
 row_left_by left [] = left
 row_left_by left (steps.Commit tag number tick ∷ more) = row_left_by None more
@@ -19,6 +19,6 @@ LeftSo earlier row lefts.Nothing found = found ≡ None
 LeftSo earlier row lefts.Earlier found = found ≡ earlier
 LeftSo earlier row lefts.InFlight found = found ≡ Some row
 
--- the row that the newest commit or fault left behind the rows
+-- the row that the newest commit or fault left after the rows
 abbrev pub left_in : List Step → Option Plain
 left_in kept = row_left_by None kept

@@ -9,7 +9,7 @@ use Rattle.vob_journal.specs.declared.left.Left.{Left}
 use Rattle.vob_journal.specs.declared.left.Left.TheVariants as lefts
 use Rattle.story_log.specs.Stopping.Standing.{payloads, base_by, StandsFor, MayBeFound}
 
--- a journal with this list, and with what is left over behind it, is that of the base after these commits and faults: what is
+-- a journal with this list, and with what is left over after it, is that of the base after these commits and faults: what is
 -- left over is what the newest fault left
 pub record IsMirrored (opening : Opening) (ends : List End) (list leftover : List (List ℕ)) (left : Left) (d : Device) : Type 0
   where
@@ -35,7 +35,7 @@ may_be_open (Committed row tick ∷ earlier) = false
 may_be_open (Faulted None faults tick ∷ earlier) = not (has_row earlier)
 may_be_open (Faulted (Some row) faults tick ∷ earlier) = true
 
--- The base was opened, and the journal behind it is that of its history. Where no fault may have left its tail open none did, and
+-- The base was opened, and the journal after it is that of its history. Where no fault may have left its tail open none did, and
 -- the tail is settled, unless it stands as it was opened.
 pub record IsBacked (s : State) (ghost_state : DiskState) (list leftover : List (List ℕ)) (ended : Bool) (left : Left)
     (settled : Bool) : Type 0 where

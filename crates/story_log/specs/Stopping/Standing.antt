@@ -10,12 +10,12 @@ abbrev pub payloads : Base → List (List ℕ)
 payloads [] = []
 payloads (row ∷ older) = payloads older ++ spelling_of row ∷ []
 
--- a base with the row that a fault may have left behind it
+-- a base with the row that a fault may have left after it
 abbrev pub with_left : Option Plain → Base → Base
 with_left None b = b
 with_left (Some row) b = row ∷ b
 
--- A journal stands for a base, or for that and the row that a fault left behind it.
+-- A journal stands for a base, or for that and the row that a fault left after it.
 abbrev pub StandsFor : Base → Option Plain → List (List ℕ) → Type 0
 StandsFor b left found = (found ≡ payloads b) ⊎ (found ≡ payloads (with_left left b))
 

@@ -30,7 +30,7 @@ abbrev pub StoryKeepsItsBaseFormed : Type 0
 StoryKeepsItsBaseFormed = (story : List StoryStep) → TellsOnly IsFormed story
     → AreFormed (state_of story).base
 
--- A row that a fault left behind that base, if there is one, is formed.
+-- A row that a fault left after that base, if there is one, is formed.
 abbrev pub FaultLeavesAFormedRow : Type 0
 FaultLeavesAFormedRow = (story : List StoryStep) → TellsOnly IsFormed story
     → IfSome (hanging (state_of story).ends) IsFormed

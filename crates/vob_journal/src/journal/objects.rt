@@ -6,7 +6,7 @@ use super::Journal;
 use disk_model::{Counts, Disk, DiskFault, Objects};
 
 /// The calls are those of the journal's disk on file 1. They leave file 0 as it is, so the frames, the tail and what a fault
-/// left behind it stay, and so does what a stop leaves of them.
+/// left after it stay, and so does what a stop leaves of them.
 impl<D: Disk> Objects for Journal<D> {
     ghost use Rattle.vob_journal.specs.StoringLaws.{keeps_itself, keeps_on};
 

@@ -1,4 +1,4 @@
--- The newest row of the checkout, unless the view's life began or ended behind it.
+-- The newest row of the checkout, unless the view's life began or ended after it.
 use Rattle.std.proofs.Common.{sym, ap, ◌∙◌}
 use Rattle.std.specs.Prelude.{option_map}
 use Rattle.base_model.specs.Rows.{size}

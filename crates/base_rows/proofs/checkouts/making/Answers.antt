@@ -1,4 +1,4 @@
--- The later of the newest save and of the newest row of the checkout, unless the view's life began or ended behind it.
+-- The later of the newest save and of the newest row of the checkout, unless the view's life began or ended after it.
 use Rattle.std.proofs.Common.{◌≡◌, refl, sym, ap, ap₂, ◌∙◌}
 use Rattle.std.specs.Prelude.{option_map}
 use Rattle.base_model.specs.Rows.{size}

@@ -1,4 +1,4 @@
--- A path more is written behind its length.
+-- A path more is written after its length.
 use Rattle.std.proofs.Common.{◌≡◌, ℕ, ◌+◌, ◌<◌, List, [], ◌∷◌, length, drop, get_or, add-one, sym, ap, ap₂, ◌∙◌}
 use Rattle.std.specs.Prelude.{fold}
 use Rattle.std.specs.Hash.{u64, usize}

@@ -1,4 +1,4 @@
--- The newest row of the object, unless the view ended behind it.
+-- The newest row of the object, unless the view ended after it.
 use Rattle.std.proofs.Common.{refl, sym, ap₂, ◌∙◌}
 use Rattle.base_rows.specs.Effects.{gone_effect, object_effect}
 use Rattle.base_rows.specs.Lifetimes.{within}

@@ -1,4 +1,4 @@
--- What one of the first rows made it made of all; a row behind them made nothing of theirs.
+-- What one of the first rows made it made of all; a row after them made nothing of theirs.
 use Rattle.std.proofs.Common.{◌<◌, ◌≤◌, sym, ap, ◌∙◌, arith}
 use Rattle.std.specs.Prelude.{option_and_then}
 use Rattle.cc_names.specs.Branches.{origin_by, origin_of}

@@ -1,4 +1,4 @@
--- what is known of is left where it lies behind the last end
+-- what is known of is left where it lies after the last end
 use Rattle.std.proofs.Common.{ap, ◌∙◌}
 use Rattle.base_rows.specs.Lifetimes.{within}
 use Rattle.base_rows.proofs.views.in_life.Goals as goal

@@ -1,4 +1,4 @@
--- The newest row of the file, unless the view's life began or ended behind it.
+-- The newest row of the file, unless the view's life began or ended after it.
 use Rattle.std.proofs.Common.{sym, ap, ◌∙◌}
 use Rattle.base_model.specs.Rows.{size}
 use Rattle.base_model.specs.Views.{private_effect}

@@ -1,4 +1,4 @@
--- The lines of one more unit stand behind those of the units before it.
+-- The lines of one more unit stand after those of the units before it.
 use Rattle.std.proofs.Common.{◌≡◌, ℕ, ◌+◌, List, sym, ap, ap₂, ◌∙◌, ◌∷◌, ◌++◌, append_assoc, arith}
 use Rattle.std.specs.Prelude.{is_some}
 use Rattle.cc_names.specs.declared.replies.UnitLine.{UnitLine}

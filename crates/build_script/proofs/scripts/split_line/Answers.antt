@@ -1,4 +1,4 @@
-use Rattle.std.proofs.Common.{◌≡◌, ◌+◌, ◌-◌, ◌∷◌, ℕ, List, take, ap, sym, ◌∙◌}
+use Rattle.std.proofs.Common.{◌+◌, ◌-◌, ◌∷◌, ℕ, List, take, ap, sym, ◌∙◌}
 use Rattle.std.specs.List.{slice_split}
 use Rattle.cc_names.specs.Cuts.{is_newline}
 use Rattle.cc_names.proofs.Splits.{slice_split-at, slice_split-none}

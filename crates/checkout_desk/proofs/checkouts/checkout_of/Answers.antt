@@ -1,4 +1,4 @@
--- A branch by the rule that decided has the name of a type; and the tests that the rule asks for come behind the first two.
+-- A branch by the rule that decided has the name of a type; and the tests that the rule asks for come after the first two.
 use Rattle.std.proofs.Common.{◌≡◌, None, subst, sym, ap, arith, ◌∷◌, [], ◌∙◌}
 use Rattle.std.proofs.lemmas.Grind.{common_steps}
 use Rattle.std.specs.Prelude.{IfSome}

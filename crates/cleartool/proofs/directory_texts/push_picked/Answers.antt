@@ -1,4 +1,4 @@
--- The name, the version from which and the rule are written one behind the other.
+-- The name, the version from which and the rule are written one after the other.
 use Rattle.std.proofs.Common.{ℕ, Bool, List, [], ◌∷◌, ◌++◌, append_assoc, ap, sym, ◌∙◌}
 use Rattle.std.specs.Prelude.{codes}
 use Rattle.base_model.specs.Views.{out}

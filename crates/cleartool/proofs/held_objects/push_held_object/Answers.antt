@@ -1,4 +1,4 @@
--- The object, the number of views and the end of the line are written one behind the other.
+-- The object, the number of views and the end of the line are written one after the other.
 use Rattle.std.proofs.Common.{ℕ, true, List, [], ◌∷◌, ◌++◌, Option, ap, ap₂, sym, ◌∙◌}
 use Rattle.std.specs.Prelude.{codes, decimal}
 use Rattle.std.specs.Option.{option_map_or}

@@ -1,4 +1,4 @@
--- An extent begins behind those before it.
+-- An extent begins after those before it.
 use Rattle.std.proofs.Common.{◌<◌, length, sym, arith}
 use Rattle.std.proofs.lemmas.Bool.{ltb-true}
 use Rattle.container_store.proofs.Fitting.{rest_of}

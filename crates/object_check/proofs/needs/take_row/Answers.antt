@@ -1,5 +1,5 @@
 -- A needed row is taken with the objects that its entries name.
-use Rattle.std.proofs.Common.{◌≡◌, ◌||◌, true, cond, List, ap, sym, ◌∙◌}
+use Rattle.std.proofs.Common.{◌||◌, true, cond, List, ap, sym, ◌∙◌}
 use Rattle.std.specs.BTreeMap.{is_at}
 use Rattle.std.specs.BTreeSet.{contains}
 use Rattle.std.specs.Ordering.{nat_cmp}

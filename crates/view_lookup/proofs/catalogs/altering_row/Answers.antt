@@ -9,7 +9,7 @@ use Rattle.base_rows.specs.LookUps.{last_of}
 use Rattle.view_lookup.specs.AlteringRows.{altered_by}
 use Rattle.view_lookup.proofs.catalogs.altering_row.Goals as goal
 
--- the rows up to a version, however far behind it lies
+-- the rows up to a version, however far after it lies
 until : (b : Base) (v : ℕ) → first_rows (min v (size b) + 1) b ≡ first_rows (suc v) b
 until b v = by (nat_lt v (size b)) refl
   where

@@ -1,4 +1,4 @@
--- What is kept of the view, before and behind, is what it sees in the first rows.
+-- What is kept of the view, before and after, is what it sees in the first rows.
 use Rattle.std.proofs.Common.{◌≡◌, ap, sym, subst, ◌∙◌}
 use Rattle.std.specs.Prelude.{IfOk, IfSome}
 use Rattle.base_model.specs.Rows.{Base, first_rows}

@@ -1,4 +1,4 @@
--- The name stands behind those of the branch at which the new one leaves.
+-- The name stands after those of the branch at which the new one leaves.
 use Rattle.std.proofs.Common.{◌≡◌, ℕ, List, [], ◌∷◌, ◌++◌, codes, decimal, append_assoc, ap, sym, subst, ◌∙◌}
 use Rattle.std.specs.Prelude.{IfOk}
 use Rattle.cc_names.specs.Branches.{branch_of_version}

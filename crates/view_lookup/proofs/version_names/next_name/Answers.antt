@@ -14,7 +14,7 @@ use Rattle.base_rows.specs.Effects.{plain_checkout}
 use Rattle.view_lookup.proofs.NextNames.{branch_below, no_version, version_next}
 use Rattle.view_lookup.proofs.version_names.next_name.Goals as goal
 
--- the trees behind a checkin of what the view has checked out
+-- the trees after a checkin of what the view has checked out
 behind_checkin : (row : Plain) (b : Base) (v : List ℕ) (e : ℕ) (taken : Option Checkout) → row.deed ≡ deeds.Checkin v e
     → out b v e ≡ taken → tree (row ∷ b) ≡ with_checkin (size b) row.moment taken (tree b)
 behind_checkin row b v e taken is found =

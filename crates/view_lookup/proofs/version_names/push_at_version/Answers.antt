@@ -1,4 +1,4 @@
--- The path, two signs and the version are written one behind the other.
+-- The path, two signs and the version are written one after the other.
 use Rattle.std.proofs.Common.{ℕ, List, [], ◌∷◌, ◌++◌, append_assoc, ap, ◌∙◌}
 use Rattle.view_lookup.proofs.version_names.push_at_version.Goals as goal
 

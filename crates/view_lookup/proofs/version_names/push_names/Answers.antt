@@ -1,4 +1,4 @@
--- The last name that is left goes behind what is written.
+-- The last name that is left goes after what is written.
 use Rattle.std.proofs.Common.{◌≡◌, ℕ, ◌<◌, List, [], ◌∷◌, ◌++◌, length, map, reverse, append-nil, append_assoc, refl, ap, sym}
 use Rattle.std.proofs.Common.{◌∙◌, arith, Bor, rules}
 use Rattle.legal_history.specs.Queries.VersionNames.{behind_slashes}

@@ -1,4 +1,4 @@
--- The labels on the selected version are told behind its name.
+-- The labels on the selected version are told after its name.
 use Rattle.std.proofs.Common.{ℕ, Bool, List, ◌++◌, append_assoc, codes, map, ap, sym, ◌∙◌}
 use Rattle.std.specs.List.{concat}
 use Rattle.legal_history.specs.Queries.ElementTexts.{labels_on, selected_lines}

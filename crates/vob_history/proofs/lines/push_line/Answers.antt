@@ -1,4 +1,4 @@
--- The words and the name are written one behind the other.
+-- The words and the name are written one after the other.
 use Rattle.std.proofs.Common.{ℕ, List, [], ◌∷◌, ◌++◌, append_assoc, ap, ◌∙◌}
 use Rattle.vob_history.proofs.lines.push_line.Goals as goal
 

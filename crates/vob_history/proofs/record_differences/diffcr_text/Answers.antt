@@ -1,4 +1,4 @@
--- The three parts are written one behind the other.
+-- The three parts are written one after the other.
 use Rattle.std.proofs.Common.{ℕ, List, ◌++◌, map, ap, ◌∙◌}
 use Rattle.std.specs.Prelude.{codes}
 use Rattle.std.specs.List.{concat}

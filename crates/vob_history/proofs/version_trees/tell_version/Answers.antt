@@ -1,4 +1,4 @@
--- A version is told before what leaves it, and that before the versions behind it.
+-- A version is told before what leaves it, and that before the versions after it.
 use Rattle.std.proofs.Common.{◌≡◌, ℕ, ◌+◌, ◌<◌, List, ◌++◌, None, Some, length, map, reverse, ap, ap₂, sym, subst, ◌∙◌, arith}
 use Rattle.std.specs.Prelude.{slice_get}
 use Rattle.std.specs.List.{concat}

@@ -5,7 +5,7 @@ use Rattle.indexmap.proofs.CallerLemmas.{insert_entry-new}
 use Rattle.vob_replica.proofs.SiteLaws.{packet-found, sents-push}
 use Rattle.vob_replica.proofs.sites.add_packet.Goals as goal
 
--- the packet is behind the others
+-- the packet is after the others
 pub returns : goal.returns
 returns c =
     let entries = c.args.packets.now.entries in

@@ -1,4 +1,4 @@
--- What the record of one of the first rows lists it lists among all; a row behind them is no object of theirs.
+-- What the record of one of the first rows lists it lists among all; a row after them is no object of theirs.
 use Rattle.std.proofs.Common.{◌≡◌, ◌<◌, ◌≤◌, suc, reverse, ap, sym, ◌∙◌, arith}
 use Rattle.std.specs.FinMap.Entries.{find}
 use Rattle.std.specs.Ordering.{nat_cmp}

@@ -1,4 +1,4 @@
--- A row among the first ones gave what it gave among all; a row behind them is none of theirs.
+-- A row among the first ones gave what it gave among all; a row after them is none of theirs.
 use Rattle.std.proofs.Common.{◌≡◌, ◌<◌, ◌≤◌, suc, List, map, reverse, ap, sym, subst, ◌∙◌, arith}
 use Rattle.std.specs.Option.{option_and_then}
 use Rattle.cc_names.specs.Falling.{Falls}

@@ -1,4 +1,4 @@
--- Where a version of the first rows stands it stands among all; a row behind them made none of theirs.
+-- Where a version of the first rows stands it stands among all; a row after them made none of theirs.
 use Rattle.std.proofs.Common.{◌≡◌, ◌<◌, ◌≤◌, suc, reverse, ap, sym, ◌∙◌, arith}
 use Rattle.cc_names.specs.Versions.{version_id}
 use Rattle.base_model.specs.Changes.{tree}

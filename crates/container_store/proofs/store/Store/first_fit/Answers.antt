@@ -1,4 +1,4 @@
--- Where no hole is long enough, the place is behind the last extent.
+-- Where no hole is long enough, the place is after the last extent.
 use Rattle.std.proofs.Common.{◌≡◌, ℕ, length, subst, arith}
 use Rattle.container_store.specs.Spaces.{Space}
 use Rattle.container_store.specs.Walks.{IsFirstAt}

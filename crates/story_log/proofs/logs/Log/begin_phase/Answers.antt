@@ -1,4 +1,4 @@
--- a phase is told behind the story
+-- a phase is told after the story
 use Rattle.std.proofs.Common.{◌≡◌, ◌+◌, ◌∷◌, [], ◌++◌, length, ap, ◌∙◌, arith}
 use Rattle.story_log.specs.Logging.Logs.{with_phase}
 use Rattle.story_log.specs.Story.Handed.{handed_disk}

@@ -1,4 +1,4 @@
--- a step is told behind the story
+-- a step is told after the story
 use Rattle.std.proofs.Common.{ap, ◌∙◌}
 use Rattle.story_log.specs.Logging.Logs.{with_step}
 use Rattle.story_log.specs.Story.Handed.{handed_disk}

@@ -7,7 +7,7 @@ use Rattle.version_tree.specs.Branches.{row_of_later, row_if}
 use Rattle.version_tree.proofs.VersionsStored.{latest_search}
 use Rattle.version_tree.proofs.branches.Branch.latest.Goals as goal
 
--- a version behind version 0 is the last one
+-- a version after version 0 is the last one
 pub returns-in-Some : goal.returns-in-Some
 returns-in-Some c =
     let branch = c.args.self.now in

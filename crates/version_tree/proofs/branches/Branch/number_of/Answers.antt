@@ -6,7 +6,7 @@ use Rattle.version_tree.specs.Branches.{row_of_later}
 use Rattle.version_tree.proofs.VersionsStored.{number_found, number_missed}
 use Rattle.version_tree.proofs.branches.Branch.number_of.Goals as goal
 
--- a version behind version 0
+-- a version after version 0
 pub returns-in-Some : goal.returns-in-Some
 returns-in-Some c =
     let branch = c.args.self.now in

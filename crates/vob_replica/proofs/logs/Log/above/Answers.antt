@@ -8,7 +8,7 @@ use Rattle.vob_replica.proofs.LogLaws.{all_behind}
 use Rattle.vob_replica.proofs.WholeLaws.{ok-above, ok-whole}
 use Rattle.vob_replica.proofs.logs.Log.above.Goals as goal
 
--- those behind the place are all that are above
+-- those after the place are all that are above
 pub returns-clause-above : goal.returns-clause-above
 returns-clause-above c =
     let known = c.args.self.now in
