@@ -88,7 +88,7 @@ pub enum Step {
     },
 }
 
-/// One step as contracts see it in a story: with the rows and the phase themselves.
+/// One step as contracts see it in a story: with the rows and the phase themselves. The other steps are those of `Step`.
 #[derive(Drop)]
 pub enum StoryStep {
     /// The opened rows, from row 1 on; the disk's counts as it was handed in; and whether it models its content.
@@ -107,8 +107,43 @@ pub enum StoryStep {
         row: Row,
         tick: u64,
     },
-    /// Any other step, as it stands.
-    Other {
-        step: Step,
+    /// A command was refused.
+    Refused {
+        tag: Tag,
+        refusal: Refusal,
+    },
+    /// A command was answered without a row.
+    Answer {
+        tag: Tag,
+        text: Text,
+    },
+    /// A build began.
+    Begin {
+        tag: Tag,
+        rows: u64,
+        units: u32,
+    },
+    /// A unit's script was handed out to be run.
+    Start {
+        tag: Tag,
+        unit: u32,
+    },
+    /// A unit came to its outcome without a row.
+    Concluded {
+        tag: Tag,
+        unit: u32,
+        outcome: UnitEnd,
+    },
+    /// A build ended.
+    End {
+        tag: Tag,
+    },
+    /// The disk failed under a command.
+    Fault {
+        tag: Tag,
+        left: Option<Row>,
+        before: u64,
+        after: u64,
+        tick: u64,
     },
 }

@@ -1,7 +1,5 @@
 -- How a story goes on while a lane builds.
 use Rattle.std.specs.Prelude.{◌≡◌, ℕ, ◌+◌, true, Option, Some, None, List, [], ◌∷◌, ◌++◌, ◌≢◌}
-use Rattle.cc_names.specs.declared.steps.Step.{Step}
-use Rattle.cc_names.specs.declared.steps.Step.TheVariants as steps
 use Rattle.cc_names.specs.declared.steps.StoryStep.{StoryStep}
 use Rattle.cc_names.specs.declared.steps.StoryStep.TheVariants as story_steps
 use Rattle.legal_history.specs.Builds.Active.{Build, build_of, came_to, is_outcome}
@@ -21,29 +19,25 @@ pub record BuildsOn (new : State) (lane : ℕ) (before : Build) : Type 0 where
   pub units : build.units ≡ before.units
   pub outcomes : (n : ℕ) → is_outcome (came_to before n) ≡ true → is_outcome (came_to build n) ≡ true
 
--- the lane of a step that is told as it stands, where it is of a command
-abbrev pub lane_of_step : Step → Option ℕ
-lane_of_step (steps.Refused tag refusal) = Some tag.lane
-lane_of_step (steps.Answer tag text) = Some tag.lane
-lane_of_step (steps.Begin tag rows units) = Some tag.lane
-lane_of_step (steps.Start tag n) = Some tag.lane
-lane_of_step (steps.Concluded tag n outcome) = Some tag.lane
-lane_of_step (steps.End tag) = Some tag.lane
-lane_of_step (steps.Fault tag left before faults tick) = Some tag.lane
-lane_of_step step = None
-
 -- the lane of a step of a story, where it is of a command
 abbrev pub lane_of : StoryStep → Option ℕ
+lane_of (story_steps.Opened rows counts tells) = None
+lane_of (story_steps.PhaseBegun phase moment) = None
 lane_of (story_steps.Commit row tick) = Some row.tag.lane
-lane_of (story_steps.Other step) = lane_of_step step
-lane_of step = None
+lane_of (story_steps.Refused tag refusal) = Some tag.lane
+lane_of (story_steps.Answer tag text) = Some tag.lane
+lane_of (story_steps.Begin tag rows units) = Some tag.lane
+lane_of (story_steps.Start tag n) = Some tag.lane
+lane_of (story_steps.Concluded tag n outcome) = Some tag.lane
+lane_of (story_steps.End tag) = Some tag.lane
+lane_of (story_steps.Fault tag left before faults tick) = Some tag.lane
 
 -- What one call adds to a story for a lane: nothing, or one step of a command of the lane, or a fault of the disk and the end of
 -- the build that it ends.
 abbrev pub IsOneCall : ℕ → List StoryStep → Type 0
 IsOneCall lane [] = Unit {0}
 IsOneCall lane (step ∷ []) = lane_of step ≡ Some lane
-IsOneCall lane (story_steps.Other (steps.Fault tag left before faults tick) ∷ story_steps.Other (steps.End ended) ∷ []) =
+IsOneCall lane (story_steps.Fault tag left before faults tick ∷ story_steps.End ended ∷ []) =
     (tag.lane ≡ lane) × (ended ≡ tag)
 IsOneCall lane steps = ⊥
 

@@ -1,4 +1,5 @@
 -- What holds along legal stories.
+pub mod Along
 pub mod DecidedSteps
 pub mod Finishing
 pub mod Prefixes

@@ -4,5 +4,6 @@ pub mod Committing
 pub mod Growth
 pub mod Lanes
 pub mod Lawful
+pub mod Quiet
 pub mod States
 pub mod Steps

@@ -130,9 +130,7 @@ impl<D: Disk> Log<D> {
     ghost use Rattle.story_log.specs.Logging.Appending.{Appends, IsQuiet};
     ghost use Rattle.story_log.specs.Stopping.Backed.{IsBacked, IsSettled, IsAccounted, may_be_open};
     ghost use Rattle.story_log.specs.Story.Handed.{handed_disk};
-    ghost use Rattle.story_log.specs.Story.Faults.{is_fault};
     ghost use Rattle.story_log.specs.Logging.Logs.{opened_log, with_phase, with_step, with_ghost_state};
-    ghost use Rattle.story_log.specs.Story.Telling.{stands_alone};
     ghost use Rattle.base_rows.specs.Order.{oldest_first};
     ghost use Rattle.base_model.specs.Fits.{fits};
     ghost use Rattle.vob_journal.specs.Added.{WritesOn};
@@ -235,8 +233,7 @@ impl<D: Disk> Log<D> {
 
     /// Tells a step that names no row and no phase, and is no fault of the disk. An `Err` changes nothing.
     pub fn tell(&mut self, step: Step) -> Result<(), NoMemory>
-        requires alone { stands_alone step ≡ true }
-        requires faultless { is_fault (story_steps.Other step) ≡ false }
+        requires quiet { IsQuiet step }
         ensures ok { OnOk result (self.new ≡ with_step self.old step) }
         ensures err { OnErr result (self.new ≡ self.old) }
     {

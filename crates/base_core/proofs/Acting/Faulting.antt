@@ -69,7 +69,7 @@ preserved_fault log lanes now row left before faults tick ghost_state rose later
     s = state_of log.story
 
     x : StoryStep
-    x = story_steps.Other (steps.Fault row.tag left before faults tick)
+    x = story_steps.Fault row.tag left before faults tick
 
     may : MayCommit s row
     may = record { moment = in_time ∙ sym h.phase.moment; made = finishes.made s row made }
@@ -99,10 +99,10 @@ preserved_next_fault log lanes now story row lane left before faults tick ghost_
 
 -- how the story went on
 pub next_faults : (old new : List StoryStep) (row : Plain) (left : Option Plain) (before faults tick : ℕ)
-    → new ≡ old ++ story_steps.Other (steps.Fault row.tag left before faults tick) ∷ [] → IsRowToCommit (state_of old) row
+    → new ≡ old ++ story_steps.Fault row.tag left before faults tick ∷ [] → IsRowToCommit (state_of old) row
     → Acts old new row.tag.lane Faulted
 next_faults old new row left before faults tick e next = record {
-  step = story_steps.Other (steps.Fault row.tag left before faults tick);
+  step = story_steps.Fault row.tag left before faults tick;
   grows = e;
   is = (
     next.of_next.next,

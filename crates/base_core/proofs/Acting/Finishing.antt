@@ -58,7 +58,7 @@ preserved_refusal : (log : Logged) (lanes : List LaneState) (now : ℕ) (tag : T
     → CoreInvariant (with_step log (steps.Refused tag refusal)) (with_reply lanes tag.lane (replies.Refused refusal)) now
 preserved_refusal log lanes now tag refusal h made low high =
     let s : State = state_of log.story in
-    let x : StoryStep = story_steps.Other (steps.Refused tag refusal) in
+    let x : StoryStep = story_steps.Refused tag refusal in
     preserved_finished log lanes now x log.base log.ghost_state tag (replies.Refused refusal) h low high
     (record { lawful = made; names = tt; leads = h.story.base })
     (record {
@@ -77,7 +77,7 @@ preserved_answer : (log : Logged) (lanes : List LaneState) (now : ℕ) (tag : Ta
     → CoreInvariant (with_step log (steps.Answer tag text)) (with_reply lanes tag.lane reply) now
 preserved_answer log lanes now tag text reply h made replied low high =
     let s : State = state_of log.story in
-    let x : StoryStep = story_steps.Other (steps.Answer tag text) in
+    let x : StoryStep = story_steps.Answer tag text in
     preserved_finished log lanes now x log.base log.ghost_state tag reply h low high
     (record { lawful = made; names = tt; leads = h.story.base })
     (record {

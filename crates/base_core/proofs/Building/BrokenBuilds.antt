@@ -54,8 +54,7 @@ broken_state s lane build left faults tick = record s {
 }
 
 pub after_fault : (s : State) (lane : ℕ) (build : Build) (left : Option Plain) (before faults tick : ℕ)
-    → build_by s (next_tag s lane) ≡ Some build → after s (story_steps.Other
-    (steps.Fault (next_tag s lane) left before faults tick)) ≡ broken_state s lane build left faults tick
+    → build_by s (next_tag s lane) ≡ Some build → after s (story_steps.Fault (next_tag s lane) left before faults tick) ≡ broken_state s lane build left faults tick
 after_fault s lane build left before faults tick is = ap (λ o. record s {
   done = done_by_fault s.done lane o;
   active = faulted_in s.active lane o;
@@ -101,10 +100,10 @@ preserved_broken log lanes now lane build row left before faults tick ghost_stat
     tag = next_tag s lane
 
     fault : StoryStep
-    fault = story_steps.Other (steps.Fault tag left before faults tick)
+    fault = story_steps.Fault tag left before faults tick
 
     end : StoryStep
-    end = story_steps.Other (steps.End tag)
+    end = story_steps.End tag
 
     failed : Logged
     failed = with_step_on log (steps.Fault tag left before faults tick) ghost_state
@@ -179,16 +178,16 @@ broken_finishes log story lane build tag left before faults tick ghost_state sam
     s = state_of story
 
     fault : StoryStep
-    fault = story_steps.Other (steps.Fault tag left before faults tick)
+    fault = story_steps.Fault tag left before faults tick
 
     end : StoryStep
-    end = story_steps.Other (steps.End tag)
+    end = story_steps.End tag
 
     s1 : State
     s1 = broken_state s lane build left faults tick
 
     state1 : state_of (story ++ fault ∷ []) ≡ s1
-    state1 = state_from-more start story fault ∙ ap (λ t. after s (story_steps.Other (steps.Fault t left before faults tick)))
+    state1 = state_from-more start story fault ∙ ap (λ t. after s (story_steps.Fault t left before faults tick))
         tagged ∙ after_fault s lane build left before faults tick is
 
     state : state_of ((log.story ++ fault ∷ []) ++ end ∷ []) ≡ record s1 {

@@ -50,4 +50,4 @@ preserved_begin log lanes now tag build h low high made begins is room =
     s = state_of log.story
 
     x : StoryStep
-    x = story_steps.Other (steps.Begin tag (size s.base) (length build.units))
+    x = story_steps.Begin tag (size s.base) (length build.units)

@@ -84,7 +84,7 @@ preserved_end log lanes now lane build h low high is over = record {
     tag = next_tag s lane
 
     x : StoryStep
-    x = story_steps.Other (steps.End tag)
+    x = story_steps.End tag
 
     reply : Reply
     reply = reply_of s.base build

@@ -59,7 +59,7 @@ ended_finishes log story lane tag same tagged = record {
     s = state_of story
 
     x : StoryStep
-    x = story_steps.Other (steps.End tag)
+    x = story_steps.End tag
 
     state : state_of (log.story ++ x ∷ []) ≡ record s { done = with_done s.done lane; active = without_build s.active lane }
     state = ap (λ t. state_of (t ++ x ∷ [])) same ∙ state_from-more start story x

@@ -33,18 +33,27 @@ noted_preserved s lane build n came h = record {
   faultless = h.faultless;
 }
 
+-- a log with more steps of its story
+with_steps : Logged → List StoryStep → Logged
+with_steps log steps = record {
+  story = log.story ++ steps;
+  base = log.base;
+  phases = log.phases;
+  ghost_state = log.ghost_state;
+}
+
 -- what is kept after a step by which a unit of a lane's build comes to something, without a row
-pub preserved_note : (log : Logged) (lanes : List LaneState) (now : ℕ) (step : Step) (lane n : ℕ) (build : Build) (came : Came)
-    → CoreInvariant log lanes now → 1 ≤ lane → lane ≤ length lanes → build_of (state_of log.story).active lane ≡ Some build
-    → Lawful (state_of log.story) (story_steps.Other step)
-    → after (state_of log.story) (story_steps.Other step) ≡ record (state_of log.story)
+pub preserved_note : (log : Logged) (lanes : List LaneState) (now : ℕ) (step : Step) (x : StoryStep) (lane n : ℕ) (build : Build)
+    (came : Came) → shown_as step ≡ Some x → is_quiet x ≡ true → CoreInvariant log lanes now → 1 ≤ lane → lane ≤ length lanes → build_of (state_of log.story).active lane ≡ Some build
+    → Lawful (state_of log.story) x → after (state_of log.story) x ≡ record (state_of log.story)
     { active = put nat_cmp lane (with_came build (Some n) came) (state_of log.story).active }
-    → ((l : ℕ) → replies_after (state_of log.story) (story_steps.Other step) (replies_of log.story) l ≡ replies_of log.story l)
-    → is_fault (story_steps.Other step) ≡ false
+    → ((l : ℕ) → replies_after (state_of log.story) x (replies_of log.story) l ≡ replies_of log.story l)
     → CoreInvariant (with_step log step) (put_build lanes lane (Some (with_came build (Some n) came))) now
-preserved_note log lanes now step lane n build came h low high is lawful leaves said sound =
-    preserved_put log lanes now x log.base log.ghost_state lane (with_came build (Some n) came) h low high
-    (record { lawful = lawful; names = names_none IsFormed step sound; leads = ap (λ t. t.base) leaves ∙ h.story.base })
+preserved_note log lanes now step x lane n build came shown quiet h low high is lawful leaves said =
+    subst (λ o. CoreInvariant (with_steps log (option_to_list o)) (put_build lanes lane (Some (with_came build (Some n) came))) now)
+    (sym shown)
+    (preserved_put log lanes now x log.base log.ghost_state lane (with_came build (Some n) came) h low high
+    (record { lawful = lawful; names = names_none IsFormed x quiet; leads = ap (λ t. t.base) leaves ∙ h.story.base })
     (record {
       same = record { phase = ap (λ t. t.phase) leaves; number = ap (λ t. t.number) leaves; moment = ap (λ t. t.moment) leaves };
       rows = same_rows s (after s x) (ap (λ t. t.base) leaves);
@@ -53,10 +62,7 @@ preserved_note log lanes now step lane n build came h low high is lawful leaves 
       said = said;
       kept = noted_preserved s lane build n came (h.builds.kept lane build is);
       room = omega (arith, h.builds.reserves, ap rows_for is);
-    })
+    }))
   where
     s : State
     s = state_of log.story
-
-    x : StoryStep
-    x = story_steps.Other step

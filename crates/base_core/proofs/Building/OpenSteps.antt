@@ -69,7 +69,7 @@ opened_so log rows count story tag build same next tagged = (
     s = state_of story
 
     x : StoryStep
-    x = story_steps.Other (steps.Begin tag rows count)
+    x = story_steps.Begin tag rows count
 
     state : state_of (log.story ++ x ∷ []) ≡ record s { active = put nat_cmp build.tag.lane build s.active }
     state = ap (λ t. state_of (t ++ x ∷ [])) same ∙ state_from-more start story x
@@ -104,7 +104,7 @@ refused_finishes old new lane acts = by acts.step acts.grows acts.is
   where
     by : (step : StoryStep) → new ≡ old ++ step ∷ [] → IsStepOf (state_of old) (next_tag (state_of old) lane) dones.Refused step
         → Finishes old new lane
-    by (story_steps.Other (steps.Refused tag refusal)) e is = step_finishes old new lane
-        (story_steps.Other (steps.Refused tag refusal)) e (ap (λ (t : Tag). Some t.lane) is.0) refl refl refl
+    by (story_steps.Refused tag refusal) e is = step_finishes old new lane
+        (story_steps.Refused tag refusal) e (ap (λ (t : Tag). Some t.lane) is.0) refl refl refl
         (ap (λ t. with_done (state_of old).done t.lane) is.0)
     by step e is = absurd is

@@ -18,16 +18,19 @@ use Rattle.base_core.specs.Keeping.CoreInvariants.{CoreInvariant}
 use Rattle.base_core.specs.Keeping.Lanes.{LaneState, build_at, put_build}
 use Rattle.story_log.specs.Logging.Logs.{Logged, with_step}
 use Rattle.base_core.specs.Story.Replying.{replies_after, replies_by, replies_of}
-use Rattle.story_log.specs.Story.Telling.{stands_alone}
+use Rattle.legal_history.specs.Stories.Quiet.{is_quiet}
+use Rattle.story_log.specs.Story.Telling.{shown_as}
+use Rattle.std.specs.Option.{option_to_list}
 use Rattle.story_log.proofs.Story.Growing.{state_from-more}
 use Rattle.story_log.proofs.Cases.{some_same}
 use Rattle.base_core.proofs.Keeping.LaneSlots.{lane_slot, found_else}
 use Rattle.base_core.proofs.Building.Noting.{preserved_note}
 
--- the replies after a step that names no phase
-replies_alone : (s : State) (step : Step) (replies : ℕ → List Reply) (l : ℕ) → stands_alone step ≡ true
-    → replies_after s (story_steps.Other step) replies l ≡ replies l ++ replies_by s l (story_steps.Other step)
-replies_alone s step replies l h = refl
+-- the replies after a quiet step
+replies_quiet : (s : State) (x : StoryStep) (replies : ℕ → List Reply) (l : ℕ) → is_quiet x ≡ true
+    → replies_after s x replies l ≡ replies l ++ replies_by s l x
+replies_quiet s (story_steps.PhaseBegun phase moment) replies l h = absurd (cc)
+replies_quiet s x replies l h = refl
 
 -- a test does not hold and fail
 true_or_false : (b : Bool) → b ≡ true → b ≡ false → ⊥
@@ -42,9 +45,10 @@ preserved_noted log lanes more now story lane n step came same h notes set_so =
     let here : Notes (state_of log.story) lane n step came = subst (λ t. Notes (state_of t) lane n step came) (sym same) notes in
     let slot = lane_slot log lanes now lane here.build h here.active in
     subst (λ ls. CoreInvariant (with_step log step) ls now) (sym (set_so here.build slot.held))
-    (preserved_note log lanes now step lane n here.build came h slot.from slot.upto here.active here.lawful here.leaves
-    (λ l. replies_alone (state_of log.story) step (replies_of log.story) l here.alone
-    ∙ ap (λ more. replies_of log.story l ++ more) (here.silent l) ∙ append-nil (replies_of log.story l)) here.faultless)
+    (preserved_note log lanes now step here.shown lane n here.build came here.is here.quiet h slot.from slot.upto here.active
+    here.lawful here.leaves
+    (λ l. replies_quiet (state_of log.story) here.shown (replies_of log.story) l here.quiet
+    ∙ ap (λ more. replies_of log.story l ++ more) (here.silent l) ∙ append-nil (replies_of log.story l)))
 
 -- a unit's outcomes after it was noted
 pub outcome_noted : (build : Build) (n m : ℕ) (came : Came) → is_outcome (came_to build n) ≡ false
@@ -61,8 +65,8 @@ pub noted_so : (log : Logged) (story : List StoryStep) (lane n : ℕ) (step : St
     → Notes (state_of story) lane n step came → Noted story (with_step log step).story lane n came
 noted_so log story lane n step came same notes = record {
   goes = record {
-    steps = story_steps.Other step ∷ [];
-    grows = ap (λ t. t ++ story_steps.Other step ∷ []) same;
+    steps = notes.shown ∷ [];
+    grows = grows;
     one = notes.own;
     phase = record { phase = ap (λ t. t.phase) state; number = ap (λ t. t.number) state; moment = ap (λ t. t.moment) state };
     done = ap (λ t. t.done) state;
@@ -79,15 +83,17 @@ noted_so log story lane n step came same notes = record {
     noted : Build
     noted = with_came notes.build (Some n) came
 
-    state : state_of (log.story ++ story_steps.Other step ∷ []) ≡ record s { active = put nat_cmp lane noted s.active }
-    state = ap (λ t. state_of (t ++ story_steps.Other step ∷ [])) same ∙ state_from-more start story (story_steps.Other step)
-        ∙ notes.leaves
+    grows : (with_step log step).story ≡ story ++ notes.shown ∷ []
+    grows = ap (λ t. t ++ option_to_list (shown_as step)) same ∙ ap (λ o. story ++ option_to_list o) notes.is
 
-    active : build_of (state_of (log.story ++ story_steps.Other step ∷ [])).active lane ≡ Some noted
+    state : state_of (with_step log step).story ≡ record s { active = put nat_cmp lane noted s.active }
+    state = ap state_of grows ∙ state_from-more start story notes.shown ∙ notes.leaves
+
+    active : build_of (state_of (with_step log step).story).active lane ≡ Some noted
     active = ap (λ t. build_of t.active lane) state ∙ find_put_same lane noted s.active
 
-    still : (build : Build) → notes.build ≡ build → BuildsOn (state_of (log.story ++ story_steps.Other step ∷ [])) lane build
-    still build e = subst (λ b. BuildsOn (state_of (log.story ++ story_steps.Other step ∷ [])) lane b) e
+    still : (build : Build) → notes.build ≡ build → BuildsOn (state_of (with_step log step).story) lane build
+    still build e = subst (λ b. BuildsOn (state_of (with_step log step).story) lane b) e
         (record {
           build = noted;
           active = active;

@@ -5,7 +5,6 @@ use Rattle.cc_names.specs.Formed.{Plain}
 use Rattle.cc_names.specs.declared.refusals.Refusal.{Refusal}
 use Rattle.cc_names.specs.declared.rows.Deed.TheVariants as deeds
 use Rattle.cc_names.specs.declared.rows.Tag.{Tag}
-use Rattle.cc_names.specs.declared.steps.Step.TheVariants as steps
 use Rattle.cc_names.specs.declared.steps.StoryStep.TheVariants as story_steps
 use Rattle.disk_model.specs.DiskStates.{DiskState, IsCounted}
 use Rattle.legal_history.specs.Stories.States.{State, start}
@@ -31,7 +30,7 @@ commit_early : (s : State) (row : Plain) → CountsStep s (story_steps.Commit ro
 commit_early s row h = absurd (omega (arith, h.0))
 
 -- the third call of a commit behind a settled tail opens the gate: the row may be found
-fault_row : (tag : Tag) → CountsStep start (story_steps.Other (steps.Fault tag (Some (row tag)) 2 3 10)) (counted 7 2)
+fault_row : (tag : Tag) → CountsStep start (story_steps.Fault tag (Some (row tag)) 2 3 10) (counted 7 2)
     (counted 10 3)
 fault_row tag = (
   refl,
@@ -45,7 +44,7 @@ fault_row tag = (
 )
 
 -- the first one writes the frame behind the shut gate, or settles the tail: no row of its own can be found
-row_too_early : (tag : Tag) → CountsStep start (story_steps.Other (steps.Fault tag (Some (row tag)) 2 3 8)) (counted 7 2)
+row_too_early : (tag : Tag) → CountsStep start (story_steps.Fault tag (Some (row tag)) 2 3 8) (counted 7 2)
     (counted 8 3) → ⊥
 row_too_early tag (before, after, one, at, rose, fits, writes, left) = too_early left
   where
@@ -56,13 +55,13 @@ row_too_early tag (before, after, one, at, rose, fits, writes, left) = too_early
     too_early (other, (false, InFlight, stands, found, calls)) = absurd (omega (arith, calls.0))
 
 -- a fault is of one call: one that adds the failed call of the command after it is refused
-fault_of_two : (s : State) (tag : Tag) (left : Option Plain) → CountsStep s (story_steps.Other (steps.Fault tag left 2 4 10))
+fault_of_two : (s : State) (tag : Tag) (left : Option Plain) → CountsStep s (story_steps.Fault tag left 2 4 10)
     (counted 7 2) (counted 10 4) → ⊥
 fault_of_two s tag left h = absurd (omega (arith, h.2))
 
 -- a count that stands at its last number is there before and after
-fault_last : (tag : Tag) → CountsStep start (story_steps.Other (steps.Fault tag None 18446744073709551615 18446744073709551615
-    10)) (counted 7 18446744073709551615) (counted 10 18446744073709551615)
+fault_last : (tag : Tag) → CountsStep start (story_steps.Fault tag None 18446744073709551615 18446744073709551615
+    10) (counted 7 18446744073709551615) (counted 10 18446744073709551615)
 fault_last tag = (
   refl,
   refl,
@@ -75,8 +74,8 @@ fault_last tag = (
 )
 
 -- a refusal, a commit and a fault, one after the other: after the commit the tail is settled
-three_rows : (tag : Tag) (refusal : Refusal) → CountsSteps start (story_steps.Other (steps.Refused tag refusal)
-    ∷ story_steps.Commit (row tag) 11 ∷ story_steps.Other (steps.Fault tag None 2 3 12) ∷ []) (counted 7 2) (counted 12 3)
+three_rows : (tag : Tag) (refusal : Refusal) → CountsSteps start (story_steps.Refused tag refusal
+    ∷ story_steps.Commit (row tag) 11 ∷ story_steps.Fault tag None 2 3 12 ∷ []) (counted 7 2) (counted 12 3)
 three_rows tag refusal = (
   counted 7 2,
   refl,
@@ -101,6 +100,6 @@ three_rows tag refusal = (
 )
 
 -- no call is made under a refusal
-refusal_idle : (s : State) (tag : Tag) (refusal : Refusal) → CountsStep s (story_steps.Other (steps.Refused tag refusal))
+refusal_idle : (s : State) (tag : Tag) (refusal : Refusal) → CountsStep s (story_steps.Refused tag refusal)
     (counted 7 2) (counted 8 2) → ⊥
 refusal_idle s tag refusal h = let e : 8 ≡ 7 = ap (λ s. s.ticks) h in absurd (omega (arith, e))

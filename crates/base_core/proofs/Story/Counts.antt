@@ -72,7 +72,7 @@ counts_so log new old row appends.Faulted view became =
     let done : IsFaulted log new row None = became in
     subst (λ (shown : Shown). KeepsCount shown (shown_of new)) view
     (record {
-      steps = story_steps.Other (steps.Fault row.tag done.left done.before done.faults done.tick) ∷ [];
+      steps = story_steps.Fault row.tag done.left done.before done.faults done.tick ∷ [];
       grows = ap (λ (l : Logged). l.story) done.grows;
       counts = (
         done.ghost_state,
@@ -96,8 +96,8 @@ pub counts_ended : (log new : Logged) (old : Shown) (row : Plain) (tag : Tag) (a
 counts_ended log new old row tag appends.Committed view became = counts_committed log new old row view became
 counts_ended log new old row tag appends.Faulted view became =
     let done : IsFaulted log new row (Some (steps.End tag)) = became in
-    let fault = story_steps.Other (steps.Fault row.tag done.left done.before done.faults done.tick) in
-    let end = story_steps.Other (steps.End tag) in
+    let fault = story_steps.Fault row.tag done.left done.before done.faults done.tick in
+    let end = story_steps.End tag in
     subst (λ (shown : Shown). KeepsCount shown (shown_of new)) view
     (record {
       steps = fault ∷ end ∷ [];

@@ -18,7 +18,6 @@ use Rattle.cc_names.specs.declared.rows.Deed.TheVariants as deeds
 use Rattle.cc_names.specs.declared.rows.Kind.TheVariants.{File}
 use Rattle.cc_names.specs.declared.rows.Out.TheVariants as outs
 use Rattle.cc_names.specs.declared.rows.TypeKind.TheVariants as type_kinds
-use Rattle.cc_names.specs.declared.steps.Step.TheVariants as steps
 use Rattle.cc_names.specs.declared.steps.StoryStep.{StoryStep}
 use Rattle.cc_names.specs.declared.steps.StoryStep.TheVariants as story_steps
 use Rattle.legal_history.specs.Builds.Replied.{digest_of}
@@ -170,14 +169,14 @@ first_steps more =
     story_steps.Opened [] (record { ticks = 0; faults = 0 }) true
     ∷ story_steps.PhaseBegun (one_lane more) 1700000000
     ∷ commits 1 3 first_deeds
-    ++ (story_steps.Other (steps.Begin (tag 1 1 10) 10 1)
-    ∷ story_steps.Other (steps.Start (tag 1 1 10) 0)
+    ++ (story_steps.Begin (tag 1 1 10) 10 1
+    ∷ story_steps.Start (tag 1 1 10) 0
     ∷ story_steps.Commit (row 10 publish) 43
-    ∷ story_steps.Other (steps.End (tag 1 1 10))
+    ∷ story_steps.End (tag 1 1 10)
     ∷ story_steps.Commit (row 11 (deeds.Mkview w)) 47
-    ∷ story_steps.Other (steps.Begin (tag 1 1 12) 12 1)
+    ∷ story_steps.Begin (tag 1 1 12) 12 1
     ∷ story_steps.Commit (row 12 (deeds.Wink w 10)) 51
-    ∷ story_steps.Other (steps.End (tag 1 1 12))
+    ∷ story_steps.End (tag 1 1 12)
     ∷ [])
 
 -- the one line `out WORD 3 DIGEST`, of three bytes
@@ -221,15 +220,15 @@ abbrev scrub_story : List StoryStep
 scrub_story =
     first_steps scrubbing
     ++ (story_steps.Commit (row 13 (deeds.Drop w (codes "out"))) 55
-    ∷ story_steps.Other (steps.Answer (tag 1 1 14) [])
+    ∷ story_steps.Answer (tag 1 1 14) []
     ∷ story_steps.Commit (row 15 (deeds.Drop v (codes "out"))) 59
     ∷ story_steps.Commit (row 16 (deeds.Scrub (10 ∷ []))) 63
-    ∷ story_steps.Other (steps.Begin (tag 1 1 17) 16 1)
-    ∷ story_steps.Other (steps.Start (tag 1 1 17) 0)
+    ∷ story_steps.Begin (tag 1 1 17) 16 1
+    ∷ story_steps.Start (tag 1 1 17) 0
     ∷ story_steps.Commit (row 17 (deeds.Publish w (codes "out" ∷ []) script (record { path = a_file; row = 8 } ∷ []) (hi ∷ [])))
     67
-    ∷ story_steps.Other (steps.End (tag 1 1 17))
-    ∷ story_steps.Other (steps.Answer (tag 1 1 18) [])
+    ∷ story_steps.End (tag 1 1 17)
+    ∷ story_steps.Answer (tag 1 1 18) []
     ∷ [])
 
 scrubs_are_finished : all_done (state_of scrub_story) ≡ true
@@ -267,11 +266,11 @@ abbrev checkout_story : List StoryStep
 checkout_story =
     first_steps checking_out
     ++ (commits 13 51 (deeds.Checkout v 6 8 false ∷ deeds.Checkout w 6 8 true ∷ deeds.Save v 6 foo ∷ [])
-    ++ (story_steps.Other (steps.Refused (tag 1 1 16) (refusals.Reserved w))
+    ++ (story_steps.Refused (tag 1 1 16) (refusals.Reserved w)
     ∷ commits 17 63 (deeds.Save w 6 bar ∷ deeds.Checkin w 6 ∷ [])
-    ++ (story_steps.Other (steps.Refused (tag 1 1 19) (refusals.NotLatest 17))
+    ++ (story_steps.Refused (tag 1 1 19) (refusals.NotLatest 17)
     ∷ commits 20 71 (deeds.Uncheckout v 6 ∷ deeds.Checkout v 6 17 true ∷ [])
-    ++ (story_steps.Other (steps.Refused (tag 1 1 22) (refusals.Identical 17))
+    ++ (story_steps.Refused (tag 1 1 22) (refusals.Identical 17)
     ∷ []))))
 
 checkouts_are_finished : all_done (state_of checkout_story) ≡ true

@@ -10,7 +10,6 @@ use Rattle.cc_names.specs.declared.replies.Reply.{Reply}
 use Rattle.cc_names.specs.declared.replies.Reply.TheVariants as replies
 use Rattle.cc_names.specs.declared.rows.Deed.{Deed}
 use Rattle.cc_names.specs.declared.rows.Tag.{Tag}
-use Rattle.cc_names.specs.declared.steps.Step.TheVariants as steps
 use Rattle.cc_names.specs.declared.steps.StoryStep.{StoryStep}
 use Rattle.cc_names.specs.declared.steps.StoryStep.TheVariants as story_steps
 use Rattle.base_model.specs.Rows.{Base, size}
@@ -28,11 +27,11 @@ use Rattle.base_core.specs.Story.Replying.{replied_count, reply_to_row, reply_to
 abbrev pub IsStepOf : State → Tag → Done → StoryStep → Type 0
 IsStepOf s tag Committed (story_steps.Commit row tick) = (row.tag ≡ tag) × (row.moment ≡ s.moment)
     × (decision_for s tag ≡ Some (Ok (Makes row.deed)))
-IsStepOf s tag Refused (story_steps.Other (steps.Refused finished refusal)) = (finished ≡ tag)
+IsStepOf s tag Refused (story_steps.Refused finished refusal) = (finished ≡ tag)
     × (decision_for s tag ≡ Some (Err refusal))
-IsStepOf s tag Answered (story_steps.Other (steps.Answer finished text)) = (finished ≡ tag)
+IsStepOf s tag Answered (story_steps.Answer finished text) = (finished ≡ tag)
     × (decision_for s tag ≡ Some (Ok (Answers text)))
-IsStepOf s tag Faulted (story_steps.Other (steps.Fault finished left before faults tick)) = (finished ≡ tag) × (deed : Deed)
+IsStepOf s tag Faulted (story_steps.Fault finished left before faults tick) = (finished ≡ tag) × (deed : Deed)
     × (decision_for s tag ≡ Some (Ok (Makes deed)))
 IsStepOf s tag done step = ⊥
 

@@ -11,7 +11,6 @@ use Rattle.cc_names.specs.declared.steps.UnitEnd.{UnitEnd}
 use Rattle.cc_names.specs.declared.steps.UnitEnd.TheVariants.{Kept, Failed}
 use Rattle.cc_names.specs.declared.refusals.UnitFault.TheVariants.{Script}
 use Rattle.cc_names.specs.declared.steps.StoryStep.{StoryStep}
-use Rattle.cc_names.specs.declared.steps.StoryStep.TheVariants as story_steps
 use Rattle.cc_names.specs.declared.units.Unit.{Unit}
 use Rattle.build_core.specs.declared.steps.UnitStep.{UnitStep}
 use Rattle.build_core.specs.declared.steps.UnitStep.TheVariants as next
@@ -24,15 +23,15 @@ use Rattle.legal_history.specs.Builds.Reuse.{reusable}
 use Rattle.legal_history.specs.Laws.FromNothing.{MayTake}
 use Rattle.legal_history.specs.Stories.States.{State, next_tag}
 use Rattle.legal_history.specs.Stories.Steps.{after, state_of, with_came}
-use Rattle.legal_history.specs.Stories.Lawful.{LawfulStep}
+use Rattle.legal_history.specs.Stories.Lawful.{Lawful}
+use Rattle.legal_history.specs.Stories.Quiet.{is_quiet}
 use Rattle.legal_history.specs.Builds.UnitTurns.{IsOpen, ComesTo}
 use Rattle.legal_history.specs.Builds.Turns.{unreadable}
 use Rattle.clearmake.specs.Calls.{HasScript, IsStarted, WaitsFor}
-use Rattle.clearmake.specs.Going.{GoesOn, HasOutcome, lane_of_step}
+use Rattle.clearmake.specs.Going.{GoesOn, HasOutcome, lane_of}
 use Rattle.base_core.specs.Calls.Building.{BuildInvariant}
-use Rattle.story_log.specs.Story.Faults.{is_fault}
 use Rattle.base_core.specs.Story.Replying.{replies_by}
-use Rattle.story_log.specs.Story.Telling.{stands_alone}
+use Rattle.story_log.specs.Story.Telling.{shown_as}
 
 -- By this step, which names no row, unit n of a lane's build comes to something, and no command is replied.
 pub record Notes (s : State) (lane n : ℕ) (step : Step) (came : Came) : Type 0 where
@@ -40,12 +39,13 @@ pub record Notes (s : State) (lane n : ℕ) (step : Step) (came : Came) : Type 0
   pub active : build_of s.active lane ≡ Some build
   pub within : n < length build.units
   pub waits : is_outcome (came_to build n) ≡ false
-  pub alone : stands_alone step ≡ true
-  pub faultless : is_fault (story_steps.Other step) ≡ false
-  pub lawful : LawfulStep s step
-  pub leaves : after s (story_steps.Other step) ≡ record s { active = put nat_cmp lane (with_came build (Some n) came) s.active }
-  pub silent : (other : ℕ) → replies_by s other (story_steps.Other step) ≡ []
-  pub own : lane_of_step step ≡ Some lane
+  pub shown : StoryStep
+  pub is : shown_as step ≡ Some shown
+  pub quiet : is_quiet shown ≡ true
+  pub lawful : Lawful s shown
+  pub leaves : after s shown ≡ record s { active = put nat_cmp lane (with_came build (Some n) came) s.active }
+  pub silent : (other : ℕ) → replies_by s other shown ≡ []
+  pub own : lane_of shown ≡ Some lane
 
 -- unit n of a lane's build has come to this, and the story went on
 pub record Noted (old new : List StoryStep) (lane n : ℕ) (came : Came) : Type 0 where

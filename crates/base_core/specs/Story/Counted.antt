@@ -1,7 +1,6 @@
 -- What a story says of the disk's counts.
 use Rattle.std.specs.Prelude.{◌≡◌, ℕ, ◌<◌, true, Option, List, [], ◌∷◌, ◌++◌}
 use Rattle.cc_names.specs.Formed.{Plain}
-use Rattle.cc_names.specs.declared.steps.Step.TheVariants as steps
 use Rattle.cc_names.specs.declared.steps.StoryStep.{StoryStep}
 use Rattle.cc_names.specs.declared.steps.StoryStep.TheVariants as story_steps
 use Rattle.disk_model.specs.Counting.{next_count}
@@ -28,7 +27,7 @@ abbrev pub CountsStep : State → StoryStep → DiskState → DiskState → Type
 CountsStep s (story_steps.Commit row tick) old new =
     (tick ≡ new.ticks) × (old.ticks < tick) × (new.faults ≡ old.faults)
     × IsCounted new × Both WritesOn old.modeled new.modeled × Both (CommitsRow s.ends row) old.modeled new.modeled
-CountsStep s (story_steps.Other (steps.Fault tag left before faults tick)) old new =
+CountsStep s (story_steps.Fault tag left before faults tick) old new =
     (before ≡ old.faults) × (faults ≡ new.faults) × (faults ≡ next_count before)
     × (tick ≡ new.ticks) × (rises old.ticks tick ≡ true)
     × IsCounted new × Both WritesOn old.modeled new.modeled × IsLeftByCalls s.ends left old.ticks tick

@@ -7,7 +7,6 @@ use Rattle.cc_names.specs.declared.replies.Reply.TheVariants as replies
 use Rattle.cc_names.specs.declared.rows.Deed.{Deed}
 use Rattle.cc_names.specs.declared.rows.Deed.TheVariants as deeds
 use Rattle.cc_names.specs.declared.rows.Tag.{Tag}
-use Rattle.cc_names.specs.declared.steps.Step.TheVariants as steps
 use Rattle.cc_names.specs.declared.steps.StoryStep.{StoryStep}
 use Rattle.cc_names.specs.declared.steps.StoryStep.TheVariants as story_steps
 use Rattle.legal_history.specs.Builds.Replied.{reply_of}
@@ -64,12 +63,12 @@ in_lane lane tag (Some reply) = elim (tag.lane == lane) [ true ↦ reply ∷ [] 
 -- The replies to the commands of a lane that a step finishes: one or none.
 abbrev pub replies_by : State → ℕ → StoryStep → List Reply
 replies_by s lane (story_steps.Commit row tick) = in_lane lane row.tag (reply_to_row (row ∷ s.base) row.deed)
-replies_by s lane (story_steps.Other (steps.Refused tag refusal)) = in_lane lane tag (Some (replies.Refused refusal))
-replies_by s lane (story_steps.Other (steps.Answer tag text)) = in_lane lane tag
+replies_by s lane (story_steps.Refused tag refusal) = in_lane lane tag (Some (replies.Refused refusal))
+replies_by s lane (story_steps.Answer tag text) = in_lane lane tag
     (Some (reply_to_answer (next_command s tag) text))
-replies_by s lane (story_steps.Other (steps.Fault tag left before faults tick)) =
+replies_by s lane (story_steps.Fault tag left before faults tick) =
     in_lane lane tag (reply_to_fault (build_by s tag))
-replies_by s lane (story_steps.Other (steps.End tag)) = in_lane lane tag (reply_to_end s.base (build_by s tag))
+replies_by s lane (story_steps.End tag) = in_lane lane tag (reply_to_end s.base (build_by s tag))
 replies_by s lane step = []
 
 -- a lane's replies after a step; a new phase has none yet

@@ -7,8 +7,6 @@ use Rattle.cc_names.specs.declared.refusals.UnitFault.TheVariants as unit_faults
 use Rattle.cc_names.specs.declared.rows.Deed.{Deed}
 use Rattle.cc_names.specs.declared.rows.Deed.TheVariants as deeds
 use Rattle.cc_names.specs.declared.rows.Tag.{Tag}
-use Rattle.cc_names.specs.declared.steps.Step.{Step}
-use Rattle.cc_names.specs.declared.steps.Step.TheVariants as steps
 use Rattle.cc_names.specs.declared.steps.StoryStep.{StoryStep}
 use Rattle.cc_names.specs.declared.steps.StoryStep.TheVariants as story_steps
 use Rattle.cc_names.specs.declared.steps.UnitEnd.{UnitEnd}
@@ -22,10 +20,10 @@ use Rattle.legal_history.specs.Commands.Decisions.{Makes, Begins}
 use Rattle.base_model.specs.Fits.{is_base}
 use Rattle.base_model.specs.Texts.{texts}
 use Rattle.legal_history.specs.Stories.States.{State, decision_for, build_by}
-use Rattle.legal_history.specs.Stories.Steps.{after, after_step, with_outcome, came_by_starting, active_after, build_begun_by}
+use Rattle.legal_history.specs.Stories.Steps.{after, with_outcome, came_by_starting, active_after, build_begun_by}
 use Rattle.legal_history.specs.Stories.Steps.{build_asked}
 use Rattle.legal_history.specs.Stories.Committing.{MakesRow}
-use Rattle.legal_history.specs.Stories.Lawful.{Lawful, LawfulStep}
+use Rattle.legal_history.specs.Stories.Lawful.{Lawful}
 use Rattle.legal_history.specs.Builds.UnitTurns.{ComesTo, EndsEarly, Starts}
 use Rattle.legal_history.specs.Builds.Turns.{came_by_start, unreadable}
 use Rattle.legal_history.proofs.Stories.Goes.{of_lane}
@@ -101,20 +99,6 @@ begun_fine s tag us base h build is =
       there = says.there;
     })
 
-any_step_fine : (s : State) (step : Step) → is_base s.base ≡ true → Each (λ lane. IsFine s.base) s.active → LawfulStep s step
-    → Each (λ lane. IsFine (after_step s step).base) (after_step s step).active
-any_step_fine s (steps.Begin tag rows count) base h e = each_begun (λ lane. IsFine s.base) s.active tag.lane
-    (build_begun_by s tag) h (begun_fine s tag e.units base e.chosen)
-any_step_fine s (steps.Start tag n) base h e = started_fine s tag n h e
-any_step_fine s (steps.Concluded tag n end) base h e = settled_fine s tag n end base h e
-any_step_fine s (steps.End tag) base h e = each_without (λ lane. IsFine s.base) (λ lane. IsFine s.base) s.active tag.lane h
-    (λ lane build apart fine. fine)
-any_step_fine s (steps.Fault tag value_after before faults tick) base h e =
-    each_faulted (λ lane. IsFine s.base) s.active tag.lane (build_by s tag) h (λ build is.
-    let fine = h.holds tag.lane build (of_lane s tag build is) in
-    record { consistent = consistent_faulted s.base build fine.consistent; there = fine.there })
-any_step_fine s step base h e = h
-
 committed_fine : (s : State) (tag : Tag) (moment : ℕ) (deed : Deed) → is_base s.base ≡ true
     → Each (λ lane. IsFine s.base) s.active → MakesRow s (record { tag = tag; moment = moment; deed = deed }) deed →
     Each (λ lane. IsFine (record { tag = tag; moment = moment; deed = deed } ∷ s.base))
@@ -148,4 +132,14 @@ pub step_fine : (s : State) (x : StoryStep) → is_base s.base ≡ true → is_s
 step_fine s (story_steps.Opened rows counts tells) base o h e = absurd (let first = e.first in cc)
 step_fine s (story_steps.PhaseBegun phase moment) base o h e = h
 step_fine s (story_steps.Commit row tick) base o h e = committed_fine s row.tag row.moment row.deed base h e.may.made
-step_fine s (story_steps.Other step) base o h e = any_step_fine s step base h e
+step_fine s (story_steps.Begin tag rows count) base o h e = each_begun (λ lane. IsFine s.base) s.active tag.lane
+    (build_begun_by s tag) h (begun_fine s tag e.units base e.chosen)
+step_fine s (story_steps.Start tag n) base o h e = started_fine s tag n h e
+step_fine s (story_steps.Concluded tag n end) base o h e = settled_fine s tag n end base h e
+step_fine s (story_steps.End tag) base o h e = each_without (λ lane. IsFine s.base) (λ lane. IsFine s.base) s.active tag.lane h
+    (λ lane build apart fine. fine)
+step_fine s (story_steps.Fault tag value_after before faults tick) base o h e =
+    each_faulted (λ lane. IsFine s.base) s.active tag.lane (build_by s tag) h (λ build is.
+    let fine = h.holds tag.lane build (of_lane s tag build is) in
+    record { consistent = consistent_faulted s.base build fine.consistent; there = fine.there })
+step_fine s x base o h e = h

@@ -4,19 +4,17 @@ use Rattle.cc_names.specs.Formed.{Plain}
 use Rattle.cc_names.specs.declared.rows.Deed.{Deed}
 use Rattle.cc_names.specs.declared.rows.Deed.TheVariants as deeds
 use Rattle.cc_names.specs.declared.rows.Tag.{Tag}
-use Rattle.cc_names.specs.declared.steps.Step.{Step}
-use Rattle.cc_names.specs.declared.steps.Step.TheVariants as steps
 use Rattle.cc_names.specs.declared.steps.StoryStep.{StoryStep}
 use Rattle.cc_names.specs.declared.steps.StoryStep.TheVariants as story_steps
 use Rattle.base_model.specs.Rows.{size}
 use Rattle.legal_history.specs.Builds.Active.{Active, Build, Came, Given, Concluded, build_of, unit_with_first}
 use Rattle.base_model.specs.Changes.{targets_of}
 use Rattle.legal_history.specs.Stories.States.{State, End, Committed, Faulted, build_by, done_of, start, with_done}
-use Rattle.legal_history.specs.Stories.Steps.{after, after_step, active_after, build_begun_by, came_by_starting, done_after}
+use Rattle.legal_history.specs.Stories.Steps.{after, active_after, build_begun_by, came_by_starting, done_after}
 use Rattle.legal_history.specs.Stories.Steps.{done_by_fault, faulted_in, with_outcome, state_from, state_of, with_build}
 use Rattle.legal_history.specs.Stories.Steps.{without_build}
 use Rattle.legal_history.specs.Stories.Committing.{MakesRow}
-use Rattle.legal_history.specs.Stories.Lawful.{Lawful, LawfulStep, Legal, LegalFrom}
+use Rattle.legal_history.specs.Stories.Lawful.{Lawful, Legal, LegalFrom}
 use Rattle.legal_history.proofs.Stories.Goes.{decided_is_idle, of_lane}
 use Rattle.base_model.proofs.Stay.{first_rows_stay}
 use Rattle.legal_history.specs.Stories.Commanded.{IsOfCommand}
@@ -24,6 +22,7 @@ use Rattle.legal_history.proofs.Builds.AllBuilds.{Each, each_as, each_begun, eac
 use Rattle.legal_history.proofs.Builds.CommandStays.{apart_from_idle, begun_commanded, came_commanded, command_stays}
 use Rattle.legal_history.proofs.Builds.CommandStays.{faulted_commanded, none_left, other_done}
 use Rattle.legal_history.proofs.Stories.ConsistentStories.{IsConsistentState, none_active, consistent_first, consistent_step}
+use Rattle.legal_history.proofs.Stories.Along.{along}
 
 -- each active build is the one of its lane's command
 abbrev pub AllCommanded : State → Type 0
@@ -126,33 +125,6 @@ faulted_all s tag ends (Some build) h is idle =
     let one : build ≡ other = cc in
     faulted_commanded s tag.lane other (subst (IsOfCommand s tag.lane) one (h.holds tag.lane build (of_lane s tag build is)))))
 
-any_step_commanded : (s : State) (step : Step) → AllCommanded s → LawfulStep s step → AllCommanded (after_step s step)
-any_step_commanded s (steps.Refused tag refusal) h e = idle_done s tag.lane (decided_is_idle s tag e) h
-any_step_commanded s (steps.Answer tag text) h e = idle_done s tag.lane (decided_is_idle s tag e) h
-any_step_commanded s (steps.Begin tag rows count) h e =
-    active_commanded s (with_build s.active tag.lane (build_begun_by s tag)) s.ends
-    (each_begun (IsOfCommand s) s.active tag.lane (build_begun_by s tag) h (begun_commanded s tag e.units e.chosen))
-any_step_commanded s (steps.Start tag n) h e =
-    active_commanded s (with_outcome s.active tag.lane (λ build. Some n) (came_by_starting (build_of s.active tag.lane) n)) s.ends
-    (noted_commanded s tag.lane (λ build. Some n) (came_by_starting (build_of s.active tag.lane) n) h)
-any_step_commanded s (steps.Concluded tag n end) h e =
-    active_commanded s (with_outcome s.active tag.lane (λ build. Some n) (Concluded end)) s.ends
-    (noted_commanded s tag.lane (λ build. Some n) (Concluded end) h)
-any_step_commanded s (steps.End tag) h e =
-    let t : State = record s { done = with_done s.done tag.lane; active = without_build s.active tag.lane } in
-    each_without (IsOfCommand s) (IsOfCommand t) s.active tag.lane h (λ other build apart own.
-    command_stays s t other build (record {
-      number = refl;
-      phase = refl;
-      done = sym (other_done s.done other tag.lane apart);
-      base = refl;
-    }) own)
-any_step_commanded s (steps.Fault tag left before faults tick) h e =
-    faulted_all s tag (Faulted left faults tick ∷ s.ends) (build_by s tag) h refl
-    (subst (λ t. build_by s t ≡ None → build_of s.active t.lane ≡ None) e.wanted.of_tag
-    (fault_idle s e.wanted.row e.wanted.row.deed e.wanted.may.made))
-any_step_commanded s step h e = absurd e
-
 pub step_commanded : (s : State) (x : StoryStep) → IsConsistentState s → AllCommanded s → Lawful s x → AllCommanded (after s x)
 step_commanded s (story_steps.Opened rows counts tells) sound h e = absurd (let first = e.first in let opened = sound.opened in
     cc)
@@ -162,13 +134,35 @@ step_commanded s (story_steps.PhaseBegun phase moment) sound h e = record {
 }
 step_commanded s (story_steps.Commit row tick) sound h e = committed_commanded s row.tag row.moment row.deed
     (Committed row tick ∷ s.ends) sound h e.may.made
-step_commanded s (story_steps.Other step) sound h e = any_step_commanded s step h e
+step_commanded s (story_steps.Refused tag refusal) sound h e = idle_done s tag.lane (decided_is_idle s tag e) h
+step_commanded s (story_steps.Answer tag text) sound h e = idle_done s tag.lane (decided_is_idle s tag e) h
+step_commanded s (story_steps.Begin tag rows count) sound h e =
+    active_commanded s (with_build s.active tag.lane (build_begun_by s tag)) s.ends
+    (each_begun (IsOfCommand s) s.active tag.lane (build_begun_by s tag) h (begun_commanded s tag e.units e.chosen))
+step_commanded s (story_steps.Start tag n) sound h e =
+    active_commanded s (with_outcome s.active tag.lane (λ build. Some n) (came_by_starting (build_of s.active tag.lane) n)) s.ends
+    (noted_commanded s tag.lane (λ build. Some n) (came_by_starting (build_of s.active tag.lane) n) h)
+step_commanded s (story_steps.Concluded tag n end) sound h e =
+    active_commanded s (with_outcome s.active tag.lane (λ build. Some n) (Concluded end)) s.ends
+    (noted_commanded s tag.lane (λ build. Some n) (Concluded end) h)
+step_commanded s (story_steps.End tag) sound h e =
+    let t : State = record s { done = with_done s.done tag.lane; active = without_build s.active tag.lane } in
+    each_without (IsOfCommand s) (IsOfCommand t) s.active tag.lane h (λ other build apart own.
+    command_stays s t other build (record {
+      number = refl;
+      phase = refl;
+      done = sym (other_done s.done other tag.lane apart);
+      base = refl;
+    }) own)
+step_commanded s (story_steps.Fault tag left before faults tick) sound h e =
+    faulted_all s tag (Faulted left faults tick ∷ s.ends) (build_by s tag) h refl
+    (subst (λ t. build_by s t ≡ None → build_of s.active t.lane ≡ None) e.wanted.of_tag
+    (fault_idle s e.wanted.row e.wanted.row.deed e.wanted.may.made))
 
 commanded_from : (s : State) (story : List StoryStep) → IsConsistentState s → AllCommanded s → LegalFrom s story
     → AllCommanded (state_from s story)
-commanded_from s [] sound h e = h
-commanded_from s (x ∷ story) sound h e = commanded_from (after s x) story (consistent_step s x sound e.0)
-    (step_commanded s x sound h e.0) e.1
+commanded_from s story sound h e = (along (λ t. IsConsistentState t × AllCommanded t)
+    (λ t x legal so. (consistent_step t x so.0 legal, step_commanded t x so.0 so.1 legal)) s story e (sound, h)).1
 
 -- before a base is opened nothing builds
 pub none_begun : (x : StoryStep) → Lawful start x → AllCommanded (after start x)

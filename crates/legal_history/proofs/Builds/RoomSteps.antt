@@ -11,8 +11,6 @@ use Rattle.cc_names.specs.declared.refusals.UnitFault.TheVariants as unit_faults
 use Rattle.cc_names.specs.declared.rows.Deed.{Deed}
 use Rattle.cc_names.specs.declared.rows.Deed.TheVariants as deeds
 use Rattle.cc_names.specs.declared.rows.Tag.{Tag}
-use Rattle.cc_names.specs.declared.steps.Step.{Step}
-use Rattle.cc_names.specs.declared.steps.Step.TheVariants as steps
 use Rattle.cc_names.specs.declared.steps.StoryStep.{StoryStep}
 use Rattle.cc_names.specs.declared.steps.StoryStep.TheVariants as story_steps
 use Rattle.cc_names.specs.declared.steps.UnitEnd.{UnitEnd}
@@ -24,10 +22,10 @@ use Rattle.base_model.specs.Changes.{targets_of}
 use Rattle.legal_history.specs.Commands.Decisions.{Makes, Begins}
 use Rattle.base_model.specs.Fits.{row_limit}
 use Rattle.legal_history.specs.Stories.States.{State, decision_for, build_by}
-use Rattle.legal_history.specs.Stories.Steps.{after, after_step, with_outcome, noted_in, with_came, came_by_starting}
+use Rattle.legal_history.specs.Stories.Steps.{after, with_outcome, noted_in, with_came, came_by_starting}
 use Rattle.legal_history.specs.Stories.Steps.{active_after, build_begun_by, build_asked, with_build, without_build, faulted_in}
 use Rattle.legal_history.specs.Stories.Committing.{MakesRow}
-use Rattle.legal_history.specs.Stories.Lawful.{Lawful, LawfulStep}
+use Rattle.legal_history.specs.Stories.Lawful.{Lawful}
 use Rattle.legal_history.specs.Builds.UnitTurns.{ComesTo, Waits}
 use Rattle.legal_history.proofs.Stories.Goes.{of_lane, decided_is_idle}
 use Rattle.legal_history.proofs.Stories.DecidedSteps.{decided_of, says_of, begun_is}
@@ -129,16 +127,6 @@ settled_room s tag n (ends.Failed (unit_faults.Script fault)) h e =
     waited_room s tag n e.build e.unit (λ b. Some n) (Concluded (ends.Failed (unit_faults.Script fault))) h e.running.waits refl
 settled_room s tag n end h e = waited_room s tag n e.build e.unit (λ b. Some n) (Concluded end) h e.waits refl
 
-any_step_room : (s : State) (step : Step) → HasRoom s.base s.active → LawfulStep s step
-    → HasRoom (after_step s step).base (after_step s step).active
-any_step_room s (steps.Begin tag rows count) h e = begun_room s tag e.units h e.chosen
-any_step_room s (steps.Start tag n) h e = waited_room s tag n e.build e.unit (λ b. Some n)
-    (came_by_starting (build_of s.active tag.lane) n) h e.open_unit.waits refl
-any_step_room s (steps.Concluded tag n end) h e = settled_room s tag n end h e
-any_step_room s (steps.End tag) h e = ended_room s.base s.active tag.lane h
-any_step_room s (steps.Fault tag left before faults tick) h e = faulted_room s tag h
-any_step_room s step h e = h
-
 committed_room : (s : State) (tag : Tag) (moment : ℕ) (deed : Deed) → HasRoom s.base s.active
     → MakesRow s (record { tag = tag; moment = moment; deed = deed }) deed →
     HasRoom (record { tag = tag; moment = moment; deed = deed } ∷ s.base) (active_after s.base s.active tag.lane deed)
@@ -160,4 +148,10 @@ pub step_room : (s : State) (x : StoryStep) → is_some s.opened ≡ true → Ha
 step_room s (story_steps.Opened rows counts tells) o h e = absurd (let first = e.first in cc)
 step_room s (story_steps.PhaseBegun phase moment) o h e = h
 step_room s (story_steps.Commit row tick) o h e = committed_room s row.tag row.moment row.deed h e.may.made
-step_room s (story_steps.Other step) o h e = any_step_room s step h e
+step_room s (story_steps.Begin tag rows count) o h e = begun_room s tag e.units h e.chosen
+step_room s (story_steps.Start tag n) o h e = waited_room s tag n e.build e.unit (λ b. Some n)
+    (came_by_starting (build_of s.active tag.lane) n) h e.open_unit.waits refl
+step_room s (story_steps.Concluded tag n end) o h e = settled_room s tag n end h e
+step_room s (story_steps.End tag) o h e = ended_room s.base s.active tag.lane h
+step_room s (story_steps.Fault tag left before faults tick) o h e = faulted_room s tag h
+step_room s x o h e = h

@@ -5,8 +5,6 @@ use Rattle.cc_names.specs.declared.refusals.UnitFault.TheVariants as unit_faults
 use Rattle.cc_names.specs.declared.rows.Deed.{Deed}
 use Rattle.cc_names.specs.declared.rows.Deed.TheVariants as deeds
 use Rattle.cc_names.specs.declared.rows.Tag.{Tag}
-use Rattle.cc_names.specs.declared.steps.Step.{Step}
-use Rattle.cc_names.specs.declared.steps.Step.TheVariants as steps
 use Rattle.cc_names.specs.declared.steps.StoryStep.{StoryStep}
 use Rattle.cc_names.specs.declared.steps.StoryStep.TheVariants as story_steps
 use Rattle.cc_names.specs.declared.steps.UnitEnd.{UnitEnd}
@@ -22,9 +20,9 @@ use Rattle.base_model.specs.Fits.{is_base}
 use Rattle.legal_history.specs.Builds.Freshness.{AgreesSoFar}
 use Rattle.legal_history.specs.Builds.Values as values
 use Rattle.legal_history.specs.Stories.States.{State, decision_for, build_by}
-use Rattle.legal_history.specs.Stories.Steps.{after, after_step, active_after, build_begun_by, build_asked, came_by_starting}
+use Rattle.legal_history.specs.Stories.Steps.{after, active_after, build_begun_by, build_asked, came_by_starting}
 use Rattle.legal_history.specs.Stories.Steps.{with_outcome}
-use Rattle.legal_history.specs.Stories.Lawful.{Lawful, LawfulStep}
+use Rattle.legal_history.specs.Stories.Lawful.{Lawful}
 use Rattle.legal_history.specs.Builds.Turns.{came_by_start, unreadable}
 use Rattle.legal_history.specs.Builds.UnitTurns.{EndsEarly, ComesTo, Starts}
 use Rattle.legal_history.proofs.Builds.AgreeStays.{begins_so, came_so, faulted_agrees, row_added}
@@ -99,19 +97,6 @@ begun_agrees s tag us base h build is =
     subst (AgreesSoFar s.base) (same_inside made) (begins_so s.base (build_asked tag (size s.base) us says.asked)
     (begun_begins s tag us base h))
 
-any_step_agrees : (s : State) (step : Step) → values.IsSound s.base → is_base s.base ≡ true → AllHeld s → BuildsAgree s
-    → LawfulStep s step → Each (λ lane. AgreesSoFar (after_step s step).base) (after_step s step).active
-any_step_agrees s (steps.Begin tag rows count) whole base held h e = each_begun (λ lane. AgreesSoFar s.base) s.active tag.lane
-    (build_begun_by s tag) h (begun_agrees s tag e.units base e.chosen)
-any_step_agrees s (steps.Start tag n) whole base held h e = started_agrees s tag n h e
-any_step_agrees s (steps.Concluded tag n end) whole base held h e = settled_agrees s tag n end whole base held h e
-any_step_agrees s (steps.End tag) whole base held h e = each_without (λ lane. AgreesSoFar s.base) (λ lane. AgreesSoFar s.base)
-    s.active tag.lane h (λ lane build apart agrees. agrees)
-any_step_agrees s (steps.Fault tag left before faults tick) whole base held h e =
-    each_faulted (λ lane. AgreesSoFar s.base) s.active tag.lane (build_by s tag) h
-    (λ build is. faulted_agrees s.base build (h.holds tag.lane build (of_lane s tag build is)))
-any_step_agrees s step whole base held h e = h
-
 -- a row of whatever deed
 agrees_on : (s : State) (row : Plain) → BuildsAgree s → Each (λ lane. AgreesSoFar (row ∷ s.base)) s.active
 agrees_on s row h = each_as (λ lane. AgreesSoFar s.base) (λ lane. AgreesSoFar (row ∷ s.base)) s.active h
@@ -148,4 +133,13 @@ agree_step s (story_steps.Opened rows counts tells) sound whole held h e =
 agree_step s (story_steps.PhaseBegun phase moment) sound whole held h e = h
 agree_step s (story_steps.Commit row tick) sound whole held h e = committed_agrees s row.tag row.moment row.deed whole sound.base
     held h e.may.made
-agree_step s (story_steps.Other step) sound whole held h e = any_step_agrees s step whole sound.base held h e
+agree_step s (story_steps.Begin tag rows count) sound whole held h e = each_begun (λ lane. AgreesSoFar s.base) s.active tag.lane
+    (build_begun_by s tag) h (begun_agrees s tag e.units sound.base e.chosen)
+agree_step s (story_steps.Start tag n) sound whole held h e = started_agrees s tag n h e
+agree_step s (story_steps.Concluded tag n end) sound whole held h e = settled_agrees s tag n end whole sound.base held h e
+agree_step s (story_steps.End tag) sound whole held h e = each_without (λ lane. AgreesSoFar s.base) (λ lane. AgreesSoFar s.base)
+    s.active tag.lane h (λ lane build apart agrees. agrees)
+agree_step s (story_steps.Fault tag left before faults tick) sound whole held h e =
+    each_faulted (λ lane. AgreesSoFar s.base) s.active tag.lane (build_by s tag) h
+    (λ build is. faulted_agrees s.base build (h.holds tag.lane build (of_lane s tag build is)))
+agree_step s x sound whole held h e = h

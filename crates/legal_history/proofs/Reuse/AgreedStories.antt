@@ -12,13 +12,17 @@ use Rattle.legal_history.proofs.Reuse.AgreeSteps.{BuildsAgree, agree_step}
 use Rattle.legal_history.proofs.Reuse.GivenCommits.{AllHeld}
 use Rattle.legal_history.proofs.Reuse.GivenSteps.{held_step}
 use Rattle.legal_history.proofs.Reuse.SoundBases.{base_step, held_first, opened_from, opened_is_base}
+use Rattle.legal_history.proofs.Stories.Along.{along}
 
 agree_from : (s : State) (story : List StoryStep) → IsConsistentState s → values.IsSound s.base → AllHeld s → BuildsAgree s
     → LegalFrom s story → BuildsAgree (state_from s story)
-agree_from s [] sound whole held h e = h
-agree_from s (x ∷ story) sound whole held h e =
-    agree_from (after s x) story (consistent_step s x sound e.0) (base_step s x sound held whole e.0)
-    (held_step s x sound held e.0) (agree_step s x sound whole held h e.0) e.1
+agree_from s story sound whole held h e =
+    (along (λ t. IsConsistentState t × values.IsSound t.base × AllHeld t × BuildsAgree t) (λ t x legal so. (
+      consistent_step t x so.0 legal,
+      base_step t x so.0 so.2 so.1 legal,
+      held_step t x so.0 so.2 legal,
+      agree_step t x so.0 so.1 so.2 so.3 legal,
+    )) s story e (sound, whole, held, h)).3
 
 -- before a base is opened nothing builds
 none_agree : (x : StoryStep) → Lawful start x → BuildsAgree (after start x)

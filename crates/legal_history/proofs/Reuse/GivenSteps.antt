@@ -1,8 +1,6 @@
 -- Each lawful step keeps each object that an active build has given live and held by the build's view.
 use Rattle.std.proofs.Common.{◌≡◌, refl, sym, subst, ◌∙◌, ℕ, true, Option, Some, None, Ok, List}
 use Rattle.cc_names.specs.declared.rows.Tag.{Tag}
-use Rattle.cc_names.specs.declared.steps.Step.{Step}
-use Rattle.cc_names.specs.declared.steps.Step.TheVariants as steps
 use Rattle.cc_names.specs.declared.steps.StoryStep.{StoryStep}
 use Rattle.cc_names.specs.declared.steps.StoryStep.TheVariants as story_steps
 use Rattle.cc_names.specs.declared.steps.UnitEnd.{UnitEnd}
@@ -14,9 +12,9 @@ use Rattle.legal_history.specs.Builds.Active.{Build, Came, Concluded, build_of, 
 use Rattle.legal_history.specs.Commands.Decisions.{Begins}
 use Rattle.base_model.specs.Fits.{is_base}
 use Rattle.legal_history.specs.Stories.States.{State, decision_for, build_by}
-use Rattle.legal_history.specs.Stories.Steps.{after, after_step, with_outcome, came_by_starting, came_of_unit, build_begun_by}
+use Rattle.legal_history.specs.Stories.Steps.{after, with_outcome, came_by_starting, came_of_unit, build_begun_by}
 use Rattle.legal_history.specs.Stories.Steps.{build_asked, with_came}
-use Rattle.legal_history.specs.Stories.Lawful.{Lawful, LawfulStep}
+use Rattle.legal_history.specs.Stories.Lawful.{Lawful}
 use Rattle.legal_history.specs.Builds.UnitTurns.{ComesTo, Keeps}
 use Rattle.legal_history.specs.Builds.Turns.{unreadable}
 use Rattle.legal_history.proofs.Stories.Goes.{of_lane}
@@ -81,16 +79,20 @@ begun_given s tag us h build is =
     let made : build_asked tag (size s.base) us says.asked ≡ build = same_inside (sym (begun_is s tag us h) ∙ is) in
     subst (HoldsGiven s.base) made (record { given = λ n id own. absurd (cc) })
 
-any_step_given : (s : State) (step : Step) → is_base s.base ≡ true → AllHeld s → LawfulStep s step
-    → Each (λ lane. HoldsGiven (after_step s step).base) (after_step s step).active
-any_step_given s (steps.Begin tag rows count) base h e = each_begun (λ lane. HoldsGiven s.base) s.active tag.lane
+given_step : (s : State) (x : StoryStep) → IsConsistentState s → AllHeld s → Lawful s x
+    → Each (λ lane. HoldsGiven (after s x).base) (after s x).active
+given_step s (story_steps.Opened rows counts tells) sound h e = absurd (let first = e.first in let opened = sound.opened in cc)
+given_step s (story_steps.Commit row tick) sound h e =
+    let fit = row_fits row s.base (consistent_step s (story_steps.Commit row tick) sound e).base in
+    committed_given s row.tag row.moment row.deed sound h fit e.may.made
+given_step s (story_steps.Begin tag rows count) sound h e = each_begun (λ lane. HoldsGiven s.base) s.active tag.lane
     (build_begun_by s tag) h.given (begun_given s tag e.units e.chosen)
-any_step_given s (steps.Start tag n) base h e = without_object s tag.lane (λ b. Some n)
+given_step s (story_steps.Start tag n) sound h e = without_object s tag.lane (λ b. Some n)
     (came_by_starting (build_of s.active tag.lane) n) (starting_without (build_of s.active tag.lane) n) h
-any_step_given s (steps.Concluded tag n end) base h e = settled_given s tag n end base h e
-any_step_given s (steps.End tag) base h e = each_without (λ lane. HoldsGiven s.base) (λ lane. HoldsGiven s.base) s.active tag.lane
-    h.given (λ lane build apart given. given)
-any_step_given s (steps.Fault tag left before faults tick) base h e = each_faulted (λ lane. HoldsGiven s.base) s.active tag.lane
+given_step s (story_steps.Concluded tag n end) sound h e = settled_given s tag n end sound.base h e
+given_step s (story_steps.End tag) sound h e = each_without (λ lane. HoldsGiven s.base) (λ lane. HoldsGiven s.base) s.active
+    tag.lane h.given (λ lane build apart given. given)
+given_step s (story_steps.Fault tag left before faults tick) sound h e = each_faulted (λ lane. HoldsGiven s.base) s.active tag.lane
     (build_by s tag) h.given (λ build is.
     record {
       given = λ n id own.
@@ -104,29 +106,19 @@ any_step_given s (steps.Fault tag left before faults tick) base h e = each_fault
             holds = held.holds;
           };
     })
-any_step_given s step base h e = h.given
+given_step s x sound h e = h.given
 
-any_step_apart : (s : State) (step : Step) → AllHeld s → LawfulStep s step → ViewsApart (after_step s step).active
-any_step_apart s (steps.Begin tag rows count) h e = apart_begun s.active tag.lane (build_begun_by s tag)
+apart_step : (s : State) (x : StoryStep) → AllHeld s → Lawful s x → ViewsApart (after s x).active
+apart_step s (story_steps.Commit row tick) h e = committed_apart s row.tag.lane row.deed h
+apart_step s (story_steps.Begin tag rows count) h e = apart_begun s.active tag.lane (build_begun_by s tag)
     (begun_idle s tag e.units e.chosen) h.apart
-any_step_apart s (steps.Start tag n) h e = apart_noted s.active tag.lane (λ b. Some n)
+apart_step s (story_steps.Start tag n) h e = apart_noted s.active tag.lane (λ b. Some n)
     (came_by_starting (build_of s.active tag.lane) n) h.apart
-any_step_apart s (steps.Concluded tag n end) h e = apart_noted s.active tag.lane (λ b. Some n) (Concluded end) h.apart
-any_step_apart s (steps.End tag) h e = apart_without s.active tag.lane h.apart
-any_step_apart s (steps.Fault tag left before faults tick) h e = apart_faulted s.active tag.lane (build_by s tag)
+apart_step s (story_steps.Concluded tag n end) h e = apart_noted s.active tag.lane (λ b. Some n) (Concluded end) h.apart
+apart_step s (story_steps.End tag) h e = apart_without s.active tag.lane h.apart
+apart_step s (story_steps.Fault tag left before faults tick) h e = apart_faulted s.active tag.lane (build_by s tag)
     (λ build is. of_lane s tag build is) h.apart
-any_step_apart s step h e = h.apart
+apart_step s x h e = h.apart
 
 pub held_step : (s : State) (x : StoryStep) → IsConsistentState s → AllHeld s → Lawful s x → AllHeld (after s x)
-held_step s (story_steps.Opened rows counts tells) sound h e = absurd (let first = e.first in let opened = sound.opened in cc)
-held_step s (story_steps.PhaseBegun phase moment) sound h e = record { given = h.given; apart = h.apart }
-held_step s (story_steps.Commit row tick) sound h e =
-    let fit = row_fits row s.base (consistent_step s (story_steps.Commit row tick) sound e).base in
-    record {
-      given = committed_given s row.tag row.moment row.deed sound h fit e.may.made;
-      apart = committed_apart s row.tag.lane row.deed h;
-    }
-held_step s (story_steps.Other step) sound h e = record {
-  given = any_step_given s step sound.base h e;
-  apart = any_step_apart s step h e;
-}
+held_step s x sound h e = record { given = given_step s x sound h e; apart = apart_step s x h e }

@@ -8,8 +8,6 @@ use Rattle.cc_names.specs.Versions.{is_number}
 use Rattle.cc_names.specs.declared.rows.Deed.{Deed}
 use Rattle.cc_names.specs.declared.rows.Deed.TheVariants as deeds
 use Rattle.cc_names.specs.declared.rows.Tag.{Tag}
-use Rattle.cc_names.specs.declared.steps.Step.{Step}
-use Rattle.cc_names.specs.declared.steps.Step.TheVariants as steps
 use Rattle.cc_names.specs.declared.steps.StoryStep.{StoryStep}
 use Rattle.cc_names.specs.declared.steps.StoryStep.TheVariants as story_steps
 use Rattle.cc_names.specs.declared.units.Unit.{Unit}
@@ -28,9 +26,9 @@ use Rattle.legal_history.specs.Builds.Serials.{makes}
 use Rattle.legal_history.specs.Builds.UnitTurns.{IsRunning, Starts}
 use Rattle.legal_history.specs.Commands.Decisions.{Begins}
 use Rattle.legal_history.specs.Stories.Growth.{Continues, On, Over, StaysTheBuild}
-use Rattle.legal_history.specs.Stories.Lawful.{Lawful, Legal, LegalFrom, LawfulStep}
+use Rattle.legal_history.specs.Stories.Lawful.{Lawful, Legal, LegalFrom}
 use Rattle.legal_history.specs.Stories.States.{State, build_by, decision_for, start}
-use Rattle.legal_history.specs.Stories.Steps.{active_after, after, after_step, build_begun_by, build_asked, came_by_starting}
+use Rattle.legal_history.specs.Stories.Steps.{active_after, after, build_begun_by, build_asked, came_by_starting}
 use Rattle.legal_history.specs.Stories.Steps.{with_outcome, state_from, state_of, with_came}
 use Rattle.base_model.proofs.Stay.{row_stays_all}
 use Rattle.legal_history.proofs.Builds.AllBuilds.{Each, each_begun, each_faulted, each_noted, each_without}
@@ -49,6 +47,7 @@ use Rattle.legal_history.proofs.Reuse.PlaceStays.{place_step}
 use Rattle.legal_history.proofs.Reuse.Reusables.{held_lives, reusable_matches}
 use Rattle.legal_history.proofs.Reuse.SoundBases.{held_first}
 use Rattle.legal_history.proofs.Reuse.SoundRows.{live_below}
+use Rattle.legal_history.proofs.Stories.Along.{along}
 
 -- the object that a build's view holds at every target of a unit does not match it, where the build reuses objects
 record PassesItsOwn (b : Base) (build : Build) (n : ℕ) (unit : Unit) : Type 0 where
@@ -165,18 +164,6 @@ begun_before s tag us h build is n e =
     let nothing : None ≡ Some Started = ap (λ (b : Build). came_to b n) made ∙ e in
     absurd (cc)
 
-any_step_before : (s : State) (step : Step) → LawfulStep s step → Each (AreStartedBy s) (after_step s step).active
-any_step_before s (steps.Begin tag rows count) e = each_begun (AreStartedBy s) s.active tag.lane (build_begun_by s tag)
-    (started_before s) (begun_before s tag e.units e.chosen)
-any_step_before s (steps.Start tag n) e = started_now s tag n (came_by_starting (build_of s.active tag.lane) n) e
-any_step_before s (steps.Concluded tag n end) e = noted_before s tag.lane (λ b. Some n) (Concluded end) refl
-any_step_before s (steps.End tag) e = each_without (AreStartedBy s) (AreStartedBy s) s.active tag.lane (started_before s)
-    (λ lane build apart before. before)
-any_step_before s (steps.Fault tag left before faults tick) e =
-    each_faulted (AreStartedBy s) s.active tag.lane (build_by s tag) (started_before s)
-    (λ build is n started. Before build (of_lane s tag build is) started)
-any_step_before s step e = started_before s
-
 committed_before : (s : State) (lane : ℕ) (deed : Deed) → Each (AreStartedBy s) (active_after s.base s.active lane deed)
 committed_before s lane (deeds.Publish view targets script entries outputs) =
     noted_before s lane (λ build. unit_with_first build targets) (Given (size s.base)) refl
@@ -186,7 +173,15 @@ committed_before s lane deed = started_before s
 
 step_before : (s : State) (x : StoryStep) → Lawful s x → Each (AreStartedBy s) (after s x).active
 step_before s (story_steps.Commit row tick) e = committed_before s row.tag.lane row.deed
-step_before s (story_steps.Other step) e = any_step_before s step e
+step_before s (story_steps.Begin tag rows count) e = each_begun (AreStartedBy s) s.active tag.lane (build_begun_by s tag)
+    (started_before s) (begun_before s tag e.units e.chosen)
+step_before s (story_steps.Start tag n) e = started_now s tag n (came_by_starting (build_of s.active tag.lane) n) e
+step_before s (story_steps.Concluded tag n end) e = noted_before s tag.lane (λ b. Some n) (Concluded end) refl
+step_before s (story_steps.End tag) e = each_without (AreStartedBy s) (AreStartedBy s) s.active tag.lane (started_before s)
+    (λ lane build apart before. before)
+step_before s (story_steps.Fault tag left before faults tick) e =
+    each_faulted (AreStartedBy s) s.active tag.lane (build_by s tag) (started_before s)
+    (λ build is n started. Before build (of_lane s tag build is) started)
 step_before s x e = started_before s
 
 -- a unit of an old build is ready, and the object that the view holds at its targets does not match it
@@ -251,9 +246,11 @@ passes_step s x sound objects_held h e = record {
 
 passes_from : (s : State) (story : List StoryStep) → IsConsistentState s → AllHeld s → AllPass s → LegalFrom s story
     → AllPass (state_from s story)
-passes_from s [] sound objects_held h e = h
-passes_from s (x ∷ story) sound objects_held h e = passes_from (after s x) story (consistent_step s x sound e.0)
-    (held_step s x sound objects_held e.0) (passes_step s x sound objects_held h e.0) e.1
+passes_from s story sound objects_held h e = (along (λ t. IsConsistentState t × AllHeld t × AllPass t) (λ t x legal so. (
+  consistent_step t x so.0 legal,
+  held_step t x so.0 so.1 legal,
+  passes_step t x so.0 so.1 so.2 legal,
+)) s story e (sound, objects_held, h)).2
 
 none_pass : (x : StoryStep) → Lawful start x → AllPass (after start x)
 none_pass x e = record {

@@ -5,7 +5,6 @@ use Rattle.std.proofs.lemmas.Bool.Decides.{nat_tests}
 use Rattle.cc_names.specs.Counts.{rises}
 use Rattle.cc_names.specs.Formed.{Plain}
 use Rattle.cc_names.specs.declared.rows.Tag.{Tag}
-use Rattle.cc_names.specs.declared.steps.Step.TheVariants as steps
 use Rattle.cc_names.specs.declared.steps.StoryStep.{StoryStep}
 use Rattle.cc_names.specs.declared.steps.StoryStep.TheVariants as story_steps
 use Rattle.cc_names.proofs.Common.{same_inside}
@@ -22,6 +21,7 @@ use Rattle.legal_history.proofs.Reuse.GivenSteps.{held_step}
 use Rattle.legal_history.proofs.Reuse.SoundBases.{base_step, held_first, opened_from, opened_is_base}
 use Rattle.legal_history.proofs.Stories.Prefixes.{prefix_is_legal, rest_is_legal, nothing_is_committed}
 use Rattle.legal_history.proofs.Stories.ConsistentStories.{IsConsistentState, opens_first, consistent_first, consistent_step}
+use Rattle.legal_history.proofs.Stories.Along.{along}
 
 -- rows that are a base, and a sound one where something is given
 record IsGood (given : Type 0) (b : Base) : Type 0 where
@@ -65,7 +65,7 @@ left_step : (given : Type 0) (s : State) (x : StoryStep) (row : Plain) → IsKno
 left_step given s (story_steps.Opened rows counts tells) row h e is = absurd (let first = e.first in
     let opened = h.sound.opened in cc)
 left_step given s (story_steps.Commit made tick) row h e is = absurd (cc)
-left_step given s (story_steps.Other (steps.Fault tag left before faults tick)) row h e is =
+left_step given s (story_steps.Fault tag left before faults tick) row h e is =
     fault_leaves given s tag left row h e.leaves is
 left_step given s x row h e is = h.left row is
 
@@ -79,8 +79,7 @@ kept_step given s x h e = record {
 
 kept_from : (given : Type 0) (s : State) (story : List StoryStep) → IsKnown given s → LegalFrom s story
     → IsKnown given (state_from s story)
-kept_from given s [] h e = h
-kept_from given s (x ∷ story) h e = kept_from given (after s x) story (kept_step given s x h e.0) e.1
+kept_from given s story h e = along (IsKnown given) (λ t x legal so. kept_step given t x so legal) s story e h
 
 -- after the first step nothing is left after
 none_left : (x : StoryStep) (row : Plain) → Lawful start x → hanging (after start x).ends ≡ Some row → ⊥
@@ -121,11 +120,11 @@ stop_leaves_sound (x ∷ story) o b legal is sound left =
     (subst values.IsSound (opened_is_base x o legal.0 opened) sound)
 
 pub fault_leaves_sound : (prefix rest : List StoryStep) (tag : Tag) (row : Plain) (before faults tick : ℕ) (o : Opening)
-    → Legal (prefix ++ story_steps.Other (steps.Fault tag (Some row) before faults tick) ∷ rest)
+    → Legal (prefix ++ story_steps.Fault tag (Some row) before faults tick ∷ rest)
     → (state_of prefix).opened ≡ Some o → values.IsSound o.base →
     values.IsSound (row ∷ (state_of prefix).base)
 fault_leaves_sound prefix rest tag row before faults tick o legal is sound =
-    let x = story_steps.Other (steps.Fault tag (Some row) before faults tick) in
+    let x = story_steps.Fault tag (Some row) before faults tick in
     stop_leaves_sound prefix o (row ∷ (state_of prefix).base) (prefix_is_legal start prefix (x ∷ rest) legal) is sound
     (by (rest_is_legal start prefix (x ∷ rest) legal).0.leaves)
   where

@@ -6,7 +6,6 @@ use Rattle.cc_names.specs.References.{held_at}
 use Rattle.cc_names.specs.declared.rows.Deed.{Deed}
 use Rattle.cc_names.specs.declared.rows.Deed.TheVariants as deeds
 use Rattle.cc_names.specs.declared.rows.Tag.{Tag}
-use Rattle.cc_names.specs.declared.steps.Step.TheVariants as steps
 use Rattle.cc_names.specs.declared.steps.StoryStep.{StoryStep}
 use Rattle.cc_names.specs.declared.steps.StoryStep.TheVariants as story_steps
 use Rattle.cc_names.specs.declared.units.Unit.{Unit}
@@ -122,7 +121,7 @@ place_step s (story_steps.Opened rows counts tells) lane old new n unit path sou
 place_step s (story_steps.Commit row tick) lane old new n unit path sound h e u =
     path_stays s.base old.view path row.deed (committed_leaves s row.tag row.moment row.deed lane old new n unit path sound h
     e.may.made u)
-place_step s (story_steps.Other (steps.Refused tag refusal)) lane old new n unit path sound h e u = refl
+place_step s (story_steps.Refused tag refusal) lane old new n unit path sound h e u = refl
 place_step s x lane old new n unit path sound h e u = refl
 
 pub place_stays : (story : List StoryStep) (x : StoryStep) (lane : ℕ) (old new : Build) (n : ℕ) (unit : Unit) (path : List ℕ)

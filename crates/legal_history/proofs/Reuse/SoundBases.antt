@@ -4,7 +4,6 @@ use Rattle.std.specs.Prelude.{reverse}
 use Rattle.cc_names.specs.declared.rows.Deed.{Deed}
 use Rattle.cc_names.specs.declared.rows.Deed.TheVariants as deeds
 use Rattle.cc_names.specs.declared.rows.Tag.{Tag}
-use Rattle.cc_names.specs.declared.steps.Step.TheVariants as steps
 use Rattle.cc_names.specs.declared.steps.StoryStep.{StoryStep}
 use Rattle.cc_names.specs.declared.steps.StoryStep.TheVariants as story_steps
 use Rattle.base_model.specs.Rows.{Base, size}
@@ -25,6 +24,7 @@ use Rattle.legal_history.proofs.Reuse.GivenCommits.{AllHeld}
 use Rattle.legal_history.proofs.Reuse.GivenSteps.{held_step}
 use Rattle.legal_history.proofs.Reuse.PublishedTrue.{published_is_true}
 use Rattle.legal_history.proofs.Reuse.SoundRows.{sound_row}
+use Rattle.legal_history.proofs.Stories.Along.{along}
 
 pub gives_live : (b : Base) (build : Build) → HoldsGiven b build → GivesLive b build
 gives_live b build h = record { lives = λ n id own. (h.given n id own).lives }
@@ -47,29 +47,31 @@ base_step s (story_steps.Opened rows counts tells) sound h true_base e =
     absurd (let first = e.first in let opened = sound.opened in cc)
 base_step s (story_steps.Commit row tick) sound h true_base e = sound_row row s.base true_base
     (new_is_true s row.tag row.moment row.deed sound h true_base e.may.made)
-base_step s (story_steps.Other (steps.Refused tag refusal)) sound h true_base e = true_base
+base_step s (story_steps.Refused tag refusal) sound h true_base e = true_base
 base_step s x sound h true_base e = true_base
 
 opened_step : (s : State) (x : StoryStep) → IsConsistentState s → Lawful s x → (after s x).opened ≡ s.opened
 opened_step s (story_steps.Opened rows counts tells) sound e = absurd (let first = e.first in let opened = sound.opened in cc)
-opened_step s (story_steps.Other (steps.Refused tag refusal)) sound e = refl
+opened_step s (story_steps.Refused tag refusal) sound e = refl
 opened_step s x sound e = refl
 
 held_from : (s : State) (story : List StoryStep) → IsConsistentState s → AllHeld s → LegalFrom s story
     → AllHeld (state_from s story)
-held_from s [] sound h e = h
-held_from s (x ∷ story) sound h e = held_from (after s x) story (consistent_step s x sound e.0) (held_step s x sound h e.0) e.1
+held_from s story sound h e = (along (λ t. IsConsistentState t × AllHeld t)
+    (λ t x legal so. (consistent_step t x so.0 legal, held_step t x so.0 so.1 legal)) s story e (sound, h)).1
 
 base_from : (s : State) (story : List StoryStep) → IsConsistentState s → AllHeld s → values.IsSound s.base → LegalFrom s story
     → values.IsSound (state_from s story).base
-base_from s [] sound h true_base e = true_base
-base_from s (x ∷ story) sound h true_base e = base_from (after s x) story (consistent_step s x sound e.0)
-    (held_step s x sound h e.0) (base_step s x sound h true_base e.0) e.1
+base_from s story sound h true_base e = (along (λ t. IsConsistentState t × AllHeld t × values.IsSound t.base) (λ t x legal so. (
+  consistent_step t x so.0 legal,
+  held_step t x so.0 so.1 legal,
+  base_step t x so.0 so.1 so.2 legal,
+)) s story e (sound, h, true_base)).2
 
 pub opened_from : (s : State) (story : List StoryStep) → IsConsistentState s → LegalFrom s story
     → (state_from s story).opened ≡ s.opened
-opened_from s [] sound e = refl
-opened_from s (x ∷ story) sound e = opened_from (after s x) story (consistent_step s x sound e.0) e.1 ∙ opened_step s x sound e.0
+opened_from s story sound e = (along (λ t. IsConsistentState t × (t.opened ≡ s.opened))
+    (λ t x legal so. (consistent_step t x so.0 legal, opened_step t x so.0 legal ∙ so.1)) s story e (sound, refl)).1
 
 -- after the first step
 pub held_first : (x : StoryStep) → Lawful start x → AllHeld (after start x)
@@ -93,7 +95,7 @@ opened_is_base (story_steps.Opened rows counts tells) o e is = let same : record
   counts = counts;
   tells = tells;
 } ≡ o = cc in ap (λ (o : Opening). o.base) (sym same)
-opened_is_base (story_steps.Other (steps.Refused tag refusal)) o e is = absurd (cc)
+opened_is_base (story_steps.Refused tag refusal) o e is = absurd (cc)
 opened_is_base x o e is = absurd (cc)
 
 -- The laws of whole stories.

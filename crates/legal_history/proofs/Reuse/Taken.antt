@@ -5,7 +5,6 @@ use Rattle.cc_names.specs.Formed.{Plain}
 use Rattle.cc_names.specs.declared.rows.Deed.TheVariants as deeds
 use Rattle.cc_names.specs.declared.rows.ReadOf.{ReadOf}
 use Rattle.cc_names.specs.declared.rows.Tag.{Tag}
-use Rattle.cc_names.specs.declared.steps.Step.TheVariants as steps
 use Rattle.cc_names.specs.declared.steps.StoryStep.{StoryStep}
 use Rattle.cc_names.specs.declared.steps.StoryStep.TheVariants as story_steps
 use Rattle.cc_names.specs.declared.steps.UnitEnd.TheVariants as ends
@@ -68,10 +67,10 @@ view_takes_seen s tag n id view build unit base own of_view chosen = record {
 }
 
 pub story_kept : (prefix rest : List StoryStep) (tag : Tag) (n id : ℕ)
-    → Legal (prefix ++ story_steps.Other (steps.Concluded tag n (ends.Kept id)) ∷ rest)
+    → Legal (prefix ++ story_steps.Concluded tag n (ends.Kept id) ∷ rest)
     → TakesWhatItSees (state_of prefix) tag n id
 story_kept prefix rest tag n id legal =
-    let keeps = (rest_is_legal start prefix (story_steps.Other (steps.Concluded tag n (ends.Kept id)) ∷ rest) legal).0 in
+    let keeps = (rest_is_legal start prefix (story_steps.Concluded tag n (ends.Kept id) ∷ rest) legal).0 in
     let waits = keeps.open_unit.waits in
     takes_seen (state_of prefix) tag n id keeps.build keeps.unit (base_fits prefix (prefix_is_legal start prefix _ legal))
     waits.active waits.is_unit keeps.chosen
@@ -93,12 +92,12 @@ story_winked prefix rest row tick view id legal is =
     (base_fits prefix (prefix_is_legal start prefix _ legal)) own winks.of_view winks.chosen
 
 pub story_starts : (prefix rest : List StoryStep) (tag : Tag) (n : ℕ) (build : Build) (unit : Unit) (id : ℕ)
-    → Legal (prefix ++ story_steps.Other (steps.Start tag n) ∷ rest) → ReusesAny (state_of prefix) tag build
+    → Legal (prefix ++ story_steps.Start tag n ∷ rest) → ReusesAny (state_of prefix) tag build
     → unit_at build n ≡ Some unit →
     is_some (live_row (state_of prefix).base id) ≡ true → matches (state_of prefix).base build n unit id ≡ false
 story_starts prefix rest tag n build unit id legal any is_unit lives =
     let b = (state_of prefix).base in
-    let starts = (rest_is_legal start prefix (story_steps.Other (steps.Start tag n) ∷ rest) legal).0 in
+    let starts = (rest_is_legal start prefix (story_steps.Start tag n ∷ rest) legal).0 in
     let same_build : starts.build ≡ build = same_inside (sym starts.open_unit.waits.active ∙ any.active) in
     let same_unit : starts.unit ≡ unit = same_inside (sym starts.open_unit.waits.is_unit
     ∙ ap (λ (x : Build). unit_at x n) same_build ∙ is_unit) in

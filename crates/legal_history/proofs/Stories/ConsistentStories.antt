@@ -7,7 +7,6 @@ use Rattle.std.specs.List.{list_all}
 use Rattle.cc_names.specs.declared.rows.Deed.{Deed}
 use Rattle.cc_names.specs.declared.rows.Deed.TheVariants as deeds
 use Rattle.cc_names.specs.declared.rows.Tag.{Tag}
-use Rattle.cc_names.specs.declared.steps.Step.TheVariants as steps
 use Rattle.cc_names.specs.declared.steps.StoryStep.{StoryStep}
 use Rattle.cc_names.specs.declared.steps.StoryStep.TheVariants as story_steps
 use Rattle.cc_names.specs.declared.units.Unit.{Unit}
@@ -36,6 +35,7 @@ use Rattle.legal_history.proofs.Builds.EntriesFit.{entries_fit}
 use Rattle.legal_history.proofs.Builds.Published.{IsPublish, is_publish}
 use Rattle.legal_history.proofs.Builds.RoomSteps.{HasRoom, step_room, room_for}
 use Rattle.legal_history.proofs.Reuse.Reusables.{reusable_matches}
+use Rattle.legal_history.proofs.Stories.Along.{along}
 
 -- A state is sound where a base was opened, its rows are a base, each active build is consistent in a view that exists, and
 -- there is room for a row of each unit that waits.
@@ -80,7 +80,7 @@ step_base : (s : State) (x : StoryStep) → IsConsistentState s → Lawful s x �
 step_base s (story_steps.Opened rows counts tells) h e room = e.fits
 step_base s (story_steps.Commit row tick) h e room = ap (λ t. t && is_base s.base)
     (committed_fits s row.tag row.moment row.deed h e.may.made room) ∙ h.base
-step_base s (story_steps.Other (steps.Refused tag refusal)) h e room = h.base
+step_base s (story_steps.Refused tag refusal) h e room = h.base
 step_base s x h e room = h.base
 
 pub consistent_step : (s : State) (x : StoryStep) → IsConsistentState s → Lawful s x → IsConsistentState (after s x)
@@ -95,8 +95,7 @@ consistent_step s x h e =
 
 consistent_from : (s : State) (story : List StoryStep) → IsConsistentState s → LegalFrom s story
     → IsConsistentState (state_from s story)
-consistent_from s [] h e = h
-consistent_from s (x ∷ story) h e = consistent_from (after s x) story (consistent_step s x h e.0) e.1
+consistent_from s story h e = along IsConsistentState (λ t x legal so. consistent_step t x so legal) s story e h
 
 -- a base has no more rows than the limit
 pub base_within : (b : Base) → is_base b ≡ true → size b ≤ row_limit
@@ -110,8 +109,8 @@ IsOpening x = ⊥
 
 pub opens_first : (x : StoryStep) → Lawful start x → IsOpening x
 opens_first (story_steps.Opened rows counts tells) e = tt
-opens_first (story_steps.Other (steps.Refused tag refusal)) e = let opened =
-    first_opens (story_steps.Other (steps.Refused tag refusal)) e in cc
+opens_first (story_steps.Refused tag refusal) e = let opened =
+    first_opens (story_steps.Refused tag refusal) e in cc
 opens_first x e = let opened = first_opens x e in cc
 
 -- after it nothing builds

@@ -10,8 +10,6 @@ use Rattle.cc_names.specs.declared.refusals.Refusal.{Refusal}
 use Rattle.cc_names.specs.declared.rows.Deed.{Deed}
 use Rattle.cc_names.specs.declared.rows.Deed.TheVariants as deeds
 use Rattle.cc_names.specs.declared.rows.Tag.{Tag}
-use Rattle.cc_names.specs.declared.steps.Step.{Step}
-use Rattle.cc_names.specs.declared.steps.Step.TheVariants as steps
 use Rattle.cc_names.specs.declared.steps.StoryStep.{StoryStep}
 use Rattle.cc_names.specs.declared.steps.StoryStep.TheVariants as story_steps
 use Rattle.cc_names.specs.declared.units.Unit.{Unit}
@@ -25,8 +23,8 @@ use Rattle.base_model.specs.Texts.{texts}
 use Rattle.legal_history.specs.Commands.Lines.{decision}
 use Rattle.legal_history.specs.Commands.ObjectLines.{build_unless, clearmake_tests}
 use Rattle.legal_history.specs.Stories.States.{State, build_by, decision_for, done_of, next_command, next_tag, scene, with_done}
-use Rattle.legal_history.specs.Stories.Steps.{after, after_step, done_after, done_by_fault}
-use Rattle.legal_history.specs.Stories.Lawful.{Lawful, LawfulStep}
+use Rattle.legal_history.specs.Stories.Steps.{after, done_after, done_by_fault}
+use Rattle.legal_history.specs.Stories.Lawful.{Lawful}
 use Rattle.legal_history.specs.Laws.Ends.{IsLeft, IsRefused}
 use Rattle.legal_history.proofs.Builds.CommandStays.{next_is, other_done}
 use Rattle.legal_history.proofs.Decisions.DecidedIdle.{builds_nothing}
@@ -139,36 +137,31 @@ ended_none s tag other command build next active h = no_build s tag other build 
 
 refused_so : (s : State) (tag other : Tag) (refusal : Refusal) (command : Command) → next_command s tag ≡ Some command
     → decision_for s other ≡ Some (Err refusal) → tag.lane ≡ other.lane
-    → IsRefused s (story_steps.Other (steps.Refused other refusal)) tag
+    → IsRefused s (story_steps.Refused other refusal) tag
 refused_so s tag other refusal command next e number =
     let o = next_of s other (Err refusal) e in
     let same : tag ≡ other = one_next s tag other command o.command next o.next number in
     record {
       refusal = refusal;
-      is = ap (λ t. story_steps.Other (steps.Refused t refusal)) (sym same);
+      is = ap (λ t. story_steps.Refused t refusal) (sym same);
       decided_so = ap (decision_for s) same ∙ e;
     }
-
-any_step_refused : (s : State) (step : Step) (tag : Tag) (asked : Clearmake) → next_command s tag ≡ Some (commands.Build asked)
-    → LawfulStep s step →
-    done_of (after_step s step).done tag.lane ≡ done_of s.done tag.lane + 1 → IsRefused s (story_steps.Other step) tag
-any_step_refused s (steps.Refused other refusal) tag asked next e h = refused_so s tag other refusal (commands.Build asked) next e
-    (finished_lane s.done tag.lane other.lane h)
-any_step_refused s (steps.Answer other text) tag asked next e h =
-    absurd (answers_none (scene s) asked text (same_decision s tag other (commands.Build asked) (Ok (Answers text)) next e
-    (finished_lane s.done tag.lane other.lane h)))
-any_step_refused s (steps.End other) tag asked next e h = absurd (ended_none s tag other (commands.Build asked) e.build next
-    e.active h)
-any_step_refused s (steps.Fault other left before faults tick) tag asked next e h =
-    absurd (faulted_none s tag other asked left before faults tick (build_by s other) next e h)
-any_step_refused s step tag asked next e h = absurd (not_more (done_of s.done tag.lane) h)
 
 pub is_refused : (s : State) (x : StoryStep) (tag : Tag) (asked : Clearmake) → next_command s tag ≡ Some (commands.Build asked)
     → Lawful s x → done_of (after s x).done tag.lane ≡ done_of s.done tag.lane + 1 → IsRefused s x tag
 is_refused s (story_steps.Opened rows counts tells) tag asked next e h = absurd (not_more (done_of s.done tag.lane) h)
 is_refused s (story_steps.PhaseBegun phase moment) tag asked next e h = absurd (none_before (done_of s.done tag.lane) h)
 is_refused s (story_steps.Commit row tick) tag asked next e h = absurd (committed_none s tag asked row row.deed next e.may.made h)
-is_refused s (story_steps.Other step) tag asked next e h = any_step_refused s step tag asked next e h
+is_refused s (story_steps.Refused other refusal) tag asked next e h = refused_so s tag other refusal (commands.Build asked) next e
+    (finished_lane s.done tag.lane other.lane h)
+is_refused s (story_steps.Answer other text) tag asked next e h =
+    absurd (answers_none (scene s) asked text (same_decision s tag other (commands.Build asked) (Ok (Answers text)) next e
+    (finished_lane s.done tag.lane other.lane h)))
+is_refused s (story_steps.End other) tag asked next e h = absurd (ended_none s tag other (commands.Build asked) e.build next
+    e.active h)
+is_refused s (story_steps.Fault other left before faults tick) tag asked next e h =
+    absurd (faulted_none s tag other asked left before faults tick (build_by s other) next e h)
+is_refused s x tag asked next e h = absurd (not_more (done_of s.done tag.lane) h)
 
 -- In a lane with an active build no command is decided.
 not_decided : (s : State) (lane : ℕ) (build : Build) (other : Tag) (r : Result Decision Refusal)
@@ -203,20 +196,16 @@ faulted_ends s lane build other left before faults tick None by_tag is e h =
     built_row s lane build wanted.row wanted.row.deed is wanted.may.made (ap (build_by s) wanted.of_tag
     ∙ by_tag) (finished_lane s.done lane other.lane h ∙ ap (λ (t : Tag). t.lane) (sym wanted.of_tag))
 
-any_step_ended : (s : State) (step : Step) (lane : ℕ) (build : Build) → build_of s.active lane ≡ Some build → LawfulStep s step
-    → done_of (after_step s step).done lane ≡ done_of s.done lane + 1 → IsLeft s (story_steps.Other step) lane build
-any_step_ended s (steps.Refused other refusal) lane build is e h = absurd
-    (not_decided s lane build other (Err refusal) is e (finished_lane s.done lane other.lane h))
-any_step_ended s (steps.Answer other text) lane build is e h = absurd (not_decided s lane build other (Ok (Answers text)) is e
-    (finished_lane s.done lane other.lane h))
-any_step_ended s (steps.End other) lane build is e h = ends_so s other lane build is e (finished_lane s.done lane other.lane h)
-any_step_ended s (steps.Fault other left before faults tick) lane build is e h =
-    absurd (faulted_ends s lane build other left before faults tick (build_by s other) refl is e h)
-any_step_ended s step lane build is e h = absurd (not_more (done_of s.done lane) h)
-
 pub is_ended : (s : State) (x : StoryStep) (lane : ℕ) (build : Build) → build_of s.active lane ≡ Some build → Lawful s x
     → done_of (after s x).done lane ≡ done_of s.done lane + 1 → IsLeft s x lane build
 is_ended s (story_steps.Opened rows counts tells) lane build is e h = absurd (not_more (done_of s.done lane) h)
 is_ended s (story_steps.PhaseBegun phase moment) lane build is e h = absurd (none_before (done_of s.done lane) h)
 is_ended s (story_steps.Commit row tick) lane build is e h = absurd (committed_ends s lane build row row.deed is e.may.made h)
-is_ended s (story_steps.Other step) lane build is e h = any_step_ended s step lane build is e h
+is_ended s (story_steps.Refused other refusal) lane build is e h = absurd
+    (not_decided s lane build other (Err refusal) is e (finished_lane s.done lane other.lane h))
+is_ended s (story_steps.Answer other text) lane build is e h = absurd (not_decided s lane build other (Ok (Answers text)) is e
+    (finished_lane s.done lane other.lane h))
+is_ended s (story_steps.End other) lane build is e h = ends_so s other lane build is e (finished_lane s.done lane other.lane h)
+is_ended s (story_steps.Fault other left before faults tick) lane build is e h =
+    absurd (faulted_ends s lane build other left before faults tick (build_by s other) refl is e h)
+is_ended s x lane build is e h = absurd (not_more (done_of s.done lane) h)

@@ -8,8 +8,6 @@ use Rattle.cc_names.specs.Formed.{Plain}
 use Rattle.cc_names.specs.declared.rows.Deed.{Deed}
 use Rattle.cc_names.specs.declared.rows.Deed.TheVariants as deeds
 use Rattle.cc_names.specs.declared.rows.Tag.{Tag}
-use Rattle.cc_names.specs.declared.steps.Step.{Step}
-use Rattle.cc_names.specs.declared.steps.Step.TheVariants as steps
 use Rattle.cc_names.specs.declared.steps.StoryStep.{StoryStep}
 use Rattle.cc_names.specs.declared.steps.StoryStep.TheVariants as story_steps
 use Rattle.cc_names.specs.declared.steps.UnitEnd.{UnitEnd}
@@ -26,10 +24,10 @@ use Rattle.legal_history.specs.Commands.Decisions.{Decision}
 use Rattle.legal_history.specs.Commands.Lines.{decision}
 use Rattle.legal_history.specs.Stories.States.{State, scene, decision_for, command_behind, done_of, is_next, build_by, build_if}
 use Rattle.legal_history.specs.Stories.States.{same_tag}
-use Rattle.legal_history.specs.Stories.Steps.{after, after_step, with_outcome, with_came, build_begun_by, with_build}
+use Rattle.legal_history.specs.Stories.Steps.{after, with_outcome, with_came, build_begun_by, with_build}
 use Rattle.legal_history.specs.Stories.Steps.{without_build, faulted_in, active_after}
 use Rattle.legal_history.specs.Stories.Committing.{MakesRow}
-use Rattle.legal_history.specs.Stories.Lawful.{Lawful, LawfulStep}
+use Rattle.legal_history.specs.Stories.Lawful.{Lawful}
 use Rattle.legal_history.specs.Builds.UnitTurns.{ComesTo, Waits}
 use Rattle.base_model.proofs.Tables.{find_after_put, find_put_same, find_put_other, find_without}
 
@@ -204,21 +202,16 @@ committed_goes s row (deeds.Wink view id) lane build is h = elim h.may [
 ]
 committed_goes s row deed lane build is h = On build is (continues_itself build)
 
-any_step_goes : (s : State) (step : Step) (lane : ℕ) (build : Build) → build_of s.active lane ≡ Some build → LawfulStep s step →
-    StaysTheBuild build (build_of (after_step s step).active lane)
-any_step_goes s (steps.Begin tag rows units) lane build is h = begun_goes s.active lane tag.lane build (build_begun_by s tag) is
-    (decided_is_idle s tag h.chosen)
-any_step_goes s (steps.Start tag n) lane build is h =
-    waited_goes s tag n h.build h.unit lane build (λ b. Some n) _ is h.open_unit.waits refl
-any_step_goes s (steps.Concluded tag n outcome) lane build is h = settled_goes s tag n outcome lane build _ is h
-any_step_goes s (steps.End tag) lane build is h = ended_goes s.active lane tag.lane build is
-any_step_goes s (steps.Fault tag left before faults tick) lane build is h =
-    faulted_goes s.active lane tag.lane build (build_by s tag) is (λ x e. of_lane s tag x e)
-any_step_goes s step lane build is h = On build is (continues_itself build)
-
 -- each lawful step leaves an active build going on, or ends it
 pub step_goes : (s : State) (x : StoryStep) (lane : ℕ) (build : Build) → build_of s.active lane ≡ Some build → Lawful s x →
     StaysTheBuild build (build_of (after s x).active lane)
 step_goes s (story_steps.Commit row tick) lane build is h = committed_goes s row row.deed lane build is h.may.made
-step_goes s (story_steps.Other step) lane build is h = any_step_goes s step lane build is h
+step_goes s (story_steps.Begin tag rows units) lane build is h = begun_goes s.active lane tag.lane build (build_begun_by s tag) is
+    (decided_is_idle s tag h.chosen)
+step_goes s (story_steps.Start tag n) lane build is h =
+    waited_goes s tag n h.build h.unit lane build (λ b. Some n) _ is h.open_unit.waits refl
+step_goes s (story_steps.Concluded tag n outcome) lane build is h = settled_goes s tag n outcome lane build _ is h
+step_goes s (story_steps.End tag) lane build is h = ended_goes s.active lane tag.lane build is
+step_goes s (story_steps.Fault tag left before faults tick) lane build is h =
+    faulted_goes s.active lane tag.lane build (build_by s tag) is (λ x e. of_lane s tag x e)
 step_goes s x lane build is h = On build is (continues_itself build)

@@ -11,8 +11,6 @@ use Rattle.cc_names.specs.declared.refusals.Refusal.{Refusal}
 use Rattle.cc_names.specs.declared.rows.Deed.{Deed}
 use Rattle.cc_names.specs.declared.rows.Deed.TheVariants as deeds
 use Rattle.cc_names.specs.declared.rows.Tag.{Tag}
-use Rattle.cc_names.specs.declared.steps.Step.{Step}
-use Rattle.cc_names.specs.declared.steps.Step.TheVariants as steps
 use Rattle.cc_names.specs.declared.steps.StoryStep.{StoryStep}
 use Rattle.cc_names.specs.declared.steps.StoryStep.TheVariants as story_steps
 use Rattle.cc_names.proofs.Common.{same_number}
@@ -24,14 +22,15 @@ use Rattle.legal_history.specs.Stories.Committing.{MakesRow}
 use Rattle.legal_history.specs.Stories.Lanes.{count_of, IsFinished, IsWithin}
 use Rattle.legal_history.specs.Stories.States.{State, build_by, command_behind, decision_for, done_of, next_command, scene}
 use Rattle.legal_history.specs.Stories.States.{start, with_done}
-use Rattle.legal_history.specs.Stories.Steps.{after, after_step, done_after, done_by_fault, state_from, state_of}
-use Rattle.legal_history.specs.Stories.Lawful.{Lawful, LawfulStep, Legal, LegalFrom}
+use Rattle.legal_history.specs.Stories.Steps.{after, done_after, done_by_fault, state_from, state_of}
+use Rattle.legal_history.specs.Stories.Lawful.{Lawful, Legal, LegalFrom}
 use Rattle.legal_history.proofs.Builds.CommandStays.{next_is, other_done}
 use Rattle.legal_history.proofs.Builds.CommandSteps.{AllCommanded, none_begun, step_commanded}
 use Rattle.legal_history.proofs.Stories.Goes.{of_lane}
 use Rattle.legal_history.proofs.Stories.LaterSteps.{own_done}
 use Rattle.legal_history.proofs.Stories.LaterStories.{story_later}
 use Rattle.legal_history.proofs.Stories.ConsistentStories.{IsConsistentState, consistent_first, consistent_step}
+use Rattle.legal_history.proofs.Stories.Along.{along}
 
 -- a command of the lane is left
 record HasNext (s : State) (lane : ℕ) : Type 0 where
@@ -94,27 +93,26 @@ faulted_within : (s : State) (other : ℕ) (o : Option Build) → HasNext s othe
 faulted_within s other None next h = with_one_more s other next h
 faulted_within s other (Some build) next h = h
 
-any_step_within : (s : State) (step : Step) → AllCommanded s → LawfulStep s step → AllWithin s → AllWithin (after_step s step)
-any_step_within s (steps.Refused tag refusal) all e h = with_one_more s tag.lane (decided_has_next s tag _ e) h
-any_step_within s (steps.Answer tag text) all e h = with_one_more s tag.lane (decided_has_next s tag _ e) h
-any_step_within s (steps.End tag) all e h = with_one_more s tag.lane (built_has_next s tag e.build all e.active) h
-any_step_within s (steps.Fault tag left before faults tick) all e h =
-    let next = row_has_next s e.wanted.row e.wanted.row.deed all e.wanted.may.made in
-    faulted_within s tag.lane (build_by s tag) (subst (λ (t : Tag). HasNext s t.lane) e.wanted.of_tag next) h
-any_step_within s step all e h = h
-
 step_within : (s : State) (x : StoryStep) → AllCommanded s → Lawful s x → AllWithin s → AllWithin (after s x)
 step_within s (story_steps.Opened rows counts tells) all e h = h
 step_within s (story_steps.PhaseBegun phase moment) all e h = λ lane. omega arith
 step_within s (story_steps.Commit row tick) all e h = committed_within s row.tag.lane row.deed
     (row_has_next s row row.deed all e.may.made) h
-step_within s (story_steps.Other step) all e h = any_step_within s step all e h
+step_within s (story_steps.Refused tag refusal) all e h = with_one_more s tag.lane (decided_has_next s tag _ e) h
+step_within s (story_steps.Answer tag text) all e h = with_one_more s tag.lane (decided_has_next s tag _ e) h
+step_within s (story_steps.End tag) all e h = with_one_more s tag.lane (built_has_next s tag e.build all e.active) h
+step_within s (story_steps.Fault tag left before faults tick) all e h =
+    let next = row_has_next s e.wanted.row e.wanted.row.deed all e.wanted.may.made in
+    faulted_within s tag.lane (build_by s tag) (subst (λ (t : Tag). HasNext s t.lane) e.wanted.of_tag next) h
+step_within s x all e h = h
 
 within_from : (s : State) (story : List StoryStep) → IsConsistentState s → AllCommanded s → LegalFrom s story → AllWithin s
     → AllWithin (state_from s story)
-within_from s [] sound all e h = h
-within_from s (x ∷ story) sound all e h = within_from (after s x) story (consistent_step s x sound e.0)
-    (step_commanded s x sound all e.0) e.1 (step_within s x all e.0 h)
+within_from s story sound all e h = (along (λ t. IsConsistentState t × AllCommanded t × AllWithin t) (λ t x legal so. (
+  consistent_step t x so.0 legal,
+  step_commanded t x so.0 so.1 legal,
+  step_within t x so.1 legal so.2,
+)) s story e (sound, all, h)).2
 
 within_first : (x : StoryStep) → Lawful start x → AllWithin (after start x)
 within_first x e = step_within start x (record { holds = λ lane build is. absurd (cc) }) e (λ lane. omega arith)

@@ -3,15 +3,13 @@ use Rattle.std.proofs.Common.{◌≡◌, refl, ap, sym, subst, ℕ, ◌+◌, ◌
 use Rattle.std.specs.Prelude.{unwrap_or}
 use Rattle.cc_names.specs.declared.rows.Deed.{Deed}
 use Rattle.cc_names.specs.declared.rows.Deed.TheVariants as deeds
-use Rattle.cc_names.specs.declared.steps.Step.{Step}
-use Rattle.cc_names.specs.declared.steps.Step.TheVariants as steps
 use Rattle.cc_names.specs.declared.steps.StoryStep.{StoryStep}
 use Rattle.cc_names.specs.declared.steps.StoryStep.TheVariants as story_steps
 use Rattle.cc_names.proofs.Common.{same_number}
 use Rattle.legal_history.specs.Builds.Active.{Build, build_of}
 use Rattle.legal_history.specs.Stories.Growth.{GoesLater, StaysTheBuild, Over, On, StillBuilds}
 use Rattle.legal_history.specs.Stories.States.{State, build_by, done_of, with_done}
-use Rattle.legal_history.specs.Stories.Steps.{after, after_step, done_after, done_by_fault}
+use Rattle.legal_history.specs.Stories.Steps.{after, done_after, done_by_fault}
 use Rattle.legal_history.specs.Stories.Lawful.{Lawful}
 use Rattle.legal_history.specs.Laws.Ends.{IsLeft}
 use Rattle.legal_history.proofs.Builds.CommandStays.{other_done}
@@ -73,23 +71,6 @@ record StaysInPhase (s t : State) : Type 0 where
   moment : t.moment ≡ s.moment
   done : (lane : ℕ) → done_of s.done lane ≤ done_of t.done lane
 
-any_step_stays : (s : State) (step : Step) → StaysInPhase s (after_step s step)
-any_step_stays s (steps.Refused tag refusal) = record {
-  number = refl;
-  phase = refl;
-  moment = refl;
-  done = no_fewer s.done tag.lane;
-}
-any_step_stays s (steps.Answer tag text) = record { number = refl; phase = refl; moment = refl; done = no_fewer s.done tag.lane }
-any_step_stays s (steps.End tag) = record { number = refl; phase = refl; moment = refl; done = no_fewer s.done tag.lane }
-any_step_stays s (steps.Fault tag left before faults tick) = record {
-  number = refl;
-  phase = refl;
-  moment = refl;
-  done = faulted_no_fewer s.done tag.lane (build_by s tag);
-}
-any_step_stays s step = record { number = refl; phase = refl; moment = refl; done = λ lane. omega arith }
-
 within_phase : (s : State) (x : StoryStep) → Lawful s x → StaysInPhase s (after s x) → GoesLater s (after s x)
 within_phase s x e h = record {
   number = let same = h.number in omega arith;
@@ -110,13 +91,6 @@ next_phase s t more = record {
 
 -- each lawful step leads to a later state
 pub step_later : (s : State) (x : StoryStep) → Lawful s x → GoesLater s (after s x)
-step_later s (story_steps.Opened rows counts tells) e =
-    within_phase s (story_steps.Opened rows counts tells) e (record {
-      number = refl;
-      phase = refl;
-      moment = refl;
-      done = λ lane. omega arith;
-    })
 step_later s (story_steps.PhaseBegun phase moment) e = next_phase s (after s (story_steps.PhaseBegun phase moment)) refl
 step_later s (story_steps.Commit row tick) e =
     within_phase s (story_steps.Commit row tick) e (record {
@@ -125,4 +99,16 @@ step_later s (story_steps.Commit row tick) e =
       moment = refl;
       done = committed_no_fewer s.done row.tag.lane row.deed;
     })
-step_later s (story_steps.Other step) e = within_phase s (story_steps.Other step) e (any_step_stays s step)
+step_later s (story_steps.Refused tag refusal) e =
+    within_phase s (story_steps.Refused tag refusal) e
+    (record { number = refl; phase = refl; moment = refl; done = no_fewer s.done tag.lane })
+step_later s (story_steps.Answer tag text) e =
+    within_phase s (story_steps.Answer tag text) e
+    (record { number = refl; phase = refl; moment = refl; done = no_fewer s.done tag.lane })
+step_later s (story_steps.End tag) e =
+    within_phase s (story_steps.End tag) e
+    (record { number = refl; phase = refl; moment = refl; done = no_fewer s.done tag.lane })
+step_later s (story_steps.Fault tag left before faults tick) e =
+    within_phase s (story_steps.Fault tag left before faults tick) e
+    (record { number = refl; phase = refl; moment = refl; done = faulted_no_fewer s.done tag.lane (build_by s tag) })
+step_later s x e = within_phase s x e (record { number = refl; phase = refl; moment = refl; done = λ lane. omega arith })

@@ -9,6 +9,7 @@ use Rattle.legal_history.specs.Stories.Lawful.{Legal, LegalFrom}
 use Rattle.legal_history.proofs.Stories.Prefixes.{rest_is_legal, state_goes_on}
 use Rattle.legal_history.proofs.Stories.Goes.{continues_itself}
 use Rattle.legal_history.proofs.Stories.LaterSteps.{step_later}
+use Rattle.legal_history.proofs.Stories.Along.{along}
 
 later_itself : (s : State) → GoesLater s s
 later_itself s = record {
@@ -74,9 +75,8 @@ later_on a b c h g = record {
         record { build = new.build; is = new.is; on = continues_on build old.build new.build old.on new.on }
 
 later_from : (s : State) (story : List StoryStep) → LegalFrom s story → GoesLater s (state_from s story)
-later_from s [] legal = later_itself s
-later_from s (x ∷ story) legal = later_on s (after s x) (state_from (after s x) story) (step_later s x legal.0)
-    (later_from (after s x) story legal.1)
+later_from s story legal = along (GoesLater s) (λ t x lawful so. later_on s t (after t x) so (step_later t x lawful)) s story legal
+    (later_itself s)
 
 pub story_later : (prefix rest : List StoryStep) → Legal (prefix ++ rest)
     → GoesLater (state_of prefix) (state_of (prefix ++ rest))

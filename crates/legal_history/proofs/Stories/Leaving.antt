@@ -5,17 +5,15 @@ use Rattle.std.specs.FinMap.Entries.{put}
 use Rattle.cc_names.specs.declared.rows.Deed.{Deed}
 use Rattle.cc_names.specs.declared.rows.Deed.TheVariants as deeds
 use Rattle.cc_names.specs.declared.rows.Tag.{Tag}
-use Rattle.cc_names.specs.declared.steps.Step.{Step}
-use Rattle.cc_names.specs.declared.steps.Step.TheVariants as steps
 use Rattle.cc_names.specs.declared.steps.StoryStep.{StoryStep}
 use Rattle.cc_names.specs.declared.steps.StoryStep.TheVariants as story_steps
 use Rattle.cc_names.proofs.Common.{same_inside, same_number}
 use Rattle.base_model.specs.Rows.{Base}
 use Rattle.legal_history.specs.Builds.Active.{Active, Build, Came, build_of}
 use Rattle.legal_history.specs.Stories.States.{State, build_by}
-use Rattle.legal_history.specs.Stories.Steps.{after, after_step, noted_in, with_came, with_build, without_build, faulted_in}
+use Rattle.legal_history.specs.Stories.Steps.{after, noted_in, with_came, with_build, without_build, faulted_in}
 use Rattle.legal_history.specs.Stories.Steps.{active_after, build_begun_by}
-use Rattle.legal_history.specs.Stories.Lawful.{Lawful, LawfulStep, EndsBuild}
+use Rattle.legal_history.specs.Stories.Lawful.{Lawful, EndsBuild}
 use Rattle.legal_history.specs.Builds.Turns.{is_complete}
 use Rattle.legal_history.proofs.Stories.Goes.{of_lane}
 use Rattle.base_model.proofs.Tables.{find_after_put, find_without}
@@ -57,7 +55,7 @@ committed_there b active lane other build deed is none = cc
 
 -- a build ends in its lane
 pub ends_so : (s : State) (tag : Tag) (lane : ℕ) (build : Build) → build_of s.active lane ≡ Some build → EndsBuild s tag
-    → lane ≡ tag.lane → IsLeft s (story_steps.Other (steps.End tag)) lane build
+    → lane ≡ tag.lane → IsLeft s (story_steps.End tag) lane build
 ends_so s tag lane build is e number =
     let there : build_of s.active tag.lane ≡ Some e.build = of_lane s tag e.build e.active in
     let same : e.build ≡ build = same_inside (sym there ∙ ap (build_of s.active) (sym number) ∙ is) in
@@ -71,30 +69,25 @@ ends_so s tag lane build is e number =
     }
 
 by_its_end : (s : State) (tag : Tag) (lane : ℕ) (build : Build) → build_of s.active lane ≡ Some build → EndsBuild s tag
-    → build_of (without_build s.active tag.lane) lane ≡ None → IsLeft s (story_steps.Other (steps.End tag)) lane build
+    → build_of (without_build s.active tag.lane) lane ≡ None → IsLeft s (story_steps.End tag) lane build
 by_its_end s tag lane build is e none = by (lane == tag.lane) refl (sym (find_without lane tag.lane s.active) ∙ none)
   where
     by : (t : Bool) → (lane == tag.lane) ≡ t → cond (not t) (build_of s.active lane) None ≡ None
-        → IsLeft s (story_steps.Other (steps.End tag)) lane build
+        → IsLeft s (story_steps.End tag) lane build
     by false e2 h = absurd (cc)
     by true e2 h = ends_so s tag lane build is e (same_number lane tag.lane e2)
-
-any_step_left : (s : State) (step : Step) (lane : ℕ) (build : Build) → build_of s.active lane ≡ Some build → LawfulStep s step
-    → build_of (after_step s step).active lane ≡ None → IsLeft s (story_steps.Other step) lane build
-any_step_left s (steps.Begin tag rows count) lane build is e none = absurd
-    (begun_there s.active lane tag.lane build (build_begun_by s tag) is none)
-any_step_left s (steps.Start tag n) lane build is e none = absurd (noted_there s.active lane tag.lane build
-    (build_of s.active tag.lane) _ _ is none)
-any_step_left s (steps.Concluded tag n end) lane build is e none = absurd
-    (noted_there s.active lane tag.lane build (build_of s.active tag.lane) _ _ is none)
-any_step_left s (steps.End tag) lane build is e none = by_its_end s tag lane build is e none
-any_step_left s (steps.Fault tag left before faults tick) lane build is e none =
-    absurd (faulted_there s.active lane tag.lane build (build_by s tag) is none)
-any_step_left s step lane build is e none = absurd (cc)
 
 pub is_left : (s : State) (x : StoryStep) (lane : ℕ) (build : Build) → build_of s.active lane ≡ Some build → Lawful s x
     → build_of (after s x).active lane ≡ None → IsLeft s x lane build
 is_left s (story_steps.Commit row tick) lane build is e none = absurd (committed_there s.base s.active lane row.tag.lane build
     row.deed is none)
-is_left s (story_steps.Other step) lane build is e none = any_step_left s step lane build is e none
+is_left s (story_steps.Begin tag rows count) lane build is e none = absurd
+    (begun_there s.active lane tag.lane build (build_begun_by s tag) is none)
+is_left s (story_steps.Start tag n) lane build is e none = absurd (noted_there s.active lane tag.lane build
+    (build_of s.active tag.lane) _ _ is none)
+is_left s (story_steps.Concluded tag n end) lane build is e none = absurd
+    (noted_there s.active lane tag.lane build (build_of s.active tag.lane) _ _ is none)
+is_left s (story_steps.End tag) lane build is e none = by_its_end s tag lane build is e none
+is_left s (story_steps.Fault tag left before faults tick) lane build is e none =
+    absurd (faulted_there s.active lane tag.lane build (build_by s tag) is none)
 is_left s x lane build is e none = absurd (cc)

@@ -6,8 +6,6 @@ use Rattle.cc_names.specs.Formed.{Plain}
 use Rattle.cc_names.specs.declared.rows.Deed.{Deed}
 use Rattle.cc_names.specs.declared.rows.Deed.TheVariants as deeds
 use Rattle.cc_names.specs.declared.rows.Tag.{Tag}
-use Rattle.cc_names.specs.declared.steps.Step.{Step}
-use Rattle.cc_names.specs.declared.steps.Step.TheVariants as steps
 use Rattle.cc_names.specs.declared.steps.StoryStep.{StoryStep}
 use Rattle.cc_names.specs.declared.steps.StoryStep.TheVariants as story_steps
 use Rattle.cc_names.specs.declared.steps.UnitEnd.{UnitEnd}
@@ -17,7 +15,7 @@ use Rattle.base_model.specs.Rows.{only_where}
 use Rattle.legal_history.specs.Stories.States.{State, start, decision_for, is_next, next_command, command_behind, done_of}
 use Rattle.legal_history.specs.Stories.Steps.{after, state_from}
 use Rattle.legal_history.specs.Stories.Committing.{MakesRow}
-use Rattle.legal_history.specs.Stories.Lawful.{Lawful, LawfulStep, LegalFrom}
+use Rattle.legal_history.specs.Stories.Lawful.{Lawful, LegalFrom}
 use Rattle.legal_history.specs.Builds.UnitTurns.{ComesTo}
 
 pub prefix_is_legal : (s : State) (prefix rest : List StoryStep) → LegalFrom s (prefix ++ rest) → LegalFrom s prefix
@@ -70,19 +68,15 @@ nothing_settles tag n (ends.Kept id) h = let e = h.open_unit.waits.active in cc
 nothing_settles tag n (ends.Failed (unit_faults.Script fault)) h = let e = h.running.waits.active in cc
 nothing_settles tag n outcome h = let e = h.waits.active in cc
 
-no_first_step : (step : Step) → LawfulStep start step → ⊥
-no_first_step (steps.Refused tag refusal) h = let e = nothing_is_decided tag in cc
-no_first_step (steps.Answer tag text) h = let e = nothing_is_decided tag in cc
-no_first_step (steps.Begin tag rows units) h = let e = nothing_is_decided tag in let c = h.chosen in cc
-no_first_step (steps.Start tag n) h = let e = h.open_unit.waits.active in cc
-no_first_step (steps.Concluded tag n outcome) h = nothing_settles tag n outcome h
-no_first_step (steps.End tag) h = let e = h.active in cc
-no_first_step (steps.Fault tag left before faults tick) h = nothing_is_committed h.wanted.row h.wanted.row.deed h.wanted.may.made
-no_first_step step h = h
-
 -- the first step of a legal story opens a base
 pub first_opens : (x : StoryStep) → Lawful start x → is_some (after start x).opened ≡ true
 first_opens (story_steps.Opened rows counts tells) h = refl
 first_opens (story_steps.PhaseBegun phase moment) h = absurd (let e = h.opened in cc)
 first_opens (story_steps.Commit row tick) h = absurd (nothing_is_committed row row.deed h.may.made)
-first_opens (story_steps.Other step) h = absurd (no_first_step step h)
+first_opens (story_steps.Refused tag refusal) h = absurd (let e = nothing_is_decided tag in cc)
+first_opens (story_steps.Answer tag text) h = absurd (let e = nothing_is_decided tag in cc)
+first_opens (story_steps.Begin tag rows units) h = absurd (let e = nothing_is_decided tag in let c = h.chosen in cc)
+first_opens (story_steps.Start tag n) h = absurd (let e = h.open_unit.waits.active in cc)
+first_opens (story_steps.Concluded tag n outcome) h = absurd (nothing_settles tag n outcome h)
+first_opens (story_steps.End tag) h = absurd (let e = h.active in cc)
+first_opens (story_steps.Fault tag left before faults tick) h = absurd (nothing_is_committed h.wanted.row h.wanted.row.deed h.wanted.may.made)

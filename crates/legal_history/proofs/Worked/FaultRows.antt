@@ -7,7 +7,6 @@ use Rattle.cc_names.specs.declared.commands.Command.{Command}
 use Rattle.cc_names.specs.declared.commands.Command.TheVariants as commands
 use Rattle.cc_names.specs.declared.commands.Change.TheVariants as changes
 use Rattle.cc_names.specs.declared.rows.Deed.TheVariants as deeds
-use Rattle.cc_names.specs.declared.steps.Step.TheVariants as steps
 use Rattle.cc_names.specs.declared.steps.StoryStep.{StoryStep}
 use Rattle.cc_names.specs.declared.steps.StoryStep.TheVariants as story_steps
 use Rattle.legal_history.specs.Builds.Values.{first_unsound}
@@ -48,12 +47,12 @@ before_build =
     ∷ []
 
 abbrev pub before_fault : List StoryStep
-before_fault = before_build ++ (story_steps.Other (steps.Begin (tag 1 1 4) 4 1) ∷ story_steps.Other (steps.Start (tag 1 1 4) 0)
+before_fault = before_build ++ (story_steps.Begin (tag 1 1 4) 4 1 ∷ story_steps.Start (tag 1 1 4) 0
     ∷ [])
 
 -- the disk fails at the first build's last sync, so that its row may be found
 abbrev fault : StoryStep
-fault = story_steps.Other (steps.Fault (tag 1 1 4) (Some (published 4)) 0 1 19)
+fault = story_steps.Fault (tag 1 1 4) (Some (published 4)) 0 1 19
 
 the_first_build_meets_it : option_map (λ build. build.faulted) (build_by (state_of (before_fault ++ (fault ∷ []))) (tag 1 1 4))
     ≡ Some true
@@ -76,11 +75,11 @@ another_text_is_not = refl
 abbrev fails_once : List StoryStep
 fails_once =
     before_fault ++ (fault
-    ∷ story_steps.Other (steps.End (tag 1 1 4))
-    ∷ story_steps.Other (steps.Begin (tag 1 1 5) 4 1)
-    ∷ story_steps.Other (steps.Start (tag 1 1 5) 0)
+    ∷ story_steps.End (tag 1 1 4)
+    ∷ story_steps.Begin (tag 1 1 5) 4 1
+    ∷ story_steps.Start (tag 1 1 5) 0
     ∷ story_steps.Commit (published 5) 25
-    ∷ story_steps.Other (steps.End (tag 1 1 5))
+    ∷ story_steps.End (tag 1 1 5)
     ∷ [])
 
 fails_once_is_legal : Legal fails_once

@@ -7,7 +7,6 @@ use Rattle.cc_names.specs.declared.commands.Command.TheVariants as commands
 use Rattle.cc_names.specs.declared.commands.Change.TheVariants as changes
 use Rattle.cc_names.specs.declared.commands.Phase.{Phase}
 use Rattle.cc_names.specs.declared.rows.Deed.TheVariants as deeds
-use Rattle.cc_names.specs.declared.steps.Step.TheVariants as steps
 use Rattle.cc_names.specs.declared.steps.StoryStep.{StoryStep}
 use Rattle.cc_names.specs.declared.steps.StoryStep.TheVariants as story_steps
 use Rattle.base_model.specs.Rows.{Base}
@@ -99,8 +98,8 @@ saves_are_legal = (
 
 abbrev build : List StoryStep
 build =
-    story_steps.Other (steps.Begin (tag 1 1 4) 4 1) ∷ story_steps.Other (steps.Start (tag 1 1 4) 0) ∷ story_steps.Commit row_4 19
-    ∷ story_steps.Other (steps.End (tag 1 1 4)) ∷ []
+    story_steps.Begin (tag 1 1 4) 4 1 ∷ story_steps.Start (tag 1 1 4) 0 ∷ story_steps.Commit row_4 19
+    ∷ story_steps.End (tag 1 1 4) ∷ []
 
 build_is_legal : Legal (saves ++ build)
 unfolding IsLe

@@ -10,7 +10,6 @@ use Rattle.cc_names.specs.declared.commands.Phase.{Phase}
 use Rattle.cc_names.specs.declared.rows.Deed.{Deed}
 use Rattle.cc_names.specs.declared.rows.Deed.TheVariants as deeds
 use Rattle.cc_names.specs.declared.rows.Kind.TheVariants.{File}
-use Rattle.cc_names.specs.declared.steps.Step.TheVariants as steps
 use Rattle.cc_names.specs.declared.steps.StoryStep.{StoryStep}
 use Rattle.cc_names.specs.declared.steps.StoryStep.TheVariants as story_steps
 use Rattle.base_model.specs.Changes.{objects_held}
@@ -48,14 +47,14 @@ side_by_side =
     ∷ story_steps.Commit (row 9 (deeds.Checkin v 0)) 39
     ∷ story_steps.Commit (row 10 (deeds.Mkview w)) 43
     ∷ story_steps.PhaseBegun both_lanes 1700000060
-    ∷ story_steps.Other (steps.Begin (tag 2 1 1) 11 1)
-    ∷ story_steps.Other (steps.Begin (tag 2 2 1) 11 1)
-    ∷ story_steps.Other (steps.Start (tag 2 1 1) 0)
-    ∷ story_steps.Other (steps.Start (tag 2 2 1) 0)
+    ∷ story_steps.Begin (tag 2 1 1) 11 1
+    ∷ story_steps.Begin (tag 2 2 1) 11 1
+    ∷ story_steps.Start (tag 2 1 1) 0
+    ∷ story_steps.Start (tag 2 2 1) 0
     ∷ story_steps.Commit (row_of 1 (publish_in v)) 47
-    ∷ story_steps.Other (steps.End (tag 2 1 1))
+    ∷ story_steps.End (tag 2 1 1)
     ∷ story_steps.Commit (row_of 2 (deeds.Wink w 11)) 51
-    ∷ story_steps.Other (steps.End (tag 2 2 1))
+    ∷ story_steps.End (tag 2 2 1)
     ∷ []
 
 side_by_side_is_legal : Legal side_by_side

@@ -6,7 +6,6 @@ use Rattle.cc_names.specs.declared.commands.Command.TheVariants as commands
 use Rattle.cc_names.specs.declared.commands.Change.TheVariants as changes
 use Rattle.cc_names.specs.declared.rows.Deed.TheVariants as deeds
 use Rattle.cc_names.specs.declared.rows.Kind.TheVariants.{File}
-use Rattle.cc_names.specs.declared.steps.Step.TheVariants as steps
 use Rattle.cc_names.specs.declared.steps.StoryStep.{StoryStep}
 use Rattle.cc_names.specs.declared.steps.StoryStep.TheVariants as story_steps
 use Rattle.cc_names.specs.declared.steps.UnitEnd.TheVariants as ends
@@ -33,17 +32,17 @@ both_build =
     ∷ story_steps.Commit (row 7 (deeds.Save v 6 hi)) 31
     ∷ story_steps.Commit (row 8 (deeds.Checkin v 6)) 35
     ∷ story_steps.Commit (row 9 (deeds.Checkin v 0)) 39
-    ∷ story_steps.Other (steps.Begin (tag 1 1 10) 10 1)
-    ∷ story_steps.Other (steps.Start (tag 1 1 10) 0)
+    ∷ story_steps.Begin (tag 1 1 10) 10 1
+    ∷ story_steps.Start (tag 1 1 10) 0
     ∷ story_steps.Commit (row 10 publish) 43
-    ∷ story_steps.Other (steps.End (tag 1 1 10))
+    ∷ story_steps.End (tag 1 1 10)
     ∷ story_steps.Commit (row 11 (deeds.Mkview w)) 47
-    ∷ story_steps.Other (steps.Begin (tag 1 1 12) 12 1)
+    ∷ story_steps.Begin (tag 1 1 12) 12 1
     ∷ story_steps.Commit (row 12 (deeds.Wink w 10)) 51
-    ∷ story_steps.Other (steps.End (tag 1 1 12))
-    ∷ story_steps.Other (steps.Begin (tag 1 1 13) 13 1)
-    ∷ story_steps.Other (steps.Concluded (tag 1 1 13) 0 (ends.Kept 10))
-    ∷ story_steps.Other (steps.End (tag 1 1 13))
+    ∷ story_steps.End (tag 1 1 12)
+    ∷ story_steps.Begin (tag 1 1 13) 13 1
+    ∷ story_steps.Concluded (tag 1 1 13) 0 (ends.Kept 10)
+    ∷ story_steps.End (tag 1 1 13)
     ∷ []
 
 both_build_is_legal : Legal both_build

@@ -7,7 +7,6 @@ use Rattle.cc_names.specs.declared.refusals.UnitFault.TheVariants.{Script, NoRul
 use Rattle.cc_names.specs.declared.rows.Deed.{Deed}
 use Rattle.cc_names.specs.declared.rows.Deed.TheVariants as deeds
 use Rattle.cc_names.specs.declared.rows.ReadOf.{ReadOf}
-use Rattle.cc_names.specs.declared.steps.Step.TheVariants as steps
 use Rattle.cc_names.specs.declared.steps.StoryStep.{StoryStep}
 use Rattle.cc_names.specs.declared.steps.StoryStep.TheVariants as story_steps
 use Rattle.cc_names.specs.declared.steps.UnitEnd.TheVariants as ends
@@ -41,24 +40,24 @@ an_entry_too_few : Lawful started (story_steps.Commit without_entries 19) → �
 unfolding is_empty_record
 an_entry_too_few h = apart is_empty_record (published_is refl refl refl refl h.may.made) refl refl
 
-a_fault_that_left_another_object : Lawful started (story_steps.Other (steps.Fault (tag 1 1 4) (Some without_entries) 0 1 17)) → ⊥
+a_fault_that_left_another_object : Lawful started (story_steps.Fault (tag 1 1 4) (Some without_entries) 0 1 17) → ⊥
 unfolding is_empty_record
 a_fault_that_left_another_object h =
     ⊎_elim (λ made. apart is_empty_record (published_is refl refl refl refl made.1.made) refl refl)
     (λ e. apart is_some (sym e) refl refl) h.leaves
 
-a_second_start : Lawful started (story_steps.Other (steps.Start (tag 1 1 4) 0)) → ⊥
+a_second_start : Lawful started (story_steps.Start (tag 1 1 4) 0) → ⊥
 a_second_start h = no_second_start refl refl h
 
-a_failure_of_a_run_that_succeeds : Lawful started (story_steps.Other (steps.Concluded (tag 1 1 4) 0
-    (ends.Failed (Script (script_faults.Absent (codes "in")))))) → ⊥
+a_failure_of_a_run_that_succeeds : Lawful started (story_steps.Concluded (tag 1 1 4) 0
+    (ends.Failed (Script (script_faults.Absent (codes "in"))))) → ⊥
 a_failure_of_a_run_that_succeeds h = no_failure refl refl refl h
 
-a_failure_without_a_run : Lawful started (story_steps.Other (steps.Concluded (tag 1 1 4) 0 (ends.Failed (NoRule (codes "in")))))
+a_failure_without_a_run : Lawful started (story_steps.Concluded (tag 1 1 4) 0 (ends.Failed (NoRule (codes "in"))))
     → ⊥
 a_failure_without_a_run h = no_early_end refl refl refl h
 
-ended_too_early : Lawful started (story_steps.Other (steps.End (tag 1 1 4))) → ⊥
+ended_too_early : Lawful started (story_steps.End (tag 1 1 4)) → ⊥
 ended_too_early h = no_end refl refl h
 
 -- a build whose one prerequisite is not there, which ends without a run, once
@@ -66,10 +65,10 @@ abbrev without_source : List StoryStep
 without_source =
     story_steps.Opened (reverse (base_of (deeds.Mkview v ∷ deeds.Put v (codes "Makefile") makefile ∷ [])))
     (record { ticks = 0; faults = 0 }) true
-    ∷ story_steps.PhaseBegun (one_lane (clearmake v ∷ [])) 1700000000 ∷ story_steps.Other (steps.Begin (tag 1 1 1) 3 1) ∷ []
+    ∷ story_steps.PhaseBegun (one_lane (clearmake v ∷ [])) 1700000000 ∷ story_steps.Begin (tag 1 1 1) 3 1 ∷ []
 
 abbrev no_source : StoryStep
-no_source = story_steps.Other (steps.Concluded (tag 1 1 1) 0 (ends.Failed (NoRule (codes "in"))))
+no_source = story_steps.Concluded (tag 1 1 1) 0 (ends.Failed (NoRule (codes "in")))
 
 a_first_outcome : Lawful (state_of without_source) no_source
 a_first_outcome = record {
@@ -93,8 +92,8 @@ a_second_row h = no_second_row refl refl refl h.may.made
 
 -- the second build has begun, in the view that holds the first one's object
 abbrev begun_again : State
-begun_again = state_of (before_fault ++ (story_steps.Commit (published 4) 19 ∷ story_steps.Other (steps.End (tag 1 1 4))
-    ∷ story_steps.Other (steps.Begin (tag 1 1 5) 5 1) ∷ []))
+begun_again = state_of (before_fault ++ (story_steps.Commit (published 4) 19 ∷ story_steps.End (tag 1 1 4)
+    ∷ story_steps.Begin (tag 1 1 5) 5 1 ∷ []))
 
 a_wink_of_what_is_held : Lawful begun_again (story_steps.Commit (row 5 (deeds.Wink v 4)) 23) → ⊥
 a_wink_of_what_is_held h = no_wink refl refl refl refl h.may.made
@@ -104,16 +103,16 @@ abbrev begun_in_w : State
 begun_in_w = state_of (
     story_steps.Opened (reverse (base_of (first_deeds ++ (publish ∷ deeds.Mkview w ∷ [])))) (record { ticks = 0; faults = 0 })
     true
-    ∷ story_steps.PhaseBegun (one_lane (clearmake w ∷ [])) 1700000000 ∷ story_steps.Other (steps.Begin (tag 1 1 1) 12 1) ∷ [])
+    ∷ story_steps.PhaseBegun (one_lane (clearmake w ∷ [])) 1700000000 ∷ story_steps.Begin (tag 1 1 1) 12 1 ∷ [])
 
-kept_and_not_held : Lawful begun_in_w (story_steps.Other (steps.Concluded (tag 1 1 1) 0 (ends.Kept 10))) → ⊥
+kept_and_not_held : Lawful begun_in_w (story_steps.Concluded (tag 1 1 1) 0 (ends.Kept 10)) → ⊥
 kept_and_not_held h = no_keep refl refl refl h
 
 -- after a fault under the build
 abbrev faulted : State
-faulted = state_of (before_fault ++ (story_steps.Other (steps.Fault (tag 1 1 4) None 0 1 17) ∷ []))
+faulted = state_of (before_fault ++ (story_steps.Fault (tag 1 1 4) None 0 1 17 ∷ []))
 
-a_start_after_a_fault : Lawful faulted (story_steps.Other (steps.Start (tag 1 1 4) 0)) → ⊥
+a_start_after_a_fault : Lawful faulted (story_steps.Start (tag 1 1 4) 0) → ⊥
 a_start_after_a_fault h = no_start refl refl h
 
 -- the row that was to be committed is not committed once more

@@ -8,7 +8,6 @@ use Rattle.cc_names.specs.declared.commands.Change.TheVariants as changes
 use Rattle.cc_names.specs.declared.refusals.Refusal.{Refusal}
 use Rattle.cc_names.specs.declared.refusals.Refusal.TheVariants as refusals
 use Rattle.cc_names.specs.declared.rows.Deed.TheVariants as deeds
-use Rattle.cc_names.specs.declared.steps.Step.TheVariants as steps
 use Rattle.cc_names.specs.declared.steps.StoryStep.{StoryStep}
 use Rattle.cc_names.specs.declared.steps.StoryStep.TheVariants as story_steps
 use Rattle.legal_history.specs.Commands.Decisions.{Decision, Makes, Answers}
@@ -76,7 +75,7 @@ a_row_of_another_moment h = apart (λ moment. nat_eq moment 1700000001) h.may.mo
 a_tick_that_stands_still : Lawful scrubbing (story_steps.Commit (row 1 (deeds.Scrub (10 ∷ []))) 0) → ⊥
 a_tick_that_stands_still h = apart not h.ticked refl refl
 
-an_answer_out_of_turn : Lawful scrubbing (story_steps.Other (steps.Answer (tag 1 1 2) (line (codes "out@@13 references 1")))) → ⊥
+an_answer_out_of_turn : Lawful scrubbing (story_steps.Answer (tag 1 1 2) (line (codes "out@@13 references 1"))) → ⊥
 an_answer_out_of_turn h = apart is_none h refl refl
 
 -- whether a decision is a refusal
@@ -84,7 +83,7 @@ is_refused : Option (Result Decision Refusal) → Bool
 is_refused (Some (Err refusal)) = true
 is_refused decision_for = false
 
-a_refusal_without_a_reason : Lawful scrubbing (story_steps.Other (steps.Refused (tag 1 1 1) refusals.NoView)) → ⊥
+a_refusal_without_a_reason : Lawful scrubbing (story_steps.Refused (tag 1 1 1) refusals.NoView) → ⊥
 unfolding is_refused
 a_refusal_without_a_reason h = apart (λ d. not (is_refused d)) h refl refl
 
@@ -95,8 +94,8 @@ answers text decision_for = false
 
 -- a fault where the scrub's row was to be committed
 abbrev scrub_fault : List ℕ → ℕ → ℕ → StoryStep
-scrub_fault objects before faults = story_steps.Other (steps.Fault (tag 1 1 1) (Some (row 1 (deeds.Scrub objects))) before faults
-    1)
+scrub_fault objects before faults = story_steps.Fault (tag 1 1 1) (Some (row 1 (deeds.Scrub objects))) before faults
+    1
 
 a_fault_that_left_another_row : Lawful scrubbing (scrub_fault (10 ∷ 13 ∷ []) 0 1) → ⊥
 unfolding scrubs
@@ -111,26 +110,26 @@ abbrev asked : State
 asked = state_of (opened ∷ story_steps.PhaseBegun (one_lane (commands.Change (changes.Mkview v) ∷ commands.Query (queries.Lsdo v)
     ∷ [])) 1700000000 ∷ story_steps.Commit (row 1 (deeds.Mkview v)) 7 ∷ [])
 
-an_answer_of_another_text : Lawful asked (story_steps.Other (steps.Answer (tag 1 1 2) (codes "out"))) → ⊥
+an_answer_of_another_text : Lawful asked (story_steps.Answer (tag 1 1 2) (codes "out")) → ⊥
 unfolding answers
 an_answer_of_another_text h = apart (answers []) h refl refl
 
-a_fault_where_no_row_was_to_be_made : Lawful asked (story_steps.Other (steps.Fault (tag 1 1 2) None 0 1 8)) → ⊥
+a_fault_where_no_row_was_to_be_made : Lawful asked (story_steps.Fault (tag 1 1 2) None 0 1 8) → ⊥
 a_fault_where_no_row_was_to_be_made h = no_row refl refl h.wanted
 
 -- the build of private files is the next command
 abbrev waiting : State
 waiting = state_of before_build
 
-a_begin_with_two_units : Lawful waiting (story_steps.Other (steps.Begin (tag 1 1 4) 4 2)) → ⊥
+a_begin_with_two_units : Lawful waiting (story_steps.Begin (tag 1 1 4) 4 2) → ⊥
 a_begin_with_two_units h = apart (λ n. nat_eq n 2) (units_are refl h) refl refl
 
-a_begin_at_other_rows : Lawful waiting (story_steps.Other (steps.Begin (tag 1 1 4) 3 1)) → ⊥
+a_begin_at_other_rows : Lawful waiting (story_steps.Begin (tag 1 1 4) 3 1) → ⊥
 a_begin_at_other_rows h = apart (λ n. nat_eq n 3) h.at_rows refl refl
 
 -- the disk has failed twice before, and the next fault's count begins below that
 abbrev twice_failed : State
-twice_failed = state_of (before_fault ++ (story_steps.Other (steps.Fault (tag 1 1 4) None 0 2 17) ∷ []))
+twice_failed = state_of (before_fault ++ (story_steps.Fault (tag 1 1 4) None 0 2 17 ∷ []))
 
-a_fault_before_the_last_one : Lawful twice_failed (story_steps.Other (steps.Fault (tag 1 1 4) None 1 3 19)) → ⊥
+a_fault_before_the_last_one : Lawful twice_failed (story_steps.Fault (tag 1 1 4) None 1 3 19) → ⊥
 a_fault_before_the_last_one h = let later : 2 ≤ 1 = h.later in omega arith

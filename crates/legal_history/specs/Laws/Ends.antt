@@ -3,7 +3,6 @@ use Rattle.std.specs.Bool.{⊤}
 use Rattle.std.specs.Prelude.{◌≡◌, ℕ, ◌≤◌, true, ◌||◌, Option, Some, Err, List, [], ◌∷◌}
 use Rattle.cc_names.specs.declared.refusals.Refusal.{Refusal}
 use Rattle.cc_names.specs.declared.rows.Tag.{Tag}
-use Rattle.cc_names.specs.declared.steps.Step.TheVariants as steps
 use Rattle.cc_names.specs.declared.steps.StoryStep.{StoryStep}
 use Rattle.cc_names.specs.declared.steps.StoryStep.TheVariants as story_steps
 use Rattle.legal_history.specs.Builds.Active.{Build}
@@ -28,13 +27,13 @@ AreRising opened (Faulted left faults tick ∷ ends) =
 -- The command of this tag is finished by its refusal.
 pub record IsRefused (s : State) (x : StoryStep) (tag : Tag) : Type 0 where
   pub refusal : Refusal
-  pub is : x ≡ story_steps.Other (steps.Refused tag refusal)
+  pub is : x ≡ story_steps.Refused tag refusal
   pub decided_so : decision_for s tag ≡ Some (Err refusal)
 
 -- A build is left by its own end, which comes once each of its units has its outcome or the disk failed under it.
 pub record IsLeft (s : State) (x : StoryStep) (lane : ℕ) (build : Build) : Type 0 where
   pub tag : Tag
-  pub is : x ≡ story_steps.Other (steps.End tag)
+  pub is : x ≡ story_steps.End tag
   pub of_lane : tag.lane ≡ lane
   pub active : build_by s tag ≡ Some build
   pub over : (is_complete build || build.faulted) ≡ true

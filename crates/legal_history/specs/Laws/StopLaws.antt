@@ -2,7 +2,6 @@
 use Rattle.std.specs.Prelude.{◌≡◌, ℕ, List, ◌∷◌, ◌++◌, Some, true}
 use Rattle.cc_names.specs.Formed.{Plain}
 use Rattle.cc_names.specs.declared.rows.Tag.{Tag}
-use Rattle.cc_names.specs.declared.steps.Step.TheVariants as steps
 use Rattle.cc_names.specs.declared.steps.StoryStep.{StoryStep}
 use Rattle.cc_names.specs.declared.steps.StoryStep.TheVariants as story_steps
 use Rattle.base_model.specs.Rows.{Base}
@@ -30,6 +29,6 @@ StopLeavesABaseSound = (story : List StoryStep) (opening : Opening) (b : Base) �
 abbrev pub FaultLeavesABaseSound : Type 0
 FaultLeavesABaseSound = (prefix rest : List StoryStep) (tag : Tag) (row : Plain)
     (before faults tick : ℕ) (opening : Opening)
-    → Legal (prefix ++ story_steps.Other (steps.Fault tag (Some row) before faults tick) ∷ rest)
+    → Legal (prefix ++ story_steps.Fault tag (Some row) before faults tick ∷ rest)
     → (state_of prefix).opened ≡ Some opening → IsSound opening.base
     → IsSound (row ∷ (state_of prefix).base)

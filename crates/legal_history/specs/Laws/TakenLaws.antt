@@ -6,7 +6,6 @@ use Rattle.cc_names.specs.Versions.{is_number}
 use Rattle.cc_names.specs.declared.rows.Deed.TheVariants as deeds
 use Rattle.cc_names.specs.declared.rows.ReadOf.{ReadOf}
 use Rattle.cc_names.specs.declared.rows.Tag.{Tag}
-use Rattle.cc_names.specs.declared.steps.Step.TheVariants as steps
 use Rattle.cc_names.specs.declared.steps.StoryStep.{StoryStep}
 use Rattle.cc_names.specs.declared.steps.StoryStep.TheVariants as story_steps
 use Rattle.cc_names.specs.declared.steps.UnitEnd.TheVariants as ends
@@ -71,7 +70,7 @@ pub record PublishesWhatItRead (s : State) (row : Plain) (targets : List (List �
 -- Each object that a unit keeps in a legal story is live, of the unit's targets and script, and of just what the unit sees.
 abbrev pub TakenRecordIsSeenKept : Type 0
 TakenRecordIsSeenKept = (prefix rest : List StoryStep) (tag : Tag) (n id : ℕ)
-    → Legal (prefix ++ story_steps.Other (steps.Concluded tag n (ends.Kept id)) ∷ rest)
+    → Legal (prefix ++ story_steps.Concluded tag n (ends.Kept id) ∷ rest)
     → TakesWhatItSees (state_of prefix) tag n id
 
 -- The same law, its part *winked*: so is each object that a view winks in, for a unit of a build of this view.
@@ -83,7 +82,7 @@ TakenRecordIsSeenWinked = (prefix rest : List StoryStep) (row : Plain) (tick : �
 -- A build without `-V` and `-u` starts no script in a legal story where the record of a live object matches its unit.
 abbrev pub NothingIsPassedOverStart : Type 0
 NothingIsPassedOverStart = (prefix rest : List StoryStep) (tag : Tag) (n : ℕ) (build : Build) (unit : Unit) (id : ℕ)
-    → Legal (prefix ++ story_steps.Other (steps.Start tag n) ∷ rest) → ReusesAny (state_of prefix) tag build
+    → Legal (prefix ++ story_steps.Start tag n ∷ rest) → ReusesAny (state_of prefix) tag build
     → unit_at build n ≡ Some unit → is_some (live_row (state_of prefix).base id) ≡ true
     → matches (state_of prefix).base build n unit id ≡ false
 

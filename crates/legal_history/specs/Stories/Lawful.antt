@@ -4,8 +4,6 @@ use Rattle.std.specs.Prelude.{◌≡◌, ℕ, ◌≤◌, true, false, ◌||◌, 
 use Rattle.std.specs.List.{AllByRecursion}
 use Rattle.cc_names.specs.Formed.{Plain, IsFormed}
 use Rattle.cc_names.specs.declared.rows.Tag.{Tag}
-use Rattle.cc_names.specs.declared.steps.Step.{Step}
-use Rattle.cc_names.specs.declared.steps.Step.TheVariants as steps
 use Rattle.cc_names.specs.declared.steps.StoryStep.{StoryStep}
 use Rattle.cc_names.specs.declared.steps.StoryStep.TheVariants as story_steps
 use Rattle.cc_names.specs.declared.units.Unit.{Unit}
@@ -37,17 +35,6 @@ pub record EndsBuild (s : State) (tag : Tag) : Type 0 where
   pub active : build_by s tag ≡ Some build
   pub over : (is_complete build || build.faulted) ≡ true
 
--- when a step that is told as it stands is lawful
-abbrev pub LawfulStep : State → Step → Type 0
-LawfulStep s (steps.Refused tag refusal) = decision_for s tag ≡ Some (Err refusal)
-LawfulStep s (steps.Answer tag text) = decision_for s tag ≡ Some (Ok (Answers text))
-LawfulStep s (steps.Begin tag rows units) = BeginsBuild s tag rows units
-LawfulStep s (steps.Start tag n) = Starts s tag n
-LawfulStep s (steps.Concluded tag n outcome) = ComesTo s tag n outcome
-LawfulStep s (steps.End tag) = EndsBuild s tag
-LawfulStep s (steps.Fault tag left before faults tick) = FaultsAt s tag left before faults tick
-LawfulStep s step = ⊥
-
 -- the first step of a story: the base that was opened, whose rows keep their form and fit one another
 pub record Opens (s : State) (rows : List Plain) : Type 0 where
   pub first : is_some s.opened ≡ false
@@ -70,7 +57,13 @@ abbrev pub Lawful : State → StoryStep → Type 0
 Lawful s (story_steps.Opened rows counts tells) = Opens s rows
 Lawful s (story_steps.PhaseBegun phase moment) = BeginsPhase s moment
 Lawful s (story_steps.Commit row tick) = Commits s row tick
-Lawful s (story_steps.Other step) = LawfulStep s step
+Lawful s (story_steps.Refused tag refusal) = decision_for s tag ≡ Some (Err refusal)
+Lawful s (story_steps.Answer tag text) = decision_for s tag ≡ Some (Ok (Answers text))
+Lawful s (story_steps.Begin tag rows units) = BeginsBuild s tag rows units
+Lawful s (story_steps.Start tag n) = Starts s tag n
+Lawful s (story_steps.Concluded tag n outcome) = ComesTo s tag n outcome
+Lawful s (story_steps.End tag) = EndsBuild s tag
+Lawful s (story_steps.Fault tag left before faults tick) = FaultsAt s tag left before faults tick
 
 -- a story that is legal from a state on, oldest step first
 abbrev pub LegalFrom : State → List StoryStep → Type 0

@@ -10,8 +10,6 @@ use Rattle.cc_names.specs.declared.refusals.Refusal.{Refusal}
 use Rattle.cc_names.specs.declared.rows.Deed.{Deed}
 use Rattle.cc_names.specs.declared.rows.Deed.TheVariants as deeds
 use Rattle.cc_names.specs.declared.rows.Tag.{Tag}
-use Rattle.cc_names.specs.declared.steps.Step.{Step}
-use Rattle.cc_names.specs.declared.steps.Step.TheVariants as steps
 use Rattle.cc_names.specs.declared.steps.StoryStep.{StoryStep}
 use Rattle.cc_names.specs.declared.steps.StoryStep.TheVariants as story_steps
 use Rattle.cc_names.specs.declared.units.Unit.{Unit}
@@ -106,27 +104,6 @@ abbrev pub done_by_fault : List (ℕ × ℕ) → ℕ → Option Build → List (
 done_by_fault done lane None = with_done done lane
 done_by_fault done lane (Some build) = done
 
--- the state after a step that is told as it stands
-abbrev pub after_step : State → Step → State
-after_step s (steps.Refused tag refusal) = record s { done = with_done s.done tag.lane }
-after_step s (steps.Answer tag text) = record s { done = with_done s.done tag.lane }
-after_step s (steps.Begin tag rows units) = record s { active = with_build s.active tag.lane (build_begun_by s tag) }
-after_step s (steps.Start tag n) = record s {
-  active = with_outcome s.active tag.lane (λ build. Some n)
-      (came_by_starting (build_of s.active tag.lane) n);
-}
-after_step s (steps.Concluded tag n outcome) = record s {
-  active = with_outcome s.active tag.lane (λ build. Some n)
-      (Concluded outcome);
-}
-after_step s (steps.End tag) = record s { done = with_done s.done tag.lane; active = without_build s.active tag.lane }
-after_step s (steps.Fault tag left before faults tick) = record s {
-  done = done_by_fault s.done tag.lane (build_by s tag);
-  active = faulted_in s.active tag.lane (build_by s tag);
-  ends = Faulted left faults tick ∷ s.ends;
-}
-after_step s step = s
-
 -- The state after a step.
 abbrev pub after : State → StoryStep → State
 after s (story_steps.Opened rows counts tells) =
@@ -138,7 +115,23 @@ after s (story_steps.Commit row tick) = record s {
   active = active_after s.base s.active row.tag.lane row.deed;
   ends = Committed row tick ∷ s.ends;
 }
-after s (story_steps.Other step) = after_step s step
+after s (story_steps.Refused tag refusal) = record s { done = with_done s.done tag.lane }
+after s (story_steps.Answer tag text) = record s { done = with_done s.done tag.lane }
+after s (story_steps.Begin tag rows units) = record s { active = with_build s.active tag.lane (build_begun_by s tag) }
+after s (story_steps.Start tag n) = record s {
+  active = with_outcome s.active tag.lane (λ build. Some n)
+      (came_by_starting (build_of s.active tag.lane) n);
+}
+after s (story_steps.Concluded tag n outcome) = record s {
+  active = with_outcome s.active tag.lane (λ build. Some n)
+      (Concluded outcome);
+}
+after s (story_steps.End tag) = record s { done = with_done s.done tag.lane; active = without_build s.active tag.lane }
+after s (story_steps.Fault tag left before faults tick) = record s {
+  done = done_by_fault s.done tag.lane (build_by s tag);
+  active = faulted_in s.active tag.lane (build_by s tag);
+  ends = Faulted left faults tick ∷ s.ends;
+}
 
 -- the state to which a story leads from a state, oldest step first
 abbrev pub state_from : State → List StoryStep → State

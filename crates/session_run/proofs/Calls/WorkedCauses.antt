@@ -7,7 +7,6 @@ use Rattle.cc_names.specs.declared.commands.Command.TheVariants as commands
 use Rattle.cc_names.specs.declared.refusals.Refusal.TheVariants.{ViewExists}
 use Rattle.cc_names.specs.declared.rows.Deed.TheVariants as deeds
 use Rattle.cc_names.specs.declared.rows.Tag.{Tag}
-use Rattle.cc_names.specs.declared.steps.Step.TheVariants as steps
 use Rattle.cc_names.specs.declared.steps.StoryStep.{StoryStep}
 use Rattle.cc_names.specs.declared.steps.StoryStep.TheVariants as story_steps
 use Rattle.disk_model.specs.Devices.{new_device}
@@ -78,10 +77,10 @@ abbrev all_well : List StoryStep
 all_well = begun (mkview ∷ []) ++ made ∷ []
 
 abbrev one_refused : List StoryStep
-one_refused = begun (mkview ∷ mkview ∷ []) ++ made ∷ story_steps.Other (steps.Refused (tag 2) ViewExists) ∷ []
+one_refused = begun (mkview ∷ mkview ∷ []) ++ made ∷ story_steps.Refused (tag 2) ViewExists ∷ []
 
 abbrev one_fault : List StoryStep
-one_fault = begun (mkview ∷ []) ++ story_steps.Other (steps.Fault (tag 1) None 0 1 2) ∷ []
+one_fault = begun (mkview ∷ []) ++ story_steps.Fault (tag 1) None 0 1 2 ∷ []
 
 read_once : IsIntakeRead (gave forms.Run once 22)
 read_once = record { at_end = refl; count = 22; within = omega arith; given = refl; bytes = refl; faultless = refl }

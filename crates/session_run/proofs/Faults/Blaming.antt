@@ -8,7 +8,6 @@ use Rattle.std.proofs.lemmas.Bool.{cases_lt}
 use Rattle.std.specs.List.{list_all}
 use Rattle.cc_names.specs.Formed.{Plain}
 use Rattle.cc_names.specs.declared.steps.Counts.{Counts}
-use Rattle.cc_names.specs.declared.steps.Step.TheVariants as steps
 use Rattle.cc_names.specs.declared.steps.StoryStep.{StoryStep}
 use Rattle.cc_names.specs.declared.steps.StoryStep.TheVariants as story_steps
 use Rattle.disk_model.specs.Counting.{next_count}
@@ -126,11 +125,8 @@ of_writes one two h = both_map WritesOn (Adds may_write) one two (λ d e w. w.ad
 step_adds : (s : State) (step : StoryStep) (old new : DiskState) → CountsStep s step old new
     → Both (Adds may_write) old.modeled new.modeled
 step_adds s (story_steps.Commit row tick) old new h = of_writes old.modeled new.modeled h.4
-step_adds s (story_steps.Other (steps.Fault tag left before faults tick)) old new h = of_writes old.modeled new.modeled h.6
-step_adds s (story_steps.Other (steps.Opened n)) old new h = same_adds old new h
-step_adds s (story_steps.Other step) old new h = same_adds old new h
-step_adds s (story_steps.Opened rows counts tells) old new h = same_adds old new h
-step_adds s (story_steps.PhaseBegun phase moment) old new h = same_adds old new h
+step_adds s (story_steps.Fault tag left before faults tick) old new h = of_writes old.modeled new.modeled h.6
+step_adds s step old new h = same_adds old new h
 
 steps_add : (s : State) (more : List StoryStep) (old new : DiskState) → CountsSteps s more old new
     → Both (Adds may_write) old.modeled new.modeled
@@ -208,11 +204,11 @@ blames e handed s (story_steps.Commit row tick ∷ more) old ended now d newest 
       failed,
     ) at.1 be h.1.3 second h.2 settles in
     ((failed ∙ same, subst (λ n. FailsAtFaults n (reverse e.calls) more) same on.0), on.1)
-blames e handed s (story_steps.Other (steps.Fault tag left before faults tick) ∷ more) old ended now d newest is be first second h
+blames e handed s (story_steps.Fault tag left before faults tick ∷ more) old ended now d newest is be first second h
     settles =
     let mid = h.0 in
     let rest = adds_on mid.modeled ended.modeled now.modeled (steps_add
-    (after s (story_steps.Other (steps.Fault tag left before faults tick))) more mid ended h.2)
+    (after s (story_steps.Fault tag left before faults tick)) more mid ended h.2)
     (of_writes ended.modeled now.modeled settles.writes) in
     let at = modeled_before (Adds may_write) mid.modeled now.modeled e be rest in
     let added = (both_at WritesOn old.modeled mid.modeled d at.0 is at.1 h.1.6).adds in
@@ -221,21 +217,15 @@ blames e handed s (story_steps.Other (steps.Fault tag left before faults tick) �
     h.1.5.modeled in
     let failed = ap (λ n. failed_by n (reverse e.calls)) ticks ∙ failed_before at.0 (reverse e.calls) (reverse at.2.more)
     (first_calls may_write at.0 e at.2) in
-    let on = blames e handed (after s (story_steps.Other (steps.Fault tag left before faults tick))) more mid ended now at.0
+    let on = blames e handed (after s (story_steps.Fault tag left before faults tick)) more mid ended now at.0
     (ticks, failed) at.1 be h.1.5 second h.2 settles in
     let meets : MeetsFault (failures d.calls) before faults tick (reverse e.calls) = λ within.
     let some = some_failed may_write old mid d at.0 first h.1.5 is at.1 added (omega (arith, within, h.1.3)) rose in
     (h.1.0 ∙ some.0, h.1.1 ∙ some.1 ∙ sym failed, omega (arith, h.1.0, h.1.1, some.2)) in
     ((meets, subst (λ n. FailsAtFaults n (reverse e.calls) more) (sym failed) on.0), on.1)
-blames e handed s (story_steps.Other step ∷ more) old ended now d newest is be first second h settles =
-    blames e handed (after s (story_steps.Other step)) more old ended now d newest is be first second
-    (subst (λ t. CountsSteps (after s (story_steps.Other step)) more t ended) h.1 h.2) settles
-blames e handed s (story_steps.Opened rows counts tells ∷ more) old ended now d newest is be first second h settles =
-    blames e handed (after s (story_steps.Opened rows counts tells)) more old ended now d newest is be first second
-    (subst (λ t. CountsSteps (after s (story_steps.Opened rows counts tells)) more t ended) h.1 h.2) settles
-blames e handed s (story_steps.PhaseBegun phase moment ∷ more) old ended now d newest is be first second h settles =
-    blames e handed (after s (story_steps.PhaseBegun phase moment)) more old ended now d newest is be first second
-    (subst (λ t. CountsSteps (after s (story_steps.PhaseBegun phase moment)) more t ended) h.1 h.2) settles
+blames e handed s (step ∷ more) old ended now d newest is be first second h settles =
+    blames e handed (after s step) more old ended now d newest is be first second
+    (subst (λ t. CountsSteps (after s step) more t ended) h.1 h.2) settles
 
 -- the calls of the opening come first, and none of them failed
 all_back : (kind : Event → Bool) (calls : List Event) → list_all kind calls ≡ true → list_all kind (reverse calls) ≡ true

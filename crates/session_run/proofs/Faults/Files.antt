@@ -1,6 +1,5 @@
 -- What a session leaves of the files.
 use Rattle.std.proofs.Common.{◌≡◌, true, false, Option, Some, None, List, [], ◌∷◌, refl, ap, sym, subst, ◌∙◌}
-use Rattle.cc_names.specs.declared.steps.Step.TheVariants as steps
 use Rattle.cc_names.specs.declared.steps.StoryStep.{StoryStep}
 use Rattle.cc_names.specs.declared.steps.StoryStep.TheVariants as story_steps
 use Rattle.disk_model.specs.Devices.{Device}
@@ -41,11 +40,8 @@ same_ghost_state old new e = subst (λ s. Both SameObjects old.modeled s.modeled
 step_leaves : (s : State) (step : StoryStep) (old new : DiskState) → CountsStep s step old new
     → Both SameObjects old.modeled new.modeled
 step_leaves s (story_steps.Commit row tick) old new h = of_writes old.modeled new.modeled h.4
-step_leaves s (story_steps.Other (steps.Fault tag left before faults tick)) old new h = of_writes old.modeled new.modeled h.6
-step_leaves s (story_steps.Other (steps.Opened n)) old new h = same_ghost_state old new h
-step_leaves s (story_steps.Other step) old new h = same_ghost_state old new h
-step_leaves s (story_steps.Opened rows counts tells) old new h = same_ghost_state old new h
-step_leaves s (story_steps.PhaseBegun phase moment) old new h = same_ghost_state old new h
+step_leaves s (story_steps.Fault tag left before faults tick) old new h = of_writes old.modeled new.modeled h.6
+step_leaves s step old new h = same_ghost_state old new h
 
 steps_leave : (s : State) (more : List StoryStep) (old new : DiskState) → CountsSteps s more old new
     → Both SameObjects old.modeled new.modeled
@@ -58,24 +54,15 @@ calm_rests : (s : State) (more : List StoryStep) (old new : DiskState) → is_ca
     → new ≡ old
 calm_rests s [] old new calm h = h
 calm_rests s (story_steps.Commit row tick ∷ more) old new calm h = absurd (cc)
-calm_rests s (story_steps.Other (steps.Fault tag left before faults tick) ∷ more) old new calm h = absurd (cc)
-calm_rests s (story_steps.Other step ∷ more) old new calm h = calm_rests (after s (story_steps.Other step)) more h.0 new calm h.2
-    ∙ h.1
-calm_rests s (story_steps.Opened rows counts tells ∷ more) old new calm h =
-    calm_rests (after s (story_steps.Opened rows counts tells)) more h.0 new calm h.2 ∙ h.1
-calm_rests s (story_steps.PhaseBegun phase moment ∷ more) old new calm h =
-    calm_rests (after s (story_steps.PhaseBegun phase moment)) more h.0 new calm h.2 ∙ h.1
+calm_rests s (story_steps.Fault tag left before faults tick ∷ more) old new calm h = absurd (cc)
+calm_rests s (step ∷ more) old new calm h = calm_rests (after s step) more h.0 new calm h.2 ∙ h.1
 
 -- and add no end
 calm_ends : (s : State) (more : List StoryStep) → is_calm more ≡ true → (state_from s more).ends ≡ s.ends
 calm_ends s [] calm = refl
 calm_ends s (story_steps.Commit row tick ∷ more) calm = absurd (cc)
-calm_ends s (story_steps.Other (steps.Fault tag left before faults tick) ∷ more) calm = absurd (cc)
-calm_ends s (story_steps.Other step ∷ more) calm = calm_ends (after s (story_steps.Other step)) more calm
-calm_ends s (story_steps.Opened rows counts tells ∷ more) calm = calm_ends (after s (story_steps.Opened rows counts tells)) more
-    calm
-calm_ends s (story_steps.PhaseBegun phase moment ∷ more) calm = calm_ends (after s (story_steps.PhaseBegun phase moment)) more
-    calm
+calm_ends s (story_steps.Fault tag left before faults tick ∷ more) calm = absurd (cc)
+calm_ends s (step ∷ more) calm = calm_ends (after s step) more calm
 
 -- a calm story that begins with an opening has no fault
 calm_story : (story : List StoryStep) (first : StoryStep) (more : List StoryStep) → story ≡ first ∷ more → is_calm story ≡ true
@@ -89,10 +76,8 @@ calm_story story first more is calm = subst (λ s. is_calm s ≡ true → (is_ca
 
     by : (x : StoryStep) → is_calm (x ∷ more) ≡ true → (is_calm more ≡ true) × (may_be_open (state_of (x ∷ more)).ends ≡ false)
     by (story_steps.Commit row tick) calm = absurd (cc)
-    by (story_steps.Other (steps.Fault tag left before faults tick)) calm = absurd (cc)
-    by (story_steps.Other step) calm = (calm, none (story_steps.Other step) calm refl)
-    by (story_steps.Opened rows counts tells) calm = (calm, none (story_steps.Opened rows counts tells) calm refl)
-    by (story_steps.PhaseBegun phase moment) calm = (calm, none (story_steps.PhaseBegun phase moment) calm refl)
+    by (story_steps.Fault tag left before faults tick) calm = absurd (cc)
+    by x calm = (calm, none x calm refl)
 
 -- The files of a session whose base was opened
 pub keeps_files : (disk : Change DiskState) (opened : DiskState) (story : List StoryStep)

@@ -5,7 +5,6 @@ use Rattle.std.specs.Prelude.{is_some, OnOk, OnErr}
 use Rattle.std.proofs.lemmas.Bool.Decides.{nat_tests}
 use Rattle.cc_names.specs.Formed.{Plain}
 use Rattle.cc_names.specs.declared.steps.Counts.{Counts}
-use Rattle.cc_names.specs.declared.steps.Step.TheVariants as steps
 use Rattle.cc_names.specs.declared.steps.StoryStep.{StoryStep}
 use Rattle.cc_names.specs.declared.steps.StoryStep.TheVariants as story_steps
 use Rattle.disk_model.specs.Devices.{Device, MayLeave, bytes_now, file_of}
@@ -29,22 +28,20 @@ use Rattle.story_log.proofs.Cases.{some_same}
 use Rattle.session_run.specs.Faults.Stopped.{AllOpenAgain, AreApart, IsHandedIn, IsMended, IsStopped, StopKeepsFrames, rises_of}
 use Rattle.session_run.specs.Promises.Headline.{BeginsOn}
 use Rattle.session_run.specs.Story.Begun.{first_step, is_opened}
+use Rattle.legal_history.proofs.Stories.Along.{along}
+use Rattle.legal_history.proofs.Stories.Grows.{opened_after, stays_opened}
 
 -- each fault of a story has a rise of its own
 apart_from : (s : State) (story : List StoryStep) → is_some s.opened ≡ true → LegalFrom s story
     → AreApart (faults_of s.opened s.ends) (rises_of story) (faults_of (state_from s story).opened (state_from s story).ends)
 apart_from s [] opened legal = omega arith
 apart_from s (story_steps.Opened rows counts tells ∷ story) opened legal = let first = legal.0.first in absurd (cc)
-apart_from s (story_steps.PhaseBegun phase moment ∷ story) opened legal =
-    apart_from (after s (story_steps.PhaseBegun phase moment)) story opened legal.1
-apart_from s (story_steps.Commit row tick ∷ story) opened legal = apart_from (after s (story_steps.Commit row tick)) story opened
-    legal.1
-apart_from s (story_steps.Other (steps.Fault tag left before faults tick) ∷ story) opened legal = (
+apart_from s (story_steps.Fault tag left before faults tick ∷ story) opened legal = (
   legal.0.later,
   legal.0.rose,
-  apart_from (after s (story_steps.Other (steps.Fault tag left before faults tick))) story opened legal.1,
+  apart_from (after s (story_steps.Fault tag left before faults tick)) story opened legal.1,
 )
-apart_from s (story_steps.Other step ∷ story) opened legal = apart_from (after s (story_steps.Other step)) story opened legal.1
+apart_from s (step ∷ story) opened legal = apart_from (after s step) story opened legal.1
 
 apart_wider : (low : ℕ) (rs : List (ℕ × ℕ)) (high most : ℕ) → AreApart low rs high → high ≤ most → AreApart low rs most
 apart_wider low [] high most h le = omega arith
@@ -53,29 +50,19 @@ apart_wider low (rise ∷ rs) high most h le = (h.0, h.1, apart_wider rise.1 rs 
 -- the base stays the one that was opened
 opened_stays : (s : State) (story : List StoryStep) → is_some s.opened ≡ true → LegalFrom s story
     → (state_from s story).opened ≡ s.opened
-opened_stays s [] opened legal = refl
-opened_stays s (story_steps.Opened rows counts tells ∷ story) opened legal = let first = legal.0.first in absurd (cc)
-opened_stays s (story_steps.PhaseBegun phase moment ∷ story) opened legal =
-    opened_stays (after s (story_steps.PhaseBegun phase moment)) story opened legal.1
-opened_stays s (story_steps.Commit row tick ∷ story) opened legal = opened_stays (after s (story_steps.Commit row tick)) story
-    opened legal.1
-opened_stays s (story_steps.Other (steps.Fault tag left before faults tick) ∷ story) opened legal =
-    opened_stays (after s (story_steps.Other (steps.Fault tag left before faults tick))) story opened legal.1
-opened_stays s (story_steps.Other step ∷ story) opened legal = opened_stays (after s (story_steps.Other step)) story opened
-    legal.1
+opened_stays s story opened legal = (along (λ t. (is_some t.opened ≡ true) × (t.opened ≡ s.opened)) (λ t x lawful so. (
+  stays_opened t x so.0,
+  opened_after t x so.0 lawful ∙ so.1,
+)) s story legal (opened, refl)).1
 
 -- a story without a fault leaves no row after
 none_hangs : (s : State) (story : List StoryStep) → hanging s.ends ≡ None → rises_of story ≡ []
     → hanging (state_from s story).ends ≡ None
 none_hangs s [] none faultless = none
-none_hangs s (story_steps.Opened rows counts tells ∷ story) none faultless =
-    none_hangs (after s (story_steps.Opened rows counts tells)) story none faultless
-none_hangs s (story_steps.PhaseBegun phase moment ∷ story) none faultless =
-    none_hangs (after s (story_steps.PhaseBegun phase moment)) story none faultless
 none_hangs s (story_steps.Commit row tick ∷ story) none faultless = none_hangs (after s (story_steps.Commit row tick)) story refl
     faultless
-none_hangs s (story_steps.Other (steps.Fault tag left before faults tick) ∷ story) none faultless = absurd (cc)
-none_hangs s (story_steps.Other step ∷ story) none faultless = none_hangs (after s (story_steps.Other step)) story none faultless
+none_hangs s (story_steps.Fault tag left before faults tick ∷ story) none faultless = absurd (cc)
+none_hangs s (step ∷ story) none faultless = none_hangs (after s step) story none faultless
 
 -- what a story that begins with this opening came from
 abbrev pub opening_of : List Plain → Counts → Bool → Opening

@@ -5,7 +5,6 @@ use Rattle.cc_names.specs.Formed.{Plain}
 use Rattle.cc_names.specs.declared.rows.Deed.TheVariants as deeds
 use Rattle.cc_names.specs.declared.rows.Tag.{Tag}
 use Rattle.cc_names.specs.declared.steps.Counts.{Counts}
-use Rattle.cc_names.specs.declared.steps.Step.TheVariants as steps
 use Rattle.cc_names.specs.declared.steps.StoryStep.{StoryStep}
 use Rattle.cc_names.specs.declared.steps.StoryStep.TheVariants as story_steps
 use Rattle.disk_model.specs.Devices.{Event, Measured, Fetched, Wrote, Synced, Failed, Device}
@@ -36,11 +35,11 @@ opened : StoryStep
 opened = story_steps.Opened [] no_counts true
 
 fault : ℕ → ℕ → ℕ → ℕ → StoryStep
-fault command before faults tick = story_steps.Other (steps.Fault (tag command) None before faults tick)
+fault command before faults tick = story_steps.Fault (tag command) None before faults tick
 
 -- one whose row may be found until the tail is settled
 leaving : ℕ → ℕ → ℕ → ℕ → StoryStep
-leaving command before faults tick = story_steps.Other (steps.Fault (tag command) (Some (row command)) before faults tick)
+leaving command before faults tick = story_steps.Fault (tag command) (Some (row command)) before faults tick
 
 good : IsBlamed 0 (opened ∷ story_steps.Commit (row 1) 5 ∷ fault 2 0 1 7 ∷ story_steps.Commit (row 3) 13 ∷ []) (device calls)
 unfolding device calls put opened fault
@@ -118,7 +117,7 @@ reread = refl
 
 -- What calls cannot tell: one that was made without need under a query, and failed, may be told of the command after the query,
 -- since these are the calls of a run that is right. The calls of the core tell it.
-without_need : IsBlamed 0 (opened ∷ story_steps.Other (steps.Answer (tag 1) []) ∷ fault 2 0 1 2 ∷ [])
+without_need : IsBlamed 0 (opened ∷ story_steps.Answer (tag 1) [] ∷ fault 2 0 1 2 ∷ [])
     (device (Measured 0 ∷ Failed ∷ []))
 unfolding device opened fault
 without_need = record { opening = refl; ends = (λ within. (refl, refl, refl), tt); behind = (omega arith, omega arith) }

@@ -1,7 +1,6 @@
 -- What a legal history says of its builds, which reuse objects, by the laws of legal histories.
 use Rattle.std.proofs.Common.{◌≡◌, ℕ, true, Option, Some, None, List, [], ◌∷◌, ◌++◌, refl, sym, subst, ◌∙◌}
 use Rattle.std.specs.Prelude.{is_some}
-use Rattle.cc_names.specs.declared.steps.Step.TheVariants as steps
 use Rattle.cc_names.specs.declared.steps.StoryStep.{StoryStep}
 use Rattle.cc_names.specs.declared.steps.StoryStep.TheVariants as story_steps
 use Rattle.legal_history.specs.Builds.Values.{IsSound}
@@ -67,7 +66,7 @@ prefix_at story prefix rest legal grows = prefix_is_legal start prefix rest (sub
 pub commanded_so : BuildIsOfItsCommand → (story : List StoryStep) → Legal story → AreOfTheirCommands story
 commanded_so law story legal = record {
   each = λ prefix rest tag build grows is. law prefix tag.lane build (prefix_at story prefix
-      (story_steps.Other (steps.End tag) ∷ rest) legal grows) (of_lane (state_of prefix) tag build is);
+      (story_steps.End tag ∷ rest) legal grows) (of_lane (state_of prefix) tag build is);
 }
 
 pub built_so : BuildIsAsFromNothing → (story : List StoryStep) → Legal story → WasSound story → AreFromNothing story
@@ -84,12 +83,12 @@ pub outcomes_so : EndedBuildHasItsOutcomesFromNothing → (story : List StorySte
     → HaveTheirOutcomes story
 outcomes_so law story legal sound = record {
   each = λ prefix rest tag build n unit grows is well of_n.
-      let ends : EndsBuild (state_of prefix) tag = (rest_is_legal start prefix (story_steps.Other (steps.End tag) ∷ rest)
+      let ends : EndsBuild (state_of prefix) tag = (rest_is_legal start prefix (story_steps.End tag ∷ rest)
       (subst Legal grows legal)).0 in
       let active = of_lane (state_of prefix) tag build is in
-      let began = began_at story prefix (story_steps.Other (steps.End tag) ∷ rest) tag.lane build legal sound grows active in
-      law prefix began.opening (story_steps.Other (steps.End tag)) tag.lane build n unit
-      (prefix_at story prefix (story_steps.Other (steps.End tag) ∷ rest) legal grows) began.opened began.sound active
+      let began = began_at story prefix (story_steps.End tag ∷ rest) tag.lane build legal sound grows active in
+      law prefix began.opening (story_steps.End tag) tag.lane build n unit
+      (prefix_at story prefix (story_steps.End tag ∷ rest) legal grows) began.opened began.sound active
       (record { tag = tag; is = refl; of_lane = refl; active = is; over = ends_over (state_of prefix) tag build ends is }) well
       of_n;
 }

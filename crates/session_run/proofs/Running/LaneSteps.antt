@@ -12,7 +12,6 @@ use Rattle.cc_names.specs.declared.occasions.Next.TheVariants as nexts
 use Rattle.cc_names.specs.declared.refusals.Refusal.{Refusal}
 use Rattle.cc_names.specs.declared.rows.Tag.{Tag}
 use Rattle.cc_names.specs.declared.rows.Deed.{Deed}
-use Rattle.cc_names.specs.declared.steps.Step.TheVariants as steps
 use Rattle.cc_names.specs.declared.steps.StoryStep.{StoryStep}
 use Rattle.cc_names.specs.declared.steps.StoryStep.TheVariants as story_steps
 use Rattle.base_core.proofs.Acting.PlainRows.{change_finishes}
@@ -106,11 +105,11 @@ lane_step s lane Committed (story_steps.Commit row tick) ends is =
       done = ap (λ l. done_after s.done l row.deed) at
           ∙ makes_ends_by (decision_for s (next_tag s lane)) row.deed ends is.2 s.done lane;
     }
-lane_step s lane Refused (story_steps.Other (steps.Refused finished refusal)) ends is =
+lane_step s lane Refused (story_steps.Refused finished refusal) ends is =
     record { phase = record { phase = refl; number = refl; moment = refl }; done = ap (λ t. with_done s.done t.lane) is.0 }
-lane_step s lane Answered (story_steps.Other (steps.Answer finished text)) ends is =
+lane_step s lane Answered (story_steps.Answer finished text) ends is =
     record { phase = record { phase = refl; number = refl; moment = refl }; done = ap (λ t. with_done s.done t.lane) is.0 }
-lane_step s lane Faulted (story_steps.Other (steps.Fault finished left before faults tick)) ends is =
+lane_step s lane Faulted (story_steps.Fault finished left before faults tick) ends is =
     record {
       phase = record { phase = refl; number = refl; moment = refl };
       done = ap (λ t. done_by_fault s.done t.lane (build_by s t)) is.0
@@ -121,9 +120,9 @@ lane_step s lane done x ends is = absurd is
 -- the step is of the lane
 step_lane : (s : State) (lane : ℕ) (done : Done) (x : StoryStep) → IsStepOf s (next_tag s lane) done x → lane_of x ≡ Some lane
 step_lane s lane Committed (story_steps.Commit row tick) is = ap (λ (t : Tag). Some t.lane) is.0
-step_lane s lane Refused (story_steps.Other (steps.Refused finished refusal)) is = ap (λ (t : Tag). Some t.lane) is.0
-step_lane s lane Answered (story_steps.Other (steps.Answer finished text)) is = ap (λ (t : Tag). Some t.lane) is.0
-step_lane s lane Faulted (story_steps.Other (steps.Fault finished left before faults tick)) is =
+step_lane s lane Refused (story_steps.Refused finished refusal) is = ap (λ (t : Tag). Some t.lane) is.0
+step_lane s lane Answered (story_steps.Answer finished text) is = ap (λ (t : Tag). Some t.lane) is.0
+step_lane s lane Faulted (story_steps.Fault finished left before faults tick) is =
     ap (λ (t : Tag). Some t.lane) is.0
 step_lane s lane done x is = absurd is
 

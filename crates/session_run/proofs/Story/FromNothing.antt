@@ -5,7 +5,6 @@ use Rattle.std.specs.Prelude.{◌||◌, if◌then◌else◌, option_and_then}
 use Rattle.cc_names.specs.declared.replies.Reply.{Reply}
 use Rattle.cc_names.specs.declared.replies.Reply.TheVariants as replies
 use Rattle.cc_names.specs.declared.rows.Tag.{Tag}
-use Rattle.cc_names.specs.declared.steps.Step.TheVariants as steps
 use Rattle.cc_names.specs.declared.steps.StoryStep.{StoryStep}
 use Rattle.cc_names.specs.declared.steps.StoryStep.TheVariants as story_steps
 use Rattle.story_log.proofs.Story.Growing.{state_from-more}
@@ -48,13 +47,13 @@ chosen_same false fault one two h = h refl
 
 -- a step after which both folds reply the same
 SameEnd : State → StoryStep → Type 0
-SameEnd s (story_steps.Other (steps.End tag)) = reply_to_end s.base (build_by s tag) ≡ end_from_nothing s.base (build_by s tag)
+SameEnd s (story_steps.End tag) = reply_to_end s.base (build_by s tag) ≡ end_from_nothing s.base (build_by s tag)
 SameEnd s x = Unit {0}
 
 same_end : (story prefix rest : List StoryStep) (x : StoryStep) → Law story → story ≡ prefix ++ rest → Lawful (state_of prefix) x
     → SameEnd (state_of prefix) x
 unfolding SameEnd
-same_end story prefix rest (story_steps.Other (steps.End tag)) law grows ends =
+same_end story prefix rest (story_steps.End tag) law grows ends =
     let s = state_of prefix in
     let build = ends.build in
     let complete : build.faulted ≡ false → reply_of s.base build ≡ reply_from_nothing s.base build =
@@ -68,7 +67,7 @@ same_end story prefix rest x law grows lawful = tt
 step_same : (s : State) (replies : Replies) (x : StoryStep) → SameEnd s x
     → replies_after s x replies ≡ lane_replies_after s x replies
 unfolding SameEnd
-step_same s replies (story_steps.Other (steps.End tag)) h = ap (λ reply lane. replies lane ++ in_lane lane tag reply) h
+step_same s replies (story_steps.End tag) h = ap (λ reply lane. replies lane ++ in_lane lane tag reply) h
 step_same s replies x h = refl
 
 AllSame : State → List StoryStep → Type 0
@@ -124,9 +123,9 @@ pub are_from_nothing : (story : List StoryStep) → Law story → Legal story �
 are_from_nothing story law legal = record {
   text = same_text story law legal;
   each = λ prefix rest tag build grows is sound.
-      let ends : EndsBuild (state_of prefix) tag = (rest_is_legal start prefix (story_steps.Other (steps.End tag) ∷ rest)
+      let ends : EndsBuild (state_of prefix) tag = (rest_is_legal start prefix (story_steps.End tag ∷ rest)
       (subst Legal grows legal)).0 in
-      law.complete prefix (story_steps.Other (steps.End tag) ∷ rest) tag.lane build grows
+      law.complete prefix (story_steps.End tag ∷ rest) tag.lane build grows
       (of_lane (state_of prefix) tag build is)
       (left_complete (is_complete build) build.faulted (ends_over (state_of prefix) tag build ends is) sound);
 }

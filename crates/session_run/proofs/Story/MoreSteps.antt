@@ -1,12 +1,10 @@
 -- What a story says with more steps after it.
 use Rattle.std.proofs.Common.{◌≡◌, ◌+◌, true, List, [], ◌∷◌, ◌++◌, length, refl, ap, sym, ◌∙◌, append_assoc, arith}
 use Rattle.std.proofs.lemmas.List.{append-nil}
-use Rattle.cc_names.specs.declared.steps.Step.{Step}
-use Rattle.cc_names.specs.declared.steps.Step.TheVariants as steps
 use Rattle.cc_names.specs.declared.steps.StoryStep.{StoryStep}
 use Rattle.cc_names.specs.declared.steps.StoryStep.TheVariants as story_steps
 use Rattle.legal_history.specs.Stories.States.{State, start}
-use Rattle.legal_history.specs.Stories.Steps.{after, after_step, state_from, state_of}
+use Rattle.legal_history.specs.Stories.Steps.{after, state_from, state_of}
 use Rattle.legal_history.proofs.Stories.Prefixes.{state_goes_on}
 use Rattle.clearmake.specs.Going.{SamePhase}
 use Rattle.base_core.specs.Story.Replying.{no_replies, replies_after}
@@ -41,20 +39,12 @@ pub first_more : (story more : List StoryStep) → is_opened story ≡ true → 
 first_more [] more e = absurd (cc)
 first_more (x ∷ story) more e = refl
 
--- no step but a plan raises the number of the last phase
-number_step : (s : State) (step : Step) → (after_step s step).number ≡ s.number
-number_step s (steps.Refused tag refusal) = refl
-number_step s step = refl
-
 number_from : (s : State) (story : List StoryStep) → (state_from s story).number ≡ s.number + length (phases_begun story)
 number_from s [] = omega arith
 number_from s (story_steps.PhaseBegun phase moment ∷ story) =
     let h = number_from (after s (story_steps.PhaseBegun phase moment)) story in
     omega (arith, h)
-number_from s (story_steps.Opened rows counts tells ∷ story) = number_from (after s (story_steps.Opened rows counts tells)) story
-number_from s (story_steps.Commit row tick ∷ story) = number_from (after s (story_steps.Commit row tick)) story
-number_from s (story_steps.Other step ∷ story) =
-    number_from (after s (story_steps.Other step)) story ∙ ap (λ n. n + length (phases_begun story)) (number_step s step)
+number_from s (step ∷ story) = number_from (after s step) story
 
 none_long : {A : Type 0} (xs : List A) → length xs ≡ 0 → xs ≡ []
 none_long [] e = refl
@@ -67,22 +57,16 @@ no_phases s more same = none_long (phases_begun more) (omega (arith, number_from
 no_moments : (more : List StoryStep) → phases_begun more ≡ [] → moments_begun more ≡ []
 no_moments [] e = refl
 no_moments (story_steps.PhaseBegun phase moment ∷ more) e = absurd (cc)
-no_moments (story_steps.Opened rows counts tells ∷ more) e = no_moments more e
-no_moments (story_steps.Commit row tick ∷ more) e = no_moments more e
-no_moments (story_steps.Other step ∷ more) e = no_moments more e
+no_moments (step ∷ more) e = no_moments more e
 
 rest_none : (x : StoryStep) (more : List StoryStep) → phases_begun (x ∷ more) ≡ [] → phases_begun more ≡ []
 rest_none (story_steps.PhaseBegun phase moment) more e = absurd (cc)
-rest_none (story_steps.Opened rows counts tells) more e = e
-rest_none (story_steps.Commit row tick) more e = e
-rest_none (story_steps.Other step) more e = e
+rest_none step more e = e
 
 closes_no_phase : (s : State) (replies : Replies) (x : StoryStep) (more : List StoryStep) → phases_begun (x ∷ more) ≡ []
     → closed_by s replies x ≡ []
 closes_no_phase s replies (story_steps.PhaseBegun phase moment) more e = absurd (cc)
-closes_no_phase s replies (story_steps.Opened rows counts tells) more e = refl
-closes_no_phase s replies (story_steps.Commit row tick) more e = refl
-closes_no_phase s replies (story_steps.Other step) more e = refl
+closes_no_phase s replies step more e = refl
 
 closes_none : (leave : State → StoryStep → Replies → Replies) (s : State) (replies : Replies) (more : List StoryStep)
     → phases_begun more ≡ [] → closed_over leave s replies more ≡ []

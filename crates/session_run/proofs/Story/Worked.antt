@@ -8,7 +8,6 @@ use Rattle.cc_names.specs.declared.commands.Phase.{Phase}
 use Rattle.cc_names.specs.declared.refusals.Refusal.TheVariants.{ViewExists}
 use Rattle.cc_names.specs.declared.rows.Deed.TheVariants as deeds
 use Rattle.cc_names.specs.declared.rows.Tag.{Tag}
-use Rattle.cc_names.specs.declared.steps.Step.TheVariants as steps
 use Rattle.cc_names.specs.declared.steps.StoryStep.{StoryStep}
 use Rattle.cc_names.specs.declared.steps.StoryStep.TheVariants as story_steps
 use Rattle.cc_names.specs.declared.steps.Counts.{Counts}
@@ -52,7 +51,7 @@ first_phase =
     }) 2 ∷ []
 
 two_phases : List StoryStep
-two_phases = first_phase ++ story_steps.PhaseBegun again 6 ∷ story_steps.Other (steps.Refused (tag 2 1) ViewExists) ∷ []
+two_phases = first_phase ++ story_steps.PhaseBegun again 6 ∷ story_steps.Refused (tag 2 1) ViewExists ∷ []
 
 -- a phase is rendered once its commands are all finished
 unfinished : text_of_story first_command ≡ []

@@ -13,7 +13,6 @@ use Rattle.cc_names.specs.declared.replies.Reply.TheVariants as replies
 use Rattle.cc_names.specs.declared.rows.Deed.{Deed}
 use Rattle.cc_names.specs.declared.rows.Deed.TheVariants as deeds
 use Rattle.cc_names.specs.declared.rows.Tag.{Tag}
-use Rattle.cc_names.specs.declared.steps.Step.TheVariants as steps
 use Rattle.cc_names.specs.declared.steps.StoryStep.{StoryStep}
 use Rattle.cc_names.specs.declared.steps.StoryStep.TheVariants as story_steps
 use Rattle.cc_names.specs.declared.steps.UnitEnd.TheVariants.{Failed}
@@ -63,8 +62,8 @@ saved source =
 -- a story whose build comes to this by this step
 abbrev built_by : List ℕ → StoryStep → List StoryStep
 built_by source step =
-    saved source ++ story_steps.Other (steps.Begin (tag 4) 4 1) ∷ story_steps.Other (steps.Start (tag 4) 0)
-    ∷ step ∷ story_steps.Other (steps.End (tag 4)) ∷ []
+    saved source ++ story_steps.Begin (tag 4) 4 1 ∷ story_steps.Start (tag 4) 0
+    ∷ step ∷ story_steps.End (tag 4) ∷ []
 
 -- a row that says of the unit that it has this output
 abbrev publish : List ℕ → StoryStep
@@ -74,7 +73,7 @@ publish output =
 
 -- a step that says that it failed
 abbrev fail : StoryStep
-fail = story_steps.Other (steps.Concluded (tag 4) 0 (Failed (Script (Absent (codes "nothere")))))
+fail = story_steps.Concluded (tag 4) 0 (Failed (Script (Absent (codes "nothere"))))
 
 first_build : text_from_nothing (built_by (codes "in") (publish (codes "hi\n")))
     ≡ text_of_story (built_by (codes "in") (publish (codes "hi\n")))

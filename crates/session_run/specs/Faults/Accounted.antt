@@ -1,7 +1,6 @@
 -- What a history says of the device calls of its session: between which two ends, of commits or faults, each failed call lies,
 -- and what became of the files. Calls do not say which command made them.
 use Rattle.std.specs.Prelude.{◌≡◌, ◌≤◌, ◌+◌, ◌⊎◌, Bool, true, false, List, [], ◌∷◌}
-use Rattle.cc_names.specs.declared.steps.Step.TheVariants as steps
 use Rattle.cc_names.specs.declared.steps.StoryStep.{StoryStep}
 use Rattle.cc_names.specs.declared.steps.StoryStep.TheVariants as story_steps
 use Rattle.disk_model.specs.Counting.{next_count}
@@ -49,7 +48,7 @@ pub record IsAccountedFor (disk : Change DiskState) (story : List StoryStep) : T
 abbrev pub is_calm : List StoryStep → Bool
 is_calm [] = true
 is_calm (story_steps.Commit row tick ∷ story) = false
-is_calm (story_steps.Other (steps.Fault tag left before faults tick) ∷ story) = false
+is_calm (story_steps.Fault tag left before faults tick ∷ story) = false
 is_calm (x ∷ story) = is_calm story
 
 -- *The files*: the file of objects is as it was, and where no row was committed, and the disk failed under none, so is the

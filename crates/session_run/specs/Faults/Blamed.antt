@@ -2,7 +2,6 @@
 use Rattle.std.specs.Prelude.{◌≡◌, ℕ, ◌+◌, ◌-◌, ◌^◌, ◌<◌, ◌≤◌, Bool, true, false, if◌then◌else◌, List, [], ◌∷◌, length, reverse}
 use Rattle.std.specs.Prelude.{take, drop}
 use Rattle.std.specs.List.{list_all}
-use Rattle.cc_names.specs.declared.steps.Step.TheVariants as steps
 use Rattle.cc_names.specs.declared.steps.StoryStep.{StoryStep}
 use Rattle.cc_names.specs.declared.steps.StoryStep.TheVariants as story_steps
 use Rattle.disk_model.specs.Devices.{Device, Event, failures}
@@ -29,7 +28,7 @@ abbrev pub FailsAtFaults : ℕ → List Event → List StoryStep → Type 0
 FailsAtFaults failed calls [] = Unit {0}
 FailsAtFaults failed calls (story_steps.Commit row tick ∷ steps) = (failed_by tick calls ≡ failed)
     × FailsAtFaults failed calls steps
-FailsAtFaults failed calls (story_steps.Other (steps.Fault tag left before faults tick) ∷ steps) =
+FailsAtFaults failed calls (story_steps.Fault tag left before faults tick ∷ steps) =
     MeetsFault failed before faults tick calls × FailsAtFaults (failed_by tick calls) calls steps
 FailsAtFaults failed calls (step ∷ steps) = FailsAtFaults failed calls steps
 

@@ -1,6 +1,5 @@
 -- What a stop at any device call finds on the disk: the last promise of the headline.
 use Rattle.std.specs.Prelude.{◌≡◌, ℕ, ◌-◌, ◌^◌, ◌<◌, ◌≤◌, true, false, Some, is_some, List, [], ◌∷◌}
-use Rattle.cc_names.specs.declared.steps.Step.TheVariants as steps
 use Rattle.cc_names.specs.declared.steps.StoryStep.{StoryStep}
 use Rattle.cc_names.specs.declared.steps.StoryStep.TheVariants as story_steps
 use Rattle.disk_model.specs.Devices.{MayLeave, bytes_now, file_of}
@@ -24,7 +23,7 @@ IsHandedIn disk = IfModeled disk.modeled (λ d. (file_of 0 d ≡ stable (bytes_n
 -- the counts of the disk's faults before and after each fault of a story, in order
 abbrev pub rises_of : List StoryStep → List (ℕ × ℕ)
 rises_of [] = []
-rises_of (story_steps.Other (steps.Fault tag left before after tick) ∷ story) = (before, after) ∷ rises_of story
+rises_of (story_steps.Fault tag left before after tick ∷ story) = (before, after) ∷ rises_of story
 rises_of (x ∷ story) = rises_of story
 
 -- each of these rises is one of its own, after those before it, and all lie within two counts

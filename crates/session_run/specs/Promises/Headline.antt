@@ -22,7 +22,6 @@ use Rattle.std.specs.Prelude.{◌≡◌, ◌≢◌, ◌⊎◌, ℕ, zero, suc, �
 use Rattle.std.specs.Prelude.{◌++◌, length}
 use Rattle.std.specs.Io.KnownBytes.{Appends}
 use Rattle.cc_names.specs.declared.rows.Tag.{Tag}
-use Rattle.cc_names.specs.declared.steps.Step.TheVariants as steps
 use Rattle.cc_names.specs.declared.steps.StoryStep.{StoryStep}
 use Rattle.cc_names.specs.declared.steps.StoryStep.TheVariants as story_steps
 use Rattle.cc_names.specs.Counts.{raised_count}
@@ -114,7 +113,7 @@ pub record IsOneHistory (form : Option Form) (status : Status) (story : List Sto
 -- rows, on the versions that the view selects there, has the same units.
 pub record AreOfTheirCommands (story : List StoryStep) : Type 0 where
   pub each : (prefix rest : List StoryStep) (tag : Tag) (build : Build)
-      → story ≡ prefix ++ story_steps.Other (steps.End tag) ∷ rest
+      → story ≡ prefix ++ story_steps.End tag ∷ rest
       → build_by (state_of prefix) tag ≡ Some build → IsOfCommand (state_of prefix) tag.lane build
 
 -- *Builds as from nothing*: what the units of each build of the history have come to, where it ends and no disk failed under it,
@@ -122,7 +121,7 @@ pub record AreOfTheirCommands (story : List StoryStep) : Type 0 where
 pub record AreFromNothing (story : List StoryStep) : Type 0 where
   pub text : text_of_story story ≡ text_from_nothing story
   pub each : (prefix rest : List StoryStep) (tag : Tag) (build : Build)
-      → story ≡ prefix ++ story_steps.Other (steps.End tag) ∷ rest
+      → story ≡ prefix ++ story_steps.End tag ∷ rest
       → build_by (state_of prefix) tag ≡ Some build → build.faulted ≡ false
       → reply_of (state_of prefix).base build ≡ reply_from_nothing (state_of prefix).base build
 

@@ -5,7 +5,6 @@ use Rattle.cc_names.specs.Formed.{Plain}
 use Rattle.cc_names.specs.declared.rows.Deed.TheVariants as deeds
 use Rattle.cc_names.specs.declared.rows.ReadOf.{ReadOf}
 use Rattle.cc_names.specs.declared.rows.Tag.{Tag}
-use Rattle.cc_names.specs.declared.steps.Step.TheVariants as steps
 use Rattle.cc_names.specs.declared.steps.StoryStep.{StoryStep}
 use Rattle.cc_names.specs.declared.steps.StoryStep.TheVariants as story_steps
 use Rattle.cc_names.specs.declared.steps.UnitEnd.TheVariants as ends
@@ -29,7 +28,7 @@ pub record WasSound (story : List StoryStep) : Type 0 where
 -- nothing at its reference rows: an object with exactly the outputs of the run, or the same end without one.
 pub record HaveTheirOutcomes (story : List StoryStep) : Type 0 where
   pub each : (prefix rest : List StoryStep) (tag : Tag) (build : Build) (n : ℕ) (unit : Unit)
-      → story ≡ prefix ++ story_steps.Other (steps.End tag) ∷ rest
+      → story ≡ prefix ++ story_steps.End tag ∷ rest
       → build_by (state_of prefix) tag ≡ Some build → build.faulted ≡ false
       → unit_at build n ≡ Some unit → EndsAsFromNothing (state_of prefix).base build n unit
 
@@ -37,7 +36,7 @@ pub record HaveTheirOutcomes (story : List StoryStep) : Type 0 where
 -- by the unit's script, and has a record of just what the unit sees.
 pub record TakeWhatTheySee (story : List StoryStep) : Type 0 where
   pub kept : (prefix rest : List StoryStep) (tag : Tag) (n id : ℕ)
-      → story ≡ prefix ++ story_steps.Other (steps.Concluded tag n (ends.Kept id)) ∷ rest
+      → story ≡ prefix ++ story_steps.Concluded tag n (ends.Kept id) ∷ rest
       → TakesWhatItSees (state_of prefix) tag n id
   pub winked : (prefix rest : List StoryStep) (row : Plain) (tick : ℕ) (view : List ℕ) (id : ℕ)
       → story ≡ prefix ++ story_steps.Commit row tick ∷ rest → row.deed ≡ deeds.Wink view id
@@ -56,7 +55,7 @@ pub record RecordWhatTheyRead (story : List StoryStep) : Type 0 where
 -- such a unit, and publishes no record that a live object has.
 pub record PassNothingOver (story : List StoryStep) : Type 0 where
   pub started : (prefix rest : List StoryStep) (tag : Tag) (n : ℕ) (build : Build) (unit : Unit) (id : ℕ)
-      → story ≡ prefix ++ story_steps.Other (steps.Start tag n) ∷ rest → ReusesAny (state_of prefix) tag build
+      → story ≡ prefix ++ story_steps.Start tag n ∷ rest → ReusesAny (state_of prefix) tag build
       → unit_at build n ≡ Some unit → is_some (live_row (state_of prefix).base id) ≡ true
       → matches (state_of prefix).base build n unit id ≡ false
   pub published : (prefix rest : List StoryStep) (row : Plain) (tick : ℕ) (build : Build) (id : ℕ)

@@ -2,7 +2,6 @@
 use Rattle.std.specs.Prelude.{ℕ, Option, Some, None, List, [], ◌++◌, if◌then◌else◌}
 use Rattle.cc_names.specs.declared.replies.Reply.{Reply}
 use Rattle.cc_names.specs.declared.replies.Reply.TheVariants as replies
-use Rattle.cc_names.specs.declared.steps.Step.TheVariants as steps
 use Rattle.cc_names.specs.declared.steps.StoryStep.{StoryStep}
 use Rattle.cc_names.specs.declared.steps.StoryStep.TheVariants as story_steps
 use Rattle.legal_history.specs.Builds.Replied.{reply_from_nothing}
@@ -19,7 +18,7 @@ end_from_nothing b (Some build) = Some (if build.faulted then replies.DiskFault 
 
 -- the replies to the commands of a lane that a step finishes, those of builds from nothing
 abbrev pub replies_of_step : State → ℕ → StoryStep → List Reply
-replies_of_step s lane (story_steps.Other (steps.End tag)) = in_lane lane tag (end_from_nothing s.base (build_by s tag))
+replies_of_step s lane (story_steps.End tag) = in_lane lane tag (end_from_nothing s.base (build_by s tag))
 replies_of_step s lane step = replies_by s lane step
 
 -- a lane's replies after a step; a new phase has none yet

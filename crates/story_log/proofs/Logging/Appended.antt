@@ -2,7 +2,7 @@
 use Rattle.std.proofs.Common.{◌≡◌, ℕ, ◌+◌, ◌≤◌, inl, inr, Bool, true, false, Option, Some, None, List, [], ◌∷◌, ◌++◌, refl, ap}
 use Rattle.std.proofs.Common.{sym, subst, ◌∙◌, arith, append_assoc}
 use Rattle.std.specs.Option.{option_to_list}
-use Rattle.std.specs.Prelude.{IfSome, Result, Ok, Err, if◌then◌else◌}
+use Rattle.std.specs.Prelude.{IfSome, Result, Ok, Err, is_some, if◌then◌else◌}
 use Rattle.cc_names.specs.Formed.{Plain, IsFormed}
 use Rattle.cc_names.specs.declared.commands.Phase.{Phase}
 use Rattle.cc_names.specs.declared.rows.Tag.{Tag}
@@ -26,18 +26,22 @@ use Rattle.story_log.specs.Logging.Appending.{CommitsRow, StandsSettled, IsQuiet
 use Rattle.story_log.specs.Logging.Appending.{with_ending}
 use Rattle.story_log.specs.Logging.Leaving.{left_in, LeftSo}
 use Rattle.story_log.specs.Logging.Logs.{IsLogged, with_step_on}
-use Rattle.story_log.specs.Story.Telling.{story_of, AreNamedBySteps}
+use Rattle.story_log.specs.Story.Telling.{story_of, AreNamedBySteps, shown_as, stands_alone}
 use Rattle.base_rows.specs.Order.{oldest_first}
 use Rattle.story_log.specs.Story.Handed.{Handed}
 use Rattle.vob_journal.proofs.Adding.{adds_none}
 use Rattle.story_log.proofs.Logging.Leavings.{hanging_is}
-use Rattle.story_log.proofs.Logging.Logged.{logged_fault, logged_step}
+use Rattle.story_log.proofs.Logging.Logged.{logged_fault, logged_step, quiet_shown}
 use Rattle.story_log.proofs.Logging.LogSteps.{shown, shown_row, shown_step, shown_step_on, is_named_step}
 use Rattle.story_log.proofs.Logging.Rising.{rises_more, rises_raised}
 
 -- the fault of the disk, as it is kept
 abbrev pub fault_step : Tag → Option Plain → ℕ → ℕ → ℕ → Step
 fault_step tag found before faults tick = steps.Fault tag found before faults tick
+
+-- a quiet step stands alone
+quiet_alone : (step : Step) → IsQuiet step → stands_alone step ≡ true
+quiet_alone step quiet = ap is_some (quiet_shown (shown_as step) quiet).1
 
 -- what the log shows after a fault and the step that it brings with it
 pub shown_faulted : (on : Handed) (kept more : List Step) (base : Base) (phases : List Phase) (tag : Tag) (found : Option Plain)
@@ -50,7 +54,7 @@ shown_faulted on kept more base phases tag found before faults tick None old new
 shown_faulted on kept more base phases tag found before faults tick (Some step) old new h quiet e =
     let fault = fault_step tag found before faults tick in
     shown_step on (kept ++ fault ∷ []) more base phases step new (is_named_step kept (kept ++ fault ∷ []) base phases fault h refl
-    refl) quiet.0 (e ∙ sym (append_assoc kept (fault ∷ []) (step ∷ [])))
+    refl) (quiet_alone step quiet) (e ∙ sym (append_assoc kept (fault ∷ []) (step ∷ [])))
     ∙ ap (λ log. with_ending log (Some step)) (shown_step_on on kept (kept ++ fault ∷ []) base phases fault old new h refl refl)
 
 -- and what it keeps
@@ -74,7 +78,7 @@ logged_faulted on kept more base phases tag row earlier found before faults tick
     logged_step on (kept ++ fault ∷ []) more base phases step new list' leftover' ended' left' settled'
     (logged_fault on kept (kept ++ fault ∷ []) base phases tag row earlier found before faults tick old new list leftover list'
     leftover' ended ended' left left' settled settled' h refl moves stays copied so at counts was counted end set ajar)
-    quiet.0 quiet.1 (e ∙ sym (append_assoc kept (fault ∷ []) (step ∷ [])))
+    quiet (e ∙ sym (append_assoc kept (fault ∷ []) (step ∷ [])))
 
 -- what was left is what a fault may leave
 may_leave_so : (s : State) (row : Plain) (left' : Left) (found : Option Plain) → LeftSo (hanging s.ends) row left' found

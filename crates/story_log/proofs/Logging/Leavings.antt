@@ -49,19 +49,19 @@ hanging_by on n p (steps.Commit tag number tick ∷ kept) [] phases s h = absurd
 hanging_by on n p (steps.Commit tag number tick ∷ kept) (row ∷ rows) phases s h =
     hanging_by on (n + 1) p kept rows phases (after s (story_steps.Commit row tick)) h.2
 hanging_by on n p (steps.Refused tag refusal ∷ kept) rows phases s h =
-    hanging_by on n p kept rows phases (after s (story_steps.Other (steps.Refused tag refusal))) h
+    hanging_by on n p kept rows phases (after s (story_steps.Refused tag refusal)) h
 hanging_by on n p (steps.Answer tag text ∷ kept) rows phases s h = hanging_by on n p kept rows phases
-    (after s (story_steps.Other (steps.Answer tag text))) h
+    (after s (story_steps.Answer tag text)) h
 hanging_by on n p (steps.Begin tag at units ∷ kept) rows phases s h = hanging_by on n p kept rows phases
-    (after s (story_steps.Other (steps.Begin tag at units))) h
+    (after s (story_steps.Begin tag at units)) h
 hanging_by on n p (steps.Start tag unit ∷ kept) rows phases s h = hanging_by on n p kept rows phases
-    (after s (story_steps.Other (steps.Start tag unit))) h
+    (after s (story_steps.Start tag unit)) h
 hanging_by on n p (steps.Concluded tag unit outcome ∷ kept) rows phases s h =
-    hanging_by on n p kept rows phases (after s (story_steps.Other (steps.Concluded tag unit outcome))) h
+    hanging_by on n p kept rows phases (after s (story_steps.Concluded tag unit outcome)) h
 hanging_by on n p (steps.End tag ∷ kept) rows phases s h = hanging_by on n p kept rows phases
-    (after s (story_steps.Other (steps.End tag))) h
+    (after s (story_steps.End tag)) h
 hanging_by on n p (steps.Fault tag found before faults tick ∷ kept) rows phases s h =
-    hanging_by on n p kept rows phases (after s (story_steps.Other (steps.Fault tag found before faults tick))) h
+    hanging_by on n p kept rows phases (after s (story_steps.Fault tag found before faults tick)) h
 
 pub hanging_is : (on : Handed) (n p : ℕ) (kept : List Step) (rows : List Plain) (phases : List Phase) (s : State)
     → AreNamedBySteps n p kept rows phases → hanging (state_from s (story_of on kept rows phases)).ends

@@ -1,13 +1,17 @@
 -- What a log keeps, with the steps, the rows and the phases as they are kept.
 use Rattle.std.proofs.Common.{◌≡◌, ℕ, ◌+◌, Bool, true, false, Option, List, [], ◌∷◌, ◌++◌, length, refl, ap, sym, subst, ◌∙◌}
+use Rattle.std.specs.Option.{option_to_list}
+use Rattle.std.specs.Prelude.{Some, None, is_some, option_map}
 use Rattle.cc_names.specs.Formed.{Plain}
 use Rattle.cc_names.specs.declared.commands.Phase.{Phase}
 use Rattle.cc_names.specs.declared.rows.Tag.{Tag}
 use Rattle.cc_names.specs.declared.steps.Step.{Step}
 use Rattle.cc_names.specs.declared.steps.Step.TheVariants as steps
+use Rattle.cc_names.specs.declared.steps.StoryStep.{StoryStep}
 use Rattle.cc_names.specs.declared.steps.StoryStep.TheVariants as story_steps
 use Rattle.disk_model.specs.DiskStates.{DiskState, IfModeled, Both, IsCounted}
 use Rattle.base_model.specs.Rows.{Base}
+use Rattle.legal_history.specs.Stories.Quiet.{is_quiet}
 use Rattle.legal_history.specs.Stories.States.{State, start}
 use Rattle.legal_history.specs.Stories.Steps.{after, state_of}
 use Rattle.row_form.specs.Spelled.{spelling_of}
@@ -16,37 +20,29 @@ use Rattle.vob_journal.specs.Moves.{Moves}
 use Rattle.vob_journal.specs.declared.left.Left.{Left}
 use Rattle.vob_journal.specs.declared.left.Left.TheVariants as lefts
 use Rattle.story_log.specs.Stopping.Backed.{IsBacked}
-use Rattle.story_log.specs.Story.Faults.{is_fault}
+use Rattle.story_log.specs.Logging.Appending.{IsQuiet}
 use Rattle.story_log.specs.Logging.Leaving.{left_in, LeftSo}
 use Rattle.story_log.specs.Logging.Logs.{IsLogged}
-use Rattle.story_log.specs.Story.Telling.{story_of, AreNamedBySteps, stands_alone}
+use Rattle.story_log.specs.Story.Telling.{story_of, AreNamedBySteps, shown_as}
 use Rattle.base_rows.specs.Order.{oldest_first}
 use Rattle.story_log.specs.Story.Handed.{Handed}
+use Rattle.legal_history.proofs.Stories.Along.{quiet_keeps}
+use Rattle.story_log.proofs.Cases.{some_same}
 use Rattle.story_log.proofs.Story.Growing.{state_from-more}
 use Rattle.story_log.proofs.Logging.Leavings.{hanging_is}
 use Rattle.story_log.proofs.Logging.Logging.{backed_same, backed_commit, backed_fault}
 use Rattle.story_log.proofs.Logging.LogSteps.{oldest_more, named_row, named_phase, is_named_step}
 use Rattle.story_log.proofs.Story.Stories.{story_of-commit, story_of-phase, story_of-step}
 
+-- a quiet step is one of the story
+pub quiet_shown : (o : Option StoryStep) → option_map is_quiet o ≡ Some true
+    → (x : StoryStep) × (o ≡ Some x) × (is_quiet x ≡ true)
+quiet_shown None quiet = absurd (cc)
+quiet_shown (Some x) quiet = (x, refl, some_same (is_quiet x) true quiet)
+
 -- the state of the story of what is kept
 abbrev pub logged_state : Handed → List Step → List Plain → List Phase → State
 logged_state on kept base phases = state_of (story_of on kept (oldest_first base) phases)
-
--- a step that is neither a commit nor a fault leaves the opening, the base and the ends
-quiet_opened : (s : State) (step : Step) → stands_alone step ≡ true → is_fault (story_steps.Other step) ≡ false
-    → (after s (story_steps.Other step)).opened ≡ s.opened
-quiet_opened s (steps.Fault tag left before faults tick) alone quiet = absurd (cc)
-quiet_opened s step alone quiet = refl
-
-quiet_base : (s : State) (step : Step) → stands_alone step ≡ true → is_fault (story_steps.Other step) ≡ false
-    → (after s (story_steps.Other step)).base ≡ s.base
-quiet_base s (steps.Fault tag left before faults tick) alone quiet = absurd (cc)
-quiet_base s step alone quiet = refl
-
-quiet_ends : (s : State) (step : Step) → stands_alone step ≡ true → is_fault (story_steps.Other step) ≡ false
-    → (after s (story_steps.Other step)).ends ≡ s.ends
-quiet_ends s (steps.Fault tag left before faults tick) alone quiet = absurd (cc)
-quiet_ends s step alone quiet = refl
 
 -- a row was committed
 pub logged_row : (on : Handed) (kept more : List Step) (base grown : Base) (phases : List Phase) (tag : Tag) (number tick : ℕ)
@@ -91,28 +87,37 @@ logged_phase on kept more base phases grown number moment phase ghost_state list
         ∙ ap state_of (story_of-phase on kept (oldest_first base) phases number moment phase h.modeled)
         ∙ state_from-more start (story_of on kept (oldest_first base) phases) (story_steps.PhaseBegun phase moment)
 
--- a step is told that stands alone
-state_step : (on : Handed) (kept more : List Step) (base : Base) (phases : List Phase) (step : Step)
-    → AreNamedBySteps 1 0 kept (oldest_first base) phases → stands_alone step ≡ true → more ≡ kept ++ step ∷ []
-    → logged_state on more base phases ≡ after (logged_state on kept base phases) (story_steps.Other step)
-state_step on kept more base phases step h alone e =
+-- a step that stands alone
+state_step : (on : Handed) (kept more : List Step) (base : Base) (phases : List Phase) (step : Step) (x : StoryStep)
+    → AreNamedBySteps 1 0 kept (oldest_first base) phases → shown_as step ≡ Some x → more ≡ kept ++ step ∷ []
+    → logged_state on more base phases ≡ after (logged_state on kept base phases) x
+state_step on kept more base phases step x h is e =
+    let story = story_of on kept (oldest_first base) phases in
     ap (λ xs. logged_state on xs base phases) e
-    ∙ ap state_of (story_of-step on kept (oldest_first base) phases step h alone)
-    ∙ state_from-more start (story_of on kept (oldest_first base) phases) (story_steps.Other step)
+    ∙ ap state_of (story_of-step on kept (oldest_first base) phases step h (ap is_some is))
+    ∙ ap (λ o. state_of (story ++ option_to_list o)) is ∙ state_from-more start story x
 
 pub logged_step : (on : Handed) (kept more : List Step) (base : Base) (phases : List Phase) (step : Step)
     (ghost_state : DiskState) (list leftover : List (List ℕ)) (ended : Bool) (left : Left) (settled : Bool)
-    → IsLogged on kept base phases ghost_state list leftover ended left settled → stands_alone step ≡ true
-    → is_fault (story_steps.Other step) ≡ false → more ≡ kept ++ step ∷ []
+    → IsLogged on kept base phases ghost_state list leftover ended left settled → IsQuiet step → more ≡ kept ++ step ∷ []
     → IsLogged on more base phases ghost_state list leftover ended left settled
-logged_step on kept more base phases step ghost_state list leftover ended left settled h alone quiet e = record {
-  modeled = is_named_step kept more base phases step h.modeled alone e;
+logged_step on kept more base phases step ghost_state list leftover ended left settled h quiet e = record {
+  modeled = is_named_step kept more base phases step h.modeled (ap is_some is) e;
   backed = subst (λ s. IsBacked s ghost_state list leftover ended left settled)
-      (sym (state_step on kept more base phases step h.modeled alone e))
+      (sym (state_step on kept more base phases step x h.modeled is e))
       (let s = logged_state on kept base phases in
-      backed_same s (after s (story_steps.Other step)) ghost_state list leftover ended left settled
-      (quiet_opened s step alone quiet) (quiet_base s step alone quiet) (quiet_ends s step alone quiet) h.backed);
+      let same = quiet_keeps s x silent in
+      backed_same s (after s x) ghost_state list leftover ended left settled same.opened same.base same.ends h.backed);
 }
+  where
+    x : StoryStep
+    x = (quiet_shown (shown_as step) quiet).0
+
+    is : shown_as step ≡ Some x
+    is = (quiet_shown (shown_as step) quiet).1
+
+    silent : is_quiet x ≡ true
+    silent = (quiet_shown (shown_as step) quiet).2
 
 -- the disk failed
 pub logged_fault : (on : Handed) (kept more : List Step) (base : Base) (phases : List Phase) (tag : Tag) (row : Plain)
@@ -128,10 +133,11 @@ logged_fault on kept more base phases tag row earlier found before faults tick o
     left left' settled settled' h e moves stays copied so at counts was counted end set ajar = record {
       modeled = is_named_step kept more base phases (steps.Fault tag found before faults tick) h.modeled refl e;
       backed = subst (λ t. IsBacked t new list' leftover' ended' left' settled')
-          (sym (state_step on kept more base phases (steps.Fault tag found before faults tick) h.modeled refl e))
+          (sym (state_step on kept more base phases (steps.Fault tag found before faults tick)
+          (story_steps.Fault tag found before faults tick) h.modeled refl e))
           (let s = logged_state on kept base phases in
           backed_fault s tag row found before faults tick old new list leftover list' leftover' ended ended' left left' settled
-          settled' (after s (story_steps.Other (steps.Fault tag found before faults tick))) refl refl refl h.backed moves stays
+          settled' (after s (story_steps.Fault tag found before faults tick)) refl refl refl h.backed moves stays
           (subst (λ o. LeftSo o row left' found) (copied ∙ sym (hanging_is on 1 0 kept (oldest_first base) phases start
           h.modeled))
           so) at counts was counted end set ajar);

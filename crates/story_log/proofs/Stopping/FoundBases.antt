@@ -7,7 +7,6 @@ use Rattle.std.specs.List.{AllByRecursion}
 use Rattle.std.specs.Prelude.{IfSome, is_some, reverse}
 use Rattle.cc_names.specs.declared.rows.Tag.{Tag}
 use Rattle.cc_names.specs.Formed.{IsFormed, Plain}
-use Rattle.cc_names.specs.declared.steps.Step.TheVariants as steps
 use Rattle.cc_names.specs.declared.steps.StoryStep.{StoryStep}
 use Rattle.cc_names.specs.declared.steps.StoryStep.TheVariants as story_steps
 use Rattle.disk_model.specs.Devices.{Device, bytes_now}
@@ -140,7 +139,7 @@ step_found P laws prefix opening (story_steps.Commit row tick) legal lawful name
       only = grown;
       found = one_more P opening (Committed row tick) s.ends (subst (IsOnly P opening) h.base h.only) by tt by h.found;
     }
-step_found P laws prefix opening (story_steps.Other (steps.Fault tag left before faults tick)) legal lawful named h =
+step_found P laws prefix opening (story_steps.Fault tag left before faults tick) legal lawful named h =
     let s = state_of prefix in
     let by : FitsBehind P opening (base_by opening s.ends) left = subst (λ b. FitsBehind P opening b left) h.base
     (left_fits P laws prefix opening tag left legal h lawful.leaves named) in
@@ -151,22 +150,8 @@ step_found P laws prefix opening (story_steps.Other (steps.Fault tag left before
       only = h.only;
       found = one_more P opening (Faulted left faults tick) s.ends only only by by h.found;
     }
-step_found P laws prefix opening (story_steps.Other (steps.Refused tag refusal)) legal lawful named h =
-    stays_found P (state_of prefix) (after (state_of prefix) (story_steps.Other (steps.Refused tag refusal))) opening refl refl
-    refl h
-step_found P laws prefix opening (story_steps.Other (steps.Answer tag text)) legal lawful named h =
-    stays_found P (state_of prefix) (after (state_of prefix) (story_steps.Other (steps.Answer tag text))) opening refl refl refl h
-step_found P laws prefix opening (story_steps.Other (steps.Begin tag rows units)) legal lawful named h =
-    stays_found P (state_of prefix) (after (state_of prefix) (story_steps.Other (steps.Begin tag rows units))) opening refl refl
-    refl h
-step_found P laws prefix opening (story_steps.Other (steps.Start tag unit)) legal lawful named h =
-    stays_found P (state_of prefix) (after (state_of prefix) (story_steps.Other (steps.Start tag unit))) opening refl refl refl h
-step_found P laws prefix opening (story_steps.Other (steps.Concluded tag unit outcome)) legal lawful named h =
-    stays_found P (state_of prefix) (after (state_of prefix) (story_steps.Other (steps.Concluded tag unit outcome))) opening refl
-    refl refl h
-step_found P laws prefix opening (story_steps.Other (steps.End tag)) legal lawful named h =
-    stays_found P (state_of prefix) (after (state_of prefix) (story_steps.Other (steps.End tag))) opening refl refl refl h
-step_found P laws prefix opening (story_steps.Other step) legal lawful named h = absurd lawful
+step_found P laws prefix opening x legal lawful named h =
+    stays_found P (state_of prefix) (after (state_of prefix) x) opening refl refl refl h
 
 -- and so does the rest of a legal story
 all_found : (P : Plain → Type 0) → Laws → (prefix rest : List StoryStep) (opening : Opening) → Legal prefix
@@ -196,16 +181,7 @@ first_found P (story_steps.Opened rows counts tells) lawful named is = (
     };
   },
 )
-first_found P (story_steps.PhaseBegun phase moment) lawful named is = absurd (cc)
-first_found P (story_steps.Commit row tick) lawful named is = absurd (cc)
-first_found P (story_steps.Other (steps.Refused tag refusal)) lawful named is = absurd (cc)
-first_found P (story_steps.Other (steps.Answer tag text)) lawful named is = absurd (cc)
-first_found P (story_steps.Other (steps.Begin tag rows units)) lawful named is = absurd (cc)
-first_found P (story_steps.Other (steps.Start tag unit)) lawful named is = absurd (cc)
-first_found P (story_steps.Other (steps.Concluded tag unit outcome)) lawful named is = absurd (cc)
-first_found P (story_steps.Other (steps.End tag)) lawful named is = absurd (cc)
-first_found P (story_steps.Other (steps.Fault tag left before faults tick)) lawful named is = absurd (cc)
-first_found P (story_steps.Other step) lawful named is = absurd lawful
+first_found P x lawful named is = absurd (cc)
 
 -- whatever a stop may find is a base of such rows
 found_only : (P : Plain → Type 0) → Laws → (story : List StoryStep) (opening : Opening) (k : ℕ) (found : List (List ℕ))

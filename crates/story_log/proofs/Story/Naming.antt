@@ -3,14 +3,12 @@ use Rattle.std.proofs.Common.{◌≡◌, inl, inr, false, Option, Some, None, Li
 use Rattle.std.specs.List.{AllByRecursion}
 use Rattle.std.specs.Prelude.{IfSome, reverse}
 use Rattle.cc_names.specs.Formed.{Plain}
-use Rattle.cc_names.specs.declared.steps.Step.{Step}
-use Rattle.cc_names.specs.declared.steps.Step.TheVariants as steps
 use Rattle.cc_names.specs.declared.steps.StoryStep.{StoryStep}
 use Rattle.cc_names.specs.declared.steps.StoryStep.TheVariants as story_steps
 use Rattle.legal_history.specs.Stories.States.{State, start, hanging}
 use Rattle.legal_history.specs.Stories.Steps.{after, state_from, state_of}
 use Rattle.story_log.specs.Logging.Appending.{MayLeaveRow}
-use Rattle.story_log.specs.Story.Faults.{is_fault}
+use Rattle.legal_history.specs.Stories.Quiet.{is_quiet}
 use Rattle.story_log.specs.Story.Formed.{NamesOnly, TellsOnly}
 
 -- one more step
@@ -19,24 +17,21 @@ pub names_more : (P : Plain → Type 0) (story : List StoryStep) (x : StoryStep)
 names_more P [] x h one = (one, tt)
 names_more P (y ∷ story) x h one = (h.0, names_more P story x h.1 one)
 
--- a step that is no fault, and is told as it stands, names no row
-pub names_none : (P : Plain → Type 0) (step : Step) → is_fault (story_steps.Other step) ≡ false
-    → NamesOnly P (story_steps.Other step)
-names_none P (steps.Fault tag left before faults tick) sound = absurd (cc)
-names_none P step sound = tt
+-- a quiet step names no row
+pub names_none : (P : Plain → Type 0) (x : StoryStep) → is_quiet x ≡ true → NamesOnly P x
+names_none P (story_steps.Opened rows counts tells) quiet = absurd (cc)
+names_none P (story_steps.Commit row tick) quiet = absurd (cc)
+names_none P (story_steps.Fault tag left before faults tick) quiet = absurd (cc)
+names_none P x quiet = tt
 
 -- the row that hangs after the rows is one that the story names
 hangs_from : (P : Plain → Type 0) (s : State) (story : List StoryStep) → IfSome (hanging s.ends) P → TellsOnly P story
     → IfSome (hanging (state_from s story).ends) P
 hangs_from P s [] hangs h = hangs
-hangs_from P s (story_steps.Opened rows counts tells ∷ story) hangs h =
-    hangs_from P (after s (story_steps.Opened rows counts tells)) story hangs h.1
-hangs_from P s (story_steps.PhaseBegun phase moment ∷ story) hangs h =
-    hangs_from P (after s (story_steps.PhaseBegun phase moment)) story hangs h.1
 hangs_from P s (story_steps.Commit row tick ∷ story) hangs h = hangs_from P (after s (story_steps.Commit row tick)) story tt h.1
-hangs_from P s (story_steps.Other (steps.Fault tag left before faults tick) ∷ story) hangs h =
-    hangs_from P (after s (story_steps.Other (steps.Fault tag left before faults tick))) story h.0 h.1
-hangs_from P s (story_steps.Other step ∷ story) hangs h = hangs_from P (after s (story_steps.Other step)) story hangs h.1
+hangs_from P s (story_steps.Fault tag left before faults tick ∷ story) hangs h =
+    hangs_from P (after s (story_steps.Fault tag left before faults tick)) story h.0 h.1
+hangs_from P s (x ∷ story) hangs h = hangs_from P (after s x) story hangs h.1
 
 pub hanging_named : (P : Plain → Type 0) (story : List StoryStep) → TellsOnly P story → IfSome (hanging (state_of story).ends) P
 hanging_named P story h = hangs_from P start story tt h
@@ -47,15 +42,11 @@ rows_from : (P : Plain → Type 0) (s : State) (story : List StoryStep) → AllB
 rows_from P s [] rows h = rows
 rows_from P s (story_steps.Opened opened counts tells ∷ story) rows h =
     rows_from P (after s (story_steps.Opened opened counts tells)) story h.0 h.1
-rows_from P s (story_steps.PhaseBegun phase moment ∷ story) rows h = rows_from P (after s (story_steps.PhaseBegun phase moment))
-    story rows h.1
 rows_from P s (story_steps.Commit row tick ∷ story) rows h = rows_from P (after s (story_steps.Commit row tick)) story (
   h.0,
   rows,
 ) h.1
-rows_from P s (story_steps.Other (steps.Fault tag left before faults tick) ∷ story) rows h =
-    rows_from P (after s (story_steps.Other (steps.Fault tag left before faults tick))) story rows h.1
-rows_from P s (story_steps.Other step ∷ story) rows h = rows_from P (after s (story_steps.Other step)) story rows h.1
+rows_from P s (x ∷ story) rows h = rows_from P (after s x) story rows h.1
 
 pub base_named : (P : Plain → Type 0) (story : List StoryStep) → TellsOnly P story → AllByRecursion P (state_of story).base
 base_named P story h = rows_from P start story tt h
@@ -83,7 +74,7 @@ left_is (Some row) = tt
 names_rows : (x : StoryStep) → NamesOnly (λ (row : Plain). Unit {0}) x
 names_rows (story_steps.Opened rows counts tells) = each_is (reverse rows)
 names_rows (story_steps.Commit row tick) = tt
-names_rows (story_steps.Other (steps.Fault tag left before faults tick)) = left_is left
+names_rows (story_steps.Fault tag left before faults tick) = left_is left
 names_rows x = tt
 
 pub tells_rows : (story : List StoryStep) → TellsOnly (λ (row : Plain). Unit {0}) story

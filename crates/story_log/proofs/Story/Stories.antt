@@ -1,6 +1,7 @@
 -- One more step of a story.
 use Rattle.std.proofs.Common.{◌≡◌, ℕ, ◌+◌, ◌-◌, true, List, [], ◌∷◌, ◌++◌, refl, ap, ap₂, sym, subst, ◌∙◌, length, length-append}
 use Rattle.std.proofs.Common.{length-drop, arith, drop, take}
+use Rattle.std.specs.Option.{option_to_list}
 use Rattle.std.proofs.lemmas.List.{append-nil, take-append-drop, take-append-le, drop-append-le}
 use Rattle.cc_names.specs.Formed.{Plain}
 use Rattle.cc_names.specs.declared.commands.Phase.{Phase}
@@ -8,7 +9,7 @@ use Rattle.cc_names.specs.declared.rows.Tag.{Tag}
 use Rattle.cc_names.specs.declared.steps.Step.{Step}
 use Rattle.cc_names.specs.declared.steps.Step.TheVariants as steps
 use Rattle.cc_names.specs.declared.steps.StoryStep.TheVariants as story_steps
-use Rattle.story_log.specs.Story.Telling.{story_of, AreNamedBySteps, rows_named, stands_alone}
+use Rattle.story_log.specs.Story.Telling.{story_of, AreNamedBySteps, rows_named, shown_as, stands_alone}
 use Rattle.story_log.specs.Story.Handed.{Handed}
 
 -- steps that tell all rows and phases, and more steps with the rows and phases that these tell
@@ -29,7 +30,7 @@ story_of-more on n p (steps.Commit tag number tick ∷ one) two [] more_rows pha
 story_of-more on n p (steps.Commit tag number tick ∷ one) two (row ∷ rows) more_rows phases more_phases h =
     ap (λ s. story_steps.Commit row tick ∷ s) (story_of-more on (n + 1) p one two rows more_rows phases more_phases h.2)
 story_of-more on n p (step ∷ one) two rows more_rows phases more_phases h =
-    ap (λ s. story_steps.Other step ∷ s) (story_of-more on n p one two rows more_rows phases more_phases h)
+    ap (λ s. option_to_list (shown_as step) ++ s) (story_of-more on n p one two rows more_rows phases more_phases h)
 
 -- and more steps that tell their rows and phases tell all of them
 AreNamedBySteps-more : (n p : ℕ) (one two : List Step) (rows more_rows : List Plain) (phases more_phases : List Phase)
@@ -116,7 +117,8 @@ named_commit kept rows phases tag number tick row h e m =
     (AreNamedBySteps-more 1 0 kept (steps.Commit tag number tick ∷ []) rows (row ∷ []) phases [] h (e, here, tt))
 
 -- a step that stands alone
-alone_named : (on : Handed) (step : Step) → stands_alone step ≡ true → story_of on (step ∷ []) [] [] ≡ story_steps.Other step ∷ []
+alone_named : (on : Handed) (step : Step) → stands_alone step ≡ true → story_of on (step ∷ []) [] []
+    ≡ option_to_list (shown_as step)
 alone_named on (steps.Opened n) h = absurd (cc)
 alone_named on (steps.PhaseBegun number moment) h = absurd (cc)
 alone_named on (steps.Commit tag number tick) h = absurd (cc)
@@ -130,7 +132,7 @@ alone_is_named n p step h = tt
 
 pub story_of-step : (on : Handed) (kept : List Step) (rows : List Plain) (phases : List Phase) (step : Step)
     → AreNamedBySteps 1 0 kept rows phases → stands_alone step ≡ true → story_of on (kept ++ step ∷ []) rows phases
-    ≡ story_of on kept rows phases ++ story_steps.Other step ∷ []
+    ≡ story_of on kept rows phases ++ option_to_list (shown_as step)
 story_of-step on kept rows phases step h alone =
     ap₂ (story_of on (kept ++ step ∷ [])) (sym (append-nil rows)) (sym (append-nil phases))
     ∙ story_of-more on 1 0 kept (step ∷ []) rows [] phases [] h

@@ -1,12 +1,12 @@
 -- What became of a row that was to be committed.
-use Rattle.std.specs.Prelude.{◌≡◌, ℕ, ◌<◌, ◌≤◌, ◌⊎◌, Bool, true, false, Option, Some, None, List}
+use Rattle.std.specs.Prelude.{◌≡◌, ℕ, ◌<◌, ◌≤◌, ◌⊎◌, Bool, true, false, Option, Some, None, option_map, List}
 use Rattle.cc_names.specs.Formed.{Plain, IsFormed}
 use Rattle.cc_names.specs.declared.steps.Step.{Step}
 use Rattle.cc_names.specs.declared.steps.Step.TheVariants as steps
-use Rattle.cc_names.specs.declared.steps.StoryStep.TheVariants as story_steps
 use Rattle.disk_model.specs.Counting.{next_count}
 use Rattle.disk_model.specs.Devices.{Device}
 use Rattle.disk_model.specs.DiskStates.{DiskState, Both, IsCounted}
+use Rattle.legal_history.specs.Stories.Quiet.{is_quiet}
 use Rattle.legal_history.specs.Stories.States.{State, End, ticks_of, faults_of, hanging}
 use Rattle.legal_history.specs.Stories.Steps.{state_of}
 use Rattle.cc_names.specs.Counts.{rises}
@@ -17,9 +17,8 @@ use Rattle.vob_journal.specs.Lefts.{FailsInPhase}
 use Rattle.vob_journal.specs.declared.left.Left.{Left}
 use Rattle.story_log.specs.Logging.Leaving.{LeftSo}
 use Rattle.story_log.specs.Stopping.Backed.{has_row, may_be_open}
-use Rattle.story_log.specs.Story.Faults.{is_fault}
 use Rattle.story_log.specs.Logging.Logs.{Logged, with_committed_row, with_step, with_step_on}
-use Rattle.story_log.specs.Story.Telling.{stands_alone}
+use Rattle.story_log.specs.Story.Telling.{shown_as}
 use Rattle.story_log.specs.declared.logs.Appended.{Appended}
 use Rattle.story_log.specs.declared.logs.Appended.TheVariants as appends
 
@@ -61,7 +60,7 @@ pub record IsCommitted (old new : Logged) (row : Plain) : Type 0 where
 
 -- a step that names no row and no phase, and is no fault of the disk
 abbrev pub IsQuiet : Step → Type 0
-IsQuiet step = (stands_alone step ≡ true) × (is_fault (story_steps.Other step) ≡ false)
+IsQuiet step = option_map is_quiet (shown_as step) ≡ Some true
 
 -- with the step that a fault brings with it
 abbrev pub with_ending : Logged → Option Step → Logged

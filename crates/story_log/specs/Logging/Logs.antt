@@ -1,5 +1,6 @@
 -- A story with the rows and the phases that it names, on a disk, and what each kind of step adds to it.
 use Rattle.std.specs.Prelude.{ℕ, Bool, List, [], ◌∷◌, ◌++◌}
+use Rattle.std.specs.Option.{option_to_list}
 use Rattle.cc_names.specs.Formed.{Plain}
 use Rattle.cc_names.specs.declared.commands.Phase.{Phase}
 use Rattle.cc_names.specs.declared.steps.Step.{Step}
@@ -11,7 +12,7 @@ use Rattle.legal_history.specs.Stories.Steps.{state_of}
 use Rattle.vob_journal.specs.declared.left.Left.{Left}
 use Rattle.story_log.specs.Stopping.Backed.{IsBacked}
 use Rattle.story_log.specs.Story.Handed.{Handed}
-use Rattle.story_log.specs.Story.Telling.{story_of, AreNamedBySteps}
+use Rattle.story_log.specs.Story.Telling.{story_of, AreNamedBySteps, shown_as}
 use Rattle.base_rows.specs.Order.{oldest_first}
 
 -- a story, oldest step first, with the base to which it has led and all phases, in their order, and what contracts see of the
@@ -58,10 +59,10 @@ with_committed_row log row tick ghost_state =
       ghost_state = ghost_state;
     }
 
--- with a step that is told as it stands
+-- with a step that names no row and no phase
 abbrev pub with_step : Logged → Step → Logged
 with_step log step = record {
-  story = log.story ++ story_steps.Other step ∷ [];
+  story = log.story ++ option_to_list (shown_as step);
   base = log.base;
   phases = log.phases;
   ghost_state = log.ghost_state;
@@ -74,7 +75,7 @@ with_ghost_state log ghost_state = record { story = log.story; base = log.base; 
 -- with such a step, while the disk changed
 abbrev pub with_step_on : Logged → Step → DiskState → Logged
 with_step_on log step ghost_state = record {
-  story = log.story ++ story_steps.Other step ∷ [];
+  story = log.story ++ option_to_list (shown_as step);
   base = log.base;
   phases = log.phases;
   ghost_state = ghost_state;

@@ -3,7 +3,6 @@
 use Rattle.std.specs.Prelude.{IfSome, List, reverse}
 use Rattle.std.specs.List.{AllByRecursion}
 use Rattle.cc_names.specs.Formed.{Plain, IsFormed}
-use Rattle.cc_names.specs.declared.steps.Step.TheVariants as steps
 use Rattle.cc_names.specs.declared.steps.StoryStep.{StoryStep}
 use Rattle.cc_names.specs.declared.steps.StoryStep.TheVariants as story_steps
 use Rattle.base_model.specs.Rows.{Base}
@@ -18,7 +17,7 @@ AreFormed b = AllByRecursion IsFormed b
 abbrev pub NamesOnly : (Plain → Type 0) → StoryStep → Type 0
 NamesOnly P (story_steps.Opened rows counts tells) = AllByRecursion P (reverse rows)
 NamesOnly P (story_steps.Commit row tick) = P row
-NamesOnly P (story_steps.Other (steps.Fault tag left before faults tick)) = IfSome left P
+NamesOnly P (story_steps.Fault tag left before faults tick) = IfSome left P
 NamesOnly P step = Unit {0}
 
 -- each row that a story names is so

@@ -1,6 +1,7 @@
 -- How steps that name rows and phases by their numbers are told: a commit with its row, the beginning of a phase with that phase.
 use Rattle.std.specs.Bool.{⊤}
-use Rattle.std.specs.Prelude.{◌≡◌, ℕ, ◌+◌, ◌-◌, ◌≤◌, Bool, true, false, List, [], ◌∷◌, ◌++◌, length, take, drop}
+use Rattle.std.specs.Prelude.{◌≡◌, ℕ, ◌+◌, ◌-◌, ◌≤◌, Bool, Option, Some, None, is_some, List, [], ◌∷◌, ◌++◌, length, take, drop}
+use Rattle.std.specs.Option.{option_to_list}
 use Rattle.cc_names.specs.Formed.{Plain}
 use Rattle.cc_names.specs.declared.commands.Phase.{Phase}
 use Rattle.cc_names.specs.declared.steps.Step.{Step}
@@ -8,6 +9,23 @@ use Rattle.cc_names.specs.declared.steps.Step.TheVariants as steps
 use Rattle.cc_names.specs.declared.steps.StoryStep.{StoryStep}
 use Rattle.cc_names.specs.declared.steps.StoryStep.TheVariants as story_steps
 use Rattle.story_log.specs.Story.Handed.{Handed}
+
+-- the step of a story that a kept step is by itself; none where it names a row or a phase
+abbrev pub shown_as : Step → Option StoryStep
+shown_as (steps.Opened rows) = None
+shown_as (steps.PhaseBegun number moment) = None
+shown_as (steps.Commit tag number tick) = None
+shown_as (steps.Refused tag refusal) = Some (story_steps.Refused tag refusal)
+shown_as (steps.Answer tag text) = Some (story_steps.Answer tag text)
+shown_as (steps.Begin tag rows units) = Some (story_steps.Begin tag rows units)
+shown_as (steps.Start tag n) = Some (story_steps.Start tag n)
+shown_as (steps.Concluded tag n outcome) = Some (story_steps.Concluded tag n outcome)
+shown_as (steps.End tag) = Some (story_steps.End tag)
+shown_as (steps.Fault tag left before faults tick) = Some (story_steps.Fault tag left before faults tick)
+
+-- whether a step names no row and no phase
+abbrev pub stands_alone : Step → Bool
+stands_alone step = is_some (shown_as step)
 
 -- The steps as they are told: the opened rows first, with how the disk was handed in, then each commit with the next row and
 -- each beginning of a phase with the next one.
@@ -20,7 +38,7 @@ story_of h (steps.PhaseBegun number moment ∷ more) rows (phase ∷ phases) =
     story_steps.PhaseBegun phase moment ∷ story_of h more rows phases
 story_of h (steps.Commit tag number tick ∷ more) [] phases = []
 story_of h (steps.Commit tag number tick ∷ more) (row ∷ rows) phases = story_steps.Commit row tick ∷ story_of h more rows phases
-story_of h (step ∷ more) rows phases = story_steps.Other step ∷ story_of h more rows phases
+story_of h (step ∷ more) rows phases = option_to_list (shown_as step) ++ story_of h more rows phases
 
 -- The rows and the phases are those that the steps name, in their order, where rows are numbered from n on and p phases
 -- went before: each commit has its row's tag and number, each beginning of a phase the number of that phase.
@@ -37,13 +55,6 @@ AreNamedBySteps n p (steps.Commit tag number tick ∷ more) [] phases = ⊥
 AreNamedBySteps n p (steps.Commit tag number tick ∷ more) (row ∷ rows) phases = (row.tag ≡ tag) × (number ≡ n)
     × AreNamedBySteps (n + 1) p more rows phases
 AreNamedBySteps n p (step ∷ more) rows phases = AreNamedBySteps n p more rows phases
-
--- whether a step is told as it stands: it names no row and no phase
-abbrev pub stands_alone : Step → Bool
-stands_alone (steps.Opened rows) = false
-stands_alone (steps.PhaseBegun number moment) = false
-stands_alone (steps.Commit tag number tick) = false
-stands_alone step = true
 
 -- the rows of a story, in their order: those of the base that was opened, and that of each commit
 abbrev pub rows_named : List StoryStep → List Plain

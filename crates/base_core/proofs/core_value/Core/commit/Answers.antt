@@ -3,7 +3,6 @@ use Rattle.std.proofs.Common.{◌≡◌, ℕ, true, Option, Some, None, Ok, List
 use Rattle.view_lookup.specs.Naming.{replied_name}
 use Rattle.cc_names.specs.Formed.{Plain}
 use Rattle.cc_names.specs.declared.replies.Reply.TheVariants as replies
-use Rattle.cc_names.specs.declared.steps.Step.TheVariants as steps
 use Rattle.cc_names.specs.declared.steps.StoryStep.{StoryStep}
 use Rattle.cc_names.specs.declared.steps.StoryStep.TheVariants as story_steps
 use Rattle.base_model.specs.Fits.{fits}
@@ -61,8 +60,7 @@ acts_so log new story row appends.Committed same next became =
 acts_so log new story row appends.Faulted same next became =
     let done : IsFaulted log new row None = became in
     next_faults story new.story row done.left done.before done.faults done.tick
-    (ap (λ (l : Logged). l.story) done.grows ∙ ap (λ t. t ++ story_steps.Other
-    (steps.Fault row.tag done.left done.before done.faults done.tick) ∷ []) same) next
+    (ap (λ (l : Logged). l.story) done.grows ∙ ap (λ t. t ++ story_steps.Fault row.tag done.left done.before done.faults done.tick ∷ []) same) next
 
 pub append-requires-clause-fits : goal.append-requires-clause-fits
 append-requires-clause-fits g c =
