@@ -1,9 +1,11 @@
 -- What the next of some commands asks for is given by the word of its line.
 use Rattle.std.proofs.Common.{◌≡◌, ℕ, Bool, true, false, cond, Some, List, [], ◌∷◌, refl, sym, subst}
-use Rattle.std.specs.Prelude.{Ok, Err, IfOk}
+use Rattle.std.specs.Prelude.{Ok, Err, IfOk, codes, map, not}
+use Rattle.std.specs.List.{list_all}
 use Rattle.std.specs.List.{AllByRecursion}
 use Rattle.std.specs.Str.{bytes_eq}
 use Rattle.std.proofs.lemmas.Slice.Eq.{bytes_eq-Decides}
+use Rattle.cc_names.proofs.Common.{and_first, and_second}
 use Rattle.cc_names.specs.declared.commands.Change.{Change}
 use Rattle.cc_names.specs.declared.commands.Command.{Command}
 use Rattle.cc_names.specs.declared.commands.Command.TheVariants as commands
@@ -11,7 +13,7 @@ use Rattle.cc_names.specs.declared.commands.Query.{Query}
 use Rattle.session_text.specs.declared.lanes.Ahead.{Ahead}
 use Rattle.session_text.specs.declared.lanes.Ahead.TheVariants.{Act, Build}
 use Rattle.session_text.specs.Ahead.{ahead_of, ahead_by}
-use Rattle.session_text.specs.Commands.{Line, query_lines, types_on, table, said_in, command_of}
+use Rattle.session_text.specs.Commands.{Line, QueryLine, query, query_table, query_lines, types_on, table, said_in, command_of}
 use Rattle.session_text.specs.Words.{Said, says}
 
 -- the command of these words, where they say one, asks for this
@@ -30,33 +32,28 @@ TellsAhead line = (words : List (List ℕ)) (text : List ℕ) → Asks (ahead_by
 changes : (said : Said Change) → Asks Act (says commands.Change said)
 changes said = made Act commands.Change said (λ change. refl)
 
-asks : (said : Said Query) → Asks Act (says commands.Query said)
-asks said = made Act commands.Query said (λ query. refl)
+query_asks : (said : Said Query) → Asks Act (says commands.Query said)
+query_asks said = made Act commands.Query said (λ query. refl)
+
+-- no query builds
+acts : (word : List ℕ) → not (bytes_eq word (codes "clearmake")) ≡ true → ahead_by word ≡ Act
+acts word h = by (bytes_eq word (codes "clearmake")) h
+  where
+    by : (same : Bool) → not same ≡ true → cond same Build Act ≡ Act
+    by true h = absurd (cc)
+    by false h = refl
+
+queries_ask_by : (queries : List QueryLine) → list_all (λ it. not (bytes_eq it.word (codes "clearmake"))) queries ≡ true
+    → AllByRecursion TellsAhead (map query queries)
+unfolding TellsAhead
+queries_ask_by [] h = tt
+queries_ask_by (it ∷ queries) h = (
+  (λ ws t. subst (λ ahead. Asks ahead (says commands.Query (it.reads ws))) (sym (acts it.word (and_first _ _ h))) (query_asks _)),
+  queries_ask_by queries (and_second _ _ h),
+)
 
 queries_ask : AllByRecursion TellsAhead query_lines
-unfolding TellsAhead
-queries_ask = (
-  (λ ws t. asks _),
-  (
-    (λ ws t. asks _),
-    (
-      (λ ws t. asks _),
-      (
-        (λ ws t. asks _),
-        (
-          (λ ws t. asks _),
-          (
-            (λ ws t. asks _),
-            (
-              (λ ws t. asks _),
-              ((λ ws t. asks _), ((λ ws t. asks _), ((λ ws t. asks _), ((λ ws t. asks _), tt)))),
-            ),
-          ),
-        ),
-      ),
-    ),
-  ),
-)
+queries_ask = queries_ask_by query_table refl
 
 types_ask : AllByRecursion TellsAhead types_on
 unfolding TellsAhead

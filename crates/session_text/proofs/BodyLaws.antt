@@ -1,12 +1,12 @@
 -- Whether a line says a command, and whether that takes a body, does not depend on the body.
 use Rattle.std.proofs.Common.{◌≡◌, ℕ, Bool, true, false, cond, List, [], ◌∷◌, refl}
-use Rattle.std.specs.Prelude.{Ok, Err}
+use Rattle.std.specs.Prelude.{Ok, Err, map}
 use Rattle.std.specs.List.{AllByRecursion}
 use Rattle.std.specs.Str.{bytes_eq}
 use Rattle.cc_names.specs.declared.commands.Change.{Change}
 use Rattle.cc_names.specs.declared.commands.Command.{Command}
 use Rattle.cc_names.specs.declared.commands.Command.TheVariants as commands
-use Rattle.session_text.specs.Commands.{Line, query_lines, types_on, table, said_in, command_of, takes_body}
+use Rattle.session_text.specs.Commands.{Line, QueryLine, query, query_table, types_on, table, said_in, command_of, takes_body}
 use Rattle.session_text.specs.Sessions.{cause_in, body_follows}
 use Rattle.session_text.specs.Words.{Said, says}
 
@@ -24,36 +24,11 @@ alike : {X : Type 0} (make also : X → Change) (said : Said X) → ((x : X)
 alike make also (Ok x) f = (refl, f x)
 alike make also (Err cause) f = (refl, refl)
 
-queries_alike : AllByRecursion IsAlike query_lines
+-- a query never looks at the body
+queries_alike : (queries : List QueryLine) → AllByRecursion IsAlike (map query queries)
 unfolding IsAlike
-queries_alike = (
-  (λ ws t u. (refl, refl)),
-  (
-    (λ ws t u. (refl, refl)),
-    (
-      (λ ws t u. (refl, refl)),
-      (
-        (λ ws t u. (refl, refl)),
-        (
-          (λ ws t u. (refl, refl)),
-          (
-            (λ ws t u. (refl, refl)),
-            (
-              (λ ws t u. (refl, refl)),
-              (
-                (λ ws t u. (refl, refl)),
-                (
-                  (λ ws t u. (refl, refl)),
-                  ((λ ws t u. (refl, refl)), ((λ ws t u. (refl, refl)), tt)),
-                ),
-              ),
-            ),
-          ),
-        ),
-      ),
-    ),
-  ),
-)
+queries_alike [] = tt
+queries_alike (it ∷ queries) = ((λ ws t u. (refl, refl)), queries_alike queries)
 
 types_alike : AllByRecursion IsAlike types_on
 unfolding IsAlike
@@ -69,7 +44,7 @@ types_alike = (
           (λ ws t u. (refl, refl)),
           (
             (λ ws t u. (refl, refl)),
-            ((λ ws t u. (refl, refl)), ((λ ws t u. (refl, refl)), queries_alike)),
+            ((λ ws t u. (refl, refl)), ((λ ws t u. (refl, refl)), queries_alike query_table)),
           ),
         ),
       ),

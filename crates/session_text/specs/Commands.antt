@@ -1,6 +1,6 @@
 -- The commands: the word of each, the words after it, and what they say. Where a command comes, it gets a definition and
 -- a line of the table or of a part of it here.
-use Rattle.std.specs.Prelude.{ℕ, Bool, true, false, Result, Ok, Err, List, [], ◌∷◌, codes, if◌then◌else◌}
+use Rattle.std.specs.Prelude.{ℕ, Bool, true, false, Result, Ok, Err, List, [], ◌∷◌, codes, map, if◌then◌else◌}
 use Rattle.std.specs.Str.{bytes_eq}
 use Rattle.cc_names.specs.declared.commands.Change.{Change}
 use Rattle.cc_names.specs.declared.commands.Change.TheVariants as changes
@@ -192,29 +192,42 @@ change word said = record { word = word; says = λ words text. says commands.Cha
 abbrev pub change_with_body : List ℕ → (List (List ℕ) → List ℕ → Said Change) → Line
 change_with_body word said = record { word = word; says = λ words text. says commands.Change (said words text) }
 
--- the line of a query
-abbrev pub query : List ℕ → (List (List ℕ) → Said Query) → Line
-query word said = record { word = word; says = λ words text. says commands.Query (said words) }
-
 -- the line of a build
 abbrev pub build : List ℕ → (List (List ℕ) → Said Clearmake) → Line
 build word said = record { word = word; says = λ words text. says commands.Build (said words) }
 
+-- a query's word, and what the words after it say
+pub record QueryLine : Type 0 where
+  pub word : List ℕ
+  pub reads : List (List ℕ) → Said Query
+
+-- the query of this word
+abbrev pub asks : List ℕ → (List (List ℕ) → Said Query) → QueryLine
+asks word reads = record { word = word; reads = reads }
+
 -- the queries
-abbrev pub query_lines : List Line
-query_lines =
-    query (codes "catcs") read_catcs
-    ∷ query (codes "lsdo") read_lsdo
-    ∷ query (codes "ls") read_ls
-    ∷ query (codes "cat") read_cat
-    ∷ query (codes "describe") read_describe
-    ∷ query (codes "lsvtree") read_lsvtree
-    ∷ query (codes "lshistory") read_lshistory
-    ∷ query (codes "catcr") read_catcr
-    ∷ query (codes "diffcr") read_diffcr
-    ∷ query (codes "covers") read_covers
-    ∷ query (codes "findmerge") read_findmerge
+abbrev pub query_table : List QueryLine
+query_table =
+    asks (codes "catcs") read_catcs
+    ∷ asks (codes "lsdo") read_lsdo
+    ∷ asks (codes "ls") read_ls
+    ∷ asks (codes "cat") read_cat
+    ∷ asks (codes "describe") read_describe
+    ∷ asks (codes "lsvtree") read_lsvtree
+    ∷ asks (codes "lshistory") read_lshistory
+    ∷ asks (codes "catcr") read_catcr
+    ∷ asks (codes "diffcr") read_diffcr
+    ∷ asks (codes "covers") read_covers
+    ∷ asks (codes "findmerge") read_findmerge
     ∷ []
+
+-- the line of a query
+abbrev pub query : QueryLine → Line
+query it = record { word = it.word; says = λ words text. says commands.Query (it.reads words) }
+
+-- the lines of the queries
+abbrev pub query_lines : List Line
+query_lines = map query query_table
 
 -- the changes of types, labels, arrows and objects, the build, and the queries
 abbrev pub types_on : List Line
