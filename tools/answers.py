@@ -1,4 +1,4 @@
-"""What the program answers, and what is to be done: the tables of docs/GUIDE.md ("Replies and refusals", "Makefile
+"""What the program answers, and what is to be done: the tables of docs/REFERENCE.md ("Replies and refusals", "Makefile
 errors") and of docs/FORMATS.md (spec_text), to the letter. The tools explain answers by these alone.
 
     answer = ANSWERS["C3"]; answer.name; answer.means; answer.to_do
@@ -109,9 +109,9 @@ SPEC_CAUSE_ROWS = r"""
 
 # Where each table is: its file, the text before it and the text after it.
 TABLES = [
-    (ANSWER_ROWS, "GUIDE.md", "## Replies and refusals", "With a status other than 0"),
-    (STATUS_ROWS, "GUIDE.md", "With a status other than 0", "Statuses 6 and 8 take precedence"),
-    (MAKE_CAUSE_ROWS, "GUIDE.md", "### Makefile errors", "## Builds and reuse"),
+    (ANSWER_ROWS, "REFERENCE.md", "## Replies and refusals", "With a status other than 0"),
+    (STATUS_ROWS, "REFERENCE.md", "With a status other than 0", "Statuses 6 and 8 take precedence"),
+    (MAKE_CAUSE_ROWS, "REFERENCE.md", "### Makefile errors", "## Builds and reuse"),
     (SPEC_CAUSE_ROWS, "FORMATS.md", "The first bad line is reported with its cause", "## session_text"),
 ]
 

@@ -72,7 +72,7 @@ GROUPS = (
     Group("The session", (
         Command(
             "phase", "begins a phase, after all lanes of the previous one have ended",
-            NONE, "ClearCase has no sessions: each command runs when it is typed", NONE, NONE, NONE,
+            NONE, "there each command runs when it is typed", NONE, NONE, NONE,
         ),
         Command(
             "lane NAME", "begins a lane; the lanes of a phase run concurrently",
@@ -82,7 +82,7 @@ GROUPS = (
     Group("Views", (
         Command(
             "mkview V", "makes a view with the default config spec",
-            "`mkview -tag V PATH`", "a view is a name in the base: no storage, no server, nothing to start or to set",
+            "`mkview -tag V PATH`", "a name in the base: no storage, no server",
             "`git worktree add`", "a copy of the sources", "a workspace",
             ),
         Command(
@@ -91,52 +91,50 @@ GROUPS = (
             "`git worktree remove`", NONE, NONE,
             options=(Option(
                 "-force", "cancels its checkouts too", "`rmview -force`", "there it only suppresses the prompts",
-                "`git worktree remove --force`",
-            ),),
+                ),),
         ),
         Command(
             "setcs V", "sets the config spec to the body",
-            "`setcs -tag V FILE`", "the rules are in the session; some selectors are missing, see below",
+            "`setcs -tag V FILE`", "the rules are in the session; some selectors are missing",
             "`git switch`", NONE, NONE, body=True,
         ),
         Command(
             "catcs V", "prints the config spec",
-            "`catcs -tag V`", "the same", "`git status`", NONE, NONE, reads=True,
+            "`catcs -tag V`", NONE, "`git status`", NONE, NONE, reads=True,
         ),
     )),
     Group("Elements", (
         Command(
             "mkelem V [-nco] P", "makes a file element and checks it out",
-            "`mkelem P`", "no element types, no comments; refused where a view-private file is, which there becomes the checkout",
+            "`mkelem P`", "no element types; refused where a view-private file is, which there becomes the checkout",
             "`git add`", NONE, NONE,
-            options=(Option("-nco", "does not check it out", "`mkelem -nco`", "the same"),),
+            options=(Option("-nco", "does not check it out", "`mkelem -nco`", NONE),),
         ),
         Command(
             "mkdir V [-nco] P", "makes a directory element and checks it out",
-            "`mkdir P`", "the same; every directory is an element",
-            "`mkdir`; directories have no history", NONE, NONE,
-            options=(Option("-nco", "does not check it out", "`mkdir -nco`", "the same"),),
+            "`mkdir P`", "every directory is an element",
+            NONE, NONE, NONE,
+            options=(Option("-nco", "does not check it out", "`mkdir -nco`", NONE),),
         ),
         Command(
             "checkout V [-unreserved] P", "checks out the selected version and reserves its branch",
-            "`checkout P`", "only the latest version of a branch; no `-branch`, `-version`, `-out` or `-ndata`",
+            "`checkout P`", "only the latest version of a branch; no `-branch`, `-version`, `-ndata`",
             "nothing: files are writable", NONE, NONE,
             options=(Option(
-                "-unreserved", "leaves the branch unreserved", "`checkout -unreserved`", "the same",
+                "-unreserved", "leaves the branch unreserved", "`checkout -unreserved`", NONE,
             ),),
         ),
         Command(
             "save V P", "saves the body as the text of a checked-out file, or as a view-private file",
             "an editor in the view", "a text is empty or ends in a newline",
-            "an editor", "an editor", "an editor", body=True,
+            NONE, NONE, NONE, body=True,
         ),
         Command(
             "checkin V [-identical] P", "checks in the next version of the branch",
-            "`checkin P`", "no comments; no `-keep`, `-from` or `-ptime`",
+            "`checkin P`", "no `-keep`, `-from`, `-ptime`",
             "`git commit P`", NONE, NONE,
             options=(Option(
-                "-identical", "also if the text has not changed", "`checkin -identical`", "the same",
-                "`git commit --allow-empty`",
+                "-identical", "also if the text has not changed", "`checkin -identical`", NONE,
             ),),
         ),
         Command(
@@ -157,7 +155,7 @@ GROUPS = (
         Command(
             "rm V P", "removes a view-private file",
             "`rm P` of the system", "view-private files only",
-            "`rm` of an untracked file", NONE, NONE,
+            NONE, NONE, NONE,
         ),
     )),
     Group("Branches, labels and merges", (
@@ -170,7 +168,7 @@ GROUPS = (
             "mkbranch V [-nco] B P", "makes a branch at the selected version and checks it out",
             "`mkbranch B P`", "no `-version`: a config spec selects where it begins",
             "`git switch -c B`", NONE, NONE,
-            options=(Option("-nco", "does not check it out", "`mkbranch -nco`", "the same", "`git branch B`"),),
+            options=(Option("-nco", "does not check it out", "`mkbranch -nco`", NONE),),
         ),
         Command(
             "mklbtype L", "makes a label type",
@@ -181,27 +179,26 @@ GROUPS = (
             "mklabel V [-replace] L P", "labels the selected version",
             "`mklabel L P`", "no `-version`; no `-recurse`: `tools/label_tree.py` labels a tree",
             "`git tag L`", NONE, NONE,
-            options=(Option("-replace", "moves the label from another version", "`mklabel -replace`", "the same", "`git tag -f L`"),),
+            options=(Option("-replace", "moves the label from another version", "`mklabel -replace`", NONE),),
         ),
         Command(
             "mklabel V [-replace] -config P L", "labels every version that the record of the object at P lists",
-            "`mklabel -config P L`", "no directories and no makefiles, which no record lists; refused if a view-private"
-            " file or a checkout was read",
-            "`git tag` of what was built", NONE, NONE,
+            "`mklabel -config P L`", "no directories and makefiles; refused if a view-private file or a checkout was read",
+            NONE, NONE, NONE,
         ),
         Command(
             "rmlabel V L P", "removes a label from an element",
-            "`rmlabel L P`", "the same", "`git tag -d L`", NONE, NONE,
+            "`rmlabel L P`", NONE, "`git tag -d L`", NONE, NONE,
         ),
         Command(
             "mkarrow V P VERSION", "records that VERSION was merged into the selected version",
-            "`merge -to P -ndata -version VERSION`", "the arrow only: texts are merged by hand; refused while P is checked out, so check in first",
+            "`merge -to P -ndata -version VERSION`", "the arrow only; refused while P is checked out, so check in first",
             "`git merge -s ours`", NONE, NONE,
         ),
         Command(
             "findmerge V P -fversion .../B/LATEST", "lists what is on branch B and not merged yet",
             "`findmerge P -fversion .../B/LATEST -print`",
-            "lists, and never merges; `.../B/LATEST` is the only selector, with B a branch type or `main`",
+            "never merges; `.../B/LATEST` is the only selector, B a branch type or `main`",
             "`git log HEAD..B`", NONE, NONE, reads=True,
         ),
     )),
@@ -212,7 +209,7 @@ GROUPS = (
         ),
         Command(
             "cat V P", "prints a text as the view sees it",
-            "`cat P` in the view", "also for objects", "`cat P`", "`cat P`", "`cat bazel-bin/P`", reads=True,
+            "`cat P` in the view", "also for objects", NONE, NONE, NONE, reads=True,
         ),
         Command(
             "cat V P@@VERSION", "prints the text of any version",
@@ -220,7 +217,7 @@ GROUPS = (
         ),
         Command(
             "describe V P", "prints an element, its selected version and the labels",
-            "`describe P`", "no users, comments, attributes or hyperlinks", "`git log -1 P`", NONE, NONE, reads=True,
+            "`describe P`", "no users, comments, attributes", "`git log -1 P`", NONE, NONE, reads=True,
         ),
         Command(
             "lsvtree V P", "prints all versions, branch by branch, with their labels",
@@ -235,20 +232,18 @@ GROUPS = (
     Group("Builds and objects", (
         Command(
             "clearmake V [-f P] [-J N] [-k] [-u] [-V] [NAME=TEXT ..] [GOAL ..]", "builds the goals",
-            "`clearmake`", "scripts are in a small language, so that every read is audited; makefiles are a subset of"
-            " POSIX make",
+            "`clearmake`", "scripts are in a small language; makefiles are a subset of POSIX make",
             NONE, "`make`", "`bazel build`",
             options=(
-                Option("-f P", "uses the makefile P", "`clearmake -f P`", "at most once", NONE, "`make -f P`", NONE),
+                Option("-f P", "uses the makefile P", "`clearmake -f P`", "at most once"),
                 Option("-J N", "runs up to N scripts at once, 1 to 64", "`clearmake -J N`", "no build hosts", NONE, "`make -j N`",
                        "`--jobs=N`"),
-                Option("-k", "continues after a failed unit", "`clearmake -k`", "always on", NONE, "`make -k`", "`--keep_going`"),
-                Option("-u", "rebuilds the goals unconditionally", "`clearmake -u`", "the same", NONE, "`make -B`", NONE),
-                Option("-V", "reuses only objects of the view itself", "`clearmake -V`", "the same", NONE, NONE, "`--disk_cache=`"),
+                Option("-k", "continues after a failed unit", "`clearmake -k`", "always on"),
+                Option("-u", "rebuilds the goals unconditionally", "`clearmake -u`", NONE, NONE, "`make -B`", NONE),
+                Option("-V", "reuses only objects of the view itself", "`clearmake -V`", NONE, NONE, NONE, "`--disk_cache=`"),
                 Option("NAME=TEXT", "defines a macro", "`clearmake NAME=TEXT`", "no macros from the environment, no BOS files",
                        NONE, "`make NAME=TEXT`", "`--define NAME=TEXT`"),
-                Option("GOAL", "what to build; by default the first target", "`clearmake GOAL`", "the same", NONE, "`make GOAL`",
-                       "`bazel build //:GOAL`"),
+                Option("GOAL", "what to build; by default the first target", "`clearmake GOAL`", NONE),
             ),
         ),
         Command(
@@ -266,7 +261,7 @@ GROUPS = (
         ),
         Command(
             "covers W V P", "tells whether W sees all that an object of V was made from",
-            NONE, "see GUIDE, \"Records\"", NONE, NONE, NONE, reads=True,
+            NONE, "see REFERENCE, \"Records\"", NONE, NONE, NONE, reads=True,
         ),
         Command(
             "rmdo V P", "drops the view's reference to an object, which stays in the base",
@@ -275,39 +270,34 @@ GROUPS = (
         Command(
             "scrub AGE", "removes objects without references that are AGE seconds old or more",
             "`scrubber`", "seconds since the build; there hours since the last reference", "`git gc`", NONE,
-            "garbage collection of the disk cache",
+            "disk cache collection",
         ),
     )),
 )
 
 MISSING = (
-    Missing("`mkvob`, `mount`, `lsvob`, `register`, `mktag`, `mkregion`", "a base is two files, FILE and FILE.objects",
-            "`ccbase FILE run` makes it"),
-    Missing("`startview`, `setview`, `endview`, `pwv`, `lsview`", "no processes and no current view", "each command names its view; `tools/ct.py BASE VIEW` prompts in one"),
-    Missing("snapshot views, `update`, `get`", "views are dynamic", "`tools/export_view.py` writes what a view sees to a folder"),
-    Missing("`clearfsimport`, `clearimport`, `relocate`", "a session has the texts in it", "`tools/import_tree.py` writes such sessions"),
-    Missing("`rmelem`, `rmver`, `rmbranch`, `rmtype`, `rename`, `chtype`", "what is checked in stays", "`rmname`; `rmlabel`"),
+    Missing("`mkvob`, `mount`, `lsvob`, `register`, `mktag`, `mkregion`", "a base is two files", "`ccbase FILE run` makes it"),
+    Missing("`startview`, `setview`, `endview`, `pwv`, `lsview`", "no processes and no current view", "`tools/ct.py BASE VIEW` prompts in one"),
+    Missing("snapshot views, `update`, `get`", "views are dynamic", "`tools/export_view.py`"),
+    Missing("`clearfsimport`, `clearimport`, `relocate`", NONE, "`tools/import_tree.py`"),
+    Missing("`rmelem`, `rmver`, `rmbranch`, `rmtype`, `rmmerge`, `rename`, `chtype`", "what is checked in stays", "`rmname`; `rmlabel`"),
     Missing("`merge`, `diff`, `annotate`", "texts are neither merged nor compared",
-            "`cat V P@@VERSION` into your own tools, then `mkarrow`"),
-    Missing("`rmmerge`", "an arrow stays", NONE),
-    Missing("`lscheckout`, `lsprivate`, `find`", "`ls` and `describe` work path by path", "`tools/look.py` reads a whole base; `tools/ct.py` has `lsco` and `ls -recurse`"),
+            "your own tools, then `mkarrow`"),
+    Missing("`lscheckout`, `lsprivate`, `find`", NONE, "`tools/look.py`; `lsco` and `ls -recurse` of `tools/ct.py`"),
     Missing("`reserve`, `unreserve`", "decided at the checkout", "`uncheckout`, then `checkout -unreserved`"),
     Missing("`winkin`", "a build winks in by itself", "`clearmake`"),
-    Missing("`mkattype`, `mkattr`, `mkhltype`, `mkhlink`", "no attributes, and no hyperlinks but merge arrows", "`mkarrow`"),
-    Missing("`mktrtype`, `mktrigger`, `lock`, `protect`", "no triggers and no permissions", NONE),
-    Missing("`ln`", "no links", NONE),
+    Missing("`mkattype`, `mkattr`, `mkhltype`, `mkhlink`", "no attributes and hyperlinks", "`mkarrow`"),
+    Missing("`mktrtype`, `mktrigger`, `lock`, `protect`, `ln`", "no triggers, permissions, links", NONE),
     Missing("`mkeltype`, checkin of an object", "elements are texts and directories", NONE),
     Missing("UCM: `mkproject`, `mkstream`, `mkactivity`, `deliver`, `rebase`, `mkbl`", "not in scope", "branch types and labels"),
-    Missing("`multitool`", "there is one base; `ccbase FILE sites` runs a text of replicas and packets, by itself", NONE),
+    Missing("`multitool`", "one base", "the model `ccbase FILE sites`"),
     Missing("`-c`, `-cq`, `-nc`", "rows have no comments", NONE),
     Missing("`clearmake -n`, `-q`, `-d`, `-p`", "there are no dry runs", "`covers`; `catcr`"),
     Missing("`clearmake -O`, `-T`, `-F`, `-M`, `-R`", "reuse always compares the whole record", NONE),
-    Missing("`clearmake -U`", "`-u` builds a goal and all that it is made from", NONE),
-    Missing("`clearmake -e`, `-A`, `-N`", "macros are set in the makefile or on the command line", "`NAME=TEXT`"),
-    Missing("`clearmake -B`", "scripts run in the program", "`-J N`"),
-    Missing("`clearmake -C`, `-i`, `-s`, `-r`", "no other makes' modes, no ignored failures, no script output, no built-in rules", NONE),
+    Missing("`clearmake -U`; `-e`, `-A`, `-N`; `-B`", NONE, "`-u`; `NAME=TEXT`; `-J N`"),
+    Missing("`clearmake -C`, `-i`, `-s`, `-r`", "no other modes, ignored failures, script output, built-in rules", NONE),
     Missing("in config specs: selectors by query, `include`, `-file`, `-directory`, `-eltype`, `-error`, blocks of `mkbranch`, `[..]` in"
-            " patterns", "not supported", "a rule for each path or pattern"),
+            " patterns", NONE, "a rule for each path or pattern"),
 )
 
 STATUSES = (

@@ -10,7 +10,7 @@
 
 The words are those of cleartool and clearmake, options cut short too; `help` lists them. They are tested first: a wrong one is refused
 with one line and the status 2, and nothing is run. Then they are written as a session, which the program runs, and its answer is
-printed; a refusal is explained from the guide and from the base. `ls -long`, `ls -recurse`, `lsco`, `lsview`, `lstype` and `pwv` are
+printed; a refusal is explained from the reference and from the base. `ls -long`, `ls -recurse`, `lsco`, `lsview`, `lstype` and `pwv` are
 answered from the base's files, as look.py does. The status is the program's.
 
     --program CCBASE    the program; else the environment's CCBASE, else `ccbase` on the PATH

@@ -21,15 +21,15 @@ FROM_CLEARCASE_HEAD = """\
 # Coming from ClearCase, git, make or Bazel
 
 Written by `tools/write_command_docs.py` from `tools/command_table.py`. Each command is a line of a session, which `ccbase FILE run`
-reads from standard input. GUIDE explains how to use them, FORMATS has their grammar.
+reads from standard input. REFERENCE explains them, FORMATS has their grammar.
 """
 
 ELSEWHERE_HEAD = """\
 ## From git, make and Bazel
 
-The nearest counterparts. Two things have none. A version is of one file, and a config spec selects a version of each file, so there
-is no commit of a whole tree; use a label. And a build compares what scripts *read* with what the view selects now. Prerequisites
-only decide the order, and neither timestamps nor declared inputs decide what is rebuilt.
+The nearest counterparts. A version is of one file, so there is no commit of a whole tree; use a label. A build compares what
+scripts *read* with what the view selects now. Prerequisites only decide the order, and neither timestamps nor declared inputs
+decide what is rebuilt.
 """
 
 MISSING_HEAD = """\
@@ -66,7 +66,7 @@ def clearcase_rows(group):
 
 def clearcase_table():
     """The commands by groups, each with its counterpart in ClearCase."""
-    lines = ["## From ClearCase", ""]
+    lines = ["## From ClearCase", "", "Where the last column is empty, there is no difference.", ""]
     for word, means in table.WORDS:
         lines.append(f"- `{word}`: {means}")
     for group in table.GROUPS:
@@ -215,7 +215,7 @@ Kept beside it; empty so far.
 printf 'phase\enlane a\enmkview v\en' | ccbase demo.base run
 .fi
 .SH SEE ALSO
-docs/GUIDE.md, docs/FORMATS.md and docs/FROM\-CLEARCASE.md of the repository.
+docs/GUIDE.md, docs/REFERENCE.md, docs/FORMATS.md and docs/FROM\-CLEARCASE.md of the repository.
 """
 
 

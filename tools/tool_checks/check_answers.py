@@ -1,4 +1,4 @@
-"""The table of answers, against docs/: the rows of the guide to the letter, and each code that FORMATS lists."""
+"""The table of answers, against docs/: the rows of the reference to the letter, and each code that FORMATS lists."""
 import re
 
 import answers
@@ -26,4 +26,4 @@ def check(bench):
     for status, (means, base) in answers.STATUSES.items():
         same(f"the status {status} has a meaning", bool(means and base), True)
     same("answers.py", bench.process("answers.py").status, 0)
-    return f"{len(explained)} answers as in the guide"
+    return f"{len(explained)} answers as in the reference"
