@@ -20,6 +20,7 @@ pub mod Oldest
 pub mod Parts
 pub mod PlacedForms
 pub mod RowTexts
+pub mod RowsSince
 pub mod SpecRows
 pub mod SpecsSet
 pub mod Walked

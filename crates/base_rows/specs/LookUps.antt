@@ -1,5 +1,5 @@
 -- What rows do to a thing that is looked up, and the newest row that does something to it.
-use Rattle.std.specs.Prelude.{◌≡◌, ℕ, false, Option, Some, None, List, [], ◌∷◌}
+use Rattle.std.specs.Prelude.{◌≡◌, ℕ, false, cond, nat_lt, Option, Some, None, List, [], ◌∷◌}
 use Rattle.std.specs.Option.{option_or}
 use Rattle.cc_names.specs.Last.{Effect, Keeps, Ends, Sets, last}
 use Rattle.cc_names.specs.declared.rows.Deed.{Deed}
@@ -63,6 +63,10 @@ effect_of (does.Sets item) = Sets item
 abbrev pub oldest : {A : Type 0} → Deeds A → Base → Option A
 oldest effect [] = None
 oldest effect (row ∷ older) = option_or (oldest effect older) (left_by (update_by_row (size older) (effect older row.deed)))
+
+-- what rows do to a thing from this one on
+abbrev pub from_row : {A : Type 0} → ℕ → Deeds A → Deeds A
+from_row since effect older deed = cond (nat_lt (size older) since) Keeps (effect older deed)
 
 -- what the row of a number sets a thing to, where it does
 abbrev pub set_at : {A : Type 0} → Deeds A → Base → ℕ → Option A

@@ -11,7 +11,7 @@ ghost use Rattle.base_model.specs.Rows.{deed_at, first_rows, row_at, size};
 ghost use Rattle.base_model.specs.Seen.{file_at};
 ghost use Rattle.base_model.specs.Fits.{fits, is_base, row_limit};
 ghost use Rattle.base_rows.specs.Listings.{HasListing, versions_of_map};
-ghost use Rattle.base_rows.specs.LookUps.{last_of, newest, oldest};
+ghost use Rattle.base_rows.specs.LookUps.{from_row, last_of, newest, oldest};
 ghost use Rattle.base_rows.specs.Order.{oldest_first};
 ghost use Rattle.base_rows.specs.Preparing.{IsPrepared};
 ghost use Rattle.base_rows.specs.SeenFiles.{AreSeen, IsSeenAs};
@@ -355,10 +355,10 @@ impl<'a> FirstRows<'a> {
         left_by(self.newest(look))
     }
 
-    /// What the oldest of them sets a thing to that sets it. Takes time linear in the names of its subject and in the rows with
-    /// its key.
-    pub fn oldest<L: LookUp>(&self, look: &L) -> Option<L::Item>
-        ensures { result ≡ oldest (L.effect look.now) self.now }
+    /// What the oldest of them from a row on sets a thing to that sets it. Takes time linear in the names of its subject and in
+    /// the rows with its key from that row on.
+    pub fn oldest_from<L: LookUp>(&self, since: u64, look: &L) -> Option<L::Item>
+        ensures { result ≡ oldest (from_row since (L.effect look.now)) self.now }
     {
         let base = self.base;
         let mut links = base.links.as_slice();
@@ -366,12 +366,16 @@ impl<'a> FirstRows<'a> {
         let mut oldest = None;
         while let Some(place) = next {
             let link = &links[place];
+            if link.row < since {
+                return oldest;
+            }
             oldest = set_at(self, link.row, look, oldest);
             next = link.older;
             links = &links[..place];
         }
         oldest
     }
+
     /// The numbers of all of them that do something to a thing, the newest first. Takes time linear in the names of its subject
     /// and in the rows with its key.
     pub fn updating_rows<L: LookUp>(&self, alloc: Global, look: &L) -> Result<Vec<u64>, NoMemory>

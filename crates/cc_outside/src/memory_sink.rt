@@ -53,8 +53,9 @@ impl Sink for MemorySink {
     ghost ghost_state = { λ s. record { held = Some s.held; faults = s.faults } };
 
     fn write(&mut self, piece: &[u8]) -> Result<usize, WriteFault>
+        requires { 0 < length piece.now }
         ensures within { IfOk result (λ count. count ≤ length piece.now) }
-        ensures some { IfOk result (λ count. 0 < length piece.now → 0 < count) }
+        ensures some { IfOk result (λ count. 0 < count) }
         ensures bytes { WriteTakes (Some self.old.held) (Some self.new.held) result piece.now }
         ensures kept { self.old.faults ≤ self.new.faults }
         ensures faultless { IfOk result (λ count. self.new.faults ≡ self.old.faults) }

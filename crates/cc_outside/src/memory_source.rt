@@ -4,8 +4,9 @@ ghost use Rattle.std.specs.Prelude.{◌≡◌, ◌≤◌, IfOk, OnErr, length, S
 ghost use Rattle.std.specs.Io.KnownBytes.{ReadConsumes};
 ghost use Rattle.cc_names.specs.Counts.{raised_count, Rose};
 ghost use Rattle.cc_outside.specs.Feeds.{fresh_feed, feed_answer, feed_after};
+ghost use Rattle.cc_outside.specs.GhostStates.{ended_at, is_end};
 
-use crate::sources::{ReadFault, Source};
+use crate::sources::{ReadFault, Source, ended_at};
 use cc_names::memory::NoMemory;
 use std::alloc::Global;
 use std::marker::Model;
@@ -18,6 +19,7 @@ pub struct MemorySource {
     place: usize,
     calls: u64,
     faults: u64,
+    ended: Option<u64>,
     fail: Vec<u64>,
 }
 
@@ -33,6 +35,7 @@ impl Model for MemorySource {
           given = s.place;
           calls = s.calls;
           faults = s.faults;
+          ended = s.ended;
           fail = s.fail.items;
         } };
 
@@ -49,13 +52,21 @@ impl MemorySource {
             place: 0,
             calls: 0,
             faults: 0,
+            ended: None,
             fail: Vec::from_slice(alloc, fail)?,
         })
     }
 }
 
 impl Source for MemorySource {
-    ghost ghost_state = { λ s. record { left = Some s.left; given = s.given; faults = s.faults } };
+    ghost ghost_state = { λ s.
+        record {
+          left = Some s.left;
+          given = s.given;
+          calls = s.calls;
+          faults = s.faults;
+          ended = s.ended;
+        } };
 
     fn read(&mut self, into: &mut [u8]) -> Result<usize, ReadFault>
         ensures within { IfOk result (λ count. count ≤ length into.new) }
@@ -66,18 +77,23 @@ impl Source for MemorySource {
         ensures kept { self.old.faults ≤ self.new.faults }
         ensures faultless { IfOk result (λ count. self.new.faults ≡ self.old.faults) }
         ensures fault { OnErr result (Rose self.old.faults self.new.faults) }
+        ensures called { self.new.calls ≡ raised_count self.old.calls 1 }
+        ensures ended { self.new.ended
+            ≡ ended_at self.old.ended self.new.calls (is_end result (length into.new)) }
         ensures answer { result ≡ feed_answer self.old (length into.old) }
-        ensures after { self.new ≡ feed_after self.old result }
+        ensures after { self.new ≡ feed_after self.old (length into.new) result }
     {
         self.calls = self.calls.saturating_add(1);
         if self.fail.contains(&self.calls) {
             self.faults = self.faults.saturating_add(1);
+            self.ended = ended_at(self.ended, self.calls, true);
             return Err(ReadFault);
         }
         let left = &self.bytes[self.place..];
         let count = left.len().min(into.len());
         into[..count].copy_from_slice(&left[..count]);
         self.place += count;
+        self.ended = ended_at(self.ended, self.calls, count == 0 && !into.is_empty());
         Ok(count)
     }
 }

@@ -25,10 +25,11 @@ pub trait Sink {
     // The bytes that it holds, where contracts know them, and how many calls failed so far.
     ghost ghost_state: { Self → SinkState };
 
-    /// Takes bytes from the start of a piece and answers how many: at least one, where there are any.
+    /// Takes bytes from the start of a piece, which has some, and answers how many: at least one.
     fn write(&mut self, piece: &[u8]) -> Result<usize, WriteFault>
+        requires { 0 < length piece.now }
         ensures within { IfOk result (λ count. count ≤ length piece.now) }
-        ensures some { IfOk result (λ count. 0 < length piece.now → 0 < count) }
+        ensures some { IfOk result (λ count. 0 < count) }
         ensures bytes { WriteTakes (ghost_state self.old).held
             (ghost_state self.new).held result piece.now }
         ensures kept { (ghost_state self.old).faults ≤ (ghost_state self.new).faults }

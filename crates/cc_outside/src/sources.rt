@@ -2,9 +2,9 @@
 
 ghost use Rattle.std.specs.Prelude.{◌≡◌, ◌+◌, ◌≤◌, ◌<◌, ◌^◌, length, IfOk, IfSome, OnErr};
 ghost use Rattle.std.specs.Io.KnownBytes.{ReadConsumes, IsAtEnd};
-ghost use Rattle.cc_names.specs.Counts.{Rose, RoseAtMost};
+ghost use Rattle.cc_names.specs.Counts.{raised_count, Rose, RoseAtMost};
 ghost use Rattle.cc_outside.specs.Reading.{OnFault, OnTooLong};
-ghost use Rattle.cc_outside.specs.GhostStates.{SourceState, Gave, GaveAbove, Lost};
+ghost use Rattle.cc_outside.specs.GhostStates.{SourceState, Gave, GaveAbove, Lost, RestsOnceEnded, ended_at, is_end};
 
 use cc_names::memory::Or;
 use cc_names::texts::Text;
@@ -25,11 +25,12 @@ impl std::error::Error for ReadFault {}
 
 /// Where bytes come from.
 pub trait Source {
-    // The bytes that are still to come, where contracts know them; how many were given, and how many calls failed so far.
+    // The bytes that are still to come, where contracts know them; how many were given, how many calls were made and failed so
+    // far, and at which it ended.
     ghost ghost_state: { Self → SourceState };
 
     /// Gives the next bytes, at most as many as there is room for, and answers how many. No bytes, where there is
-    /// room, are the end.
+    /// room, are the end. A source has ended at the first call that gives its end or fails.
     fn read(&mut self, into: &mut [u8]) -> Result<usize, ReadFault>
         ensures within { IfOk result (λ count. count ≤ length into.new) }
         ensures bytes { ReadConsumes (ghost_state self.old).left
@@ -42,7 +43,23 @@ pub trait Source {
         ensures faultless { IfOk result
             (λ count. (ghost_state self.new).faults ≡ (ghost_state self.old).faults) }
         ensures fault { OnErr result
-            (Rose (ghost_state self.old).faults (ghost_state self.new).faults) };
+            (Rose (ghost_state self.old).faults (ghost_state self.new).faults) }
+        ensures called { (ghost_state self.new).calls
+            ≡ raised_count (ghost_state self.old).calls 1 }
+        ensures ended { (ghost_state self.new).ended
+            ≡ ended_at (ghost_state self.old).ended (ghost_state self.new).calls
+            (is_end result (length into.new)) };
+}
+
+/// The call at which a source has ended, after this call, which may have told so.
+pub(crate) fn ended_at(ended: Option<u64>, call: u64, told: bool) -> Option<u64>
+    ensures { result ≡ ended_at ended call told }
+{
+    match ended {
+        Some(first) => Some(first),
+        None if told => Some(call),
+        None => None,
+    }
 }
 
 /// Why a source was not read to its end.
@@ -57,8 +74,8 @@ pub enum Unread {
 // The most bytes that are asked for at once.
 const PIECE: usize = 65_536;
 
-/// Reads a source to its end, or until it gave one byte more than the limit, and takes no byte past that one. Takes time
-/// linear in the bytes read.
+/// Reads a source to its end, or until it gave one byte more than the limit, and takes no byte past that one. Reads no more once
+/// the source has ended. Takes time linear in the bytes read.
 pub fn read_whole<S: Source>(
     alloc: Global,
     source: &mut S,
@@ -84,6 +101,8 @@ pub fn read_whole<S: Source>(
         (IfSome (S.ghost_state source.old).left (λ bytes. limit < length bytes)) }
     ensures taken { RoseAtMost (limit + 1) (S.ghost_state source.old).given
         (S.ghost_state source.new).given }
+    ensures rests { RestsOnceEnded (S.ghost_state source.old).ended
+        (S.ghost_state source.new).ended (S.ghost_state source.new).calls }
 {
     let mut piece = vec![in alloc; 0u8; PIECE]?;
     let mut bytes = Vec::new(alloc);

@@ -2,7 +2,7 @@
 
 ghost use Rattle.std.specs.Prelude.{◌≡◌, None};
 
-use crate::sources::{ReadFault, Source};
+use crate::sources::{ReadFault, Source, ended_at};
 use std::io::Read;
 use std::marker::Model;
 
@@ -11,7 +11,9 @@ use std::marker::Model;
 pub struct StdSource<I: Read> {
     inner: I,
     given: u64,
+    calls: u64,
     faults: u64,
+    ended: Option<u64>,
 }
 
 impl<I: Read> Model for StdSource<I> {
@@ -19,33 +21,46 @@ impl<I: Read> Model for StdSource<I> {
 
     ghost Value = { Flow };
 
-    ghost view = { λ s. record { given = s.given; faults = s.faults } };
+    ghost view = { λ s.
+        record { given = s.given; calls = s.calls; faults = s.faults; ended = s.ended } };
 }
 
 impl<I: Read> StdSource<I> {
     /// A source over this reader.
     pub fn new(inner: I) -> StdSource<I>
-        ensures { result ≡ record { given = 0; faults = 0 } }
+        ensures { result ≡ record { given = 0; calls = 0; faults = 0; ended = None } }
     {
         StdSource {
             inner,
             given: 0,
+            calls: 0,
             faults: 0,
+            ended: None,
         }
     }
 }
 
 impl<I: Read> Source for StdSource<I> {
-    ghost ghost_state = { λ s. record { left = None; given = s.given; faults = s.faults } };
+    ghost ghost_state = { λ s.
+        record {
+          left = None;
+          given = s.given;
+          calls = s.calls;
+          faults = s.faults;
+          ended = s.ended;
+        } };
 
     fn read(&mut self, into: &mut [u8]) -> Result<usize, ReadFault> {
+        self.calls = self.calls.saturating_add(1);
         match self.inner.read(into) {
             Ok(count) => {
                 self.given = self.given.saturating_add(count as u64);
+                self.ended = ended_at(self.ended, self.calls, count == 0 && !into.is_empty());
                 Ok(count)
             }
             Err(_) => {
                 self.faults = self.faults.saturating_add(1);
+                self.ended = ended_at(self.ended, self.calls, true);
                 Err(ReadFault)
             }
         }

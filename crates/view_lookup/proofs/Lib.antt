@@ -25,3 +25,4 @@ pub mod ByKeys
 pub mod GivenRows
 pub mod NamesGiven
 pub mod NamesInPaths
+pub mod PlacedFinds

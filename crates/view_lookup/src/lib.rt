@@ -61,7 +61,7 @@ pub use directories::{has_name, has_out_by_name, is_directory_element, is_file_e
 pub use directory_names::{add_name, names_given};
 pub use fitting::{ROW_LIMIT, fits};
 pub use given_names::rows_naming;
-pub use history::history_of;
+pub use history::{history_of, placed_on};
 pub use leaving::branches_leaving;
 pub use merged::arrows_into;
 pub use merges::arrow_row;

@@ -8,7 +8,7 @@ use base_rows::bases::FirstRows;
 use base_rows::checkouts::{Taken, checked_out, made_out};
 use base_rows::look_ups::{Does, LookUp, only_if};
 use base_rows::subjects::Subject;
-use base_rows::views::same_name;
+use base_rows::views::{same_name, view_row};
 use cc_names::names::Name;
 use cc_names::rows::Deed;
 
@@ -57,10 +57,11 @@ impl LookUp for StandingOf<'_> {
     ghost affects = { λ it. standing_affects it.rows.now it.view.now };
 }
 
-/// The row that made the view's oldest checkout. Takes time linear in what the view took out in its life and in lives before, and
-/// for each the time of `checked_out`.
+/// The row that made the view's oldest checkout. Takes time linear in what the view took out in its life, and for each the time
+/// of `checked_out`.
 pub fn oldest_out(rows: &FirstRows<'_>, view: &Name) -> Option<u64>
     ensures { result ≡ oldest_out rows.now view.now }
 {
-    rows.oldest(&StandingOf { rows, view })
+    let began = view_row(rows, view).unwrap_or(0);
+    rows.oldest_from(began, &StandingOf { rows, view })
 }

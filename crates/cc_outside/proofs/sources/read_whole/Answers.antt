@@ -1,5 +1,6 @@
 use Rattle.std.proofs.Common.{refl, ◌∙◌, arith, length-take, take, ℕ}
 use Rattle.cc_outside.proofs.Flows.{Consumes-then, Consumes-none, Consumes-length, Consumes-end}
+use Rattle.cc_outside.proofs.Ends.{goes_on, rests_by_one, rests_on}
 use Rattle.cc_outside.proofs.sources.read_whole.Goals as goal
 
 pub loop-bytes-init : goal.loop-bytes-init
@@ -8,6 +9,7 @@ loop-bytes-init g c = record {
   bytes = rw c.new-bytes.ensures.items (Consumes-none (g.S.Source.ghost_state c.args.source.now).left);
   short = omega (arith, c.new-bytes.ensures.len);
   counted = omega (arith, c.new-bytes.ensures.len);
+  goes_on = λ e. e;
   faultless = refl;
 }
 
@@ -38,8 +40,25 @@ loop-bytes-preserved g c = record {
       );
   counted =
       omega (arith, c.in_ok-extend_from_slice.ensures.len, c.in-Ok.ensures.counted, c.in-Ok.ensures.within, length-take {A = ℕ});
+  goes_on = goes_on _ (g.S.Source.ghost_state c.loop-bytes.source).ended _ _ c.in-Ok.count _ c.if-count-eq0.false
+      c.loop-bytes.invariant.goes_on c.in-Ok.ensures.ended;
   faultless = c.in-Ok.ensures.faultless ∙ c.loop-bytes.invariant.faultless;
 }
+
+pub returns-then-count-eq0-clause-rests : goal.returns-then-count-eq0-clause-rests
+returns-then-count-eq0-clause-rests g c =
+    rests_by_one _ (g.S.Source.ghost_state c.loop-bytes.source).ended _ _ _ c.loop-bytes.invariant.goes_on c.read.ensures.ended
+
+pub returns-in_err-extend_from_slice-clause-rests : goal.returns-in_err-extend_from_slice-clause-rests
+returns-in_err-extend_from_slice-clause-rests g c =
+    rests_by_one _ (g.S.Source.ghost_state c.loop-bytes.source).ended _ _ _ c.loop-bytes.invariant.goes_on c.read.ensures.ended
+
+pub returns-in_default-clause-rests : goal.returns-in_default-clause-rests
+returns-in_default-clause-rests g c =
+    rests_by_one _ (g.S.Source.ghost_state c.loop-bytes.source).ended _ _ _ c.loop-bytes.invariant.goes_on c.read.ensures.ended
+
+pub returns-clause-rests : goal.returns-clause-rests
+returns-clause-rests g c = rests_on _ _ _ c.loop-bytes.invariant.goes_on
 
 pub returns-clause-modeled : goal.returns-clause-modeled
 returns-clause-modeled g c =
