@@ -1,16 +1,17 @@
 -- What a core keeps after a step of a build that names no row.
-use Rattle.std.proofs.Common.{false, ◌≡◌, ℕ, ◌≤◌, Some, List, length, ap, ◌∙◌, arith}
+use Rattle.std.proofs.Common.{◌≡◌, ℕ, ◌≤◌, true, Some, List, ◌++◌, length, subst, sym, ap, ◌∙◌, arith}
+use Rattle.std.specs.Option.{option_to_list}
 use Rattle.std.specs.Ordering.{nat_cmp}
 use Rattle.std.specs.FinMap.Entries.{put}
 use Rattle.cc_names.specs.declared.steps.Step.{Step}
 use Rattle.cc_names.specs.declared.steps.StoryStep.{StoryStep}
-use Rattle.cc_names.specs.declared.steps.StoryStep.TheVariants as story_steps
 use Rattle.legal_history.specs.Builds.Active.{Build, Came, build_of}
 use Rattle.legal_history.specs.Stories.States.{State}
 use Rattle.legal_history.specs.Stories.Steps.{after, state_of, with_came}
 use Rattle.legal_history.specs.Stories.Lawful.{Lawful}
 use Rattle.base_core.specs.Calls.Building.{BuildInvariant}
-use Rattle.story_log.specs.Story.Faults.{is_fault}
+use Rattle.legal_history.specs.Stories.Quiet.{is_quiet}
+use Rattle.story_log.specs.Story.Telling.{shown_as}
 use Rattle.base_core.specs.Keeping.CoreInvariants.{CoreInvariant}
 use Rattle.base_core.specs.Keeping.Lanes.{LaneState, put_build}
 use Rattle.story_log.specs.Logging.Logs.{Logged, with_step}

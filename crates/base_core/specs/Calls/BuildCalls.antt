@@ -1,4 +1,5 @@
 -- What the calls of a core on a lane's build ask and leave.
+use Rattle.std.specs.Bool.{⊥}
 use Rattle.std.specs.Prelude.{◌≡◌, ℕ, ◌<◌, true, false, Option, Some, None, Ok, List, [], length}
 use Rattle.std.specs.Ordering.{nat_cmp}
 use Rattle.std.specs.FinMap.Entries.{put}
@@ -33,19 +34,26 @@ use Rattle.base_core.specs.Calls.Building.{BuildInvariant}
 use Rattle.base_core.specs.Story.Replying.{replies_by}
 use Rattle.story_log.specs.Story.Telling.{shown_as}
 
--- By this step, which names no row, unit n of a lane's build comes to something, and no command is replied.
-pub record Notes (s : State) (lane n : ℕ) (step : Step) (came : Came) : Type 0 where
+-- By this step of a story unit n of a lane's build comes to something without a row, and no command is replied.
+pub record NotesAs (s : State) (lane n : ℕ) (came : Came) (x : StoryStep) : Type 0 where
   pub build : Build
   pub active : build_of s.active lane ≡ Some build
   pub within : n < length build.units
   pub waits : is_outcome (came_to build n) ≡ false
-  pub shown : StoryStep
-  pub is : shown_as step ≡ Some shown
-  pub quiet : is_quiet shown ≡ true
-  pub lawful : Lawful s shown
-  pub leaves : after s shown ≡ record s { active = put nat_cmp lane (with_came build (Some n) came) s.active }
-  pub silent : (other : ℕ) → replies_by s other shown ≡ []
-  pub own : lane_of shown ≡ Some lane
+  pub quiet : is_quiet x ≡ true
+  pub lawful : Lawful s x
+  pub leaves : after s x ≡ record s { active = put nat_cmp lane (with_came build (Some n) came) s.active }
+  pub silent : (other : ℕ) → replies_by s other x ≡ []
+  pub own : lane_of x ≡ Some lane
+
+-- there is such a step
+abbrev pub NotesIf : State → ℕ → ℕ → Came → Option StoryStep → Type 0
+NotesIf s lane n came None = ⊥
+NotesIf s lane n came (Some x) = NotesAs s lane n came x
+
+-- a step that the program keeps is shown as such a one
+abbrev pub Notes : State → ℕ → ℕ → Step → Came → Type 0
+Notes s lane n step came = NotesIf s lane n came (shown_as step)
 
 -- unit n of a lane's build has come to this, and the story went on
 pub record Noted (old new : List StoryStep) (lane n : ℕ) (came : Came) : Type 0 where
