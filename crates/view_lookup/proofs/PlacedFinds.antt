@@ -1,5 +1,5 @@
 -- A search by halving in places that are in the order of their elements finds the one of an element.
-use Rattle.std.proofs.Common.{◌≡◌, ℕ, ◌<◌, ◌≤◌, ◌==◌, Bool, true, false, ◌||◌, List, [], ◌∷◌, length, get_or, map, Option, Some, None}
+use Rattle.std.proofs.Common.{◌≡◌, ℕ, ◌<◌, ◌≤◌, ◌==◌, Bool, true, false, cond, ◌||◌, List, [], ◌∷◌, length, get_or, map, Some, None}
 use Rattle.std.proofs.Common.{nat_lt, refl, inl, inr, ap, ◌∙◌, arith}
 use Rattle.std.specs.Prelude.{find, is_some}
 use Rattle.std.specs.List.{list_any}
@@ -48,11 +48,11 @@ module _ (placed : List Placed) (sorted : IsStrictlySortedBy nat_cmp (map elemen
           | inl before ↦ grind (arith, nat_tests, parted.0 k f (omega arith) before)
           | inr behind ↦ elim (cases_lt i k) [
             | inl after ↦ grind (
-                arith,
-                nat_tests,
-                parted.1 i f (omega arith) within,
-                elements_apart i k f after in_range,
-              )
+              arith,
+              nat_tests,
+              parted.1 i f (omega arith) within,
+              elements_apart i k f after in_range,
+            )
             | inr here ↦
                 let same : k ≡ i = omega arith in
                 let there : get_or placed k f ≡ get_or placed i d = ap (λ j. get_or placed j f) same
@@ -72,4 +72,8 @@ module _ (placed : List Placed) (sorted : IsStrictlySortedBy nat_cmp (map elemen
 -- one is found where there is one
 pub found_any : (p : Placed → Bool) (placed : List Placed) → is_some (find p placed) ≡ list_any p placed
 found_any p [] = refl
-found_any p (one ∷ more) = elim (p one) as (λ is. is_some (find p (one ∷ more)) ≡ (is || list_any p more)) [ true ↦ refl | false ↦ found_any p more ]
+found_any p (one ∷ more) = by (found_any p more) (p one)
+  where
+    by : is_some (find p more) ≡ list_any p more → (is : Bool) → is_some (cond is (Some one) (find p more)) ≡ (is || list_any p more)
+    by rest true = refl
+    by rest false = rest

@@ -69,18 +69,6 @@ fn is_branch_at(trees: &[Branch], place: usize, identity: &Identity) -> bool
     }
 }
 
-/// The same place. Takes constant time where the branch is at the place `near`.
-fn branch_near(trees: &[Branch], near: usize, identity: &Identity) -> usize
-    requires { IsInOrder trees.now }
-    ensures place { result ≡ branch_place_in identity.now trees.now }
-    ensures within { result ≤ length trees.now }
-{
-    if is_branch_at(trees, near, identity) {
-        return near;
-    }
-    branch_place(trees, identity)
-}
-
 /// The branch of an identity.
 fn find_in<'a>(trees: &'a [Branch], identity: &Identity) -> Option<&'a Branch>
     requires { IsInOrder trees.now }
@@ -159,6 +147,30 @@ fn put_on_branch(
     Ok(())
 }
 
+/// The same. Takes constant time where the branch is at the place `near` and the version is its last one. Else `near` becomes its
+/// place, in time logarithmic in the branches.
+fn put_version_near(
+    trees: &mut Vec<Branch>,
+    near: &mut usize,
+    branch: &Identity,
+    number: u64,
+    made: Shared,
+) -> Result<(), NoMemory>
+    requires { IsInOrder trees.old.items }
+    ensures ok { OnOk result
+        (trees.new.items
+        ≡ with_branch_changed branch.now
+        (λ tree. with_version_by tree number made) trees.old.items) }
+    ensures err { OnErr result (trees.new.items ≡ trees.old.items) }
+{
+    if is_branch_at(trees, *near, branch) {
+        return put_version_at(trees, *near, number, made);
+    }
+    let place = branch_place(trees, branch);
+    *near = place;
+    put_on_branch(trees, place, branch, number, made)
+}
+
 /// Puts one operation more after those that gave the mastership of a branch away, where that is there.
 fn push_master(
     trees: &mut Vec<Branch>,
@@ -215,9 +227,7 @@ fn take_operation(
             put_branch(trees, Branch::new(alloc, made, element))
         }
         SiteDeed::Version(branch, number, _) => {
-            let place = branch_near(trees, *near, branch);
-            *near = place;
-            put_on_branch(trees, place, branch, *number, made)
+            put_version_near(trees, near, branch, *number, made)
         }
         SiteDeed::Master(branch, _) => push_master(trees, branch, made),
     }

@@ -122,13 +122,11 @@ fn news_of_whole(
         → TakesWhole result known operations.now table.new }
 {
     let mut news = Vec::new(alloc);
-    let mut near = 0;
     for operation in operations {
-        let identity = &operation.operation().identity;
-        if table.holds_near(&mut near, identity) {
+        let new = table.take(alloc, &operation.operation().identity)?;
+        if !new {
             continue;
         }
-        table.raise(alloc, identity)?;
         news.push(operation.copy()?)?;
     }
     Ok(news)
@@ -203,7 +201,7 @@ impl Log {
         ensures above { IfOk result (λ shared. shared.items ≡ above table.now self.now) }
         ensures whole { IfOk result (λ shared. IsWhole table.now shared.items) }
     {
-        let _order = table.entries();
+        table.is_in_order();
         not_held(alloc, &self.operations[from..], table)
     }
 

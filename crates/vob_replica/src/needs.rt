@@ -35,7 +35,7 @@ impl Model for Needs {
 fn number_with(table: &Table, own: &Identity, site: &Name) -> u64
     ensures { result ≡ number_in (with_operation table.now own.now) site.now }
 {
-    let _order = table.entries();
+    table.is_in_order();
     let number = table.number(site);
     if own.site == *site {
         return number.max(own.number);

@@ -1,6 +1,6 @@
 //! Epoch tables.
 
-ghost use Rattle.std.specs.Prelude.{◌≡◌, [], ◌<◌, ◌≤◌, length, vec_len, insert, slice_index_or, slice_set, is_none, IsTrue, IfOk, OnOk, OnErr};
+ghost use Rattle.std.specs.Prelude.{◌≡◌, [], ◌<◌, ◌≤◌, true, not, if◌then◌else◌, length, vec_len, insert, slice_index_or, slice_set, is_none, IsTrue, IfOk, OnOk, OnErr};
 ghost use Rattle.vob_replica.specs.declared.events.Identity.{Identity};
 ghost use Rattle.vob_replica.specs.Tables.{is_below, is_entry_at, higher_entry, entry_place_in, number_in, holds, with_operation, raised_by, first_gap, Ascends, IsWithin};
 
@@ -46,18 +46,6 @@ fn entry_place(entries: &[Identity], site: &Name) -> usize
     entries.partition_point(|entry| is_below(site, entry))
 }
 
-/// The number of a site among entries.
-fn number_of(entries: &[Identity], site: &Name) -> u64
-    ensures { result ≡ number_in entries.now site.now }
-{
-    for entry in entries {
-        if entry.site == *site {
-            return entry.number;
-        }
-    }
-    0
-}
-
 /// Whether the entry at a place is that of a site.
 fn is_entry_at(entries: &[Identity], place: usize, site: &Name) -> bool
     ensures at { result ≡ is_entry_at entries.now place site.now }
@@ -69,7 +57,8 @@ fn is_entry_at(entries: &[Identity], place: usize, site: &Name) -> bool
     }
 }
 
-/// The place of a site. Takes constant time where its entry is at the place `near`, else time logarithmic in the entries.
+/// The place of a site. Takes constant time where its entry is at the place `near` or the next one, else time logarithmic in the
+/// entries.
 fn place_near(entries: &[Identity], near: usize, site: &Name) -> usize
     requires { Ascends entries.now }
     ensures place { result ≡ entry_place_in site.now entries.now }
@@ -77,6 +66,10 @@ fn place_near(entries: &[Identity], near: usize, site: &Name) -> usize
 {
     if is_entry_at(entries, near, site) {
         return near;
+    }
+    let next = near.saturating_add(1);
+    if is_entry_at(entries, next, site) {
+        return next;
     }
     entry_place(entries, site)
 }
@@ -91,6 +84,35 @@ fn number_at(entries: &[Identity], place: usize, site: &Name) -> u64
         return entries[place].number;
     }
     0
+}
+
+/// The number of a site that has the entry at a place.
+fn number_there(entries: &[Identity], place: usize, site: &Name) -> u64
+    requires order { Ascends entries.now }
+    requires there { is_entry_at entries.now place site.now ≡ true }
+    requires within { place < length entries.now }
+    ensures { result ≡ number_in entries.now site.now }
+{
+    entries[place].number
+}
+
+/// The number of a site. Takes constant time where its entry is at the place `near` or the next one, else time logarithmic in the
+/// entries. `near` becomes its place.
+fn number_near(entries: &[Identity], near: &mut usize, site: &Name) -> u64
+    requires { Ascends entries.now }
+    ensures { result ≡ number_in entries.now site.now }
+{
+    if is_entry_at(entries, *near, site) {
+        return number_there(entries, *near, site);
+    }
+    let next = near.saturating_add(1);
+    if is_entry_at(entries, next, site) {
+        *near = next;
+        return number_there(entries, next, site);
+    }
+    let place = entry_place(entries, site);
+    *near = place;
+    number_at(entries, place, site)
 }
 
 /// Raises the number of the entry at a place, where it is lower.
@@ -139,6 +161,25 @@ fn put_operation(
     put_entry(alloc, entries, place, identity)
 }
 
+/// Takes an operation in whose site has the entry at a place, unless it is known, and answers whether it was not.
+fn take_at(entries: &mut Vec<Identity>, place: usize, identity: &Identity) -> bool
+    requires order { Ascends entries.old.items }
+    requires there { is_entry_at entries.old.items place identity.now.site ≡ true }
+    requires within { place < vec_len entries.old }
+    ensures known { holds entries.old.items identity.now ≡ not result }
+    ensures taken { entries.new.items
+        ≡ (if result then with_operation entries.old.items identity.now else entries.old.items) }
+    ensures order { Ascends entries.new.items }
+{
+    let known = number_there(entries, place, &identity.site);
+    let held = identity.number > 0 && identity.number <= known;
+    if held {
+        return false;
+    }
+    raise_entry(entries, place, identity.number);
+    true
+}
+
 fn copies_of(alloc: Global, entries: &[Identity]) -> Result<Vec<Identity>, NoMemory>
     ensures { IfOk result (λ copies. copies.items ≡ entries.now) }
 {
@@ -168,11 +209,20 @@ impl Table {
         self.entries.as_slice()
     }
 
-    /// The number of a site; 0 where none of its operations is known. Takes time linear in the sites.
+    /// Promises that the entries are in byte order of sites.
+    pub fn is_in_order(&self)
+        ensures { Ascends self.now }
+    {
+        let _entries = self.entries.as_slice();
+    }
+
+    /// The number of a site; 0 where none of its operations is known. Takes constant time where the site is the one that was raised
+    /// last or the next one, else time logarithmic in the sites.
     pub fn number(&self, site: &Name) -> u64
         ensures { result ≡ number_in self.now site.now }
     {
-        number_of(&self.entries, site)
+        let place = place_near(&self.entries, self.near, site);
+        number_at(&self.entries, place, site)
     }
 
     /// Whether an operation is among those of the table. `near` is where its site may stand, and is then where it stands: there
@@ -180,9 +230,7 @@ impl Table {
     pub(crate) fn holds_near(&self, near: &mut usize, identity: &Identity) -> bool
         ensures { result ≡ holds self.now identity.now }
     {
-        let place = place_near(&self.entries, *near, &identity.site);
-        *near = place;
-        let known = number_at(&self.entries, place, &identity.site);
+        let known = number_near(&self.entries, near, &identity.site);
         identity.number > 0 && identity.number <= known
     }
 
@@ -197,6 +245,27 @@ impl Table {
         put_operation(alloc, &mut self.entries, place, identity)?;
         self.near = place;
         Ok(())
+    }
+
+    /// Takes an operation in unless it is known, and answers whether it was not. Takes constant time where its site is the one
+    /// that was raised last, else time linear in the sites, and memory for a new one. An `Err` changes nothing.
+    pub(crate) fn take(&mut self, alloc: Global, identity: &Identity) -> Result<bool, NoMemory>
+        ensures known { IfOk result (λ new. holds self.old identity.now ≡ not new) }
+        ensures taken { IfOk result
+            (λ new. self.new
+            ≡ (if new then with_operation self.old identity.now else self.old)) }
+        ensures err { OnErr result (self.new ≡ self.old) }
+    {
+        if is_entry_at(&self.entries, self.near, &identity.site) {
+            return Ok(take_at(&mut self.entries, self.near, identity));
+        }
+        let mut near = self.near;
+        if self.holds_near(&mut near, identity) {
+            self.near = near;
+            return Ok(false);
+        }
+        self.raise(alloc, identity)?;
+        Ok(true)
     }
 
     /// Takes the operations of another table in. An `Err` leaves it with some of them. Takes time linear in the sites of both,
@@ -219,12 +288,14 @@ impl Table {
         Ok(Table { entries, near: 0 })
     }
 
-    /// Whether the table holds all that another does. Takes time linear in the sites of both, each with each.
+    /// Whether the table holds all that another does. Takes time linear in the sites of the other where they are those of this one,
+    /// else also logarithmic in the sites for each.
     pub(crate) fn covers(&self, others: &[Identity]) -> bool
         ensures { result ≡ is_none (first_gap others.now self.now) }
     {
+        let mut near = 0;
         for other in others {
-            if self.number(&other.site) < other.number {
+            if number_near(&self.entries, &mut near, &other.site) < other.number {
                 return false;
             }
         }

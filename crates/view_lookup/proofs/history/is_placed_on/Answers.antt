@@ -1,5 +1,5 @@
 -- One is found where there is one.
-use Rattle.std.proofs.Common.{ap, ◌∙◌, rules, ◌≡◌}
+use Rattle.std.proofs.Common.{◌∙◌, rules, ◌≡◌}
 use Rattle.std.specs.Prelude.{find, is_some}
 use Rattle.base_rows.specs.Histories.{is_placed_on}
 use Rattle.view_lookup.proofs.PlacedFinds.{found_any}

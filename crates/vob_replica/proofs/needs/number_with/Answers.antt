@@ -14,11 +14,11 @@ returns-then-eq c =
     let same : bytes_eq own.site site ≡ true = first_of (search rules, cc) in
     let has = c.number-number.ensures in
     let highest : c.max.result ≡ max (number_in table site) own.number = first_of (search rules, grind arith, cc) in
-    highest ∙ number-raised table own site c.entries-order.ensures.order same
+    highest ∙ number-raised table own site c.is_in_order.ensures same
 
 -- it is one of another
 pub returns : goal.returns
 returns c =
     let differs : bytes_eq c.args.own.now.site c.args.site.now ≡ false = first_of (search rules, cc) in
     c.number-number.ensures
-    ∙ sym (other-number c.args.table.now c.args.own.now c.args.site.now c.entries-order.ensures.order differs)
+    ∙ sym (other-number c.args.table.now c.args.own.now c.args.site.now c.is_in_order.ensures differs)

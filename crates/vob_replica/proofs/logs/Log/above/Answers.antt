@@ -23,5 +23,5 @@ returns-clause-above c =
 -- so they need nothing that is missing
 pub returns-clause-whole : goal.returns-clause-whole
 returns-clause-whole c =
-    ok-whole c.not_held.result c.args.table.now c.args.self.now c.entries-order.ensures.order
+    ok-whole c.not_held.result c.args.table.now c.args.self.now c.is_in_order.ensures
     (subst (IsWhole []) c.self.view_is c.self.invariant.whole) (returns-clause-above c)
