@@ -28,6 +28,10 @@ pub record IsBuilding (s : State) (lane count : ℕ) : Type 0 where
   pub of_units : length build.units ≡ count
   pub few : count < 2 ^ 32
 
+-- a build that is active stays as it is: where the lane builds already, nothing changed
+abbrev pub LeavesActive : List StoryStep → List StoryStep → ℕ → Type 0
+LeavesActive old new lane = (build : Build) → build_of (state_of old).active lane ≡ Some build → new ≡ old
+
 -- a build of so many units began, or goes on; or its command was refused
 abbrev pub Begins : List StoryStep → List StoryStep → ℕ → Begun → Type 0
 Begins old new lane (begins.Units count) = GoesOn old new lane × IsBuilding (state_of new) lane count
@@ -92,6 +96,10 @@ pub record IsOver (s : State) (lane : ℕ) : Type 0 where
 -- a unit of a lane's build has its outcome, and the story went on
 abbrev pub Concludes : List StoryStep → List StoryStep → ℕ → ℕ → Type 0
 Concludes old new lane n = GoesOn old new lane × HasOutcome (state_of new) lane n
+
+-- a unit that has its outcome stays as it is: where unit n of a lane's build has it already, nothing changed
+abbrev pub LeavesConcluded : List StoryStep → List StoryStep → ℕ → ℕ → Type 0
+LeavesConcluded old new lane n = HasOutcome (state_of old) lane n → new ≡ old
 
 -- what became of a unit that was tried: it has its outcome, it waits for another and nothing changed, or its script is to be run,
 -- by this call's start or by an earlier one, after which nothing changed; or the disk failed and its lane's command is finished

@@ -7,7 +7,7 @@ ghost use Rattle.legal_history.specs.Stories.Commanded.{next_command_of};
 ghost use Rattle.legal_history.specs.Stories.Lawful.{Legal};
 ghost use Rattle.legal_history.specs.Stories.States.{next_tag};
 ghost use Rattle.legal_history.specs.Stories.Steps.{state_of};
-ghost use Rattle.clearmake.specs.Calls.{Begins, IsBuilding, IsCarried, IsOver, IsRunOfUnit, Tries, WasStarted, released_units};
+ghost use Rattle.clearmake.specs.Calls.{Begins, IsBuilding, IsCarried, IsOver, IsRunOfUnit, LeavesActive, LeavesConcluded, Tries, WasStarted, released_units};
 ghost use Rattle.clearmake.specs.Going.{Finishes};
 ghost use Rattle.clearmake.specs.Nexts.{jobs_of, next_of_lane};
 ghost use Rattle.clearmake.specs.FoundTexts.{IsFetched, sees};
@@ -48,21 +48,23 @@ pub trait BuildService: Storied<Step = StoryStep> {
         ensures within { IfOk result (λ jobs. (1 ≤ jobs) × (jobs ≤ 64)) };
 
     /// Begins the build of a lane's next command and answers how many units it has, or refuses the command. A build that
-    /// is active goes on. An `Err` changes nothing.
+    /// is active stays as it is. An `Err` changes nothing.
     fn begin(&mut self, alloc: Global, lane: u32) -> Result<Begun, NoMemory>
         requires { next_of_lane (state_of (Self.story self.old)) lane
             ≡ nexts.Build (next_tag (state_of (Self.story self.old)) lane) }
         ensures ok { IfOk result
             (λ begun. Begins (Self.story self.old) (Self.story self.new) lane begun) }
+        ensures active { LeavesActive (Self.story self.old) (Self.story self.new) lane }
         ensures err { OnErr result (Self.story self.new ≡ Self.story self.old) };
 
-    /// Tries a unit of a lane's build: it has its outcome, it gets one without a run, it waits for another, or its script
-    /// is started. Where the disk fails the build ends. An `Err` changes nothing.
+    /// Tries a unit of a lane's build: it has its outcome, and nothing changes; or it gets one without a run, it waits for
+    /// another, or its script is started. Where the disk fails the build ends. An `Err` changes nothing.
     fn try_unit(&mut self, alloc: Global, lane: u32, unit: u32) -> Result<UnitTurn, NoMemory>
         requires { (count : ℕ)
             × IsBuilding (state_of (Self.story self.old)) lane count × (unit < count) }
         ensures ok { IfOk result
             (λ turn. Tries (Self.story self.old) (Self.story self.new) lane unit turn) }
+        ensures concluded { LeavesConcluded (Self.story self.old) (Self.story self.new) lane unit }
         ensures err { OnErr result (Self.story self.new ≡ Self.story self.old) };
 
     /// What a unit that was started finds at a path, which is the same at every moment since its start. Never broken.
@@ -83,6 +85,7 @@ pub trait BuildService: Storied<Step = StoryStep> {
         requires { IsRunOfUnit (state_of (Self.story self.old)) lane unit (ran_of ended) }
         ensures ok { IfOk result
             (λ end. IsCarried (Self.story self.old) (Self.story self.new) lane unit end) }
+        ensures concluded { LeavesConcluded (Self.story self.old) (Self.story self.new) lane unit }
         ensures err { OnErr result (Self.story self.new ≡ Self.story self.old) };
 
     /// The units that a unit which has its outcome has released, in their order: those without an outcome that need it,
