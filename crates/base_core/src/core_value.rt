@@ -52,12 +52,10 @@ impl<D: Disk> Core<D> {
     ghost use Rattle.base_core.specs.Story.Replying.{replies_of};
     ghost use Rattle.story_log.specs.Stopping.Backed.{IsSettled, IsAccounted, may_be_open};
     ghost use Rattle.base_core.specs.Story.Counted.{KeepsCount};
-    ghost use Rattle.story_log.specs.Bases.Opening.{OpensCore, FailsToOpen};
+    ghost use Rattle.story_log.specs.Bases.Opening.{AreSynced, OpensCore, FailsToOpen};
     ghost use Rattle.story_log.specs.Story.Formed.{TellsOnly};
     ghost use Rattle.cc_names.specs.Formed.{IsFormed};
     ghost use Rattle.disk_model.specs.Counting.{next_count};
-    ghost use Rattle.disk_model.specs.Devices.{file_of, bytes_now};
-    ghost use Rattle.disk_model.specs.Files.{stable};
     ghost use Rattle.disk_model.specs.DiskStates.{IfModeled, Both};
     ghost use Rattle.vob_journal.specs.Added.{WritesOn};
 
@@ -65,10 +63,8 @@ impl<D: Disk> Core<D> {
     /// `fits`, and writes nothing. Names are found by hashing them so. A disk whose base cannot be opened comes back with the
     /// cause.
     pub fn open(alloc: Global, hashing: RandomState, disk: D) -> Result<Core<D>, OpenFault<D>>
-        requires { IfModeled (D.ghost_state disk).modeled
-            (λ d. file_of 0 d ≡ stable (bytes_now 0 d)) }
-        ensures ok { IfOk result
-            (λ core. OpensCore (D.ghost_state disk) core.story core.ghost_state) }
+        requires { IfModeled (D.ghost_state disk).modeled AreSynced }
+        ensures ok { IfOk result (λ core. OpensCore (D.ghost_state disk) core.story core.ghost_state) }
         ensures err { IfErr result
             (λ fault. FailsToOpen (D.ghost_state disk) fault.cause (D.ghost_state fault.disk)) }
     {

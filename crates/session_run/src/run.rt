@@ -3,11 +3,10 @@
 ghost use Rattle.std.specs.Prelude.{◌≡◌, ◌≢◌, [], true};
 ghost use Rattle.legal_history.specs.Builds.Values.{IsSound};
 ghost use Rattle.legal_history.specs.Stories.Steps.{state_of};
+ghost use Rattle.story_log.specs.Bases.Opening.{AreSynced};
 ghost use Rattle.story_log.specs.Stopping.Backed.{may_be_open};
 ghost use Rattle.cc_names.specs.Counts.{rises};
 ghost use Rattle.disk_model.specs.DiskStates.{IfModeled, IsCounted};
-ghost use Rattle.disk_model.specs.Devices.{file_of, bytes_now};
-ghost use Rattle.disk_model.specs.Files.{stable};
 ghost use Rattle.session_run.specs.Calls.Asked.{form_of};
 ghost use Rattle.session_run.specs.Calls.Causes.{disk_ghost_states, intake_of, sink_faults, FindsDamage, HasCause, LeavesAlone, TakesNoMore};
 ghost use Rattle.session_run.specs.Faults.Accounted.{IsAccountedFor, KeepsFiles, SettlesJournal};
@@ -141,8 +140,7 @@ fn run_session<R: Threads + Wait + Sync, G: Hook + Sync, K: Sink, D: Disk + Send
     requires runnable { IsRunnable given.phases.items }
     requires none { given.form ≡ forms.Verify → given.phases.items ≡ [] }
     requires base { given.form ≢ forms.Sites }
-    requires stable { IfModeled (D.ghost_state disk).modeled
-        (λ d. file_of 0 d ≡ stable (bytes_now 0 d)) }
+    requires synced { IfModeled (D.ghost_state disk).modeled AreSynced }
     ensures { RunsSession given.form given.phases.items result.status result.history
         (outside_of (K.ghost_state sink.old) (K.ghost_state sink.new) (C.ghost_state clock.old)
         (C.ghost_state clock.new))

@@ -2,4 +2,5 @@ pub mod Bases
 pub mod Cases
 pub mod Logging
 pub mod Stopping
+pub mod Stored
 pub mod Story

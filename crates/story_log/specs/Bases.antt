@@ -1,4 +1,3 @@
 -- How a base is opened: its rows are read and fit one another.
-pub mod Damages
 pub mod Opening
 pub mod Reading

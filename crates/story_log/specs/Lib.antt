@@ -1,4 +1,5 @@
 pub mod Bases
 pub mod Logging
 pub mod Stopping
+pub mod Stored
 pub mod Story

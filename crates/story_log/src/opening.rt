@@ -2,10 +2,9 @@
 
 ghost use Rattle.std.specs.Prelude.{◌≡◌, [], ◌∷◌, true, IfSome, IfNone, IfOk, IfErr, OnOk};
 ghost use Rattle.base_model.specs.Fits.{fits};
-ghost use Rattle.disk_model.specs.Devices.{file_of, bytes_now};
-ghost use Rattle.disk_model.specs.Files.{stable};
 ghost use Rattle.disk_model.specs.DiskStates.{IfModeled};
-ghost use Rattle.story_log.specs.Bases.Opening.{StopsBy, IsOpened, FailsToOpen};
+ghost use Rattle.story_log.specs.Bases.Opening.{AreSynced, StopsBy, IsOpened, FailsToOpen};
+ghost use Rattle.story_log.specs.Stored.Stops.{found_with};
 ghost use Rattle.story_log.specs.Bases.Reading.{OnlyReads, NextIs, IsMisfit, IsMissed, IsNextRow, IsNoRow, IsReadSoFar, ReadsOn, IsReadThrough};
 
 use crate::logs::Log;
@@ -99,7 +98,7 @@ fn read_next_row<D: Disk>(
         ((D.ghost_state journal.new.disk).faults ≡ (D.ghost_state journal.old.disk).faults) }
     ensures err { IfErr result
         (λ cause.
-        StopsBy (D.ghost_state journal.old.disk).modeled (λ _. journal.old.list) cause
+        StopsBy (D.ghost_state journal.old.disk).modeled (found_with journal.old.list) cause
         (D.ghost_state journal.old.disk).faults (D.ghost_state journal.new.disk).faults) }
 {
     let payload = match next_payload(alloc, journal) {
@@ -137,7 +136,7 @@ fn read_rows<D: Disk>(
         ((D.ghost_state journal.new.disk).faults ≡ (D.ghost_state journal.old.disk).faults) }
     ensures err { IfErr result
         (λ cause.
-        StopsBy (D.ghost_state journal.old.disk).modeled (λ _. journal.old.list) cause
+        StopsBy (D.ghost_state journal.old.disk).modeled (found_with journal.old.list) cause
         (D.ghost_state journal.old.disk).faults (D.ghost_state journal.new.disk).faults) }
 {
     let Ok(mut rows) = Rows::new(alloc, hashing) else {
@@ -163,7 +162,7 @@ pub fn open_log<D: Disk>(
     hashing: RandomState,
     disk: D,
 ) -> Result<Log<D>, OpenFault<D>>
-    requires { IfModeled (D.ghost_state disk).modeled (λ d. file_of 0 d ≡ stable (bytes_now 0 d)) }
+    requires { IfModeled (D.ghost_state disk).modeled AreSynced }
     ensures ok { IfOk result (λ log. IsOpened (D.ghost_state disk) log) }
     ensures err { IfErr result
         (λ fault. FailsToOpen (D.ghost_state disk) fault.cause (D.ghost_state fault.disk)) }

@@ -4,11 +4,11 @@ use Rattle.std.proofs.Common.{ap, sym, subst, ◌∙◌, arith}
 use Rattle.std.specs.Prelude.{Err, IfSome, option_and_then}
 use Rattle.cc_names.specs.declared.refusals.SessionError.{SessionError}
 use Rattle.cc_names.specs.declared.steps.StoryStep.{StoryStep}
-use Rattle.disk_model.specs.Devices.{Device, bytes_now}
+use Rattle.disk_model.specs.Devices.{Device}
 use Rattle.disk_model.specs.DiskStates.{DiskState, IfModeled}
-use Rattle.vob_journal.specs.Frames.{frames}
-use Rattle.story_log.specs.Bases.Opening.{IsDamaged, IsUndamaged}
-use Rattle.story_log.proofs.Bases.Damages.{damaged_once}
+use Rattle.story_log.specs.Stored.Damaged.{IsDamaged, IsUndamaged}
+use Rattle.story_log.specs.Stored.Stops.{found_on}
+use Rattle.story_log.proofs.Stored.Damaged.{damaged_once}
 use Rattle.session_text.specs.Sessions.{session_of}
 use Rattle.session_run.specs.Calls.Asked.{is_read, is_session, reads_source, session_text_of, text_limit}
 use Rattle.session_run.specs.Calls.Causes.{Change, Intake, DiskDamaged, FindsDamage, GaveTooMuch, HasCause, IsIntakeRead}
@@ -119,15 +119,15 @@ replied statuses.NoMemory intake faults disk story bytes h c w t s m = absurd (c
 replied statuses.TooLong intake faults disk story bytes h c w t s m = absurd (m h.0)
 
 -- what is known of a journal that is damaged
-damaged_or_not : (o : Option Device) (row : ℕ) → is_some o ≡ true → IfModeled o (λ d. IsDamaged (frames (bytes_now 0 d)) row)
-    → IfModeled o (λ d. IsUndamaged (frames (bytes_now 0 d))) → ⊥
+damaged_or_not : (o : Option Device) (row : ℕ) → is_some o ≡ true → IfModeled o (λ d. IsDamaged (found_on d) row)
+    → IfModeled o (λ d. IsUndamaged (found_on d)) → ⊥
 damaged_or_not None row tells damaged not = absurd (cc)
 damaged_or_not (Some d) row tells damaged not = not row damaged
 
-damaged_where : (o : Option Device) (one row : ℕ) → is_some o ≡ true → IfModeled o (λ d. IsDamaged (frames (bytes_now 0 d)) one)
-    → IfModeled o (λ d. IsDamaged (frames (bytes_now 0 d)) row) → one ≡ row
+damaged_where : (o : Option Device) (one row : ℕ) → is_some o ≡ true → IfModeled o (λ d. IsDamaged (found_on d) one)
+    → IfModeled o (λ d. IsDamaged (found_on d) row) → one ≡ row
 damaged_where None one row tells first second = absurd (cc)
-damaged_where (Some d) one row tells first second = damaged_once (frames (bytes_now 0 d)) one row first second
+damaged_where (Some d) one row tells first second = damaged_once (found_on d) one row first second
 
 -- what is known of a session that was read
 session_or_not : (text : Option (List ℕ)) (error : SessionError) → is_some text ≡ true

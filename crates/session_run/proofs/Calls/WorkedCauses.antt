@@ -12,8 +12,8 @@ use Rattle.cc_names.specs.declared.steps.StoryStep.TheVariants as story_steps
 use Rattle.disk_model.specs.Devices.{new_device}
 use Rattle.disk_model.specs.DiskStates.{DiskState}
 use Rattle.vob_journal.specs.Frames.{frames}
-use Rattle.story_log.proofs.Bases.Damages.{undamaged}
-use Rattle.story_log.proofs.Bases.WorkedDamages.{bytes, named, second_is_not, third_is_damaged, three_frames}
+use Rattle.story_log.proofs.Stored.Damaged.{stored_undamaged}
+use Rattle.story_log.proofs.Bases.WorkedDamages.{as_found, bytes, named, second_is_not, third_is_damaged, three_frames}
 use Rattle.session_run.specs.Calls.Causes.{Change, HasCause, Intake, IsAsked, IsIntakeRead, IsWholeRun}
 use Rattle.session_run.specs.Story.Modeled.{tells_failure}
 use Rattle.session_run.specs.declared.statuses.Status.TheVariants as statuses
@@ -122,7 +122,7 @@ unfolding frames asked_once
 good = inl (
   record { asked = asked_once; opened = refl; finished = refl; failures = refl },
   refl,
-  undamaged [] refl tt,
+  stored_undamaged (as_found []) [] refl tt refl,
 )
 
 not_good : HasCause statuses.Good (gave forms.Run twice 31) none_failed (disk_at [] 7 0) one_refused → ⊥
@@ -154,7 +154,7 @@ unfolding frames asked_twice
 some_failed = inl (
   record { asked = asked_twice; opened = refl; finished = refl; failures = refl },
   refl,
-  undamaged [] refl tt,
+  stored_undamaged (as_found []) [] refl tt refl,
 )
 
 none_refused : HasCause statuses.SomeFailed (gave forms.Run once 22) none_failed (disk_at [] 7 0) all_well → ⊥

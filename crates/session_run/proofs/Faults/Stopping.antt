@@ -19,13 +19,15 @@ use Rattle.vob_journal.specs.Reads.{SameFiles}
 use Rattle.vob_journal.proofs.Journals.{stable_image}
 use Rattle.vob_journal.specs.Added.{Adds, may_read}
 use Rattle.vob_journal.proofs.Staying.{modeled_stay, modeled_adds_none}
+use Rattle.story_log.specs.Bases.Opening.{AreSynced}
+use Rattle.story_log.specs.Stored.Stops.{OfEachStop, found_in, found_on}
 use Rattle.story_log.specs.Stopping.Backed.{IsAccounted, IsSettled}
 use Rattle.story_log.specs.Stopping.Founds.{OpensAgain}
 use Rattle.story_log.specs.Stopping.Standing.{MayBeFound}
 use Rattle.base_rows.specs.Order.{oldest_first}
-use Rattle.story_log.proofs.Stopping.Backing.{left_within_calls}
+use Rattle.story_log.proofs.Stopping.Backing.{within_calls}
 use Rattle.story_log.proofs.Cases.{some_same}
-use Rattle.session_run.specs.Faults.Stopped.{AllOpenAgain, AreApart, IsHandedIn, IsMended, IsStopped, StopKeepsFrames, rises_of}
+use Rattle.session_run.specs.Faults.Stopped.{AllOpenAgain, AreApart, IsHandedIn, IsMended, IsStopped, StopKeepsFound, rises_of}
 use Rattle.session_run.specs.Promises.Headline.{BeginsOn}
 use Rattle.session_run.specs.Story.Begun.{first_step, is_opened}
 use Rattle.legal_history.proofs.Stories.Along.{along}
@@ -114,14 +116,14 @@ keeps_prefix before now story begins legal accounted mended again = record {
     opened = accounted.opened;
     ticks = accounted.ticks;
     stops =
-        modeled_map now.modeled _ (λ d. (k : ℕ) (image : List ℕ) → before.ticks < k → MayLeave 0 d k image
-        → MayBeFound accounted.opening (state_of story).ends k (frames image)) accounted.stops
-        (λ d h k image later. h k image (omega (arith, later, ap (λ c. c.ticks) counts.0, begins.on.ticks)));
+        modeled_map now.modeled _ (λ d. (k : ℕ) → before.ticks < k
+        → OfEachStop d k (MayBeFound accounted.opening (state_of story).ends k)) accounted.stops
+        (λ d h k later. h k (omega (arith, later, ap (λ c. c.ticks) counts.0, begins.on.ticks)));
     again =
-        modeled_map now.modeled _ (λ d. (k : ℕ) (image : List ℕ) → before.ticks < k → MayLeave 0 d k image
-        → OpensAgain accounted.opening.base (frames image)) accounted.stops
-        (λ d h k image later may. again accounted.opening k (frames image) accounted.opened
-        (h k image (omega (arith, later, ap (λ c. c.ticks) counts.0, begins.on.ticks)) may));
+        modeled_map now.modeled _ (λ d. (k : ℕ) → before.ticks < k → OfEachStop d k (OpensAgain accounted.opening.base))
+        accounted.stops
+        (λ d h k later journal objects j o. again accounted.opening k (found_in journal objects) accounted.opened
+        (h k (omega (arith, later, ap (λ c. c.ticks) counts.0, begins.on.ticks)) journal objects j o));
     settled = λ none. accounted.settled (none_without story none);
     mended = mended;
     apart =
@@ -147,42 +149,37 @@ keeps_prefix before now story begins legal accounted mended again = record {
     not_closed (x ∷ xs) first closed = cc
 
 -- a disk on which no call was made
-frames_stay : (modeled : Option Device) (ticks : ℕ) → IfModeled modeled (λ d. ticks ≡ length d.calls)
-    → IfModeled modeled (λ d. file_of 0 d ≡ stable (bytes_now 0 d)) → IfModeled modeled
-    (λ d. IfModeled modeled (λ e. (k : ℕ) (image : List ℕ) → ticks < k → MayLeave 0 e k image
-    → frames image ≡ frames (bytes_now 0 d)))
-frames_stay None ticks counted handed = tt
-frames_stay (Some d) ticks counted handed = λ k image later may. by k image later may
+found_stays : (modeled : Option Device) (ticks : ℕ) → IfModeled modeled (λ d. ticks ≡ length d.calls)
+    → IfModeled modeled AreSynced
+    → IfModeled modeled (λ d. IfModeled modeled (λ e. (k : ℕ) → ticks < k → OfEachStop e k (λ found. found ≡ found_on d)))
+found_stays None ticks counted synced = tt
+found_stays (Some d) ticks counted synced = λ k later journal objects j o i. record {
+  frames = frames (by 0 k journal synced.0 later j i);
+  objects = by 1 k objects synced.1 later o i;
+}
   where
-    by : (k : ℕ) (image : List ℕ) → ticks < k → MayLeave 0 d k image → frames image ≡ frames (bytes_now 0 d)
-    by k image later (inl earlier) = let within = left_within_calls d k image earlier in
+    by : (file k : ℕ) (image : List ℕ) → file_of file d ≡ stable (bytes_now file d) → ticks < k → MayLeave file d k image
+        → image ≡ bytes_now file d
+    by file k image handed later (inl earlier) = let within = within_calls file d k image earlier in
         absurd (omega (arith, within, later, counted))
-    by k image later (inr now) = ap frames (stable_image (bytes_now 0 d) image (subst (λ s. IsImage s image) handed now.1))
-
-first_stable : (modeled : Option Device) → IfModeled modeled (λ d. (file_of 0 d ≡ stable (bytes_now 0 d))
-    × (file_of 1 d ≡ stable (bytes_now 1 d))) → IfModeled modeled (λ d. file_of 0 d ≡ stable (bytes_now 0 d))
-first_stable None h = tt
-first_stable (Some d) h = h.0
-
-pub journal_stable : (disk : DiskState) → IsHandedIn disk → IfModeled disk.modeled (λ d. file_of 0 d ≡ stable (bytes_now 0 d))
-journal_stable disk h = first_stable disk.modeled h
+    by file k image handed later (inr now) = stable_image (bytes_now file d) image (subst (λ s. IsImage s image) handed now.1)
 
 pub stays_untouched : (disk : DiskState) → IsCounted disk → IsHandedIn disk → IsStopped disk disk []
 stays_untouched disk counted handed = record {
   tells = refl;
   on_base = λ opened. absurd (cc);
-  on_none = λ closed. frames_stay disk.modeled disk.ticks counted.modeled (journal_stable disk handed);
+  on_none = λ closed. found_stays disk.modeled disk.ticks counted.modeled handed;
   files = λ closed. modeled_stay disk.modeled;
   reads = λ closed. modeled_adds_none disk.modeled;
 }
 
 pub stays_closed : (before now : DiskState) (story : List StoryStep) → story ≡ [] → is_some now.modeled ≡ is_some before.modeled
-    → StopKeepsFrames before now → Both (Adds may_read) before.modeled now.modeled → Both SameFiles before.modeled now.modeled
+    → StopKeepsFound before now → Both (Adds may_read) before.modeled now.modeled → Both SameFiles before.modeled now.modeled
     → IsStopped before now story
-stays_closed before now story empty tells frames reads files = record {
+stays_closed before now story empty tells same reads files = record {
   tells = tells;
   on_base = λ opened. absurd (not_opened story empty opened);
-  on_none = λ closed. frames;
+  on_none = λ closed. same;
   files = λ closed. files;
   reads = λ closed. reads;
 }

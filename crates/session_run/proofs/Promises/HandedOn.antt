@@ -2,12 +2,12 @@
 use Rattle.std.proofs.Common.{◌≡◌, ℕ, ◌<◌, true, Option, Some, List, [], ◌∷◌, refl, ap, sym, subst, ◌∙◌}
 use Rattle.std.proofs.lemmas.List.{reverse-reverse}
 use Rattle.cc_names.specs.declared.steps.StoryStep.{StoryStep}
-use Rattle.disk_model.specs.Devices.{MayLeave, bytes_now}
+use Rattle.disk_model.specs.Devices.{bytes_now}
 use Rattle.disk_model.specs.DiskStates.{DiskState}
 use Rattle.legal_history.specs.Builds.Values.{IsSound}
 use Rattle.legal_history.specs.Stories.States.{Opening}
 use Rattle.legal_history.specs.Stories.Steps.{state_of}
-use Rattle.vob_journal.specs.Frames.{frames}
+use Rattle.story_log.specs.Stored.Stops.{OfEachStop, found_on}
 use Rattle.story_log.specs.Stopping.Founds.{FoundBaseIsSound, OpensAgain}
 use Rattle.base_rows.specs.Order.{oldest_first}
 use Rattle.story_log.proofs.Cases.{some_same}
@@ -38,13 +38,13 @@ opened_on disk story opened form status held holds history is =
     ap (λ o. o.base) same ∙ reverse-reverse begins.base
 
 pub handed_on : FoundBaseIsSound → SoundnessIsHandedOn
-handed_on law before after next left read k story later form status held holds stopped is_open modeled since may next_modeled
-    history sound = record {
+handed_on law before after next left read k story later form status held holds stopped is_open modeled since may may_objects
+    next_modeled history sound = record {
       base = λ opened begun.
           let keeps : KeepsPrefix before after story = stopped.on_base is_open in
-          let again : OpensAgain keeps.opening.base (frames (bytes_now 0 read)) =
-          modeled_is after.modeled left (λ d. (k : ℕ) (image : List ℕ) → before.ticks < k → MayLeave 0 d k image
-          → OpensAgain keeps.opening.base (frames image)) modeled keeps.again k (bytes_now 0 read) since may
+          let again : OpensAgain keeps.opening.base (found_on read) =
+          modeled_is after.modeled left (λ d. (k : ℕ) → before.ticks < k → OfEachStop d k (OpensAgain keeps.opening.base)) modeled
+          keeps.again k since (bytes_now 0 read) (bytes_now 1 read) may may_objects
           in
           let begins : BeginsOn next later = history.base (has_opened later opened begun) in
           subst IsSound (sym (opened_on next later opened form status held holds history begun))

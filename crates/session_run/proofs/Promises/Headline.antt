@@ -13,14 +13,13 @@ use Rattle.cc_names.specs.Counts.{Rose, raised_count, rises}
 use Rattle.cc_names.proofs.Common.{and_false}
 use Rattle.cc_outside.specs.Feeds.{AppendsPrefix}
 use Rattle.cc_outside.specs.declared.sinks.WriteFault.{WriteFault}
-use Rattle.disk_model.specs.Devices.{bytes_now}
 use Rattle.disk_model.specs.DiskStates.{DiskState, Both, IsCounted}
 use Rattle.vob_journal.specs.Reads.{SameFiles}
 use Rattle.vob_journal.proofs.Staying.{modeled_stay}
-use Rattle.vob_journal.specs.Frames.{frames}
 use Rattle.story_log.specs.Stopping.Backed.{IsAccounted, may_be_open}
 use Rattle.base_core.specs.Story.Counted.{CountsSteps, KeepsCount}
 use Rattle.story_log.specs.Bases.Opening.{FailsToOpen, OpensCore, StopsBy}
+use Rattle.story_log.specs.Stored.Stops.{found_on}
 use Rattle.base_core.specs.Story.Shown.{Shown}
 use Rattle.base_rows.specs.Order.{oldest_first}
 use Rattle.story_log.specs.declared.opening.OpenCause.{OpenCause}
@@ -453,7 +452,7 @@ promised_unstarted unstarted status intake outside faults disk unread counted ha
 
 -- why a base is not opened is the cause of the status
 open_cause : (because : OpenCause) (rose : Bool) (intake : Intake) (faults : Change ℕ) (disk : Change DiskState)
-    → disk_rose disk ≡ rose → IsAsked intake → StopsBy disk.before.modeled (λ d. frames (bytes_now 0 d)) because
+    → disk_rose disk ≡ rose → IsAsked intake → StopsBy disk.before.modeled found_on because
     disk.before.faults disk.after.faults → HasCause (unstarted_status (of_unopened because rose)) intake faults disk []
 open_cause opens.NoMemory rose intake faults disk by asked is = λ closed. is
 open_cause (opens.Damaged row) true intake faults disk by asked is = (asked, by, λ opened. absurd (cc))

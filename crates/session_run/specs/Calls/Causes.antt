@@ -6,10 +6,9 @@ use Rattle.cc_names.specs.declared.refusals.SessionError.{SessionError}
 use Rattle.cc_names.specs.declared.steps.StoryStep.{StoryStep}
 use Rattle.cc_names.specs.Counts.{raised_count, Rose, RoseAbove, RoseAtMost, rises}
 use Rattle.cc_outside.specs.GhostStates.{SinkState, SourceState}
-use Rattle.disk_model.specs.Devices.{bytes_now}
 use Rattle.disk_model.specs.DiskStates.{DiskState, IfModeled}
-use Rattle.vob_journal.specs.Frames.{frames}
-use Rattle.story_log.specs.Bases.Opening.{IsDamaged, IsUndamaged}
+use Rattle.story_log.specs.Stored.Damaged.{IsDamaged, IsUndamaged}
+use Rattle.story_log.specs.Stored.Stops.{found_on}
 use Rattle.legal_history.specs.Stories.States.{all_done}
 use Rattle.legal_history.specs.Stories.Steps.{state_of}
 use Rattle.session_text.specs.Sessions.{session_of}
@@ -134,14 +133,14 @@ pub record IsUntouched (disk : Change DiskState) (story : List StoryStep) : Type
   pub disk_is : disk.after ≡ disk.before
   pub story_is : story ≡ []
 
--- the frame of this number is the first of the disk's journal that spells no formed row, or whose row does not fit those
+-- the frame of this number is the first of the disk's journal that spells no formed row, or whose row may not follow those
 -- before it
 abbrev pub DiskDamaged : Change DiskState → ℕ → Type 0
-DiskDamaged disk row = IfModeled disk.before.modeled (λ d. IsDamaged (frames (bytes_now 0 d)) row)
+DiskDamaged disk row = IfModeled disk.before.modeled (λ d. IsDamaged (found_on d) row)
 
 -- no frame of the disk's journal is so
 abbrev pub DiskUndamaged : Change DiskState → Type 0
-DiskUndamaged disk = IfModeled disk.before.modeled (λ d. IsUndamaged (frames (bytes_now 0 d)))
+DiskUndamaged disk = IfModeled disk.before.modeled (λ d. IsUndamaged (found_on d))
 
 -- a whole run on a disk that did not fail
 abbrev pub RanWhole : Intake → Change DiskState → List StoryStep → Bool → Type 0

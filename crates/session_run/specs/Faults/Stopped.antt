@@ -2,15 +2,16 @@
 use Rattle.std.specs.Prelude.{◌≡◌, ℕ, ◌-◌, ◌^◌, ◌<◌, ◌≤◌, true, false, Some, is_some, List, [], ◌∷◌}
 use Rattle.cc_names.specs.declared.steps.StoryStep.{StoryStep}
 use Rattle.cc_names.specs.declared.steps.StoryStep.TheVariants as story_steps
-use Rattle.disk_model.specs.Devices.{MayLeave, bytes_now, file_of}
+use Rattle.disk_model.specs.Devices.{bytes_now, file_of}
 use Rattle.disk_model.specs.Files.{stable}
 use Rattle.disk_model.specs.DiskStates.{DiskState, Both, IfModeled}
 use Rattle.legal_history.specs.Stories.States.{State, Opening, faults_of, ticks_of}
 use Rattle.legal_history.specs.Stories.Steps.{state_of}
 use Rattle.cc_names.specs.Counts.{rises}
 use Rattle.vob_journal.specs.Added.{Adds, may_read}
-use Rattle.vob_journal.specs.Frames.{frames}
 use Rattle.vob_journal.specs.Reads.{SameFiles}
+use Rattle.story_log.specs.Stored.Founds.{Found}
+use Rattle.story_log.specs.Stored.Stops.{OfEachStop, found_on}
 use Rattle.story_log.specs.Stopping.Backed.{IsSettled}
 use Rattle.story_log.specs.Stopping.Founds.{OpensAgain}
 use Rattle.story_log.specs.Stopping.Standing.{MayBeFound}
@@ -32,7 +33,7 @@ AreApart low [] high = low ≤ high
 AreApart low (rise ∷ more) high = (low ≤ rise.0) × (rises rise.0 rise.1 ≡ true) × AreApart rise.1 more high
 
 -- where the count of the disk's faults stands as the newest fault of a story left it, or as it was at the opening, and below
--- its last number, a stop now finds the rows of all commits and no more
+-- its last number, a stop now finds the base with the rows of all commits and no more
 abbrev pub IsMended : State → DiskState → Type 0
 IsMended s disk = faults_of s.opened s.ends ≡ disk.faults → disk.faults < 2 ^ 64 - 1 → IsSettled s disk
 
@@ -47,22 +48,21 @@ pub record KeepsPrefix (before after : DiskState) (story : List StoryStep) : Typ
   pub opening : Opening
   pub opened : (state_of story).opened ≡ Some opening
   pub ticks : ticks_of (state_of story).opened (state_of story).ends ≤ after.ticks
-  pub stops : IfModeled after.modeled (λ d. (k : ℕ) (image : List ℕ) → before.ticks < k → MayLeave 0 d k image
-      → MayBeFound opening (state_of story).ends k (frames image))
-  pub again : IfModeled after.modeled (λ d. (k : ℕ) (image : List ℕ) → before.ticks < k
-      → MayLeave 0 d k image → OpensAgain opening.base (frames image))
+  pub stops : IfModeled after.modeled (λ d. (k : ℕ) → before.ticks < k
+      → OfEachStop d k (MayBeFound opening (state_of story).ends k))
+  pub again : IfModeled after.modeled (λ d. (k : ℕ) → before.ticks < k → OfEachStop d k (OpensAgain opening.base))
   pub settled : rises_of story ≡ [] → IsSettled (state_of story) after
   pub mended : IsMended (state_of story) after
   pub apart : AreApart before.faults (rises_of story) after.faults
 
--- Where none was opened. A stop finds the frames that the disk had.
-abbrev pub StopKeepsFrames : DiskState → DiskState → Type 0
-StopKeepsFrames before after = IfModeled before.modeled (λ d. IfModeled after.modeled (λ e. (k : ℕ) (image : List ℕ)
-    → before.ticks < k → MayLeave 0 e k image → frames image ≡ frames (bytes_now 0 d)))
+-- Where none was opened. A stop finds what was found on the disk before.
+abbrev pub StopKeepsFound : DiskState → DiskState → Type 0
+StopKeepsFound before after = IfModeled before.modeled (λ d. IfModeled after.modeled (λ e. (k : ℕ) → before.ticks < k
+    → OfEachStop e k (λ found. found ≡ found_on d)))
 
 -- whatever a stop may find of a story opens again, to a base that is sound where the opened one was
 abbrev pub AllOpenAgain : List StoryStep → Type 0
-AllOpenAgain story = (opening : Opening) (k : ℕ) (found : List (List ℕ))
+AllOpenAgain story = (opening : Opening) (k : ℕ) (found : Found)
     → (state_of story).opened ≡ Some opening
     → MayBeFound opening (state_of story).ends k found → OpensAgain opening.base found
 
@@ -71,6 +71,6 @@ AllOpenAgain story = (opening : Opening) (k : ℕ) (found : List (List ℕ))
 pub record IsStopped (before after : DiskState) (story : List StoryStep) : Type 0 where
   pub tells : is_some after.modeled ≡ is_some before.modeled
   pub on_base : is_opened story ≡ true → KeepsPrefix before after story
-  pub on_none : is_opened story ≡ false → StopKeepsFrames before after
+  pub on_none : is_opened story ≡ false → StopKeepsFound before after
   pub files : is_opened story ≡ false → Both SameFiles before.modeled after.modeled
   pub reads : is_opened story ≡ false → Both (Adds may_read) before.modeled after.modeled

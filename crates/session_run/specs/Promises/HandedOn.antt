@@ -17,6 +17,6 @@ abbrev pub SoundnessIsHandedOn : Type 0
 SoundnessIsHandedOn = (before after next : DiskState) (left read : Device) (k : ℕ)
     (story later : List StoryStep) (form : Option Form) (status : Status) (held holds : Option (List ℕ))
     → IsStopped before after story → is_opened story ≡ true
-    → after.modeled ≡ Some left → before.ticks < k → MayLeave 0 left k (bytes_now 0 read)
+    → after.modeled ≡ Some left → before.ticks < k → MayLeave 0 left k (bytes_now 0 read) → MayLeave 1 left k (bytes_now 1 read)
     → next.modeled ≡ Some read → IsOneHistory form status later next held holds
     → WasSound story → WasSound later

@@ -4,8 +4,9 @@ use Rattle.std.proofs.Common.{reverse, refl, sym, ap, subst, ◌∙◌, arith}
 use Rattle.std.proofs.lemmas.List.{append-nil}
 use Rattle.cc_names.specs.declared.steps.StoryStep.TheVariants as story_steps
 use Rattle.disk_model.specs.Devices.{Device, Failed, Leaves, LeavesNow, MayLeave, Measures, Idles, bytes_now, file_of}
-use Rattle.disk_model.specs.Files.{IsImage, stable}
+use Rattle.disk_model.specs.Files.{File, IsImage, stable}
 use Rattle.disk_model.specs.DiskStates.{DiskState, IfModeled, Both, IsCounted}
+use Rattle.base_model.specs.Fits.{is_base}
 use Rattle.base_model.specs.Rows.{Base}
 use Rattle.legal_history.specs.Stories.States.{Opening}
 use Rattle.cc_names.specs.Counts.{rises}
@@ -21,17 +22,25 @@ use Rattle.vob_journal.proofs.Adding.{adds_none, adds_one, measured_adds}
 use Rattle.vob_journal.proofs.Journals.{stable_image}
 use Rattle.vob_journal.proofs.Passing.{passes_none, passes_call}
 use Rattle.vob_journal.proofs.Staying.{modeled_then}
-use Rattle.vob_journal.proofs.Telling.{both_from, both_map, both_then, modeled_both, modeled_back}
+use Rattle.vob_journal.proofs.Telling.{both_from, both_map, both_then, modeled_both, modeled_back, modeled_map}
 use Rattle.story_log.specs.Stopping.Backed.{IsMirrored, IsBacked}
 use Rattle.story_log.specs.Logging.Logs.{Logged, opened_log}
-use Rattle.story_log.specs.Bases.Opening.{IsBaseOn, IsOpened, IsDamaged, StopsBy, FailsToOpen}
+use Rattle.story_log.specs.Bases.Opening.{AreSynced, IsBaseOn, IsOpened, StopsBy, FailsToOpen}
+use Rattle.story_log.specs.Story.Formed.{AreFormed}
+use Rattle.story_log.specs.Stored.Damaged.{IsDamaged}
+use Rattle.story_log.specs.Stored.Kept.{IsHeld}
+use Rattle.story_log.specs.Stored.Opened.{IsOpenedAs}
+use Rattle.story_log.specs.Stored.Stops.{OfEachStop, found_on, found_with}
 use Rattle.story_log.specs.Bases.Reading.{OnlyReads, IsReadThrough}
-use Rattle.story_log.specs.Stopping.Standing.{payloads}
+use Rattle.story_log.specs.Stored.Payloads.{payloads}
 use Rattle.base_rows.specs.Order.{oldest_first}
 use Rattle.story_log.specs.Story.Handed.{Handed}
 use Rattle.story_log.specs.declared.opening.OpenCause.{OpenCause}
 use Rattle.story_log.specs.declared.opening.OpenCause.TheVariants as causes
-use Rattle.story_log.proofs.Stopping.Backing.{left_within_calls}
+use Rattle.story_log.proofs.Stored.Bases.{base_is_held, opens_as}
+use Rattle.story_log.proofs.Stored.Fitting.{nothing_taken}
+use Rattle.story_log.proofs.Stored.Holding.{held_in_image}
+use Rattle.story_log.proofs.Stopping.Backing.{within_calls}
 use Rattle.story_log.proofs.Logging.LogSteps.{oldest_back}
 use Rattle.story_log.proofs.Bases.ReadRows.{adds_on, finds_list, moves_then, raised_rises}
 
@@ -41,13 +50,31 @@ leaves_list : (list : List (List ℕ)) (d e : Device) (k : ℕ) (image : List �
 leaves_list list d e k image later moves left = by (moves.passes.each k image left)
   where
     by : Leaves 0 d k image ⊎ ((length d.calls < k) × Between list [] list [] image) → frames image ≡ list
-    by (inl earlier) = let within = left_within_calls d k image earlier in absurd (omega (arith, within, later))
+    by (inl earlier) = let within = within_calls 0 d k image earlier in absurd (omega (arith, within, later))
     by (inr since) = elim since.1 [ inl stands ↦ finds_list list image stands | inr is ↦ is ∙ append-nil list ]
 
 may_leave_list : (list : List (List ℕ)) (d e : Device) (k : ℕ) (image : List ℕ) → length d.calls < k → Moves list [] list [] d e
     → MayLeave 0 e k image → frames image ≡ list
 may_leave_list list d e k image later moves (inl left) = leaves_list list d e k image later moves left
 may_leave_list list d e k image later moves (inr now) = finds_list list image (moves.now image now.1)
+
+-- what stops since leave of the file of objects, where it was on the disk as it read
+leaves_objects : (list : List (List ℕ)) (d e : Device) (k : ℕ) (image : List ℕ) → length d.calls < k → Moves list [] list [] d e
+    → Leaves 1 e k image → LeavesNow 1 d image
+leaves_objects list d e k image later moves left = by (moves.passes.others k image left)
+  where
+    by : Leaves 1 d k image ⊎ ((length d.calls < k) × LeavesNow 1 d image) → LeavesNow 1 d image
+    by (inl earlier) = let within = within_calls 1 d k image earlier in absurd (omega (arith, within, later))
+    by (inr since) = since.1
+
+may_leave_objects : (list : List (List ℕ)) (d e : Device) (k : ℕ) (image : List ℕ) → file_of 1 d ≡ stable (bytes_now 1 d)
+    → length d.calls < k → Moves list [] list [] d e → MayLeave 1 e k image → image ≡ bytes_now 1 d
+may_leave_objects list d e k image synced later moves may = stable_image (bytes_now 1 d) image
+    (subst (λ (s : File). IsImage s image) synced (by may))
+  where
+    by : MayLeave 1 e k image → LeavesNow 1 d image
+    by (inl left) = leaves_objects list d e k image later moves left
+    by (inr now) = subst (λ (s : File). IsImage s image) moves.passes.objects now.1
 
 -- a journal is only read, and its frames are those of the disk as it was handed in
 abbrev pub Keeps : Device → Device → Type 0
@@ -139,76 +166,103 @@ read_since ghost_state first opened read new reads = adds_on first.modeled (ghos
     (ghost_state read.disk).modeled new.adds reads.adds
 
 -- why reading stopped, told of the disk as it was handed in
+found_first : (list : List (List ℕ)) (d e : Device) → SameFiles d e → list ≡ frames (bytes_now 0 d)
+    → found_with list e ≡ found_on d
+found_first list d e same is = λ i. record { frames = is i; objects = ap (λ (file : File). file.bytes) same.objects i }
+
 pub stops_first : {D : Type 0} (ghost_state : D → DiskState) (first : DiskState) (cause : OpenCause) (opened read : Shown D)
-    → IsNewOn ghost_state first opened → StopsBy (ghost_state opened.disk).modeled (λ _. opened.list) cause
-    (ghost_state opened.disk).faults (ghost_state read.disk).faults → StopsBy first.modeled (λ d. frames (bytes_now 0 d)) cause
-    first.faults (ghost_state read.disk).faults
+    → IsNewOn ghost_state first opened → StopsBy (ghost_state opened.disk).modeled (found_with opened.list) cause
+    (ghost_state opened.disk).faults (ghost_state read.disk).faults → StopsBy first.modeled found_on cause first.faults
+    (ghost_state read.disk).faults
 stops_first ghost_state first (causes.Damaged n) opened read new h = (
   h.0 ∙ new.counts.1,
-  modeled_both (λ _. IsDamaged opened.list n) (λ d. opened.list ≡ frames (bytes_now 0 d))
-      (λ d. IsDamaged (frames (bytes_now 0 d)) n) first.modeled
-      (λ d damaged is. subst (λ l. IsDamaged l n) is damaged)
-      (modeled_back (Moves opened.list [] opened.list []) (λ _. IsDamaged opened.list n) (λ _. IsDamaged opened.list n)
-      first.modeled (ghost_state opened.disk).modeled (λ d e moves damaged. damaged) new.keeps h.1) new.list,
+  modeled_both (λ d. (e : Device) → SameFiles d e → found_with opened.list e ≡ found_on d)
+      (λ d. (e : Device) × SameFiles d e × IsDamaged (found_with opened.list e) n) (λ d. IsDamaged (found_on d) n) first.modeled
+      (λ d is at. subst (λ found. IsDamaged found n) (is at.0 at.1) at.2)
+      (modeled_map (λ d. opened.list ≡ frames (bytes_now 0 d)) (λ d. (e : Device) → SameFiles d e
+      → found_with opened.list e ≡ found_on d) first.modeled (λ d is e same. found_first opened.list d e same is) new.list)
+      (modeled_back SameFiles (λ d. (e : Device) × SameFiles d e × IsDamaged (found_with opened.list e) n)
+      (λ e. IsDamaged (found_with opened.list e) n) first.modeled (ghost_state opened.disk).modeled
+      (λ d e same damaged. (e, same, damaged)) new.files h.1),
 )
 stops_first ghost_state first causes.DiskFault opened read new h = subst (λ f. rises f (ghost_state read.disk).faults ≡ true)
     new.counts.1 h
 stops_first ghost_state first causes.NoMemory opened read new h = h ∙ new.counts.1
 
 -- no base was opened
-unchanged_modeled : (first : DiskState) (now : Option Device) → IfModeled first.modeled (λ d. first.ticks ≡ length d.calls)
-    → Both Keeps first.modeled now
-    → IfModeled first.modeled (λ d. IfModeled now (λ e. (k : ℕ) (image : List ℕ) → first.ticks < k → MayLeave 0 e k image
-    → frames image ≡ frames (bytes_now 0 d)))
-unchanged_modeled first now ticks keeps = by first.modeled now ticks keeps
-  where
-    by : (old new : Option Device) → IfModeled old (λ d. first.ticks ≡ length d.calls) → Both Keeps old new
-        → IfModeled old (λ d. IfModeled new (λ e. (k : ℕ) (image : List ℕ) → first.ticks < k → MayLeave 0 e k image
-        → frames image ≡ frames (bytes_now 0 d)))
-    by None new same keep = tt
-    by (Some d) None same keep = tt
-    by (Some d) (Some e) same keep = λ k image later left. may_leave_list (frames (bytes_now 0 d)) d e k image
-        (omega (arith, same, later)) keep left
+pub journal_synced : (modeled : Option Device) → IfModeled modeled AreSynced
+    → IfModeled modeled (λ d. file_of 0 d ≡ stable (bytes_now 0 d))
+journal_synced modeled synced =
+    modeled_map AreSynced (λ d. file_of 0 d ≡ stable (bytes_now 0 d)) modeled (λ d both. both.0) synced
 
-pub fails_to_open : (first now : DiskState) (cause : OpenCause) → IsCounted first → Both Keeps first.modeled now.modeled
+unchanged_at : (d e : Device) (k : ℕ) → AreSynced d → length d.calls < k → Keeps d e
+    → OfEachStop e k (λ found. found ≡ found_on d)
+unchanged_at d e k synced later keeps = λ journal objects j o i. record {
+  frames = may_leave_list (frames (bytes_now 0 d)) d e k journal later keeps j i;
+  objects = may_leave_objects (frames (bytes_now 0 d)) d e k objects synced.1 later keeps o i;
+}
+
+unchanged_modeled : (ticks : ℕ) (old new : Option Device) → IfModeled old AreSynced → IfModeled old (λ d. ticks ≡ length d.calls)
+    → Both Keeps old new
+    → IfModeled old (λ d. IfModeled new (λ e. (k : ℕ) → ticks < k → OfEachStop e k (λ found. found ≡ found_on d)))
+unchanged_modeled ticks None new synced same keep = tt
+unchanged_modeled ticks (Some d) None synced same keep = tt
+unchanged_modeled ticks (Some d) (Some e) synced same keep = λ k later. unchanged_at d e k synced (omega (arith, same, later))
+    keep
+
+pub fails_to_open : (first now : DiskState) (cause : OpenCause) → IsCounted first → IfModeled first.modeled AreSynced
+    → Both Keeps first.modeled now.modeled
     → Both (Adds may_read) first.modeled now.modeled → Both SameFiles first.modeled now.modeled
-    → StopsBy first.modeled (λ d. frames (bytes_now 0 d)) cause first.faults now.faults → FailsToOpen first cause now
-fails_to_open first now cause counted keeps reads files because = record {
+    → StopsBy first.modeled found_on cause first.faults now.faults → FailsToOpen first cause now
+fails_to_open first now cause counted synced keeps reads files because = record {
   because = because;
   tells = both_tells Keeps first.modeled now.modeled keeps;
-  unchanged = unchanged_modeled first now.modeled counted.modeled keeps;
+  unchanged = unchanged_modeled first.ticks first.modeled now.modeled synced counted.modeled keeps;
   reads = reads;
   files = files;
 }
 
 -- the length of the journal could not be asked
 pub fails_at_once : (first now : DiskState) → IsCounted first → IsCounted now
-    → IfModeled first.modeled (λ d. file_of 0 d ≡ stable (bytes_now 0 d)) → Both Idles first.modeled now.modeled
+    → IfModeled first.modeled AreSynced → Both Idles first.modeled now.modeled
     → Both SameFiles first.modeled now.modeled → OneFault first now → FailsToOpen first causes.DiskFault now
-fails_at_once first now counted after is idles files fault =
-    fails_to_open first now causes.DiskFault counted (both_idle first.modeled now.modeled is idles)
+fails_at_once first now counted after synced idles files fault =
+    fails_to_open first now causes.DiskFault counted synced
+    (both_idle first.modeled now.modeled (journal_synced first.modeled synced) idles)
     (both_map Idles (Adds may_read) first.modeled now.modeled idle_adds idles) files
     (raised_rises first now counted after fault.1)
 
--- the journal after a base that was opened
-covered_opened : (opening : Opening) (list leftover : List (List ℕ)) (d e : Device) → opening.counts.ticks ≡ length d.calls
-    → list ≡ payloads opening.base → leftover ≡ [] → Moves list [] list [] d e
-    → IsMirrored opening [] list leftover lefts.Nothing e
-covered_opened opening list leftover d e ticks is none moves = record {
+-- the disk after a base that was opened
+covered_opened : (opening : Opening) (base : Base) (list leftover : List (List ℕ)) (d e : Device)
+    → opening.counts.ticks ≡ length d.calls → opening.base ≡ base → is_base base ≡ true → AreFormed base
+    → file_of 1 d ≡ stable (bytes_now 1 d) → list ≡ payloads base → leftover ≡ [] → Moves list [] list [] d e
+    → IsMirrored opening [] list leftover lefts.Nothing [] [] e
+covered_opened opening base list leftover d e ticks base_is good formed synced is none moves = record {
+  stored = base;
   list_is = is;
-  leftover_is = inl (ap (λ l. list ++ l) none ∙ append-nil list ∙ is);
+  formed = formed;
+  held = subst (λ (s : File). IsHeld s base opening.base) (sym moves.passes.objects) held;
+  owned_are = sym (nothing_taken base good);
+  leftover_is = none;
   nothing = λ _. none;
-  stops = λ k image later left. leaves_list list d e k image (omega (arith, ticks, later)) moves left ∙ is;
+  stops = λ k journal objects later j o.
+      let since : length d.calls < k = omega (arith, ticks, later) in
+      held_in_image (file_of 1 d) base opening.base (frames journal) objects held formed
+      (leaves_list list d e k journal since moves j ∙ is) (leaves_objects list d e k objects since moves o);
   now = λ image left. subst (λ l. Stands list l image) (sym none) (moves.now image left);
 }
+  where
+    held : IsHeld (file_of 1 d) base opening.base
+    held = subst (IsHeld (file_of 1 d) base) (sym base_is)
+        (subst (λ (s : File). IsHeld s base base) (sym synced) (base_is_held (bytes_now 1 d) base good))
 
 -- This base was opened.
 module _ {D : Type 0} (ghost_state : D → DiskState) (first : DiskState) (handed : Handed) (base : Base) (opened read : Shown D)
     (counted : IsCounted first) (ticks : handed.counts.ticks ≡ first.ticks) (faults : handed.counts.faults ≡ first.faults)
-    (tells : handed.tells ≡ is_some first.modeled)
+    (tells : handed.tells ≡ is_some first.modeled) (synced : IfModeled first.modeled AreSynced)
     (new : IsNewOn ghost_state first opened) (reads : OnlyReads ghost_state opened read)
-    (faultless : (ghost_state read.disk).faults
-    ≡ (ghost_state opened.disk).faults) (through : IsReadThrough ghost_state base read) where
+    (faultless : (ghost_state read.disk).faults ≡ (ghost_state opened.disk).faults)
+    (through : IsReadThrough ghost_state base read) where
   list_so : IfModeled (ghost_state read.disk).modeled (λ _. opened.list ≡ payloads base)
   list_so = modeled_both (λ _. read.list ≡ payloads base ++ read.rest) (λ _. read.rest ≡ []) (λ _. opened.list ≡ payloads base)
       (ghost_state read.disk).modeled
@@ -228,27 +282,27 @@ module _ {D : Type 0} (ghost_state : D → DiskState) (first : DiskState) (hande
     base = refl;
     ticks = omega (arith, ticks, new.counts.0, reads.ticks);
     faults = omega (arith, faults, new.counts.1, faultless);
-    covered = by first.modeled (ghost_state read.disk).modeled counted.modeled list_so
+    covered = by first.modeled (ghost_state read.disk).modeled counted.modeled synced list_so
         (since_first ghost_state first opened read new reads);
   }
     where
-      by : (old now : Option Device) → IfModeled old (λ d. first.ticks ≡ length d.calls)
+      by : (old now : Option Device) → IfModeled old (λ d. first.ticks ≡ length d.calls) → IfModeled old AreSynced
           → IfModeled now (λ _. opened.list ≡ payloads base) → Both (Moves opened.list [] opened.list []) old now
           → IfModeled now (IsMirrored (record {
             base = reverse (oldest_first base);
             counts = handed.counts;
             tells = handed.tells;
-          }) [] read.list read.leftover read.left)
-      by old None same is moves = tt
-      by None (Some e) same is moves = absurd moves
-      by (Some d) (Some e) same is moves =
+          }) [] read.list read.leftover read.left [] [])
+      by old None same both is moves = tt
+      by None (Some e) same both is moves = absurd moves
+      by (Some d) (Some e) same both is moves =
           subst (λ left. IsMirrored (record { base = reverse (oldest_first base); counts = handed.counts; tells = handed.tells })
-          [] read.list read.leftover left e) (sym (reads.left ∙ new.left))
+          [] read.list read.leftover left [] [] e) (sym (reads.left ∙ new.left))
           (subst (λ l. IsMirrored (record { base = reverse (oldest_first base); counts = handed.counts; tells = handed.tells }) []
-          l read.leftover lefts.Nothing e) (sym reads.list)
-          (covered_opened (record { base = reverse (oldest_first base); counts = handed.counts; tells = handed.tells })
-          opened.list read.leftover d e (ticks ∙ same) (is ∙ ap payloads (sym (oldest_back base))) through.so_far.leftover
-          moves))
+          l read.leftover lefts.Nothing [] [] e) (sym reads.list)
+          (covered_opened (record { base = reverse (oldest_first base); counts = handed.counts; tells = handed.tells }) base
+          opened.list read.leftover d e (ticks ∙ same) (oldest_back base) through.so_far.good through.so_far.formed both.1 is
+          through.so_far.leftover moves))
 
   base_on : IsBaseOn first base handed
   base_on = record {
@@ -256,7 +310,8 @@ module _ {D : Type 0} (ghost_state : D → DiskState) (first : DiskState) (hande
     faults = faults;
     tells = tells;
     found = modeled_both (λ _. opened.list ≡ payloads base) (λ d. opened.list ≡ frames (bytes_now 0 d))
-        (λ d. frames (bytes_now 0 d) ≡ payloads base) first.modeled (λ d is same. sym same ∙ is)
+        (λ d. IsOpenedAs (found_on d) base) first.modeled
+        (λ d is same. opens_as (found_on d) base (sym same ∙ is) through.so_far.good through.so_far.formed)
         (modeled_back (Moves opened.list [] opened.list []) (λ _. opened.list ≡ payloads base) (λ _. opened.list ≡ payloads base)
         first.modeled (ghost_state read.disk).modeled (λ d e moves is. is)
         (since_first ghost_state first opened read new reads) list_so) new.list;

@@ -16,6 +16,7 @@ use Rattle.story_log.specs.Logging.Logs.{IsLogged, Logged, opened_log}
 use Rattle.story_log.specs.Story.Telling.{story_of, AreNamedBySteps}
 use Rattle.base_rows.specs.Order.{oldest_first}
 use Rattle.story_log.specs.Story.Handed.{Handed}
+use Rattle.story_log.proofs.Logging.LogSteps.{oldest_back}
 
 -- the story of the opening alone
 opened_story : (handed : Handed) (rows : List Plain) (n : ℕ) → n ≡ suc (length rows)
@@ -49,6 +50,8 @@ opened_logged handed base n kept phases ghost_state list leftover ended left set
     (subst (λ (ps : List Phase). IsLogged handed (steps.Opened n ∷ []) base ps ghost_state list leftover ended left settled)
     (sym none) (record {
       modeled = opened_named (oldest_first base) n (counted base n count);
+      leads = ap (λ story. (state_of story).base) (opened_story handed (oldest_first base) n (counted base n count))
+          ∙ oldest_back base;
       backed = subst (λ story. IsBacked (state_of story) ghost_state list leftover ended left settled)
           (sym (opened_story handed (oldest_first base) n (counted base n count))) backed;
     }))

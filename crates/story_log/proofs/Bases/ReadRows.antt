@@ -1,10 +1,12 @@
 -- How the rows of a journal are read, and what reading leaves.
-use Rattle.std.proofs.Common.{◌≡◌, ℕ, ◌&&◌, true, Option, Some, List, [], ◌∷◌, ◌++◌, sym, ap, ap₂, subst, ◌∙◌, inl, inr, arith}
+use Rattle.std.proofs.Common.{◌≡◌, ℕ, ◌&&◌, true, Option, Some, List, [], ◌∷◌, ◌++◌, sym, ap, ap₂, subst, ◌∙◌}
+use Rattle.std.proofs.Common.{inl, inr, arith}
 use Rattle.std.proofs.lemmas.List.{append_assoc, append-nil}
 use Rattle.std.proofs.lemmas.Bool.{and_parts}
 use Rattle.cc_names.specs.Formed.{Plain}
 use Rattle.disk_model.specs.Counting.{next_count}
 use Rattle.disk_model.specs.Devices.{Device, LeavesNow}
+use Rattle.disk_model.specs.Files.{File}
 use Rattle.disk_model.specs.DiskStates.{DiskState, IfModeled, Both, IsCounted}
 use Rattle.base_model.specs.Rows.{Base}
 use Rattle.base_model.specs.Fits.{fits, is_base}
@@ -13,17 +15,22 @@ use Rattle.row_form.specs.Spelled.{spelling_of}
 use Rattle.vob_journal.specs.Added.{Adds, may_read}
 use Rattle.vob_journal.specs.Frames.{frames}
 use Rattle.vob_journal.specs.Moves.{Moves, Stands}
+use Rattle.vob_journal.specs.Reads.{SameFiles}
 use Rattle.vob_journal.specs.Shown.{Shown}
 use Rattle.vob_journal.proofs.Adding.{adds_then}
 use Rattle.vob_journal.proofs.Passing.{passes_then}
 use Rattle.vob_journal.proofs.Staying.{modeled_then}
 use Rattle.vob_journal.proofs.Telling.{both_then, modeled_back, modeled_next, modeled_both, modeled_from}
-use Rattle.story_log.specs.Bases.Opening.{IsDamaged, StopsBy}
-use Rattle.story_log.specs.Bases.Reading.{OnlyReads, NextIs, IsNextRow, IsReadSoFar}
-use Rattle.story_log.specs.Stopping.Standing.{payloads}
+use Rattle.story_log.specs.Bases.Opening.{StopsBy}
+use Rattle.story_log.specs.Bases.Reading.{OnlyReads, NextIs, IsMissed, IsNextRow, IsNoRow, IsReadSoFar}
+use Rattle.story_log.specs.Stored.Damaged.{IsDamaged}
+use Rattle.story_log.specs.Stored.Founds.{Found}
+use Rattle.story_log.specs.Stored.Stops.{found_with}
+use Rattle.story_log.specs.Stored.Payloads.{payloads}
 use Rattle.story_log.specs.declared.opening.OpenCause.{OpenCause}
 use Rattle.story_log.specs.declared.opening.OpenCause.TheVariants as causes
 use Rattle.story_log.proofs.Logging.Rising.{rises_raised}
+use Rattle.story_log.proofs.Stored.Damaged.{damaged_here}
 
 -- reads one after the other
 pub moves_then : (list : List (List ℕ)) (d e f : Device) → Moves list [] list [] d e → Moves list [] list [] e f
@@ -99,16 +106,44 @@ reads_then ghost_state one two three h g =
           g.files;
     }
 
+-- why a payload that was read gave no row
+pub stops_here : {D : Type 0} (ghost_state : D → DiskState) (base : Base) (payload : List ℕ) (cause : OpenCause)
+    (old new : Shown D)
+    → IsReadSoFar ghost_state base old → NextIs ghost_state (Some payload) old new → IsNoRow base payload cause
+    → StopsBy (ghost_state old.disk).modeled (found_with old.list) cause (ghost_state old.disk).faults
+    (ghost_state new.disk).faults
+stops_here ghost_state base payload (causes.Damaged n) old new h next none = (
+  next.faultless,
+  modeled_both (λ _. old.list ≡ payloads base ++ old.rest) (λ _. old.rest ≡ payload ∷ new.rest)
+      (λ d. IsDamaged (found_with old.list d) n) (ghost_state old.disk).modeled
+      (λ d is gives. damaged_here (found_with old.list d) base payload new.rest n h.good h.formed (is
+      ∙ ap (λ l. payloads base ++ l) gives) none.0 none.1) h.list_is next.gives,
+)
+stops_here ghost_state base payload causes.DiskFault old new h next none = absurd none
+stops_here ghost_state base payload causes.NoMemory old new h next none = next.faultless
+
+-- why no payload was read
+pub stops_unread : (modeled : Option Device) (found : Device → Found) (cause : OpenCause) (old new : ℕ) → IsMissed cause old new
+    → StopsBy modeled found cause old new
+stops_unread modeled found (causes.Damaged n) old new missed = absurd missed
+stops_unread modeled found causes.DiskFault old new missed = missed
+stops_unread modeled found causes.NoMemory old new missed = missed
+
 -- why reading stopped after reads, told of the journal before them
+found_behind : (list list' : List (List ℕ)) (d e : Device) → SameFiles d e → list' ≡ list → found_with list' e ≡ found_with list d
+found_behind list list' d e same is =
+    λ i. record { frames = is i; objects = ap (λ (file : File). file.bytes) same.objects i }
+
 pub stops_behind : {D : Type 0} (ghost_state : D → DiskState) (cause : OpenCause) (one two : Shown D) (faults : ℕ)
     → OnlyReads ghost_state one two → (ghost_state two.disk).faults ≡ (ghost_state one.disk).faults
-    → StopsBy (ghost_state two.disk).modeled (λ _. two.list) cause (ghost_state two.disk).faults faults
-    → StopsBy (ghost_state one.disk).modeled (λ _. one.list) cause (ghost_state one.disk).faults faults
+    → StopsBy (ghost_state two.disk).modeled (found_with two.list) cause (ghost_state two.disk).faults faults
+    → StopsBy (ghost_state one.disk).modeled (found_with one.list) cause (ghost_state one.disk).faults faults
 stops_behind ghost_state (causes.Damaged n) one two faults reads sound h = (
   h.0 ∙ sound,
-  modeled_back (Moves one.list [] one.list []) (λ _. IsDamaged one.list n) (λ _. IsDamaged two.list n)
+  modeled_back SameFiles (λ d. IsDamaged (found_with one.list d) n) (λ e. IsDamaged (found_with two.list e) n)
       (ghost_state one.disk).modeled (ghost_state two.disk).modeled
-      (λ d e moves damaged. subst (λ l. IsDamaged l n) reads.list damaged) reads.stops h.1,
+      (λ d e same damaged. subst (λ found. IsDamaged found n) (found_behind one.list two.list d e same reads.list) damaged)
+      reads.files h.1,
 )
 stops_behind ghost_state causes.DiskFault one two faults reads sound h = subst (λ f. rises f faults ≡ true) sound h
 stops_behind ghost_state causes.NoMemory one two faults reads sound h = h ∙ sound

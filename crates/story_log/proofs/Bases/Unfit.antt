@@ -5,8 +5,7 @@ use Rattle.base_model.specs.Rows.{Base}
 use Rattle.base_model.specs.Fits.{fits}
 use Rattle.row_form.specs.Spelled.{spelling_of}
 use Rattle.row_form.proofs.ExactRow.{one_spelling}
-use Rattle.story_log.specs.Bases.Opening.{IsUnfit}
-use Rattle.story_log.specs.Bases.Reading.{IsMisfit, IsNoRow}
+use Rattle.story_log.specs.Bases.Reading.{IsMisfit, IsNoRow, IsUnfit}
 use Rattle.story_log.specs.declared.opening.OpenCause.{OpenCause}
 use Rattle.story_log.specs.declared.opening.OpenCause.TheVariants as causes
 

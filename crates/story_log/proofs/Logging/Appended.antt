@@ -11,6 +11,7 @@ use Rattle.cc_names.specs.declared.steps.Step.TheVariants as steps
 use Rattle.disk_model.specs.Counting.{next_count}
 use Rattle.disk_model.specs.Devices.{Device}
 use Rattle.disk_model.specs.DiskStates.{DiskState, IfModeled, Both, IsCounted}
+use Rattle.base_model.specs.Fits.{fits}
 use Rattle.base_model.specs.Rows.{Base}
 use Rattle.legal_history.specs.Stories.States.{State, End, start, hanging}
 use Rattle.legal_history.specs.Stories.Steps.{state_of}
@@ -67,17 +68,17 @@ pub logged_faulted : (on : Handed) (kept more : List Step) (base : Base) (phases
     → IfModeled old.modeled (λ _. (list' ≡ list) × (leftover' ≡ leftover_after left' leftover (spelling_of row)))
     → earlier ≡ left_in kept → LeftSo earlier row left' found → tick ≡ new.ticks → faults ≡ new.faults → IsCounted old
     → IsCounted new → ended' ≡ true → settled' ≡ settled_after left' → (left' ≡ lefts.Earlier → settled ≡ false)
-    → IsLogged on more base phases new list' leftover' ended' left' settled'
+    → fits base row.deed ≡ true → IsFormed row → IsLogged on more base phases new list' leftover' ended' left' settled'
 logged_faulted on kept more base phases tag row earlier found before faults tick None old new list leftover list' leftover' ended
-    ended' left left' settled settled' quiet h e moves stays copied so at counts was counted end set ajar =
+    ended' left left' settled settled' quiet h e moves stays copied so at counts was counted end set ajar fit formed =
     logged_fault on kept more base phases tag row earlier found before faults tick old new list leftover list' leftover' ended
-    ended' left left' settled settled' h e moves stays copied so at counts was counted end set ajar
+    ended' left left' settled settled' h e moves stays copied so at counts was counted end set ajar fit formed
 logged_faulted on kept more base phases tag row earlier found before faults tick (Some step) old new list leftover list' leftover'
-    ended ended' left left' settled settled' quiet h e moves stays copied so at counts was counted end set ajar =
+    ended ended' left left' settled settled' quiet h e moves stays copied so at counts was counted end set ajar fit formed =
     let fault = fault_step tag found before faults tick in
     logged_step on (kept ++ fault ∷ []) more base phases step new list' leftover' ended' left' settled'
     (logged_fault on kept (kept ++ fault ∷ []) base phases tag row earlier found before faults tick old new list leftover list'
-    leftover' ended ended' left left' settled settled' h refl moves stays copied so at counts was counted end set ajar)
+    leftover' ended ended' left left' settled settled' h refl moves stays copied so at counts was counted end set ajar fit formed)
     quiet (e ∙ sym (append_assoc kept (fault ∷ []) (step ∷ [])))
 
 -- what was left is what a fault may leave

@@ -2,7 +2,7 @@
 use Rattle.std.proofs.Common.{◌≡◌, ℕ, ◌+◌, Bool, true, false, Option, List, [], ◌∷◌, ◌++◌, length, refl, ap, sym, subst, ◌∙◌}
 use Rattle.std.specs.Option.{option_to_list}
 use Rattle.std.specs.Prelude.{Some, None, is_some, option_map}
-use Rattle.cc_names.specs.Formed.{Plain}
+use Rattle.cc_names.specs.Formed.{IsFormed, Plain}
 use Rattle.cc_names.specs.declared.commands.Phase.{Phase}
 use Rattle.cc_names.specs.declared.rows.Tag.{Tag}
 use Rattle.cc_names.specs.declared.steps.Step.{Step}
@@ -10,6 +10,7 @@ use Rattle.cc_names.specs.declared.steps.Step.TheVariants as steps
 use Rattle.cc_names.specs.declared.steps.StoryStep.{StoryStep}
 use Rattle.cc_names.specs.declared.steps.StoryStep.TheVariants as story_steps
 use Rattle.disk_model.specs.DiskStates.{DiskState, IfModeled, Both, IsCounted}
+use Rattle.base_model.specs.Fits.{fits}
 use Rattle.base_model.specs.Rows.{Base}
 use Rattle.legal_history.specs.Stories.Quiet.{is_quiet}
 use Rattle.legal_history.specs.Stories.States.{State, start}
@@ -52,13 +53,16 @@ pub logged_row : (on : Handed) (kept more : List Step) (base grown : Base) (phas
     → Both (Moves list leftover list' leftover') old.modeled new.modeled
     → IfModeled old.modeled (λ _. (list' ≡ list ++ spelling_of row ∷ []) × (leftover' ≡ [])) → tick ≡ new.ticks
     → new.faults ≡ old.faults → IsCounted old → IsCounted new → ended' ≡ true → left' ≡ lefts.Nothing
-    → settled' ≡ settled_after left' → IsLogged on more grown phases new list' leftover' ended' left' settled'
+    → settled' ≡ settled_after left' → fits base row.deed ≡ true → IsFormed row
+    → IsLogged on more grown phases new list' leftover' ended' left' settled'
 logged_row on kept more base grown phases tag number tick row old new list leftover list' leftover' ended ended' left left'
-    settled settled' h e g t n moves appended at same was counted end none set = record {
+    settled settled' h e g t n moves appended at same was counted end none set fit formed = record {
       modeled = named_row kept more base grown phases tag number tick row h.modeled e g t n;
+      leads = ap (λ s. s.base) state ∙ ap (λ b. row ∷ b) h.leads ∙ sym g;
       backed = subst (λ s. IsBacked s new list' leftover' ended' left' settled') (sym state)
           (backed_commit (logged_state on kept base phases) row tick old new list leftover list' leftover' ended ended' left left'
-          settled settled' h.backed moves appended at same was counted end none set);
+          settled settled' h.backed moves appended at same was counted end none set
+          (subst (λ b. fits b row.deed ≡ true) (sym h.leads) fit) formed);
     }
   where
     state : logged_state on more grown phases ≡ after (logged_state on kept base phases) (story_steps.Commit row tick)
@@ -76,6 +80,7 @@ pub logged_phase : (on : Handed) (kept more : List Step) (base : Base) (phases g
     → IsLogged on more base grown ghost_state list leftover ended left settled
 logged_phase on kept more base phases grown number moment phase ghost_state list leftover ended left settled h e g n = record {
   modeled = named_phase kept more base phases grown number moment phase h.modeled e g n;
+  leads = ap (λ s. s.base) state ∙ h.leads;
   backed = subst (λ s. IsBacked s ghost_state list leftover ended left settled) (sym state)
       (backed_same (logged_state on kept base phases) (after (logged_state on kept base phases)
       (story_steps.PhaseBegun phase moment)) ghost_state list leftover ended left settled refl refl refl h.backed);
@@ -103,6 +108,8 @@ pub logged_step : (on : Handed) (kept more : List Step) (base : Base) (phases : 
     → IsLogged on more base phases ghost_state list leftover ended left settled
 logged_step on kept more base phases step ghost_state list leftover ended left settled h quiet e = record {
   modeled = is_named_step kept more base phases step h.modeled (ap is_some is) e;
+  leads = ap (λ s. s.base) (state_step on kept more base phases step x h.modeled is e)
+      ∙ (quiet_keeps (logged_state on kept base phases) x silent).base ∙ h.leads;
   backed = subst (λ s. IsBacked s ghost_state list leftover ended left settled)
       (sym (state_step on kept more base phases step x h.modeled is e))
       (let s = logged_state on kept base phases in
@@ -128,10 +135,12 @@ pub logged_fault : (on : Handed) (kept more : List Step) (base : Base) (phases :
     new.modeled → IfModeled old.modeled (λ _. (list' ≡ list) × (leftover' ≡ leftover_after left' leftover (spelling_of row)))
     → earlier ≡ left_in kept → LeftSo earlier row left' found → tick ≡ new.ticks → faults ≡ new.faults → IsCounted old
     → IsCounted new → ended' ≡ true → settled' ≡ settled_after left' → (left' ≡ lefts.Earlier → settled ≡ false)
-    → IsLogged on more base phases new list' leftover' ended' left' settled'
+    → fits base row.deed ≡ true → IsFormed row → IsLogged on more base phases new list' leftover' ended' left' settled'
 logged_fault on kept more base phases tag row earlier found before faults tick old new list leftover list' leftover' ended ended'
-    left left' settled settled' h e moves stays copied so at counts was counted end set ajar = record {
+    left left' settled settled' h e moves stays copied so at counts was counted end set ajar fit formed = record {
       modeled = is_named_step kept more base phases (steps.Fault tag found before faults tick) h.modeled refl e;
+      leads = ap (λ s. s.base) (state_step on kept more base phases (steps.Fault tag found before faults tick)
+          (story_steps.Fault tag found before faults tick) h.modeled refl e) ∙ h.leads;
       backed = subst (λ t. IsBacked t new list' leftover' ended' left' settled')
           (sym (state_step on kept more base phases (steps.Fault tag found before faults tick)
           (story_steps.Fault tag found before faults tick) h.modeled refl e))
@@ -140,5 +149,5 @@ logged_fault on kept more base phases tag row earlier found before faults tick o
           settled' (after s (story_steps.Fault tag found before faults tick)) refl refl refl h.backed moves stays
           (subst (λ o. LeftSo o row left' found) (copied ∙ sym (hanging_is on 1 0 kept (oldest_first base) phases start
           h.modeled))
-          so) at counts was counted end set ajar);
+          so) at counts was counted end set ajar (subst (λ b. fits b row.deed ≡ true) (sym h.leads) fit) formed);
     }

@@ -1,11 +1,12 @@
 -- What a log keeps after each kind of step.
 use Rattle.std.proofs.Common.{◌≡◌, ℕ, ◌≤◌, Bool, true, false, not, Option, Some, None, List, [], ◌∷◌, ◌++◌, length, refl, ap}
 use Rattle.std.proofs.Common.{sym, subst, ◌∙◌, arith}
-use Rattle.cc_names.specs.Formed.{Plain}
+use Rattle.cc_names.specs.Formed.{IsFormed, Plain}
 use Rattle.cc_names.specs.declared.rows.Tag.{Tag}
 use Rattle.cc_names.specs.declared.steps.StoryStep.TheVariants as story_steps
 use Rattle.disk_model.specs.Devices.{Device}
 use Rattle.disk_model.specs.DiskStates.{DiskState, IfModeled, Both, IsCounted}
+use Rattle.base_model.specs.Fits.{fits}
 use Rattle.legal_history.specs.Stories.States.{State, Opening, End, Committed, Faulted, ticks_of, faults_of, hanging}
 use Rattle.legal_history.specs.Stories.Steps.{after}
 use Rattle.row_form.specs.Spelled.{spelling_of}
@@ -47,7 +48,7 @@ backed_same s t ghost_state list leftover ended left settled opened base ends h 
   base = base ∙ h.base ∙ ap (base_by h.opening) (sym ends);
   ticks = omega (arith, h.ticks, ap (λ o. ticks_of o t.ends) opened, ap (ticks_of s.opened) ends);
   faults = omega (arith, h.faults, ap (λ o. faults_of o t.ends) opened, ap (faults_of s.opened) ends);
-  covered = subst (λ e. IfModeled ghost_state.modeled (IsMirrored h.opening e list leftover left)) (sym ends) h.covered;
+  covered = subst (λ e. IfModeled ghost_state.modeled (IsMirrored h.opening e list leftover left [] [])) (sym ends) h.covered;
 }
 
 -- a row was committed
@@ -56,9 +57,10 @@ pub backed_commit : (s : State) (row : Plain) (tick : ℕ) (old new : DiskState)
     → Both (Moves list leftover list' leftover') old.modeled new.modeled
     → IfModeled old.modeled (λ _. (list' ≡ list ++ spelling_of row ∷ []) × (leftover' ≡ [])) → tick ≡ new.ticks
     → new.faults ≡ old.faults → IsCounted old → IsCounted new → ended' ≡ true → left' ≡ lefts.Nothing
-    → settled' ≡ settled_after left' → IsBacked (after s (story_steps.Commit row tick)) new list' leftover' ended' left' settled'
+    → settled' ≡ settled_after left' → fits s.base row.deed ≡ true → IsFormed row
+    → IsBacked (after s (story_steps.Commit row tick)) new list' leftover' ended' left' settled'
 backed_commit s row tick old new list leftover list' leftover' ended ended' left left' settled settled' h moves grown at same was
-    counted end none set = record {
+    counted end none set fit formed = record {
       opening = h.opening;
       opened = h.opened;
       tells = h.tells ∙ sym (still_modeled (Moves list leftover list' leftover') old.modeled new.modeled moves);
@@ -68,11 +70,11 @@ backed_commit s row tick old new list leftover list' leftover' ended ended' left
       base = ap (λ b. row ∷ b) h.base;
       ticks = omega (arith, at);
       faults = omega (arith, h.faults, same);
-      covered = commit_covered h.opening s.ends row tick list leftover list' leftover' left left' old.modeled new.modeled
+      covered = commit_covered h.opening s.ends list leftover list' leftover' left left' row tick old.modeled new.modeled
           h.covered
           (ticks_counted h.opening s old h.opened h.ticks was) moves
           (if_modeled new.modeled (λ e. new.ticks ≡ length e.calls) (λ e. tick ≡ length e.calls) (λ e modeled. at
-          ∙ modeled) counted.modeled) grown;
+          ∙ modeled) counted.modeled) grown (subst (λ b. fits b row.deed ≡ true) h.base fit) formed;
     }
 
 -- where nothing hangs after a row, no fault may have left the tail open
@@ -107,10 +109,10 @@ pub backed_fault : (s : State) (tag : Tag) (row : Plain) (found : Option Plain) 
     → IsBacked s old list leftover ended left settled → Both (Moves list leftover list' leftover') old.modeled new.modeled
     → IfModeled old.modeled (λ _. (list' ≡ list) × (leftover' ≡ leftover_after left' leftover (spelling_of row)))
     → LeftSo (hanging s.ends) row left' found → tick ≡ new.ticks → faults ≡ new.faults → IsCounted old → IsCounted new
-    → ended' ≡ true → settled' ≡ settled_after left' → (left' ≡ lefts.Earlier → settled ≡ false)
-    → IsBacked t new list' leftover' ended' left' settled'
+    → ended' ≡ true → settled' ≡ settled_after left' → (left' ≡ lefts.Earlier → settled ≡ false) → fits s.base row.deed ≡ true
+    → IsFormed row → IsBacked t new list' leftover' ended' left' settled'
 backed_fault s tag row found before faults tick old new list leftover list' leftover' ended ended' left left' settled settled' t
-    opened base ends h moves stays so at counts was counted end set ajar = record {
+    opened base ends h moves stays so at counts was counted end set ajar fit formed = record {
       opening = h.opening;
       opened = opened ∙ h.opened;
       tells = h.tells ∙ sym (still_modeled (Moves list leftover list' leftover') old.modeled new.modeled moves);
@@ -133,9 +135,9 @@ backed_fault s tag row found before faults tick old new list leftover list' left
         ap (λ o. faults_of o (Faulted found faults tick ∷ s.ends)) (opened
             ∙ h.opened),
       );
-      covered = subst (λ e. IfModeled new.modeled (IsMirrored h.opening e list' leftover' left')) (sym ends)
-          (fault_covered h.opening s.ends row found faults tick list leftover list' leftover' left left' old.modeled new.modeled
+      covered = subst (λ e. IfModeled new.modeled (IsMirrored h.opening e list' leftover' left' [] [])) (sym ends)
+          (fault_covered h.opening s.ends list leftover list' leftover' left left' row found faults tick old.modeled new.modeled
           h.covered (ticks_counted h.opening s old h.opened h.ticks was) moves
           (if_modeled new.modeled (λ e. new.ticks ≡ length e.calls) (λ e. tick ≡ length e.calls) (λ e modeled. at
-          ∙ modeled) counted.modeled) stays so);
+          ∙ modeled) counted.modeled) stays so (subst (λ b. fits b row.deed ≡ true) h.base fit) formed);
     }

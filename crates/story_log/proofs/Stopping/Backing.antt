@@ -1,22 +1,36 @@
--- What is kept of the journal after a commit, after a fault, and after the tail was settled.
-use Rattle.std.proofs.Common.{◌≡◌, ℕ, ◌<◌, ◌≤◌, ◌⊎◌, inl, inr, Option, Some, None, List, [], ◌∷◌, ◌++◌, length, refl, ap, sym}
+-- What is kept of both files after a commit, after a fault, and after the tail was settled: each stop finds what the history
+-- says.
+use Rattle.std.proofs.Common.{◌≡◌, ℕ, ◌<◌, ◌≤◌, ◌⊎◌, inl, inr, true, Option, Some, None, List, [], ◌∷◌, ◌++◌, length, refl, ap}
+use Rattle.std.proofs.Common.{sym}
 use Rattle.std.proofs.Common.{subst, ◌∙◌, arith}
 use Rattle.std.proofs.lemmas.List.{append-nil}
 use Rattle.std.specs.Prelude.{is_some}
-use Rattle.cc_names.specs.Formed.{Plain}
-use Rattle.disk_model.specs.Devices.{Device, Event, Stopped, Leaves}
+use Rattle.cc_names.specs.Formed.{IsFormed, Plain}
+use Rattle.cc_names.specs.declared.rows.Extent.{Extent}
+use Rattle.disk_model.specs.Files.{File, IsImage}
+use Rattle.disk_model.specs.Devices.{Device, Event, Stopped, bytes_handed_in, file_of, Leaves, LeavesNow}
 use Rattle.disk_model.specs.DiskStates.{IfModeled, Both}
-use Rattle.base_model.specs.Rows.{Base}
+use Rattle.base_model.specs.Fits.{fits}
+use Rattle.base_model.specs.Rows.{Base, size}
 use Rattle.legal_history.specs.Stories.States.{Opening, End, Committed, Faulted, ticks_of, hanging}
 use Rattle.row_form.specs.Spelled.{spelling_of}
 use Rattle.vob_journal.specs.Frames.{frames}
 use Rattle.vob_journal.specs.Lefts.{leftover_after}
-use Rattle.vob_journal.specs.Moves.{Moves, Stands, Between}
+use Rattle.vob_journal.specs.Moves.{Passes, Moves, Stands, Between}
 use Rattle.vob_journal.specs.declared.left.Left.{Left}
 use Rattle.vob_journal.specs.declared.left.Left.TheVariants as lefts
-use Rattle.story_log.specs.Stopping.Backed.{IsMirrored}
+use Rattle.story_log.specs.Story.Formed.{AreFormed}
 use Rattle.story_log.specs.Logging.Leaving.{LeftSo}
-use Rattle.story_log.specs.Stopping.Standing.{payloads, base_by, tick_of, left_within, StandsFor, MayBeFound}
+use Rattle.story_log.specs.Stored.Founds.{Found}
+use Rattle.story_log.specs.Stored.Kept.{IsHeld}
+use Rattle.story_log.specs.Stored.Payloads.{payloads}
+use Rattle.story_log.specs.Stored.Stops.{found_in}
+use Rattle.story_log.specs.Stored.Taken.{ObjectExtent, extents_of, taken_after, taken}
+use Rattle.story_log.specs.Stopping.Backed.{IsLoose, IsMirrored}
+use Rattle.story_log.specs.Stopping.Standing.{base_by, tick_of, left_within, StandsFor, MayBeFound}
+use Rattle.story_log.proofs.Stored.Bases.{held_with_fitting}
+use Rattle.story_log.proofs.Stored.Fitting.{no_extents, takes_nothing}
+use Rattle.story_log.proofs.Stored.Holding.{held_in_image}
 
 -- a stop is at one of the calls
 stopped_within : (file : ℕ) (first : List ℕ) (calls : List Event) (k : ℕ) (image : List ℕ) → Stopped file first calls k image
@@ -26,160 +40,286 @@ stopped_within file first (event ∷ earlier) k image (inl h) = omega (arith, h.
 stopped_within file first (event ∷ earlier) k image (inr h) = let less = stopped_within file first earlier k image h in
     omega (arith, less)
 
-pub left_within_calls : (d : Device) (k : ℕ) (image : List ℕ) → Leaves 0 d k image → k ≤ length d.calls
-left_within_calls d k image h = stopped_within 0 d.journal d.calls k image h
+pub within_calls : (file : ℕ) (d : Device) (k : ℕ) (image : List ℕ) → Leaves file d k image → k ≤ length d.calls
+within_calls file d k image h = stopped_within file (bytes_handed_in file d) d.calls k image h
+
+-- Calls lead from one device to another: stops at earlier calls leave of both files what they left, those since leave files that
+-- meet P.
+record StopsSince (d e : Device) (P : List ℕ → List ℕ → Type 0) : Type 0 where
+  no_fewer : length d.calls ≤ length e.calls
+  each : (k : ℕ) (journal objects : List ℕ) → Leaves 0 e k journal → Leaves 1 e k objects
+      → (Leaves 0 d k journal × Leaves 1 d k objects) ⊎ ((length d.calls < k) × P journal objects)
+
+-- calls on the journal leave the file of objects
+since_passes : (d e : Device) (P : List ℕ → Type 0) → Passes d e P
+    → StopsSince d e (λ journal objects. P journal × LeavesNow 1 d objects)
+since_passes d e P passes = record {
+  no_fewer = passes.no_fewer;
+  each = λ k journal objects j o. by k journal objects (passes.each k journal j) (passes.others k objects o);
+}
+  where
+    by : (k : ℕ) (journal objects : List ℕ) → Leaves 0 d k journal ⊎ ((length d.calls < k) × P journal) → Leaves 1 d k objects
+        ⊎ ((length d.calls < k) × LeavesNow 1 d objects)
+        → (Leaves 0 d k journal × Leaves 1 d k objects) ⊎ ((length d.calls < k) × (P journal × LeavesNow 1 d objects))
+    by k journal objects (inl one) (inl two) = inl (one, two)
+    by k journal objects (inl one) (inr two) = let less = within_calls 0 d k journal one in absurd (omega (arith, two.0))
+    by k journal objects (inr one) (inl two) = let less = within_calls 1 d k objects two in absurd (omega (arith, one.0))
+    by k journal objects (inr one) (inr two) = inr (one.0, (one.1, two.1))
 
 -- a stop after the newest end finds its base, or that and what it left
-pub after_all : (opening : Opening) (ends : List End) (k : ℕ) (found : List (List ℕ)) → ticks_of (Some opening) ends < k
+pub after_all : (opening : Opening) (ends : List End) (k : ℕ) (found : Found) → ticks_of (Some opening) ends < k
     → StandsFor (base_by opening ends) (hanging ends) found → MayBeFound opening ends k found
 after_all opening [] k found later (inl e) = e
 after_all opening [] k found later (inr e) = e
 after_all opening (Committed row tick ∷ earlier) k found later h = inl (later, h)
 after_all opening (Faulted left faults tick ∷ earlier) k found later h = inl (later, h)
 
--- what stands stands for a base
-stands_for : (b : Base) (left : Option Plain) (list leftover : List (List ℕ)) (image : List ℕ) → list ≡ payloads b
-    → StandsFor b left (list ++ leftover) → Stands list leftover image → StandsFor b left (frames image)
-stands_for b left list leftover image is for (inl e) = inl (e ∙ is)
-stands_for b left list leftover image is for (inr e) = subst (StandsFor b left) (sym e) for
+-- what is left over is a row that the files represent
+loose_stands : (file : File) (stored b : Base) (left : Option Plain) (list leftover : List (List ℕ)) (loose : List Extent)
+    (shown : List (List ℕ)) (image : List ℕ)
+    → list ≡ payloads stored → AreFormed stored → IsHeld file stored b → IsLoose file stored b left leftover loose
+    → shown ≡ list ++ leftover → IsImage file image
+    → StandsFor b left (record { frames = shown; objects = image })
+loose_stands file stored b None list leftover loose shown image spelled formed held none is leaves =
+    inl (held_in_image file stored b shown image held formed (is ∙ ap (λ l. list ++ l) none ∙ append-nil list ∙ spelled) leaves)
+loose_stands file stored b (Some row) list leftover loose shown image spelled formed held (inl none) is leaves =
+    inl (held_in_image file stored b shown image held formed (is ∙ ap (λ l. list ++ l) none ∙ append-nil list ∙ spelled) leaves)
+loose_stands file stored b (Some row) list leftover loose shown image spelled formed held (inr left) is leaves =
+    let whole : shown ≡ payloads (left.spelt ∷ stored) = is ∙ ap (λ l. list ++ l) left.is
+    ∙ ap (λ l. l ++ spelling_of left.spelt ∷ []) spelled in
+    inr (held_in_image file (left.spelt ∷ stored) (row ∷ b) shown image left.held (left.formed, formed) whole leaves)
 
-pub stands_so : (opening : Opening) (ends : List End) (list leftover : List (List ℕ)) (left : Left) (d : Device) (image : List ℕ)
-    → IsMirrored opening ends list leftover left d → Stands list leftover image
-    → StandsFor (base_by opening ends) (hanging ends) (frames image)
-stands_so opening ends list leftover left d image h stands = stands_for (base_by opening ends) (hanging ends) list leftover image
-    h.list_is h.leftover_is stands
+-- what stands in both files stands for the base, or for that and the row that a fault left
+pub stands_so : (opening : Opening) (ends : List End) (list leftover : List (List ℕ)) (left : Left) (owned : List ObjectExtent)
+    (loose : List Extent) (d : Device) (journal objects : List ℕ)
+    → IsMirrored opening ends list leftover left owned loose d → Stands list leftover journal → LeavesNow 1 d objects
+    → StandsFor (base_by opening ends) (hanging ends) (found_in journal objects)
+stands_so opening ends list leftover left owned loose d journal objects h (inl is) leaves =
+    inl (held_in_image (file_of 1 d) h.stored (base_by opening ends) (frames journal) objects h.held h.formed (is
+    ∙ h.list_is) leaves)
+stands_so opening ends list leftover left owned loose d journal objects h (inr is) leaves =
+    loose_stands (file_of 1 d) h.stored (base_by opening ends) (hanging ends) list leftover loose (frames journal) objects
+    h.list_is h.formed h.held h.leftover_is is leaves
 
--- what a call that ends in a commit or a fault may leave
-within_end : (opening : Opening) (ends : List End) (end : End) (list leftover list' leftover' : List (List ℕ)) (left : Left)
-    (d : Device) (k : ℕ) (image : List ℕ) → IsMirrored opening ends list leftover left d → ticks_of (Some opening) ends < k
-    → k ≤ tick_of end → StandsFor (base_by opening ends) (left_within end) (list' ++ leftover')
-    → Between list leftover list' leftover' image → MayBeFound opening (end ∷ ends) k (frames image)
-within_end opening ends end list leftover list' leftover' left d k image h later before within (inl stands) =
-    inr (before, inl (after_all opening ends k (frames image) later (stands_so opening ends list leftover left d image h stands)))
-within_end opening ends end list leftover list' leftover' left d k image h later before within (inr e) =
-    inr (before, inr (later, subst (StandsFor (base_by opening ends) (left_within end)) (sym e) within))
+-- A call on the journal that ends in a commit or a fault: what is kept after it. `within` tells what a stop finds that has the
+-- new list and what is left over after it.
+module _ (opening : Opening) (ends : List End) (end : End) (list leftover list' leftover' : List (List ℕ)) (left left' : Left)
+    (owned owned' : List ObjectExtent) (loose loose' : List Extent) (d e : Device)
+    (h : IsMirrored opening ends list leftover left owned loose d) (ticked : ticks_of (Some opening) ends ≤ length d.calls)
+    (moves : Moves list leftover list' leftover' d e)
+    (tick : tick_of end ≡ length e.calls) where
+  within_end : (k : ℕ) (journal objects : List ℕ) → ticks_of (Some opening) ends < k → k ≤ tick_of end
+      → ((j o : List ℕ) → frames j ≡ list' ++ leftover' → LeavesNow 1 d o
+      → StandsFor (base_by opening ends) (left_within end) (found_in j o))
+      → Between list leftover list' leftover' journal → LeavesNow 1 d objects
+      → MayBeFound opening (end ∷ ends) k (found_in journal objects)
+  within_end k journal objects later before within (inl stands) leaves =
+      inr (
+        before,
+        inl (after_all opening ends k (found_in journal objects) later
+            (stands_so opening ends list leftover left owned loose d journal objects h stands leaves)),
+      )
+  within_end k journal objects later before within (inr is) leaves = inr (before, inr (later, within journal objects is leaves))
 
--- what is kept after a call that ends in a commit or a fault
-pub covered_end : (opening : Opening) (ends : List End) (end : End) (list leftover list' leftover' : List (List ℕ))
-    (left left' : Left) (d e : Device) → IsMirrored opening ends list leftover left d
-    → ticks_of (Some opening) ends ≤ length d.calls → Moves list leftover list' leftover' d e → tick_of end ≡ length e.calls
-    → list' ≡ payloads (base_by opening (end ∷ ends)) → StandsFor (base_by opening (end ∷ ends)) (hanging (end ∷ ends))
-    (list' ++ leftover') → StandsFor (base_by opening ends) (left_within end) (list' ++ leftover')
-    → (left' ≡ lefts.Nothing → leftover' ≡ []) → IsMirrored opening (end ∷ ends) list' leftover' left' e
-covered_end opening ends end list leftover list' leftover' left left' d e h ticked moves tick is for within nothing = record {
-  list_is = is;
-  leftover_is = for;
-  nothing = nothing;
-  stops = λ k image later stop. by k image later stop (moves.passes.each k image stop);
-  now = moves.now;
-}
+  covered_end : (stored' : Base) → list' ≡ payloads stored' → AreFormed stored'
+      → IsHeld (file_of 1 d) stored' (base_by opening (end ∷ ends)) → owned' ≡ taken stored'
+      → IsLoose (file_of 1 d) stored' (base_by opening (end ∷ ends)) (hanging (end ∷ ends)) leftover' loose'
+      → (left' ≡ lefts.Nothing → leftover' ≡ [])
+      → ((j o : List ℕ) → frames j ≡ list' ++ leftover' → LeavesNow 1 d o
+      → StandsFor (base_by opening ends) (left_within end) (found_in j o))
+      → IsMirrored opening (end ∷ ends) list' leftover' left' owned' loose' e
+  covered_end stored' spelled formed held owned_are is_loose nothing within =
+      let b = base_by opening (end ∷ ends) in
+      let same = sym moves.passes.objects in
+      record {
+        stored = stored';
+        list_is = spelled;
+        formed = formed;
+        held = subst (λ s. IsHeld s stored' b) same held;
+        owned_are = owned_are;
+        leftover_is = subst (λ s. IsLoose s stored' b (hanging (end ∷ ends)) leftover' loose') same is_loose;
+        nothing = nothing;
+        stops = λ k journal objects later j o.
+            let inside = within_calls 0 e k journal j in
+            elim ((since_passes d e (Between list leftover list' leftover') moves.passes).each k journal objects j o) [
+              | inl earlier ↦ inr (omega (arith, inside, tick), inl (h.stops k journal objects later earlier.0 earlier.1))
+              | inr now ↦ within_end k journal objects (omega (arith, ticked, now.0)) (omega (arith, inside, tick)) within now.1.0
+                  now.1.1
+            ];
+        now = moves.now;
+      }
+
+-- a row was committed, which its frame spells so
+commit_mirrored : (opening : Opening) (ends : List End) (row spelt : Plain) (tick : ℕ)
+    (list leftover list' leftover' : List (List ℕ)) (left left' : Left) (owned owned' : List ObjectExtent)
+    (loose loose' : List Extent) (d e : Device)
+    (h : IsMirrored opening ends list leftover left owned loose d) → ticks_of (Some opening) ends ≤ length d.calls
+    → Moves list leftover list' leftover' d e → tick ≡ length e.calls
+    → list' ≡ list ++ spelling_of spelt ∷ [] → leftover' ≡ [] → IsFormed spelt
+    → IsHeld (file_of 1 d) (spelt ∷ h.stored) (row ∷ base_by opening ends)
+    → owned' ≡ taken_after (size h.stored) spelt.deed owned → IsMirrored opening (Committed row tick ∷ ends) list' leftover' left'
+    owned' loose' e
+commit_mirrored opening ends row spelt tick list leftover list' leftover' left left' owned owned' loose loose' d e h ticked moves
+    at grown none formed held owned_are =
+    let spelled : list' ≡ payloads (spelt ∷ h.stored) = grown ∙ ap (λ l. l ++ spelling_of spelt ∷ []) h.list_is in
+    let all : list' ++ leftover' ≡ payloads (spelt ∷ h.stored) = ap (λ l. list' ++ l) none ∙ append-nil list' ∙ spelled in
+    covered_end opening ends (Committed row tick) list leftover list' leftover' left left' owned owned' loose loose' d e h ticked
+    moves at (spelt ∷ h.stored) spelled (formed, h.formed) held
+    (owned_are ∙ ap (taken_after (size h.stored) spelt.deed) h.owned_are) none (λ is. none)
+    (λ j o is leaves. inr (held_in_image (file_of 1 d) (spelt ∷ h.stored) (row ∷ base_by opening ends) (frames j) o held (
+      formed,
+      h.formed,
+    ) (is ∙ all) leaves))
+
+-- the extents of what is left over after a failed append, by what the journal says that it left: none, those before it, or those
+-- of the row
+abbrev LooseSo : Left → List Extent → List Extent → List Extent → Type 0
+LooseSo lefts.Nothing loose placed now = now ≡ []
+LooseSo lefts.Earlier loose placed now = now ≡ loose
+LooseSo lefts.InFlight loose placed now = now ≡ placed
+
+-- the disk failed: what is left over then
+fault_loose : (file : File) (stored b : Base) (earlier found : Option Plain) (row spelt : Plain)
+    (leftover leftover' : List (List ℕ)) (loose loose' : List Extent) (left' : Left)
+    → IsLoose file stored b earlier leftover loose → leftover' ≡ leftover_after left' leftover (spelling_of spelt)
+    → LeftSo earlier row left' found → LooseSo left' loose (extents_of spelt.deed) loose'
+    → IsFormed spelt → (left' ≡ lefts.InFlight → IsHeld file (spelt ∷ stored) (row ∷ b))
+    → IsLoose file stored b found leftover' loose'
+fault_loose file stored b earlier found row spelt leftover leftover' loose loose' lefts.Nothing was is so extents formed held =
+    subst (λ o. IsLoose file stored b o leftover' loose') (sym so) is
+fault_loose file stored b earlier found row spelt leftover leftover' loose loose' lefts.Earlier was is so extents formed held =
+    subst (λ o. IsLoose file stored b o leftover' loose') (sym so)
+    (subst (λ l. IsLoose file stored b earlier l loose') (sym is) (subst (IsLoose file stored b earlier leftover) (sym extents)
+    was))
+fault_loose file stored b earlier found row spelt leftover leftover' loose loose' lefts.InFlight was is so extents formed held =
+    subst (λ o. IsLoose file stored b o leftover' loose') (sym so)
+    (inr (record { spelt = spelt; is = is; formed = formed; extents_are = extents; held = held refl }))
+
+fault_mirrored : (opening : Opening) (ends : List End) (row spelt : Plain) (found : Option Plain) (faults tick : ℕ)
+    (list leftover list' leftover' : List (List ℕ)) (left left' : Left) (owned : List ObjectExtent) (loose loose' : List Extent)
+    (d e : Device)
+    (h : IsMirrored opening ends list leftover left owned loose d) → ticks_of (Some opening) ends ≤ length d.calls
+    → Moves list leftover list' leftover' d e → tick ≡ length e.calls
+    → list' ≡ list → leftover' ≡ leftover_after left' leftover (spelling_of spelt) → LeftSo (hanging ends) row left' found
+    → LooseSo left' loose (extents_of spelt.deed) loose' → IsFormed spelt
+    → (left' ≡ lefts.InFlight → IsHeld (file_of 1 d) (spelt ∷ h.stored) (row ∷ base_by opening ends))
+    → IsMirrored opening (Faulted found faults tick ∷ ends) list' leftover' left' owned loose' e
+fault_mirrored opening ends row spelt found faults tick list leftover list' leftover' left left' owned loose loose' d e h ticked
+    moves at same is so extents formed held =
+    let b = base_by opening ends in
+    let file = file_of 1 d in
+    let now = fault_loose file h.stored b (hanging ends) found row spelt leftover leftover' loose loose' left' h.leftover_is is so
+    extents formed held in
+    let spelled : list' ≡ payloads h.stored = same ∙ h.list_is in
+    covered_end opening ends (Faulted found faults tick) list leftover list' leftover' left left' owned owned loose loose' d e h
+    ticked moves at h.stored spelled h.formed h.held h.owned_are now
+    (λ none. is ∙ ap (λ l. leftover_after l leftover (spelling_of spelt)) none)
+    (λ j o shown leaves. loose_stands file h.stored b found list' leftover' loose' (frames j) o spelled h.formed h.held now shown
+    leaves)
+
+-- the tail was settled, or this failed
+settle_mirrored : (opening : Opening) (ends : List End) (list leftover list' leftover' : List (List ℕ)) (left left' : Left)
+    (owned : List ObjectExtent) (loose loose' : List Extent) (d e : Device)
+    (h : IsMirrored opening ends list leftover left owned loose d) → ticks_of (Some opening) ends ≤ length d.calls
+    → Moves list leftover list' leftover' d e → list' ≡ list
+    → (leftover' ≡ []) ⊎ ((leftover' ≡ leftover) × (loose' ≡ loose)) → (left' ≡ lefts.Nothing → leftover' ≡ [])
+    → IsMirrored opening ends list' leftover' left' owned loose' e
+settle_mirrored opening ends list leftover list' leftover' left left' owned loose loose' d e h ticked moves same less nothing =
+    record {
+      stored = h.stored;
+      list_is = same ∙ h.list_is;
+      formed = h.formed;
+      held = subst (λ s. IsHeld s h.stored b) (sym moves.passes.objects) h.held;
+      owned_are = h.owned_are;
+      leftover_is = subst (λ s. IsLoose s h.stored b (hanging ends) leftover' loose') (sym moves.passes.objects) now;
+      nothing = nothing;
+      stops = λ k journal objects later j o. elim ((since_passes d e (Between list leftover list' leftover') moves.passes).each k
+          journal objects j o) [
+            | inl earlier ↦ h.stops k journal objects later earlier.0 earlier.1
+            | inr since ↦ after_all opening ends k (found_in journal objects) (omega (arith, ticked, since.0))
+                (between journal objects since.1.0 since.1.1)
+          ];
+      now = moves.now;
+    }
   where
-    by : (k : ℕ) (image : List ℕ) → opening.counts.ticks < k → Leaves 0 e k image → Leaves 0 d k image
-        ⊎ ((length d.calls < k) × Between list leftover list' leftover' image) → MayBeFound opening (end ∷ ends) k (frames image)
-    by k image later stop (inl earlier) =
-        let inside = left_within_calls e k image stop in
-        inr (omega (arith, inside, tick), inl (h.stops k image later earlier))
-    by k image later stop (inr since) =
-        let inside = left_within_calls e k image stop in
-        within_end opening ends end list leftover list' leftover' left d k image h (omega (arith, ticked, since.0))
-        (omega (arith, inside, tick)) within since.1
+    b : Base
+    b = base_by opening ends
 
--- what is kept after a call that settles the tail, or fails to
-pub covered_settled : (opening : Opening) (ends : List End) (list leftover list' leftover' : List (List ℕ)) (left left' : Left)
-    (d e : Device) → IsMirrored opening ends list leftover left d → ticks_of (Some opening) ends ≤ length d.calls
-    → Moves list leftover list' leftover' d e → list' ≡ list → (leftover' ≡ []) ⊎ (leftover' ≡ leftover)
-    → (left' ≡ lefts.Nothing → leftover' ≡ []) → IsMirrored opening ends list' leftover' left' e
-covered_settled opening ends list leftover list' leftover' left left' d e h ticked moves same less nothing = record {
-  list_is = same ∙ h.list_is;
-  leftover_is = stands less;
-  nothing = nothing;
-  stops = λ k image later stop. by k image later (moves.passes.each k image stop);
-  now = moves.now;
-}
-  where
-    stands : (leftover' ≡ []) ⊎ (leftover' ≡ leftover) → StandsFor (base_by opening ends) (hanging ends) (list' ++ leftover')
-    stands (inl none) = inl (ap (λ l. list' ++ l) none ∙ append-nil list' ∙ same ∙ h.list_is)
-    stands (inr kept) = subst (StandsFor (base_by opening ends) (hanging ends)) (ap (λ l. l ++ leftover) (sym same)
-        ∙ ap (λ l. list' ++ l) (sym kept)) h.leftover_is
+    none_loose : (left : Option Plain) → leftover' ≡ [] → IsLoose (file_of 1 d) h.stored b left leftover' loose'
+    none_loose None none = none
+    none_loose (Some row) none = inl none
 
-    between : (image : List ℕ) → Between list leftover list' leftover' image
-        → StandsFor (base_by opening ends) (hanging ends) (frames image)
-    between image (inl one) = stands_so opening ends list leftover left d image h one
-    between image (inr e) = subst (StandsFor (base_by opening ends) (hanging ends)) (sym e) (stands less)
+    now_of : (leftover' ≡ []) ⊎ ((leftover' ≡ leftover) × (loose' ≡ loose))
+        → IsLoose (file_of 1 d) h.stored b (hanging ends) leftover' loose'
+    now_of (inl none) = none_loose (hanging ends) none
+    now_of (inr kept) =
+        subst (λ l. IsLoose (file_of 1 d) h.stored b (hanging ends) l loose') (sym kept.0)
+        (subst (IsLoose (file_of 1 d) h.stored b (hanging ends) leftover) (sym kept.1) h.leftover_is)
 
-    by : (k : ℕ) (image : List ℕ) → opening.counts.ticks < k → Leaves 0 d k image
-        ⊎ ((length d.calls < k) × Between list leftover list' leftover' image) → MayBeFound opening ends k (frames image)
-    by k image later (inl earlier) = h.stops k image later earlier
-    by k image later (inr since) = after_all opening ends k (frames image) (omega (arith, ticked, since.0))
-        (between image since.1)
+    now : IsLoose (file_of 1 d) h.stored b (hanging ends) leftover' loose'
+    now = now_of less
 
--- where nothing is told nothing is told later
+    between : (journal objects : List ℕ) → Between list leftover list' leftover' journal → LeavesNow 1 d objects
+        → StandsFor b (hanging ends) (found_in journal objects)
+    between journal objects (inl one) leaves = stands_so opening ends list leftover left owned loose d journal objects h one
+        leaves
+    between journal objects (inr is) leaves =
+        loose_stands (file_of 1 d) h.stored b (hanging ends) list' leftover' loose' (frames journal) objects (same
+        ∙ h.list_is) h.formed h.held now is leaves
+
+-- where nothing is modeled nothing is modeled later
 pub still_modeled : (R : Device → Device → Type 0) (one two : Option Device) → Both R one two → is_some two ≡ is_some one
 still_modeled R None None h = refl
 still_modeled R None (Some e) h = absurd h
 still_modeled R (Some d) None h = absurd h
 still_modeled R (Some d) (Some e) h = refl
 
--- a row was committed
-pub commit_covered : (opening : Opening) (ends : List End) (row : Plain) (tick : ℕ)
-    (list leftover list' leftover' : List (List ℕ)) (left left' : Left) (one two : Option Device)
-    → IfModeled one (IsMirrored opening ends list leftover left) → IfModeled one
-    (λ d. ticks_of (Some opening) ends ≤ length d.calls) → Both (Moves list leftover list' leftover') one two
-    → IfModeled two (λ e. tick ≡ length e.calls) → IfModeled one (λ _. (list' ≡ list ++ spelling_of row ∷ []) × (leftover' ≡ []))
-    → IfModeled two (IsMirrored opening (Committed row tick ∷ ends) list' leftover' left')
-commit_covered opening ends row tick list leftover list' leftover' left left' None None h ticked moves at grown = tt
-commit_covered opening ends row tick list leftover list' leftover' left left' None (Some e) h ticked moves at grown = absurd moves
-commit_covered opening ends row tick list leftover list' leftover' left left' (Some d) None h ticked moves at grown = absurd moves
-commit_covered opening ends row tick list leftover list' leftover' left left' (Some d) (Some e) h ticked moves at grown =
-    let is : list' ≡ payloads (row ∷ base_by opening ends) = grown.0 ∙ ap (λ l. l ++ spelling_of row ∷ []) h.list_is in
-    let all : list' ++ leftover' ≡ payloads (row ∷ base_by opening ends) = ap (λ l. list' ++ l) grown.1 ∙ append-nil list' ∙ is in
-    covered_end opening ends (Committed row tick) list leftover list' leftover' left left' d e h ticked moves at is (inl all)
-    (inr all) (λ none. grown.1)
+-- The same where the device is modeled, of a row that fits the base: no extent is taken.
+module _ (opening : Opening) (ends : List End) (list leftover list' leftover' : List (List ℕ)) (left left' : Left) where
+  pub commit_covered : (row : Plain) (tick : ℕ) (one two : Option Device)
+      → IfModeled one (IsMirrored opening ends list leftover left [] [])
+      → IfModeled one (λ d. ticks_of (Some opening) ends ≤ length d.calls) → Both (Moves list leftover list' leftover') one two
+      → IfModeled two (λ e. tick ≡ length e.calls)
+      → IfModeled one (λ _. (list' ≡ list ++ spelling_of row ∷ []) × (leftover' ≡ []))
+      → fits (base_by opening ends) row.deed ≡ true → IsFormed row
+      → IfModeled two (IsMirrored opening (Committed row tick ∷ ends) list' leftover' left' [] [])
+  commit_covered row tick None None h ticked moves at grown fit formed = tt
+  commit_covered row tick None (Some e) h ticked moves at grown fit formed = absurd moves
+  commit_covered row tick (Some d) None h ticked moves at grown fit formed = absurd moves
+  commit_covered row tick (Some d) (Some e) h ticked moves at grown fit formed =
+      let b = base_by opening ends in
+      commit_mirrored opening ends row row tick list leftover list' leftover' left left' [] [] [] [] d e h ticked moves at grown.0
+      grown.1 formed (held_with_fitting (file_of 1 d) h.stored b row h.held fit)
+      (sym (takes_nothing (size h.stored) b row.deed fit))
 
--- what is left over after the list after a fault
-fault_stands : (opening : Opening) (ends : List End) (row : Plain) (list leftover leftover' : List (List ℕ)) (left' : Left)
-    (found : Option Plain) → list ≡ payloads (base_by opening ends) → StandsFor (base_by opening ends) (hanging ends)
-    (list ++ leftover) → leftover' ≡ leftover_after left' leftover (spelling_of row) → LeftSo (hanging ends) row left' found
-    → StandsFor (base_by opening ends) found (list ++ leftover')
-fault_stands opening ends row list leftover leftover' lefts.Nothing found is for e so =
-    inl (ap (λ l. list ++ l) e ∙ append-nil list ∙ is)
-fault_stands opening ends row list leftover leftover' lefts.Earlier found is for e so =
-    subst (λ o. StandsFor (base_by opening ends) o (list ++ leftover')) (sym so)
-    (subst (StandsFor (base_by opening ends) (hanging ends)) (ap (λ l. list ++ l) (sym e)) for)
-fault_stands opening ends row list leftover leftover' lefts.InFlight found is for e so =
-    subst (λ o. StandsFor (base_by opening ends) o (list ++ leftover')) (sym so) (inr (ap (λ l. list ++ l) e
-    ∙ ap (λ l. l ++ spelling_of row ∷ []) is))
+  nothing_loose : (row : Plain) (how : Left) → fits (base_by opening ends) row.deed ≡ true
+      → LooseSo how [] (extents_of row.deed) []
+  nothing_loose row lefts.Nothing fit = refl
+  nothing_loose row lefts.Earlier fit = refl
+  nothing_loose row lefts.InFlight fit = sym (no_extents (base_by opening ends) row.deed fit)
 
--- the disk failed
-pub fault_covered : (opening : Opening) (ends : List End) (row : Plain) (found : Option Plain) (faults tick : ℕ)
-    (list leftover list' leftover' : List (List ℕ)) (left left' : Left) (one two : Option Device)
-    → IfModeled one (IsMirrored opening ends list leftover left) → IfModeled one
-    (λ d. ticks_of (Some opening) ends ≤ length d.calls) → Both (Moves list leftover list' leftover') one two
-    → IfModeled two (λ e. tick ≡ length e.calls) → IfModeled one (λ _. (list' ≡ list)
-    × (leftover' ≡ leftover_after left' leftover (spelling_of row))) → LeftSo (hanging ends) row left' found
-    → IfModeled two (IsMirrored opening (Faulted found faults tick ∷ ends) list' leftover' left')
-fault_covered opening ends row found faults tick list leftover list' leftover' left left' None None h ticked moves at stays so =
-    tt
-fault_covered opening ends row found faults tick list leftover list' leftover' left left' None (Some e) h ticked moves at stays
-    so = absurd moves
-fault_covered opening ends row found faults tick list leftover list' leftover' left left' (Some d) None h ticked moves at stays
-    so = absurd moves
-fault_covered opening ends row found faults tick list leftover list' leftover' left left' (Some d) (Some e) h ticked moves at
-    stays so =
-    let for = fault_stands opening ends row list leftover leftover' left' found h.list_is h.leftover_is stays.1 so in
-    let for' : StandsFor (base_by opening ends) found (list' ++ leftover') =
-    subst (λ l. StandsFor (base_by opening ends) found (l ++ leftover')) (sym stays.0) for in
-    covered_end opening ends (Faulted found faults tick) list leftover list' leftover' left left' d e h ticked moves at (stays.0
-    ∙ h.list_is) for' for' (λ none. stays.1 ∙ ap (λ l. leftover_after l leftover (spelling_of row)) none)
+  pub fault_covered : (row : Plain) (found : Option Plain) (faults tick : ℕ) (one two : Option Device)
+      → IfModeled one (IsMirrored opening ends list leftover left [] [])
+      → IfModeled one (λ d. ticks_of (Some opening) ends ≤ length d.calls) → Both (Moves list leftover list' leftover') one two
+      → IfModeled two (λ e. tick ≡ length e.calls)
+      → IfModeled one (λ _. (list' ≡ list) × (leftover' ≡ leftover_after left' leftover (spelling_of row)))
+      → LeftSo (hanging ends) row left' found → fits (base_by opening ends) row.deed ≡ true → IsFormed row
+      → IfModeled two (IsMirrored opening (Faulted found faults tick ∷ ends) list' leftover' left' [] [])
+  fault_covered row found faults tick None None h ticked moves at stays so fit formed = tt
+  fault_covered row found faults tick None (Some e) h ticked moves at stays so fit formed = absurd moves
+  fault_covered row found faults tick (Some d) None h ticked moves at stays so fit formed = absurd moves
+  fault_covered row found faults tick (Some d) (Some e) h ticked moves at stays so fit formed =
+      fault_mirrored opening ends row row found faults tick list leftover list' leftover' left left' [] [] [] d e h ticked moves
+      at stays.0 stays.1 so (nothing_loose row left' fit) formed
+      (λ flies. held_with_fitting (file_of 1 d) h.stored (base_by opening ends) row h.held fit)
 
--- the tail was settled, or this failed
-pub settle_covered : (opening : Opening) (ends : List End) (list leftover list' leftover' : List (List ℕ)) (left left' : Left)
-    (one two : Option Device) → IfModeled one (IsMirrored opening ends list leftover left)
-    → IfModeled one (λ d. ticks_of (Some opening) ends ≤ length d.calls) → Both (Moves list leftover list' leftover') one two
-    → list' ≡ list → (leftover' ≡ []) ⊎ (leftover' ≡ leftover) → (left' ≡ lefts.Nothing → leftover' ≡ [])
-    → IfModeled two (IsMirrored opening ends list' leftover' left')
-settle_covered opening ends list leftover list' leftover' left left' None None h ticked moves same less nothing = tt
-settle_covered opening ends list leftover list' leftover' left left' None (Some e) h ticked moves same less nothing = absurd moves
-settle_covered opening ends list leftover list' leftover' left left' (Some d) None h ticked moves same less nothing = absurd moves
-settle_covered opening ends list leftover list' leftover' left left' (Some d) (Some e) h ticked moves same less nothing =
-    covered_settled opening ends list leftover list' leftover' left left' d e h ticked moves same less nothing
+  pub settle_covered : (one two : Option Device) → IfModeled one (IsMirrored opening ends list leftover left [] [])
+      → IfModeled one (λ d. ticks_of (Some opening) ends ≤ length d.calls) → Both (Moves list leftover list' leftover') one two
+      → list' ≡ list → (leftover' ≡ []) ⊎ (leftover' ≡ leftover) → (left' ≡ lefts.Nothing → leftover' ≡ [])
+      → IfModeled two (IsMirrored opening ends list' leftover' left' [] [])
+  settle_covered None None h ticked moves same less nothing = tt
+  settle_covered None (Some e) h ticked moves same less nothing = absurd moves
+  settle_covered (Some d) None h ticked moves same less nothing = absurd moves
+  settle_covered (Some d) (Some e) h ticked moves same less nothing =
+      settle_mirrored opening ends list leftover list' leftover' left left' [] [] [] d e h ticked moves same
+      (elim less [ inl none ↦ inl none | inr kept ↦ inr (kept, refl) ]) nothing

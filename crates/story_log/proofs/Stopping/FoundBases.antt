@@ -1,6 +1,7 @@
 -- Whatever a stop may find of a legal story is a base, whose rows are of the kind of those that the story names, and which is
 -- sound where the base was sound as it was opened.
-use Rattle.std.proofs.Common.{◌≡◌, ℕ, ◌<◌, ◌⊎◌, inl, inr, true, false, Option, Some, None, List, [], ◌∷◌, ◌++◌, refl, ap, sym}
+use Rattle.std.proofs.Common.{◌≡◌, ℕ, ◌<◌, ◌⊎◌, inl, inr, true, false, Option, Some, None, List, [], ◌∷◌, ◌++◌, length, refl, ap}
+use Rattle.std.proofs.Common.{sym}
 use Rattle.std.proofs.Common.{subst, ◌∙◌, append_assoc}
 use Rattle.std.proofs.lemmas.List.{append-nil}
 use Rattle.std.specs.List.{AllByRecursion}
@@ -11,7 +12,6 @@ use Rattle.cc_names.specs.declared.steps.StoryStep.{StoryStep}
 use Rattle.cc_names.specs.declared.steps.StoryStep.TheVariants as story_steps
 use Rattle.disk_model.specs.Devices.{Device, bytes_now}
 use Rattle.disk_model.specs.DiskStates.{DiskState, IfModeled}
-use Rattle.vob_journal.specs.Frames.{frames}
 use Rattle.base_model.specs.Rows.{Base}
 use Rattle.base_model.specs.Fits.{is_base}
 use Rattle.legal_history.specs.Builds.Values.{IsSound}
@@ -23,11 +23,17 @@ use Rattle.legal_history.specs.Stories.Committing.{LeavesRow}
 use Rattle.legal_history.specs.Stories.Lawful.{Legal, LegalFrom, Lawful}
 use Rattle.story_log.specs.Stopping.Founds.{OpensAgain, SpellsBase}
 use Rattle.story_log.specs.Story.Handed.{Handed}
-use Rattle.story_log.specs.Bases.Opening.{IsBaseOn, IsUndamaged}
+use Rattle.story_log.specs.Bases.Opening.{IsBaseOn}
+use Rattle.story_log.specs.Stored.Founds.{Found, Represents}
+use Rattle.story_log.specs.Stored.Opened.{base_opened, IsOpenedAs}
+use Rattle.story_log.specs.Stored.Stops.{found_on}
 use Rattle.story_log.specs.Story.Formed.{NamesOnly, TellsOnly}
-use Rattle.story_log.specs.Stopping.Standing.{payloads, base_by, left_after, left_within, StandsFor, MayBeFound}
+use Rattle.story_log.specs.Stopping.Standing.{base_by, left_after, left_within, StandsFor, MayBeFound}
 use Rattle.legal_history.proofs.Stories.Prefixes.{first_opens}
-use Rattle.story_log.proofs.Bases.Damages.{same_base, undamaged}
+use Rattle.story_log.proofs.Stored.Bases.{opens_itself}
+use Rattle.story_log.proofs.Stored.Damaged.{same_base, stored_undamaged}
+use Rattle.story_log.proofs.Stored.Fitting.{stored_are_base}
+use Rattle.story_log.proofs.Stored.Represented.{opened_is_sound}
 use Rattle.story_log.proofs.Story.Growing.{state_from-more, legal_more}
 use Rattle.story_log.proofs.Cases.{some_same}
 use Rattle.story_log.proofs.Story.Naming.{tells_rows}
@@ -43,11 +49,11 @@ record IsOnly (P : Plain → Type 0) (opening : Opening) (b : Base) : Type 0 whe
   sound : IsSound opening.base → IsSound b
   each : AllByRecursion P b
 
--- what was found spells the rows of such a base
-record SpellsOnly (P : Plain → Type 0) (opening : Opening) (found : List (List ℕ)) : Type 0 where
+-- what was found represents such a base
+record SpellsOnly (P : Plain → Type 0) (opening : Opening) (found : Found) : Type 0 where
   base : Base
   only : IsOnly P opening base
-  is : found ≡ payloads base
+  is : Represents found base
 
 -- a row that may stand after a base makes such a base of it
 abbrev FitsBehind : (Plain → Type 0) → Opening → Base → Option Plain → Type 0
@@ -59,10 +65,10 @@ record IsFound (P : Plain → Type 0) (s : State) (opening : Opening) : Type 0 w
   opened : s.opened ≡ Some opening
   base : s.base ≡ base_by opening s.ends
   only : IsOnly P opening s.base
-  found : (k : ℕ) (found : List (List ℕ)) → MayBeFound opening s.ends k found → SpellsOnly P opening found
+  found : (k : ℕ) (found : Found) → MayBeFound opening s.ends k found → SpellsOnly P opening found
 
--- a base that a journal stands for
-stands_base : (P : Plain → Type 0) (opening : Opening) (b : Base) (left : Option Plain) (found : List (List ℕ))
+-- a base that was found
+stands_base : (P : Plain → Type 0) (opening : Opening) (b : Base) (left : Option Plain) (found : Found)
     → IsOnly P opening b → FitsBehind P opening b left → StandsFor b left found → SpellsOnly P opening found
 stands_base P opening b left found only behind (inl e) = record { base = b; only = only; is = e }
 stands_base P opening b None found only behind (inr e) = record { base = b; only = only; is = e }
@@ -71,8 +77,8 @@ stands_base P opening b (Some row) found only behind (inr e) = record { base = r
 -- after one more commit or fault
 one_more : (P : Plain → Type 0) (opening : Opening) (end : End) (ends : List End) → IsOnly P opening (base_by opening ends)
     → IsOnly P opening (base_by opening (end ∷ ends)) → FitsBehind P opening (base_by opening (end ∷ ends)) (left_after end)
-    → FitsBehind P opening (base_by opening ends) (left_within end) → ((k : ℕ) (found : List (List ℕ))
-    → MayBeFound opening ends k found → SpellsOnly P opening found) → (k : ℕ) (found : List (List ℕ))
+    → FitsBehind P opening (base_by opening ends) (left_within end) → ((k : ℕ) (found : Found)
+    → MayBeFound opening ends k found → SpellsOnly P opening found) → (k : ℕ) (found : Found)
     → MayBeFound opening (end ∷ ends) k found → SpellsOnly P opening found
 one_more P opening end ends old new behind within h k found (inl later) =
     stands_base P opening (base_by opening (end ∷ ends)) (left_after end) found new behind later.1
@@ -99,7 +105,7 @@ stays_found P s t opening opened base ends h = record {
   opened = opened ∙ h.opened;
   base = base ∙ h.base ∙ ap (base_by opening) (sym ends);
   only = subst (IsOnly P opening) (sym base) h.only;
-  found = subst (λ e. (k : ℕ) (found : List (List ℕ)) → MayBeFound opening e k found
+  found = subst (λ e. (k : ℕ) (found : Found) → MayBeFound opening e k found
       → SpellsOnly P opening found) (sym ends) h.found;
 }
 
@@ -184,7 +190,7 @@ first_found P (story_steps.Opened rows counts tells) lawful named is = (
 first_found P x lawful named is = absurd (cc)
 
 -- whatever a stop may find is a base of such rows
-found_only : (P : Plain → Type 0) → Laws → (story : List StoryStep) (opening : Opening) (k : ℕ) (found : List (List ℕ))
+found_only : (P : Plain → Type 0) → Laws → (story : List StoryStep) (opening : Opening) (k : ℕ) (found : Found)
     → Legal story → TellsOnly P story → (state_of story).opened ≡ Some opening → MayBeFound opening (state_of story).ends k found
     → SpellsOnly P opening found
 found_only P laws [] opening k found legal named opened may = absurd (cc)
@@ -196,26 +202,35 @@ found_only P laws (x ∷ story) opening k found legal named opened may =
     (sym same) may))
 
 -- whatever a stop may find is a base
-pub found_base : Laws → (story : List StoryStep) (opening : Opening) (k : ℕ) (found : List (List ℕ)) → Legal story
+pub found_base : Laws → (story : List StoryStep) (opening : Opening) (k : ℕ) (found : Found) → Legal story
     → (state_of story).opened ≡ Some opening → MayBeFound opening (state_of story).ends k found → SpellsBase opening.base found
 found_base laws story opening k found legal opened may =
     let spells = found_only (λ (row : Plain). Unit {0}) laws story opening k found legal (tells_rows story) opened may in
     record { base = spells.base; good = spells.only.good; is = spells.is; sound = spells.only.sound }
 
 -- and where the story names only formed rows it opens again
-pub opens_again : Laws → (story : List StoryStep) (opening : Opening) (k : ℕ) (found : List (List ℕ)) → Legal story
+pub opens_again : Laws → (story : List StoryStep) (opening : Opening) (k : ℕ) (found : Found) → Legal story
     → TellsOnly IsFormed story → (state_of story).opened ≡ Some opening → MayBeFound opening (state_of story).ends k found
     → OpensAgain opening.base found
 opens_again laws story opening k found legal named opened may =
     let spells = found_only IsFormed laws story opening k found legal named opened may in
+    let r = spells.is in
+    let base = stored_are_base (length found.objects) r.stored r.good in
     record {
-      base = spells.base;
-      good = spells.only.good;
-      formed = spells.only.each;
-      is = spells.is;
-      undamaged = subst IsUndamaged (sym spells.is) (undamaged spells.base spells.only.good spells.only.each);
-      one = λ other formed is. same_base other spells.base formed spells.only.each (sym is ∙ spells.is);
-      sound = spells.only.sound;
+      base = r.stored;
+      good = base;
+      formed = r.formed;
+      is = record {
+        stored = r.stored;
+        spelled = r.spelled;
+        formed = r.formed;
+        good = r.good;
+        is = sym (opens_itself found.objects r.stored base);
+      };
+      undamaged = stored_undamaged found r.stored r.spelled r.formed r.good;
+      one = λ other formed is. same_base other r.stored formed r.formed (sym is ∙ r.spelled);
+      sound = λ sound. subst IsSound (opens_itself found.objects r.stored base)
+          (opened_is_sound found spells.base r (spells.only.sound sound));
     }
 
 -- the base that is opened on a disk that reads so is that one
@@ -224,7 +239,10 @@ pub modeled_is : (modeled : Option Device) (device : Device) (P : Device → Typ
 modeled_is modeled device P is h = subst (λ t. IfModeled t P) is h
 
 pub found_is_sound : (opened base : Base) (disk : DiskState) (device : Device) (handed : Handed) → disk.modeled ≡ Some device
-    → OpensAgain opened (frames (bytes_now 0 device)) → IsBaseOn disk base handed → IsSound opened → IsSound base
+    → OpensAgain opened (found_on device) → IsBaseOn disk base handed → IsSound opened → IsSound base
 found_is_sound opened base disk device handed is again on sound =
-    let spelled = modeled_is disk.modeled device (λ d. frames (bytes_now 0 d) ≡ payloads base) is on.found in
-    subst IsSound (sym (again.one base on.formed spelled)) (again.sound sound)
+    let found : IsOpenedAs (found_on device) base = modeled_is disk.modeled device (λ d. IsOpenedAs (found_on d) base) is on.found
+    in
+    let same : found.stored ≡ again.is.stored = again.one found.stored found.formed found.spelled in
+    let base_is : base ≡ again.base = found.is ∙ ap (base_opened (bytes_now 1 device)) same ∙ sym again.is.is in
+    subst IsSound (sym base_is) (again.sound sound)

@@ -2,11 +2,11 @@
 use Rattle.std.proofs.Common.{◌≡◌, ◌≢◌, ℕ, ◌<◌, ◌≤◌, ◌^◌, ◌⊎◌, inl, inr, Bool, true, Option, Some, None, List, [], ◌++◌, length}
 use Rattle.std.proofs.Common.{ap, sym, subst, ◌∙◌, arith}
 use Rattle.std.proofs.lemmas.List.{append-nil}
-use Rattle.std.specs.Prelude.{Result, Ok, Err, MatchResult}
+use Rattle.std.specs.Prelude.{Result, Ok, Err, MatchResult, OnOk}
 use Rattle.cc_names.specs.declared.commands.Phase.{Phase}
 use Rattle.cc_names.specs.declared.steps.Step.{Step}
 use Rattle.disk_model.specs.Counting.{next_count}
-use Rattle.disk_model.specs.Devices.{Device, LeavesNow, MayLeave}
+use Rattle.disk_model.specs.Devices.{Device, MayLeave, file_of}
 use Rattle.disk_model.specs.DiskStates.{DiskState, IfModeled, Both, IsCounted}
 use Rattle.base_model.specs.Rows.{Base}
 use Rattle.legal_history.specs.Stories.States.{State, Opening, End, ticks_of, hanging}
@@ -18,12 +18,15 @@ use Rattle.vob_journal.specs.declared.left.Left.{Left}
 use Rattle.vob_journal.specs.declared.left.Left.TheVariants as lefts
 use Rattle.story_log.specs.Stopping.Backed.{IsMirrored, IsBacked, IsSettled, IsAccounted}
 use Rattle.story_log.specs.Logging.Logs.{IsLogged}
-use Rattle.story_log.specs.Stopping.Standing.{payloads, base_by, StandsFor, MayBeFound}
+use Rattle.story_log.specs.Stored.Founds.{Represents}
+use Rattle.story_log.specs.Stored.Stops.{OfEachStop, OfStopNow, found_in}
+use Rattle.story_log.specs.Stopping.Standing.{base_by, StandsFor, MayBeFound}
 use Rattle.story_log.specs.Story.Telling.{story_of}
 use Rattle.base_rows.specs.Order.{oldest_first}
 use Rattle.story_log.specs.Story.Handed.{Handed}
-use Rattle.story_log.proofs.Stopping.Backing.{after_all, settle_covered, stands_so, still_modeled}
-use Rattle.story_log.proofs.Logging.Logging.{if_modeled, ticks_counted}
+use Rattle.story_log.proofs.Stored.Holding.{held_in_image}
+use Rattle.story_log.proofs.Stopping.Backing.{after_all, settle_covered, stands_so, still_modeled, within_calls}
+use Rattle.story_log.proofs.Logging.Logging.{ticks_counted}
 
 -- a count that was raised is no less
 no_less : (old new : ℕ) → next_count old ≤ new → old < 2 ^ 64 → old ≤ new
@@ -61,6 +64,7 @@ pub logged_settled : {E : Type 0} → (on : Handed) (kept : List Step) (base : B
 logged_settled on kept base phases calls old new list leftover list' leftover' ended ended' left left' settled settled' (Ok u) h
     moves same less went end cost counted ajar = record {
       modeled = h.modeled;
+      leads = h.leads;
       backed = backed_settle (state_of (story_of on kept (oldest_first base) phases)) old new list leftover list' leftover' ended
           ended' left left' settled settled' h.backed moves same (inl less) (λ e. less) (omega (arith, cost.0))
           (omega (arith, cost.1)) counted end ajar;
@@ -68,6 +72,7 @@ logged_settled on kept base phases calls old new list leftover list' leftover' e
 logged_settled on kept base phases calls old new list leftover list' leftover' ended ended' left left' settled settled'
     (Err fault) h moves same less went end cost counted ajar = record {
       modeled = h.modeled;
+      leads = h.leads;
       backed = backed_settle (state_of (story_of on kept (oldest_first base) phases)) old new list leftover list' leftover' ended
           ended' left left' settled settled' h.backed moves same (inr less) (λ e. absurd (cc))
           (no_less old.ticks new.ticks cost.0 counted.ticks) (omega (
@@ -79,52 +84,68 @@ logged_settled on kept base phases calls old new list leftover list' leftover' e
 
 -- no stop finds more than the base where nothing is left over
 settled_modeled : (s : State) (opening : Opening) (list leftover : List (List ℕ)) (left : Left) (modeled : Option Device)
-    → s.base ≡ base_by opening s.ends → IfModeled modeled (IsMirrored opening s.ends list leftover left)
-    → IfModeled modeled (λ _. leftover ≡ []) → IfModeled modeled (λ d. (image : List ℕ) → LeavesNow 0 d image
-    → frames image ≡ payloads s.base)
+    → s.base ≡ base_by opening s.ends → IfModeled modeled (IsMirrored opening s.ends list leftover left [] [])
+    → ((d : Device) → IsMirrored opening s.ends list leftover left [] [] d → leftover ≡ [])
+    → IfModeled modeled (λ d. OfStopNow d (λ found. Represents found s.base))
 settled_modeled s opening list leftover left None base h none = tt
-settled_modeled s opening list leftover left (Some d) base h none = λ image leaves. by image (h.now image leaves) ∙ h.list_is
-    ∙ ap payloads (sym base)
+settled_modeled s opening list leftover left (Some d) base h none = λ journal objects j o.
+    subst (Represents (found_in journal objects)) (sym base)
+    (held_in_image (file_of 1 d) h.stored (base_by opening s.ends) (frames journal) objects h.held h.formed
+    (by journal (h.now journal j) ∙ h.list_is) o)
   where
-    by : (image : List ℕ) → Stands list leftover image → frames image ≡ list
-    by image (inl e) = e
-    by image (inr e) = e ∙ ap (λ l. list ++ l) none ∙ append-nil list
+    by : (journal : List ℕ) → Stands list leftover journal → frames journal ≡ list
+    by journal (inl e) = e
+    by journal (inr e) = e ∙ ap (λ l. list ++ l) (none d h) ∙ append-nil list
 
-pub settled_so : (s : State) (ghost_state : DiskState) (list leftover : List (List ℕ)) (ended : Bool) (left : Left)
-    (settled : Bool) → IsBacked s ghost_state list leftover ended left settled → leftover ≡ [] → IsSettled s ghost_state
-settled_so s ghost_state list leftover ended left settled h none = settled_modeled s h.opening list leftover left
-    ghost_state.modeled h.base h.covered (if_modeled ghost_state.modeled (IsMirrored h.opening s.ends list leftover left)
-    (λ _. leftover ≡ []) (λ d c. none) h.covered)
+pub settled_before : (s : State) (ghost_state : DiskState) (list leftover : List (List ℕ)) (ended : Bool) (left : Left)
+    (settled : Bool) → IsBacked s ghost_state list leftover ended left settled → left ≡ lefts.Nothing → IsSettled s ghost_state
+settled_before s ghost_state list leftover ended left settled h is = settled_modeled s h.opening list leftover left
+    ghost_state.modeled h.base h.covered (λ d mirrored. mirrored.nothing is)
+
+pub settled_so : {E : Type 0} → (s : State) (ghost_state : DiskState) (list leftover leftover' : List (List ℕ)) (ended : Bool)
+    (left : Left) (settled : Bool) (r : Result (Unit {0}) E) → IsBacked s ghost_state list leftover' ended left settled
+    → MatchResult r (λ _. leftover' ≡ []) (λ _. leftover' ≡ leftover) → OnOk r (IsSettled s ghost_state)
+settled_so s ghost_state list leftover leftover' ended left settled (Ok u) h less = settled_modeled s h.opening list leftover'
+    left ghost_state.modeled h.base h.covered (λ d mirrored. less)
+settled_so s ghost_state list leftover leftover' ended left settled (Err fault) h less = tt
 
 -- each stop finds what the history says
 stops_so : (opening : Opening) (ends : List End) (list leftover : List (List ℕ)) (left : Left) (d : Device)
-    → IsMirrored opening ends list leftover left d → ticks_of (Some opening) ends ≤ length d.calls → (k : ℕ) (image : List ℕ)
-    → opening.counts.ticks < k → MayLeave 0 d k image → MayBeFound opening ends k (frames image)
-stops_so opening ends list leftover left d h ticked k image later (inl leaves) = h.stops k image later leaves
-stops_so opening ends list leftover left d h ticked k image later (inr now) =
-    after_all opening ends k (frames image) (omega (arith, ticked, now.0))
-    (stands_so opening ends list leftover left d image h (h.now image now.1))
+    → IsMirrored opening ends list leftover left [] [] d → ticks_of (Some opening) ends ≤ length d.calls
+    → (k : ℕ) (journal objects : List ℕ) → opening.counts.ticks < k → MayLeave 0 d k journal → MayLeave 1 d k objects
+    → MayBeFound opening ends k (found_in journal objects)
+stops_so opening ends list leftover left d h ticked k journal objects later (inl j) (inl o) = h.stops k journal objects later j o
+stops_so opening ends list leftover left d h ticked k journal objects later (inl j) (inr o) =
+    let within = within_calls 0 d k journal j in absurd (omega (arith, within, o.0))
+stops_so opening ends list leftover left d h ticked k journal objects later (inr j) (inl o) =
+    let within = within_calls 1 d k objects o in absurd (omega (arith, within, j.0))
+stops_so opening ends list leftover left d h ticked k journal objects later (inr j) (inr o) =
+    after_all opening ends k (found_in journal objects) (omega (arith, ticked, j.0))
+    (stands_so opening ends list leftover left [] [] d journal objects h (h.now journal j.1) o.1)
 
 stops_modeled : (opening : Opening) (ends : List End) (list leftover : List (List ℕ)) (left : Left) (modeled : Option Device)
-    → IfModeled modeled (IsMirrored opening ends list leftover left) → IfModeled modeled
-    (λ d. ticks_of (Some opening) ends ≤ length d.calls) → IfModeled modeled (λ d. (k : ℕ) (image : List ℕ)
-    → opening.counts.ticks < k → MayLeave 0 d k image → MayBeFound opening ends k (frames image))
+    → IfModeled modeled (IsMirrored opening ends list leftover left [] []) → IfModeled modeled
+    (λ d. ticks_of (Some opening) ends ≤ length d.calls) → IfModeled modeled (λ d. (k : ℕ) → opening.counts.ticks < k
+    → OfEachStop d k (MayBeFound opening ends k))
 stops_modeled opening ends list leftover left None h ticked = tt
-stops_modeled opening ends list leftover left (Some d) h ticked = stops_so opening ends list leftover left d h ticked
+stops_modeled opening ends list leftover left (Some d) h ticked = λ k later journal objects j o.
+    stops_so opening ends list leftover left d h ticked k journal objects later j o
 
 -- where the newest end left nothing, a stop now finds the base
 at_rest : (s : State) (opening : Opening) (list leftover : List (List ℕ)) (left : Left) (modeled : Option Device)
-    → s.base ≡ base_by opening s.ends → hanging s.ends ≡ None → IfModeled modeled (IsMirrored opening s.ends list leftover left)
-    → IfModeled modeled (λ d. (image : List ℕ) → LeavesNow 0 d image → frames image ≡ payloads s.base)
+    → s.base ≡ base_by opening s.ends → hanging s.ends ≡ None
+    → IfModeled modeled (IsMirrored opening s.ends list leftover left [] [])
+    → IfModeled modeled (λ d. OfStopNow d (λ found. Represents found s.base))
 at_rest s opening list leftover left None base none h = tt
-at_rest s opening list leftover left (Some d) base none h = λ image leaves. by image
-    (subst (λ o. StandsFor (base_by opening s.ends) o (frames image)) none
-    (stands_so opening s.ends list leftover left d image h (h.now image leaves))) ∙ ap payloads (sym base)
+at_rest s opening list leftover left (Some d) base none h = λ journal objects j o.
+    subst (Represents (found_in journal objects)) (sym base) (by journal objects
+    (subst (λ row. StandsFor (base_by opening s.ends) row (found_in journal objects)) none
+    (stands_so opening s.ends list leftover left [] [] d journal objects h (h.now journal j) o)))
   where
-    by : (image : List ℕ) → StandsFor (base_by opening s.ends) None (frames image)
-        → frames image ≡ payloads (base_by opening s.ends)
-    by image (inl e) = e
-    by image (inr e) = e
+    by : (journal objects : List ℕ) → StandsFor (base_by opening s.ends) None (found_in journal objects)
+        → Represents (found_in journal objects) (base_by opening s.ends)
+    by journal objects (inl e) = e
+    by journal objects (inr e) = e
 
 pub accounted : (s : State) (ghost_state : DiskState) (list leftover : List (List ℕ)) (ended : Bool) (left : Left)
     (settled : Bool) → IsBacked s ghost_state list leftover ended left settled → IsCounted ghost_state → IsAccounted s ghost_state

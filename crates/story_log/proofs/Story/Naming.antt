@@ -1,5 +1,5 @@
 -- Stories that name only rows of one kind.
-use Rattle.std.proofs.Common.{◌≡◌, inl, inr, false, Option, Some, None, List, [], ◌∷◌, ◌++◌, subst, sym}
+use Rattle.std.proofs.Common.{◌≡◌, inl, inr, true, Option, Some, None, List, [], ◌∷◌, ◌++◌, subst, sym}
 use Rattle.std.specs.List.{AllByRecursion}
 use Rattle.std.specs.Prelude.{IfSome, reverse}
 use Rattle.cc_names.specs.Formed.{Plain}

@@ -14,9 +14,8 @@ use Rattle.vob_journal.specs.Frames.{frames}
 use Rattle.vob_journal.specs.Moves.{Moves}
 use Rattle.vob_journal.specs.Reads.{SameFiles}
 use Rattle.vob_journal.specs.Shown.{Shown}
-use Rattle.story_log.specs.Bases.Opening.{IsUnfit}
 use Rattle.story_log.specs.Story.Formed.{AreFormed}
-use Rattle.story_log.specs.Stopping.Standing.{payloads}
+use Rattle.story_log.specs.Stored.Payloads.{payloads}
 use Rattle.story_log.specs.declared.opening.OpenCause.{OpenCause}
 use Rattle.story_log.specs.declared.opening.OpenCause.TheVariants as causes
 
@@ -52,6 +51,10 @@ abbrev pub IsMisfit : Base → Deed → OpenCause → Type 0
 IsMisfit b deed (causes.Damaged n) = (n ≡ size b) × (fits b deed ≡ false)
 IsMisfit b deed causes.DiskFault = ⊥
 IsMisfit b deed causes.NoMemory = Unit {0}
+
+-- no formed row that fits the base has this spelling
+abbrev pub IsUnfit : Base → List ℕ → Type 0
+IsUnfit b payload = (row : Plain) → IsFormed row → payload ≡ spelling_of row → fits b row.deed ≡ true → ⊥
 
 -- a payload spells this row, which is formed and fits a base
 pub record IsNextRow (b : Base) (payload : List ℕ) (row : Plain) : Type 0 where

@@ -1,5 +1,5 @@
 -- A story with the rows and the phases that it names, on a disk, and what each kind of step adds to it.
-use Rattle.std.specs.Prelude.{ℕ, Bool, List, [], ◌∷◌, ◌++◌}
+use Rattle.std.specs.Prelude.{◌≡◌, ℕ, Bool, List, [], ◌∷◌, ◌++◌}
 use Rattle.std.specs.Option.{option_to_list}
 use Rattle.cc_names.specs.Formed.{Plain}
 use Rattle.cc_names.specs.declared.commands.Phase.{Phase}
@@ -23,10 +23,11 @@ pub record Logged : Type 0 where
   pub phases : List Phase
   pub ghost_state : DiskState
 
--- the steps tell all rows of the base and all phases, and the journal is that of their story
+-- the steps tell all rows of the base and all phases, they lead to that base, and the disk is that of their story
 pub record IsLogged (handed : Handed) (steps : List Step) (base : Base) (phases : List Phase) (ghost_state : DiskState)
     (list leftover : List (List ℕ)) (ended : Bool) (left : Left) (settled : Bool) : Type 0 where
   pub modeled : AreNamedBySteps 1 0 steps (oldest_first base) phases
+  pub leads : (state_of (story_of handed steps (oldest_first base) phases)).base ≡ base
   pub backed : IsBacked (state_of (story_of handed steps (oldest_first base) phases)) ghost_state list leftover ended left settled
 
 -- this base was opened

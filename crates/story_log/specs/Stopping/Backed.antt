@@ -1,24 +1,53 @@
--- What a core keeps of its journal: the disk stands for the base, and each stop since the opening finds what the history says.
-use Rattle.std.specs.Prelude.{◌≡◌, ℕ, ◌<◌, ◌≤◌, Bool, true, false, not, Some, None, is_some, List, [], ◌∷◌, ◌++◌}
-use Rattle.disk_model.specs.Devices.{Device, Leaves, LeavesNow, MayLeave}
+-- What a core keeps of its disk: both files represent the base, and each stop since the opening finds what the history says.
+use Rattle.std.specs.Prelude.{◌≡◌, ◌⊎◌, ℕ, ◌<◌, ◌≤◌, Bool, true, false, not, Option, Some, None, is_some, List, [], ◌∷◌}
+use Rattle.cc_names.specs.Formed.{IsFormed, Plain}
+use Rattle.cc_names.specs.declared.rows.Extent.{Extent}
+use Rattle.disk_model.specs.Files.{File}
+use Rattle.disk_model.specs.Devices.{Device, Leaves, LeavesNow, file_of}
 use Rattle.disk_model.specs.DiskStates.{DiskState, IfModeled}
+use Rattle.base_model.specs.Rows.{Base}
 use Rattle.legal_history.specs.Stories.States.{State, Opening, End, Committed, Faulted, ticks_of, faults_of, hanging}
-use Rattle.vob_journal.specs.Frames.{frames}
+use Rattle.row_form.specs.Spelled.{spelling_of}
 use Rattle.vob_journal.specs.Moves.{Stands}
 use Rattle.vob_journal.specs.declared.left.Left.{Left}
 use Rattle.vob_journal.specs.declared.left.Left.TheVariants as lefts
-use Rattle.story_log.specs.Stopping.Standing.{payloads, base_by, StandsFor, MayBeFound}
+use Rattle.story_log.specs.Story.Formed.{AreFormed}
+use Rattle.story_log.specs.Stored.Founds.{Represents}
+use Rattle.story_log.specs.Stored.Kept.{IsHeld}
+use Rattle.story_log.specs.Stored.Payloads.{payloads}
+use Rattle.story_log.specs.Stored.Stops.{OfEachStop, OfStopNow, found_in}
+use Rattle.story_log.specs.Stored.Taken.{ObjectExtent, extents_of, taken}
+use Rattle.story_log.specs.Stopping.Standing.{base_by, MayBeFound}
 
--- a journal with this list, and with what is left over after it, is that of the base after these commits and faults: what is
--- left over is what the newest fault left
-pub record IsMirrored (opening : Opening) (ends : List End) (list leftover : List (List ℕ)) (left : Left) (d : Device) : Type 0
-  where
-    pub list_is : list ≡ payloads (base_by opening ends)
-    pub leftover_is : StandsFor (base_by opening ends) (hanging ends) (list ++ leftover)
-    pub nothing : left ≡ lefts.Nothing → leftover ≡ []
-    pub stops : (k : ℕ) (image : List ℕ) → opening.counts.ticks < k → Leaves 0 d k image
-        → MayBeFound opening ends k (frames image)
-    pub now : (image : List ℕ) → LeavesNow 0 d image → Stands list leftover image
+-- a row that a fault may have left after rows, as its frame spells it, which has these extents; the file of objects has what is
+-- needed of it
+pub record IsLeft (file : File) (stored b : Base) (row : Plain) (leftover : List (List ℕ)) (extents : List Extent) : Type 0 where
+  pub spelt : Plain
+  pub is : leftover ≡ spelling_of spelt ∷ []
+  pub formed : IsFormed spelt
+  pub extents_are : extents ≡ extents_of spelt.deed
+  pub held : IsHeld file (spelt ∷ stored) (row ∷ b)
+
+-- what is left over after the journal's list is nothing, or such a row
+abbrev pub IsLoose : File → Base → Base → Option Plain → List (List ℕ) → List Extent → Type 0
+IsLoose file stored b None leftover extents = leftover ≡ []
+IsLoose file stored b (Some row) leftover extents = (leftover ≡ []) ⊎ IsLeft file stored b row leftover extents
+
+-- The rows of a journal with this list, as frames spell them, are those of the base after these commits and faults, and the file
+-- of objects keeps what is needed of them; what is left over after the list is what the newest fault left. The extents that are
+-- taken are those of live objects, and those of the row that is left over.
+pub record IsMirrored (opening : Opening) (ends : List End) (list leftover : List (List ℕ)) (left : Left)
+    (owned : List ObjectExtent) (loose : List Extent) (d : Device) : Type 0 where
+  pub stored : Base
+  pub list_is : list ≡ payloads stored
+  pub formed : AreFormed stored
+  pub held : IsHeld (file_of 1 d) stored (base_by opening ends)
+  pub owned_are : owned ≡ taken stored
+  pub leftover_is : IsLoose (file_of 1 d) stored (base_by opening ends) (hanging ends) leftover loose
+  pub nothing : left ≡ lefts.Nothing → leftover ≡ []
+  pub stops : (k : ℕ) (journal objects : List ℕ) → opening.counts.ticks < k → Leaves 0 d k journal → Leaves 1 d k objects
+      → MayBeFound opening ends k (found_in journal objects)
+  pub now : (journal : List ℕ) → LeavesNow 0 d journal → Stands list leftover journal
 
 -- whether a row was committed since the base was opened, or a fault left one
 abbrev pub has_row : List End → Bool
@@ -35,8 +64,8 @@ may_be_open (Committed row tick ∷ earlier) = false
 may_be_open (Faulted None faults tick ∷ earlier) = not (has_row earlier)
 may_be_open (Faulted (Some row) faults tick ∷ earlier) = true
 
--- The base was opened, and the journal after it is that of its history. Where no fault may have left its tail open none did, and
--- the tail is settled, unless it stands as it was opened.
+-- The base was opened, and the journal after it is that of its history; nothing is taken in the file of objects. Where no fault
+-- may have left the journal's tail open none did, and the tail is settled, unless it stands as it was opened.
 pub record IsBacked (s : State) (ghost_state : DiskState) (list leftover : List (List ℕ)) (ended : Bool) (left : Left)
     (settled : Bool) : Type 0 where
   pub opening : Opening
@@ -48,12 +77,11 @@ pub record IsBacked (s : State) (ghost_state : DiskState) (list leftover : List 
   pub base : s.base ≡ base_by opening s.ends
   pub ticks : ticks_of s.opened s.ends ≤ ghost_state.ticks
   pub faults : faults_of s.opened s.ends ≤ ghost_state.faults
-  pub covered : IfModeled ghost_state.modeled (IsMirrored opening s.ends list leftover left)
+  pub covered : IfModeled ghost_state.modeled (IsMirrored opening s.ends list leftover left [] [])
 
--- No stop now finds more than the rows of the base.
+-- No stop now finds more than the base.
 abbrev pub IsSettled : State → DiskState → Type 0
-IsSettled s ghost_state = IfModeled ghost_state.modeled (λ d. (image : List ℕ) → LeavesNow 0 d image
-    → frames image ≡ payloads s.base)
+IsSettled s ghost_state = IfModeled ghost_state.modeled (λ d. OfStopNow d (λ found. Represents found s.base))
 
 -- each stop since the base was opened, and one now, finds what the history says
 pub record IsAccounted (s : State) (ghost_state : DiskState) : Type 0 where
@@ -62,6 +90,6 @@ pub record IsAccounted (s : State) (ghost_state : DiskState) : Type 0 where
   pub tells : opening.tells ≡ is_some ghost_state.modeled
   pub ticks : ticks_of s.opened s.ends ≤ ghost_state.ticks
   pub faults : faults_of s.opened s.ends ≤ ghost_state.faults
-  pub stops : IfModeled ghost_state.modeled (λ d. (k : ℕ) (image : List ℕ) → opening.counts.ticks < k → MayLeave 0 d k image
-      → MayBeFound opening s.ends k (frames image))
+  pub stops : IfModeled ghost_state.modeled (λ d. (k : ℕ) → opening.counts.ticks < k
+      → OfEachStop d k (MayBeFound opening s.ends k))
   pub settled : hanging s.ends ≡ None → IsSettled s ghost_state

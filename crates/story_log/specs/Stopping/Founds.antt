@@ -1,7 +1,8 @@
 -- A base that was found, and what is promised of it. Each law is promised by a function of `laws`.
 use Rattle.std.specs.Prelude.{◌≡◌, ℕ, true, Some, List}
+use Rattle.cc_names.specs.Formed.{IsFormed}
 use Rattle.cc_names.specs.declared.steps.StoryStep.{StoryStep}
-use Rattle.disk_model.specs.Devices.{Device, bytes_now}
+use Rattle.disk_model.specs.Devices.{Device}
 use Rattle.disk_model.specs.DiskStates.{DiskState}
 use Rattle.base_model.specs.Rows.{Base}
 use Rattle.base_model.specs.Fits.{is_base}
@@ -9,42 +10,46 @@ use Rattle.legal_history.specs.Builds.Values.{IsSound}
 use Rattle.legal_history.specs.Stories.States.{Opening}
 use Rattle.legal_history.specs.Stories.Steps.{state_of}
 use Rattle.legal_history.specs.Stories.Lawful.{Legal}
-use Rattle.vob_journal.specs.Frames.{frames}
 use Rattle.story_log.specs.Story.Handed.{Handed}
-use Rattle.story_log.specs.Bases.Opening.{IsBaseOn, IsUndamaged}
+use Rattle.story_log.specs.Bases.Opening.{IsBaseOn}
 use Rattle.story_log.specs.Story.Formed.{AreFormed, TellsOnly}
-use Rattle.cc_names.specs.Formed.{IsFormed}
-use Rattle.story_log.specs.Stopping.Standing.{MayBeFound, payloads}
+use Rattle.story_log.specs.Stored.Damaged.{IsUndamaged}
+use Rattle.story_log.specs.Stored.Founds.{Found, Represents}
+use Rattle.story_log.specs.Stored.Opened.{IsOpenedAs}
+use Rattle.story_log.specs.Stored.Payloads.{payloads}
+use Rattle.story_log.specs.Stored.Stops.{found_on}
+use Rattle.story_log.specs.Stopping.Standing.{MayBeFound}
 
--- What was found spells the rows of a base, each of which fits those before it; it is sound where the base was sound that had
--- been opened.
-pub record SpellsBase (opened : Base) (found : List (List ℕ)) : Type 0 where
+-- What was found represents a base, each of whose rows fits those before it; it is sound where the base was sound that had been
+-- opened.
+pub record SpellsBase (opened : Base) (found : Found) : Type 0 where
   pub base : Base
   pub good : is_base base ≡ true
-  pub is : found ≡ payloads base
+  pub is : Represents found base
   pub sound : IsSound opened → IsSound base
 
--- What was found opens again: it spells the formed rows of a base, each of which fits those before it, so none of its frames
--- is damaged; and it stands for no other base of formed rows. That base is sound where the one was that had been opened.
-pub record OpensAgain (opened : Base) (found : List (List ℕ)) : Type 0 where
+-- What was found opens again: it spells formed rows that may follow one another, so none of its frames is damaged; it spells no
+-- other formed rows, and the base that they open to is one of formed rows, each of which fits those before it. That base is sound
+-- where the one was that had been opened.
+pub record OpensAgain (opened : Base) (found : Found) : Type 0 where
   pub base : Base
   pub good : is_base base ≡ true
   pub formed : AreFormed base
-  pub is : found ≡ payloads base
+  pub is : IsOpenedAs found base
   pub undamaged : IsUndamaged found
-  pub one : (other : Base) → AreFormed other → found ≡ payloads other → other ≡ base
+  pub one : (other : Base) → AreFormed other → found.frames ≡ payloads other → other ≡ is.stored
   pub sound : IsSound opened → IsSound base
 
--- Whatever a stop may find of a legal story spells the rows of a base: that of the commits so far, or that and a row which a
--- command would have committed there.
+-- Whatever a stop may find of a legal story represents a base: that of the commits so far, or that and a row which a command
+-- would have committed there.
 abbrev pub StopLeavesABase : Type 0
-StopLeavesABase = (story : List StoryStep) (opening : Opening) (k : ℕ) (found : List (List ℕ))
+StopLeavesABase = (story : List StoryStep) (opening : Opening) (k : ℕ) (found : Found)
     → Legal story → (state_of story).opened ≡ Some opening
     → MayBeFound opening (state_of story).ends k found → SpellsBase opening.base found
 
 -- Where the story names only formed rows, whatever a stop may find opens again.
 abbrev pub StopOpensAgain : Type 0
-StopOpensAgain = (story : List StoryStep) (opening : Opening) (k : ℕ) (found : List (List ℕ))
+StopOpensAgain = (story : List StoryStep) (opening : Opening) (k : ℕ) (found : Found)
     → Legal story → TellsOnly IsFormed story → (state_of story).opened ≡ Some opening
     → MayBeFound opening (state_of story).ends k found → OpensAgain opening.base found
 
@@ -52,5 +57,5 @@ StopOpensAgain = (story : List StoryStep) (opening : Opening) (k : ℕ) (found :
 -- was that had been opened before.
 abbrev pub FoundBaseIsSound : Type 0
 FoundBaseIsSound = (opened base : Base) (disk : DiskState) (device : Device) (handed : Handed)
-    → disk.modeled ≡ Some device → OpensAgain opened (frames (bytes_now 0 device))
+    → disk.modeled ≡ Some device → OpensAgain opened (found_on device)
     → IsBaseOn disk base handed → IsSound opened → IsSound base

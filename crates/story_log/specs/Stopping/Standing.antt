@@ -1,23 +1,18 @@
--- What a journal stands for, and what a stop may leave of a history.
-use Rattle.std.specs.Prelude.{◌≡◌, ℕ, ◌<◌, ◌≤◌, ◌⊎◌, Option, Some, None, List, [], ◌∷◌, ◌++◌}
+-- What the files of a disk stand for, and what a stop may leave of a history.
+use Rattle.std.specs.Prelude.{ℕ, ◌<◌, ◌≤◌, ◌⊎◌, Option, Some, None, List, [], ◌∷◌}
 use Rattle.cc_names.specs.Formed.{Plain}
 use Rattle.base_model.specs.Rows.{Base}
 use Rattle.legal_history.specs.Stories.States.{Opening, End, Committed, Faulted, ticks_of}
-use Rattle.row_form.specs.Spelled.{spelling_of}
-
--- the payloads that spell the rows of a base, from row 1 on
-abbrev pub payloads : Base → List (List ℕ)
-payloads [] = []
-payloads (row ∷ older) = payloads older ++ spelling_of row ∷ []
+use Rattle.story_log.specs.Stored.Founds.{Found, Represents}
 
 -- a base with the row that a fault may have left after it
 abbrev pub with_left : Option Plain → Base → Base
 with_left None b = b
 with_left (Some row) b = row ∷ b
 
--- A journal stands for a base, or for that and the row that a fault left after it.
-abbrev pub StandsFor : Base → Option Plain → List (List ℕ) → Type 0
-StandsFor b left found = (found ≡ payloads b) ⊎ (found ≡ payloads (with_left left b))
+-- What was found represents a base, or that and the row that a fault left after it.
+abbrev pub StandsFor : Base → Option Plain → Found → Type 0
+StandsFor b left found = Represents found b ⊎ Represents found (with_left left b)
 
 -- the base that was opened with the row of each commit since; commits and faults are listed newest first
 abbrev pub base_by : Opening → List End → Base
@@ -40,11 +35,11 @@ abbrev pub left_within : End → Option Plain
 left_within (Committed row tick) = Some row
 left_within (Faulted left faults tick) = left
 
--- What a stop at device call k may find in the journal, by the commits and faults since the base was opened, newest first.
+-- What a stop at device call k may find, by the commits and faults since the base was opened, newest first.
 -- After the newest one it finds its base, or that and the row that a fault left; within its call it may find its row
 -- besides; before, what the earlier ones say.
-abbrev pub MayBeFound : Opening → List End → ℕ → List (List ℕ) → Type 0
-MayBeFound opening [] k found = found ≡ payloads opening.base
+abbrev pub MayBeFound : Opening → List End → ℕ → Found → Type 0
+MayBeFound opening [] k found = Represents found opening.base
 MayBeFound opening (end ∷ earlier) k found =
     ((tick_of end < k) × StandsFor (base_by opening (end ∷ earlier)) (left_after end) found)
     ⊎ ((k ≤ tick_of end) × (MayBeFound opening earlier k found

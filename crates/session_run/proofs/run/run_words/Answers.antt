@@ -5,12 +5,11 @@ use Rattle.session_run.specs.Calls.Causes.{Change, Intake, IsUntouched}
 use Rattle.session_run.specs.Running.Runs.{Outside}
 use Rattle.session_run.proofs.Calls.Exactly.{finds_damage}
 use Rattle.session_run.proofs.Calls.Ready.{is_short}
-use Rattle.session_run.proofs.Faults.Stopping.{journal_stable}
 use Rattle.session_run.proofs.Promises.Headline.{Promised, asked, promised_run, promised_without, untouched}
 use Rattle.session_run.proofs.run.run_words.Goals as goal
 
-pub run_session-requires-clause-stable : goal.run_session-requires-clause-stable
-run_session-requires-clause-stable g c κs within = journal_stable (g.D.Disk.ghost_state c.args.disk) c.requires
+pub run_session-requires-clause-synced : goal.run_session-requires-clause-synced
+run_session-requires-clause-synced g c κs within = c.requires
 
 pub run_session-requires-clause-runnable : goal.run_session-requires-clause-runnable
 run_session-requires-clause-runnable g c κs within = c.in-Ok.ensures.gives.runnable

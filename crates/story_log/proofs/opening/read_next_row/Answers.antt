@@ -1,7 +1,7 @@
 -- one more row of a journal
 use Rattle.std.proofs.Common.{Some, sym, subst}
 use Rattle.story_log.specs.Bases.Reading.{NextIs}
-use Rattle.story_log.proofs.Bases.ReadRows.{read_more}
+use Rattle.story_log.proofs.Bases.ReadRows.{read_more, stops_here}
 use Rattle.story_log.proofs.opening.read_next_row.Goals as goal
 
 pub returns-in-Ok-clause-ok : goal.returns-in-Ok-clause-ok
@@ -12,3 +12,12 @@ returns-in-Ok-clause-ok g c =
     subst (λ f. NextIs g.D.Disk.ghost_state f old new) c.in-Ok-Some.field-0-is c.in-Ok-Some.ensures.ok in
     read_more g.D.Disk.ghost_state c.args.rows.now c.in-Ok.row c.as_bytes.result.now old new c.requires c.in-Ok-Some.ensures.reads
     (subst (λ p. NextIs g.D.Disk.ghost_state (Some p) old new) (sym c.as_bytes.ensures) next) c.in-Ok.ensures.ok
+
+pub returns-clause-err : goal.returns-clause-err
+returns-clause-err g c =
+    let old = c.args.journal.now in
+    let new = c.next_payload.new.journal in
+    let next : NextIs g.D.Disk.ghost_state (Some c.in-Ok-Some.payload) old new =
+    subst (λ f. NextIs g.D.Disk.ghost_state f old new) c.in-Ok-Some.field-0-is c.in-Ok-Some.ensures.ok in
+    stops_here g.D.Disk.ghost_state c.args.rows.now c.as_bytes.result.now c.in-Err-next_row.cause old new c.requires
+    (subst (λ p. NextIs g.D.Disk.ghost_state (Some p) old new) (sym c.as_bytes.ensures) next) c.in-Err-next_row.ensures.err

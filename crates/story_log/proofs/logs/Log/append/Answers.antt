@@ -44,6 +44,8 @@ invariant_of-self-in-Ok g c =
     c.in_ok-frame.ensures c.in-Ok.ensures.ok)
     c.in-Ok.ensures.tick c.in-Ok.ensures.costs.1 (g.met.D.Disk.counted c.self.inside.journal.disk)
     (g.met.D.Disk.counted c.append.new.self.disk) c.in-Ok.ensures.ended c.in-Ok.ensures.left c.in-Ok.ensures.settled
+    (subst (λ b. fits b c.args.row.deed ≡ true) (ap (λ log. log.base) (sym c.self.view_is)) c.requires.fits)
+    c.deed.ensures.formed
 
 pub returns-in-Ok-clause-ok : goal.returns-in-Ok-clause-ok
 returns-in-Ok-clause-ok g c =
@@ -108,7 +110,9 @@ invariant_of-self-2 g c =
     (c.in_ok-earlier.ensures ∙ ap left_in c.as_slice.ensures.value) left c.counts-counts.ensures.ticks
     c.counts-counts.ensures.faults (g.met.D.Disk.counted c.self.inside.journal.disk)
     (g.met.D.Disk.counted c.append.new.self.disk) c.in_default.ensures.ended c.in_default.ensures.settled
-    (earlier_unsettled c.self.inside.journal.settled c.append.new.self.left _ _ c.in_default.ensures.fails))
+    (earlier_unsettled c.self.inside.journal.settled c.append.new.self.left _ _ c.in_default.ensures.fails)
+    (subst (λ b. fits b c.args.row.deed ≡ true) (ap (λ log. log.base) (sym c.self.view_is)) c.requires.fits)
+    c.deed.ensures.formed)
 
 pub returns-clause-ok : goal.returns-clause-ok
 returns-clause-ok g c =
