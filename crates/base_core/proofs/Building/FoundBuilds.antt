@@ -1,16 +1,18 @@
 -- The build that is found in a lane's slot: what is kept of it, and how a unit of it goes on.
-use Rattle.std.proofs.Common.{◌≡◌, ℕ, inr, true, false, Some, Result, Ok, Err, List, refl, ap, sym, subst, ◌∙◌}
+use Rattle.std.proofs.Common.{◌≡◌, ℕ, inl, inr, true, false, Some, Result, Ok, Err, List, refl, ap, sym, subst, ◌∙◌}
 use Rattle.std.specs.Prelude.{IfOk, Option, None, is_some, slice_get}
 use Rattle.std.proofs.lemmas.Option.{slice_get_within}
 use Rattle.cc_names.specs.declared.refusals.ScriptFault.{ScriptFault}
 use Rattle.cc_names.specs.declared.refusals.UnitFault.TheVariants as faults
 use Rattle.cc_names.specs.declared.steps.StoryStep.{StoryStep}
+use Rattle.cc_names.specs.declared.steps.UnitEnd.{UnitEnd}
 use Rattle.cc_names.specs.declared.steps.UnitEnd.TheVariants as ends
 use Rattle.script_grammar.specs.Run.{Ran}
 use Rattle.script_grammar.specs.declared.lines.Line.{Line}
 use Rattle.legal_history.specs.Builds.Active.{Build, Came, Started, Concluded, Given, build_of, came_to, is_outcome}
 use Rattle.legal_history.specs.Builds.Reuse.{reusable}
 use Rattle.legal_history.specs.Builds.UnitTurns.{IsRunning}
+use Rattle.legal_history.specs.Laws.FromNothing.{MayTake}
 use Rattle.legal_history.specs.Laws.TakenLaws.{FoundAfterTheStartIsNotHeld}
 use Rattle.legal_history.specs.Stories.Lawful.{Legal}
 use Rattle.legal_history.specs.Stories.States.{State, next_tag}
@@ -21,7 +23,7 @@ use Rattle.base_core.specs.Calls.Building.{BuildInvariant}
 use Rattle.clearmake.specs.declared.turns.TurnEnd.{TurnEnd}
 use Rattle.clearmake.specs.declared.turns.TurnEnd.TheVariants as turn_ends
 use Rattle.clearmake.specs.declared.turns.UnitTurn.TheVariants as turns
-use Rattle.clearmake.specs.Going.{BuildsOn, GoesOn}
+use Rattle.clearmake.specs.Going.{BuildsOn, GoesOn, HasOutcome}
 use Rattle.base_core.specs.Keeping.CoreInvariants.{CoreInvariant}
 use Rattle.base_core.specs.Keeping.Lanes.{LaneState}
 use Rattle.story_log.specs.Logging.Logs.{Logged}
@@ -64,6 +66,27 @@ started_has old new lane n script targets may has noted =
       (λ build is some. absurd (let none : is_some (came_to build n) ≡ false = ap (λ b. is_some (came_to b n))
           (some_same build may.build (sym is ∙ may.active)) ∙ ap is_some may.fresh in cc)),
     )
+
+-- a unit that may come to something by a step has no outcome
+waits_still : (s : State) (lane n : ℕ) (build : Build) → build_of s.active lane ≡ Some build
+    → is_outcome (came_to build n) ≡ false → HasOutcome s lane n → ⊥
+waits_still s lane n build active waits has =
+    let same : has.build ≡ build = some_same has.build build (sym has.active ∙ active) in
+    let told : is_outcome (came_to build n) ≡ true = ap (λ b. is_outcome (came_to b n)) (sym same) ∙ has.outcome in
+    cc
+
+pub concludes_waiting : (s : State) (lane n : ℕ) (end : UnitEnd) → MayConclude s lane n end → HasOutcome s lane n → ⊥
+concludes_waiting s lane n end may has = waits_still s lane n may.build may.active may.waits has
+
+pub starts_waiting : (s : State) (lane n : ℕ) (fault : Option ScriptFault) → MayStart s lane n fault → HasOutcome s lane n → ⊥
+starts_waiting s lane n fault may has = waits_still s lane n may.build may.active (ap is_outcome may.fresh) has
+
+pub winks_waiting : (s : State) (lane n id : ℕ) → MayWink s lane n id → HasOutcome s lane n → ⊥
+winks_waiting s lane n id may has = waits_still s lane n may.build may.active (by may.may) has
+  where
+    by : MayTake s (next_tag s lane) n may.build may.unit → is_outcome (came_to may.build n) ≡ false
+    by (inl ready) = ready.waits.waits
+    by (inr running) = running.waits.waits
 
 -- a unit whose script was run is running
 runs_so : (s : State) (lane n : ℕ) (ran : Ran) (h : HasRun s lane n ran) → IsRunning s (next_tag s lane) n h.build h.unit

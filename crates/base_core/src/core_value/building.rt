@@ -10,10 +10,10 @@ use disk_model::Disk;
 use std::alloc::Global;
 
 impl<D: Disk> Core<D> {
-    ghost use Rattle.std.specs.Prelude.{◌≡◌, OnOk, OnErr, IfOk, None, length};
+    ghost use Rattle.std.specs.Prelude.{◌≡◌, OnOk, OnErr, IfOk, Some, None, length};
     ghost use Rattle.cc_names.specs.declared.occasions.Begun.TheVariants as begins;
     ghost use Rattle.cc_names.specs.declared.occasions.Next.TheVariants as nexts;
-    ghost use Rattle.legal_history.specs.Builds.Active.{build_of};
+    ghost use Rattle.legal_history.specs.Builds.Active.{Build, build_of};
     ghost use Rattle.legal_history.specs.Stories.States.{next_tag};
     ghost use Rattle.legal_history.specs.Stories.Steps.{state_of};
     ghost use Rattle.clearmake.specs.Calls.{Begins, IsOver};
@@ -55,12 +55,15 @@ impl<D: Disk> Core<D> {
     }
 
     /// Begins the build of a lane's next command and answers how many units it has, or refuses the command. A build that is
-    /// active goes on. An `Err` changes nothing. Makes no device call. Takes time linear in the makefile.
+    /// active stays as it is. An `Err` changes nothing. Makes no device call. Takes time linear in the makefile.
     pub fn begin(&mut self, alloc: Global, lane: u32) -> Result<Begun, NoMemory>
         requires { next_of_lane (state_of self.old.story) lane
             ≡ nexts.Build (next_tag (state_of self.old.story) lane) }
         ensures ok { IfOk result (λ begun. Begins self.old.story self.new.story lane begun) }
         ensures err { OnErr result (self.new ≡ self.old) }
+        ensures active { (build : Build)
+            → build_of (state_of self.old.story).active lane ≡ Some build
+            → self.new ≡ self.old }
         ensures counted { KeepsCount self.old self.new }
     {
         if let Some(build) = self.find_build(lane) {

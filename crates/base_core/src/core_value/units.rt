@@ -114,6 +114,7 @@ impl<D: Disk> Core<D> {
         requires { (count : ℕ) × IsBuilding (state_of self.old.story) lane count × (unit < count) }
         ensures ok { IfOk result (λ turn. Tries self.old.story self.new.story lane unit turn) }
         ensures err { OnErr result (self.new ≡ self.old) }
+        ensures concluded { HasOutcome (state_of self.old.story) lane unit → self.new ≡ self.old }
         ensures counted { KeepsCount self.old self.new }
     {
         match self.step(alloc, lane, unit)? {
@@ -144,16 +145,17 @@ impl<D: Disk> Core<D> {
         }
     }
 
-    /// Tries a unit of a lane's build: it has its outcome already, it waits for another, it ends without a run, it keeps an
-    /// object or the build's view winks one in for it, or its script is started; where it was started already, nothing changes,
-    /// and its script is to be run again. Where the disk fails the build ends. An `Err` changes nothing. A commit and a fault
-    /// have the disk's counts as `act` says; beside them no device call is made.
+    /// Tries a unit of a lane's build: it has its outcome already, and nothing changes; or it waits for another, it ends without
+    /// a run, it keeps an object or the build's view winks one in for it, or its script is started; where it was started
+    /// already, nothing changes, and its script is to be run again. Where the disk fails the build ends. An `Err` changes
+    /// nothing. A commit and a fault have the disk's counts as `act` says; beside them no device call is made.
     ///
     /// Takes look-ups by the paths of the unit's prerequisites and targets, what `reusable` takes, and time linear in the script.
     pub fn try_unit(&mut self, alloc: Global, lane: u32, unit: u32) -> Result<UnitTurn, NoMemory>
         requires { (count : ℕ) × IsBuilding (state_of self.old.story) lane count × (unit < count) }
         ensures ok { IfOk result (λ turn. Tries self.old.story self.new.story lane unit turn) }
         ensures err { OnErr result (self.new ≡ self.old) }
+        ensures concluded { HasOutcome (state_of self.old.story) lane unit → self.new ≡ self.old }
         ensures counted { KeepsCount self.old self.new }
     {
         self.look_ahead(lane, unit);
