@@ -2,12 +2,11 @@
 
 ghost use Rattle.std.specs.Prelude.{◌≡◌, ◌≢◌, ℕ, [], IfOk, IfErr, OnOk, OnErr};
 ghost use Rattle.std.specs.Io.KnownBytes.{Appends};
-ghost use Rattle.cc_names.specs.Counts.{Rose};
 ghost use Rattle.cc_outside.specs.Feeds.{AppendsPrefix};
 ghost use Rattle.base_core.specs.Story.Counted.{KeepsCount};
 ghost use Rattle.large_session.specs.Summaries.{summary};
 ghost use Rattle.session_run.specs.Running.Forms.{HasDone, IsGivenUp};
-ghost use Rattle.session_run.specs.Running.Runs.{outside_of, IsJustOpened, IsRunnable, OnWriteFault};
+ghost use Rattle.session_run.specs.Running.Runs.{outside_of, IsJustOpened, IsRunnable, CountsWriteFaults};
 ghost use Rattle.session_run.specs.Story.Begun.{first_step};
 ghost use Rattle.session_run.specs.declared.words.Form.TheVariants as forms;
 
@@ -37,8 +36,8 @@ fn write_summary<K: Sink>(
     ensures err { OnErr result
         (AppendsPrefix (K.ghost_state sink.old).held (K.ghost_state sink.new).held
         (summary transcripts.now)) }
-    ensures fault { OnWriteFault result
-        (Rose (K.ghost_state sink.old).faults (K.ghost_state sink.new).faults) }
+    ensures fault { CountsWriteFaults result (K.ghost_state sink.old).faults
+        (K.ghost_state sink.new).faults }
 {
     let text = summary(alloc, transcripts)?;
     match write_whole(sink, text.as_bytes()) {
@@ -71,8 +70,8 @@ fn run_summed<R: Threads + Wait + Sync, G: Hook + Sync, K: Sink, D: Disk + Send,
         (C.ghost_state clock.new))) }
     ensures first { first_step result.0.story ≡ first_step core.story }
     ensures counted { KeepsCount core result.0 }
-    ensures fault { OnWriteFault result.1
-        (Rose (K.ghost_state sink.old).faults (K.ghost_state sink.new).faults) }
+    ensures fault { CountsWriteFaults result.1 (K.ghost_state sink.old).faults
+        (K.ghost_state sink.new).faults }
 {
     let Ok(mut transcripts) = MemorySink::new(host.alloc, &[]) else {
         return (core, Err(Or::NoMemory));
@@ -119,8 +118,8 @@ pub(crate) fn carry_out<
         (C.ghost_state clock.new))) }
     ensures first { first_step result.0.story ≡ first_step core.story }
     ensures counted { KeepsCount core result.0 }
-    ensures fault { OnWriteFault result.1
-        (Rose (K.ghost_state sink.old).faults (K.ghost_state sink.new).faults) }
+    ensures fault { CountsWriteFaults result.1 (K.ghost_state sink.old).faults
+        (K.ghost_state sink.new).faults }
 {
     match form {
         Form::Run => run_phases(host, core, phases, sink, clock),

@@ -2,10 +2,9 @@
 
 ghost use Rattle.std.specs.Prelude.{◌≡◌, IfOk, OnOk, OnErr};
 ghost use Rattle.std.specs.Io.KnownBytes.{Appends};
-ghost use Rattle.cc_names.specs.Counts.{Rose};
 ghost use Rattle.cc_outside.specs.Feeds.{AppendsPrefix};
 ghost use Rattle.session_run.specs.Running.Checks.{is_unsound, verdict_line};
-ghost use Rattle.session_run.specs.Running.Runs.{OnWriteFault};
+ghost use Rattle.session_run.specs.Running.Runs.{CountsWriteFaults};
 ghost use Rattle.session_run.specs.Story.Modeled.{tells_failure, text_modeled};
 ghost use Rattle.session_run.specs.declared.words.Form.TheVariants as forms;
 
@@ -55,8 +54,8 @@ pub(crate) fn write_check<K: Sink, D: Disk>(
     ensures err { OnErr result
         (AppendsPrefix (K.ghost_state sink.old).held (K.ghost_state sink.new).held
         (text_modeled forms.Verify core.now.story)) }
-    ensures fault { OnWriteFault result
-        (Rose (K.ghost_state sink.old).faults (K.ghost_state sink.new).faults) }
+    ensures fault { CountsWriteFaults result (K.ghost_state sink.old).faults
+        (K.ghost_state sink.new).faults }
 {
     let verdict = core.verify(alloc)?;
     match write_whole(sink, verdict_line(verdict).as_str().as_bytes()) {

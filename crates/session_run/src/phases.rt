@@ -2,7 +2,7 @@
 
 ghost use Rattle.std.specs.Prelude.{◌≡◌, ◌≤◌, ◌<◌, ◌+◌, ◌^◌, ℕ, IfOk, IfErr, IfSome, OnOk, OnErr, length, true, min, Bool};
 ghost use Rattle.std.specs.Io.KnownBytes.{Appends};
-ghost use Rattle.cc_names.specs.Counts.{raised_count, Rose};
+ghost use Rattle.cc_names.specs.Counts.{raised_count};
 ghost use Rattle.cc_outside.specs.Feeds.{AppendsPrefix};
 ghost use Rattle.cc_outside.specs.Moments.{moment_at};
 ghost use Rattle.legal_history.specs.Stories.States.{all_done};
@@ -11,7 +11,7 @@ ghost use Rattle.legal_history.specs.Stories.Lawful.{last_moment};
 ghost use Rattle.base_core.specs.Story.Counted.{KeepsCount};
 ghost use Rattle.base_core.specs.Story.Replying.{replies_of};
 ghost use Rattle.session_run.specs.Running.Phases.{RunsPhase, LeavesPhase};
-ghost use Rattle.session_run.specs.Running.Runs.{outside_of, IsJustOpened, IsReadyPhase, IsRunnable, HasRunPhases, IsRunGivenUp, OnWriteFault};
+ghost use Rattle.session_run.specs.Running.Runs.{outside_of, IsJustOpened, IsReadyPhase, IsRunnable, HasRunPhases, IsRunGivenUp, CountsWriteFaults};
 ghost use Rattle.session_run.specs.Story.Begun.{first_step, is_opened};
 ghost use Rattle.session_run.specs.Story.Rendered.{transcript};
 
@@ -80,9 +80,8 @@ fn write_transcript<K: Sink, D: Disk>(
     ensures err { OnErr result
         (AppendsPrefix (K.ghost_state sink.old).held (K.ghost_state sink.new).held
         (transcript number (state_of core.now.story).phase (replies_of core.now.story))) }
-    ensures kept { (K.ghost_state sink.old).faults ≤ (K.ghost_state sink.new).faults }
-    ensures fault { OnWriteFault result
-        (Rose (K.ghost_state sink.old).faults (K.ghost_state sink.new).faults) }
+    ensures fault { CountsWriteFaults result (K.ghost_state sink.old).faults
+        (K.ghost_state sink.new).faults }
 {
     let text = transcript(alloc, core, number)?;
     match write_whole(sink, text.as_bytes()) {
@@ -119,8 +118,8 @@ pub(crate) fn run_phases<
         (C.ghost_state clock.new))) }
     ensures first { first_step result.0.story ≡ first_step core.story }
     ensures counted { KeepsCount core result.0 }
-    ensures fault { OnWriteFault result.1
-        (Rose (K.ghost_state sink.old).faults (K.ghost_state sink.new).faults) }
+    ensures fault { CountsWriteFaults result.1 (K.ghost_state sink.old).faults
+        (K.ghost_state sink.new).faults }
 {
     let mut core = core;
     let mut failed = false;

@@ -8,7 +8,7 @@ ghost use Rattle.story_log.specs.Stopping.Backed.{may_be_open};
 ghost use Rattle.cc_names.specs.Counts.{rises};
 ghost use Rattle.disk_model.specs.DiskStates.{IfModeled, IsCounted};
 ghost use Rattle.session_run.specs.Calls.Asked.{form_of};
-ghost use Rattle.session_run.specs.Calls.Causes.{disk_ghost_states, intake_of, sink_faults, FindsDamage, HasCause, LeavesAlone, TakesNoMore};
+ghost use Rattle.session_run.specs.Calls.Causes.{disk_ghost_states, intake_of, sink_faults, FindsDamage, HasCause, KeepsSink, LeavesAlone, TakesNoMore};
 ghost use Rattle.session_run.specs.Faults.Accounted.{IsAccountedFor, KeepsFiles, SettlesJournal};
 ghost use Rattle.session_run.specs.Faults.Stopped.{IsHandedIn, IsMended, IsStopped};
 ghost use Rattle.session_run.specs.Promises.Checked.{TellsSoundness};
@@ -230,6 +230,8 @@ pub fn run_words<
         (intake_of words.now (S.ghost_state source.old) (S.ghost_state source.new))
         (sink_faults (K.ghost_state sink.old) (K.ghost_state sink.new))
         (disk_ghost_states (D.ghost_state disk) (D.ghost_state result.disk)) result.history }
+    ensures sink { KeepsSink result.status
+        (sink_faults (K.ghost_state sink.old) (K.ghost_state sink.new)) }
     ensures accounted { is_opened result.history ≡ true
         → IsAccountedFor
         (disk_ghost_states (D.ghost_state disk) (D.ghost_state result.disk)) result.history }

@@ -9,6 +9,7 @@ use Rattle.std.specs.Io.KnownBytes.{Consumes, IsAtEnd}
 use Rattle.std.proofs.lemmas.Bool.Decides.{nat_tests}
 use Rattle.std.proofs.lemmas.List.{append-nil}
 use Rattle.cc_names.specs.Counts.{raised_count}
+use Rattle.cc_outside.specs.GhostStates.{SourceState}
 use Rattle.cc_names.specs.declared.commands.Change.{Change}
 use Rattle.cc_names.specs.declared.commands.Change.TheVariants as changes
 use Rattle.cc_names.specs.declared.commands.Clearmake.{Clearmake}
@@ -25,7 +26,7 @@ use Rattle.story_log.specs.declared.opening.OpenCause.TheVariants as opens
 use Rattle.cc_names.specs.Numbers.{number_of}
 use Rattle.session_run.specs.Calls.Asked.{big_of, form_of, is_read, is_session, phases_read, phases_spelled, reads_source}
 use Rattle.session_run.specs.Calls.Asked.{session_text_of, size_limit, size_of, size_within, text_limit, text_of}
-use Rattle.session_run.specs.Calls.Causes.{Intake, IsIntakeRead, IsUnread, Takes, session_text}
+use Rattle.session_run.specs.Calls.Causes.{Intake, IsIntakeRead, IsUnread, Takes, TakesNoMore, intake_by, session_text}
 use Rattle.session_run.specs.Running.Runs.{IsReadyPhase, IsRunnable}
 use Rattle.session_run.specs.Running.Unstarted.{GivesPhases, GivesSites, GivesText, HasPhases, IsGivenBy, IsNotGivenBy, IsShort}
 use Rattle.session_run.specs.Running.Unstarted.{IsWithoutBase, IsSaid, IsUnsaid, IsUnstarted}
@@ -109,49 +110,32 @@ has_phases text session le e formed = record {
 }
 
 -- the text that a source gave to its end, for a form that reads it
-pub gives_read : (form : Form) (asked : Option Form) (old new : Option (List ℕ)) (before after faults risen : ℕ) (text : List ℕ)
-    → reads_source (Some form) ≡ true → Consumes old new text → IsAtEnd new → length text ≤ text_limit
-    → after ≡ raised_count before (length text) → risen ≡ faults → GivesText form (record {
-      form = asked;
-      text = record { before = old; after = new };
-      given = record { before = before; after = after };
-      faults =
-          record { before = faults; after = risen };
-    }) text
-gives_read form asked old new before after faults risen text reads taken end le given faultless =
+pub gives_read : (form : Form) (asked : Option Form) (old new : SourceState) (text : List ℕ) → reads_source (Some form) ≡ true
+    → Consumes old.left new.left text → IsAtEnd new.left → length text ≤ text_limit
+    → new.given ≡ raised_count old.given (length text) → new.faults ≡ old.faults → GivesText form (intake_by asked old new) text
+gives_read form asked old new text reads taken end le given faultless =
     record { taken = by_form form reads; is = left_by form reads; short = le }
   where
-    is : IfSome old (λ bytes. bytes ≡ text)
-    is = modeled_text old new text taken end
+    is : IfSome old.left (λ bytes. bytes ≡ text)
+    is = modeled_text old.left new.left text taken end
 
-    read : IsIntakeRead (record {
-      form = asked;
-      text = record { before = old; after = new };
-      given = record { before = before; after = after };
-      faults = record { before = faults; after = risen };
-    })
+    read : IsIntakeRead (intake_by asked old new)
     read = record {
       at_end = end;
       count = length text;
       within = le;
       given = given;
-      bytes = of_text old text (λ bytes. length bytes ≡ length text) refl is;
+      bytes = of_text old.left text (λ bytes. length bytes ≡ length text) refl is;
       faultless = faultless;
     }
 
-    by_form : (form : Form) → reads_source (Some form) ≡ true → Takes form
-        (record {
-          form = asked;
-          text = record { before = old; after = new };
-          given = record { before = before; after = after };
-          faults = record { before = faults; after = risen };
-        })
+    by_form : (form : Form) → reads_source (Some form) ≡ true → Takes form (intake_by asked old new)
     by_form forms.Run reads = read
     by_form (forms.Big seed size) reads = absurd (cc)
     by_form forms.Verify reads = absurd (cc)
     by_form forms.Sites reads = read
 
-    left_by : (form : Form) → reads_source (Some form) ≡ true → IfSome (text_of form old) (λ bytes. bytes ≡ text)
+    left_by : (form : Form) → reads_source (Some form) ≡ true → IfSome (text_of form old.left) (λ bytes. bytes ≡ text)
     left_by forms.Run reads = is
     left_by (forms.Big seed size) reads = absurd (cc)
     left_by forms.Verify reads = absurd (cc)
@@ -164,6 +148,14 @@ gives_big seed size intake text unread within same short = record {
   taken = unread;
   is = sym same;
   short = omega (arith, within, short);
+}
+
+-- a source that was not called gave nothing
+pub takes_none : (intake : Intake) → IsUnread intake → intake.ended.after ≡ intake.ended.before → TakesNoMore intake
+takes_none intake unread same = record {
+  most = omega (arith, unread.given);
+  unread = λ reads. unread;
+  rests = λ none. rw (same ∙ none) tt;
 }
 
 -- no session

@@ -1,6 +1,6 @@
 -- The causes of statuses, worked by hand: for each of these statuses a call that has its cause, and one that has not.
 use Rattle.std.proofs.Common.{◌≡◌, ℕ, Bool, true, Some, None, List, [], ◌∷◌, ◌++◌, refl, subst, inl, inr, arith}
-use Rattle.std.specs.Prelude.{codes}
+use Rattle.std.specs.Prelude.{◌==◌, codes, if◌then◌else◌}
 use Rattle.cc_names.specs.declared.commands.Change.TheVariants.{Mkview}
 use Rattle.cc_names.specs.declared.commands.Command.{Command}
 use Rattle.cc_names.specs.declared.commands.Command.TheVariants as commands
@@ -14,7 +14,7 @@ use Rattle.disk_model.specs.DiskStates.{DiskState}
 use Rattle.vob_journal.specs.Frames.{frames}
 use Rattle.story_log.proofs.Stored.Damaged.{stored_undamaged}
 use Rattle.story_log.proofs.Bases.WorkedDamages.{as_found, bytes, named, second_is_not, third_is_damaged, three_frames}
-use Rattle.session_run.specs.Calls.Causes.{Change, HasCause, Intake, IsAsked, IsIntakeRead, IsWholeRun}
+use Rattle.session_run.specs.Calls.Causes.{Change, HasCause, Intake, IsAsked, IsIntakeRead, IsWholeRun, KeepsSink, TakesNoMore}
 use Rattle.session_run.specs.Story.Modeled.{tells_failure}
 use Rattle.session_run.specs.declared.statuses.Status.TheVariants as statuses
 use Rattle.session_run.specs.declared.words.Form.{Form}
@@ -29,7 +29,9 @@ gave form text count = record {
   form = Some form;
   text = record { before = Some text; after = Some [] };
   given = from_to 0 count;
+  calls = from_to 0 2;
   faults = from_to 0 0;
+  ended = record { before = None; after = Some 2 };
 }
 
 -- words of a form that does not read the source, or whose source failed at once so many times
@@ -38,7 +40,9 @@ unread form faults = record {
   form = Some form;
   text = record { before = Some []; after = Some [] };
   given = from_to 0 0;
+  calls = from_to 0 faults;
   faults = from_to 0 faults;
+  ended = record { before = None; after = if faults == 0 then None else Some 1 };
 }
 
 -- a disk with this journal, on which so many calls were made, so many of which failed
@@ -104,7 +108,7 @@ asked_twice = record {
 
 asked_check : IsAsked (unread forms.Verify 0)
 asked_check = record {
-  taken = record { form = forms.Verify; words = refl; taken = record { text = refl; given = refl; faults = refl } };
+  taken = record { form = forms.Verify; words = refl; taken = record { text = refl; given = refl; calls = refl; faults = refl } };
   base = λ same. absurd cc;
   session = refl;
 }
@@ -115,6 +119,27 @@ whole_tells : {text : List ℕ} {count : ℕ} {story : List StoryStep} {failed :
 whole_tells {story = story} {failed = failed} h =
     let form : h.asked.taken.form ≡ forms.Run = let words = h.asked.taken.words in cc in
     subst (λ form. tells_failure form story ≡ failed) form h.failures
+
+-- what a source gave is read to its end by two calls, and no third call is made; nor is there a call for a form that does not read
+-- it
+rests : TakesNoMore (gave forms.Run once 22)
+rests = record { most = omega arith; unread = λ reads. absurd cc; rests = λ before. refl }
+
+abbrev with_calls : ℕ → Intake → Intake
+with_calls count intake = record intake { calls = from_to 0 count }
+
+not_read_past : TakesNoMore (with_calls 3 (gave forms.Run once 22)) → ⊥
+not_read_past h = absurd (let rests = h.rests refl in omega (arith, rests))
+
+not_read_for_a_check : TakesNoMore (with_calls 1 (unread forms.Verify 0)) → ⊥
+not_read_for_a_check h = absurd (let unread = h.unread refl in let calls = unread.calls in omega (arith, calls))
+
+-- a fault of the sink is told by the status
+sink_failed : KeepsSink statuses.WriteFault (from_to 0 1)
+sink_failed other = absurd (other refl)
+
+not_hidden : KeepsSink statuses.Good (from_to 0 1) → ⊥
+not_hidden kept = absurd (let same = kept (λ is. cc) in omega (arith, same))
 
 -- 0: the one command is carried out on an empty disk; not where a command was refused, nor where the disk failed meanwhile
 good : HasCause statuses.Good (gave forms.Run once 22) none_failed (disk_at [] 7 0) all_well

@@ -31,7 +31,7 @@ use Rattle.vob_replica.specs.declared.events.SiteError.{SiteError}
 use Rattle.vob_replica.specs.declared.runs.Replies.{Replies}
 use Rattle.session_run.specs.Calls.Asked.{is_session, phases_spelled, session_text_of, writes_behind}
 use Rattle.session_run.specs.Calls.Causes.{Change, DiskUndamaged, Intake, IsAsked, IsIntakeRead, IsUntouched, IsWholeRun}
-use Rattle.session_run.specs.Calls.Causes.{HasCause, disk_rose}
+use Rattle.session_run.specs.Calls.Causes.{HasCause, KeepsSink, disk_rose}
 use Rattle.session_run.specs.Calls.Causes.{session_text}
 use Rattle.session_run.specs.Calls.Sites.{sites_status, sites_text, status_of_sites, text_of_sites, text_unopened}
 use Rattle.session_run.specs.Calls.Statuses.{is_cut}
@@ -42,7 +42,7 @@ use Rattle.session_run.specs.Promises.Headline.{BeginsOn, IsCutAtLast, IsSession
 use Rattle.session_run.specs.Promises.Headline.{clock_moments}
 use Rattle.session_run.specs.Running.Forms.{HasDone, HasRunSo, IsCutSo, IsGivenUp, IsRunThrough}
 use Rattle.session_run.specs.Running.Outcomes.{RunsOpened, RunsSession}
-use Rattle.session_run.specs.Running.Runs.{IsJustOpened, Outside, OnWriteFault, run_status}
+use Rattle.session_run.specs.Running.Runs.{CountsWriteFaults, IsJustOpened, Outside, run_status}
 use Rattle.session_run.specs.Running.Unstarted.{GivesPhases, GivesSites, IsUnstarted, IsWithoutBase, WritesReplies}
 use Rattle.session_run.specs.Running.Unstarted.{WritesUnstarted, WritesWithoutBase}
 use Rattle.session_run.specs.Running.Unstarted.{of_unopened, unstarted_line, unstarted_status}
@@ -270,7 +270,7 @@ whole intake story form phases outside failed gives ran =
 run_cause : (result : Result Bool (Or WriteFault)) (rose : Bool) (story : List StoryStep) (form : Form) (phases : List Phase)
     (intake : Intake) (outside : Outside) (faults : Change ℕ) (disk : Change DiskState) → disk_rose disk ≡ rose
     → GivesPhases intake form phases → HasRunSo form result phases story outside
-    → OnWriteFault result (Rose faults.before faults.after) → DiskUndamaged disk
+    → CountsWriteFaults result faults.before faults.after → DiskUndamaged disk
     → HasCause (run_status result rose) intake faults disk story
 run_cause (Ok true) true story form phases intake outside faults disk by gives ran wrote faultless =
     (asked intake form phases gives, by, λ opened. ran.finished)
@@ -283,6 +283,12 @@ run_cause (Ok false) false story form phases intake outside faults disk by gives
 run_cause (Err NoMemory) rose story form phases intake outside faults disk by gives left wrote faultless =
     λ closed. not_false (is_opened story) left.opened closed
 run_cause (Err (Is fault)) rose story form phases intake outside faults disk by gives left wrote faultless = wrote
+
+run_sink : (result : Result Bool (Or WriteFault)) (rose : Bool) (faults : Change ℕ)
+    → CountsWriteFaults result faults.before faults.after → KeepsSink (run_status result rose) faults
+run_sink (Ok failed) rose faults wrote = λ other. wrote
+run_sink (Err NoMemory) rose faults wrote = λ other. wrote
+run_sink (Err (Is fault)) rose faults wrote = λ other. absurd (other refl)
 
 -- the steps since a base was opened, and the settling of its journal, have the disk's counts
 counts_from : (one ran : Shown) (settled : List StoryStep) (ghost_state : DiskState) → IsJustOpened one.story → KeepsCount one ran
@@ -304,7 +310,7 @@ pub runs_opened : (result : Result Bool (Or WriteFault)) (form : Form) (phases :
     → SettlesJournal (may_be_open (state_of ran.story).ends) ran.ghost_state ghost_state → settled ≡ story → history ≡ settled
     → now ≡ ghost_state → status ≡ run_status result (rises before ghost_state.faults) → first_step story ≡ first → Legal settled
     → IfOk result (HasDone form phases story outside) → IfErr result (λ cut. IsGivenUp form cut phases story outside)
-    → OnWriteFault result (Rose faults.before faults.after) → IsAccounted (state_of settled) ghost_state
+    → CountsWriteFaults result faults.before faults.after → IsAccounted (state_of settled) ghost_state
     → IsMended (state_of settled) ghost_state → AllOpenAgain settled → RunsOpened form phases status first history before
     (record { before = one.ghost_state; after = now }) outside faults
 runs_opened result form phases status first one ran settled history before ghost_state now outside faults just keeps settles kept
@@ -339,6 +345,7 @@ pub record Promised (status : Status) (story : List StoryStep) (intake : Intake)
   pub printed : ArePrinted status story intake faults disk outside.held outside.holds
   pub stopped : IsStopped disk.before disk.after story
   pub cause : HasCause status intake faults disk story
+  pub sink : KeepsSink status faults
   pub checked : TellsSoundness intake.form status story
   pub accounted : is_opened story ≡ true → IsAccountedFor disk story
   pub files : KeepsFiles disk story
@@ -436,6 +443,7 @@ unstarted_so unstarted status intake outside faults disk same unread cause wrote
       printed = unstarted_printed unstarted status intake outside.held outside.holds faults disk cause wrote;
       stopped = stopped;
       cause = has_cause unstarted status intake faults disk (is_cut status) refl cause wrote.answer wrote.fault wrote.memory;
+      sink = wrote.kept;
       checked = tells_nothing intake.form status not;
       accounted = λ opened. absurd (cc);
       files = closed_files disk same;
@@ -593,6 +601,7 @@ promised_replied text status intake outside faults disk unread counted handed gi
   printed = replied_printed intake text status outside.held outside.holds faults disk gives wrote;
   stopped = stays_untouched disk counted handed;
   cause = replied_so intake text status outside.held outside.holds faults disk (is_cut status) refl gives wrote;
+  sink = wrote.kept;
   checked = asks_no_check intake.form forms.Sites status [] gives.words (λ is. cc);
   accounted = λ opened. absurd (cc);
   files = closed_files (record { before = disk; after = disk }) (modeled_stay disk.modeled);
@@ -626,6 +635,7 @@ promised_run form phases status story intake outside faults disk was now gives (
       printed = run_printed ran.result rose story form phases intake outside faults disk gives ran.ran;
       stopped = keeps_prefix disk.before disk.after story run.begins ran.legal ran.accounted ran.mended ran.again;
       cause = cause;
+      sink = run_sink ran.result rose faults ran.fault;
       checked = tells_soundness _ intake faults disk story outside.held outside.holds cause history;
       accounted = λ opened. record {
         opened = run.opened;

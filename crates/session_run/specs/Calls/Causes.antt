@@ -5,7 +5,7 @@ use Rattle.std.specs.Io.KnownBytes.{IsAtEnd}
 use Rattle.cc_names.specs.declared.refusals.SessionError.{SessionError}
 use Rattle.cc_names.specs.declared.steps.StoryStep.{StoryStep}
 use Rattle.cc_names.specs.Counts.{raised_count, Rose, RoseAbove, RoseAtMost, rises}
-use Rattle.cc_outside.specs.GhostStates.{SinkState, SourceState}
+use Rattle.cc_outside.specs.GhostStates.{RestsOnceEnded, SinkState, SourceState}
 use Rattle.disk_model.specs.DiskStates.{DiskState, IfModeled}
 use Rattle.story_log.specs.Stored.Damaged.{IsDamaged, IsUndamaged}
 use Rattle.story_log.specs.Stored.Stops.{found_on}
@@ -27,13 +27,15 @@ pub record Change (A : Type 0) : Type 0 where
   pub before : A
   pub after : A
 
--- what came in: the form of the words, if they have one, and of the source the bytes that are left and the counts of bytes given
--- and of faults
+-- what came in: the form of the words, if they have one, and of the source the bytes that are left, the counts of bytes given, of
+-- calls and of faults, and the number of the call at which it ended
 pub record Intake : Type 0 where
   pub form : Option Form
   pub text : Change (Option (List ℕ))
   pub given : Change ℕ
+  pub calls : Change ℕ
   pub faults : Change ℕ
+  pub ended : Change (Option ℕ)
 
 -- what came in with words of this form from a source that was seen so before and after
 abbrev pub intake_by : Option Form → SourceState → SourceState → Intake
@@ -41,7 +43,9 @@ intake_by form before after = record {
   form = form;
   text = record { before = before.left; after = after.left };
   given = record { before = before.given; after = after.given };
+  calls = record { before = before.calls; after = after.calls };
   faults = record { before = before.faults; after = after.faults };
+  ended = record { before = before.ended; after = after.ended };
 }
 
 -- what came in with these words
@@ -65,10 +69,11 @@ pub record IsIntakeRead (intake : Intake) : Type 0 where
   pub bytes : IfSome intake.text.before (λ bytes. length bytes ≡ count)
   pub faultless : intake.faults.after ≡ intake.faults.before
 
--- the source was not read
+-- the source was not read: no call of it was made
 pub record IsUnread (intake : Intake) : Type 0 where
   pub text : intake.text.after ≡ intake.text.before
   pub given : intake.given.after ≡ intake.given.before
+  pub calls : intake.calls.after ≡ intake.calls.before
   pub faults : intake.faults.after ≡ intake.faults.before
 
 -- what each form takes of the source: `run` and `sites` read it to its end, the others do not read it
@@ -180,6 +185,10 @@ pub record IsToOpen (intake : Intake) : Type 0 where
   pub text : is_some (session_text intake) ≡ true
   pub faultless : SourceFailed intake → ⊥
 
+-- *The sink*, whatever the status: its count of faults rises where the status says that it failed, and nowhere else.
+abbrev pub KeepsSink : Status → Change ℕ → Type 0
+KeepsSink status faults = status ≢ statuses.WriteFault → faults.after ≡ faults.before
+
 -- *A damaged journal*, the other way. Where the base was to be opened on a disk that tells a damaged journal, and the count of
 -- the disk's faults did not rise, the status says so with the frame's number, unless the sink fails or memory runs out.
 pub record FindsDamage (status : Status) (intake : Intake) (disk : Change DiskState) : Type 0 where
@@ -195,3 +204,4 @@ pub record LeavesAlone (intake : Intake) (disk : Change DiskState) (story : List
 pub record TakesNoMore (intake : Intake) : Type 0 where
   pub most : RoseAtMost (text_limit + 1) intake.given.before intake.given.after
   pub unread : reads_source intake.form ≡ false → IsUnread intake
+  pub rests : RestsOnceEnded intake.ended.before intake.ended.after intake.calls.after

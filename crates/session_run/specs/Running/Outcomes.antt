@@ -3,7 +3,7 @@ use Rattle.std.specs.Prelude.{◌≡◌, ℕ, Bool, ◌⊎◌, Option, Result, L
 use Rattle.cc_names.specs.declared.commands.Phase.{Phase}
 use Rattle.cc_names.specs.declared.memory.Or.{Or}
 use Rattle.cc_names.specs.declared.steps.StoryStep.{StoryStep}
-use Rattle.cc_names.specs.Counts.{Rose, rises}
+use Rattle.cc_names.specs.Counts.{rises}
 use Rattle.cc_outside.specs.declared.sinks.WriteFault.{WriteFault}
 use Rattle.disk_model.specs.DiskStates.{DiskState, Both, IsCounted}
 use Rattle.vob_journal.specs.Added.{Adds, may_read}
@@ -18,7 +18,7 @@ use Rattle.session_run.specs.Faults.Accounted.{CountsFrom}
 use Rattle.session_run.specs.Faults.Stopped.{AllOpenAgain, IsMended}
 use Rattle.session_run.specs.Promises.Headline.{BeginsOn}
 use Rattle.session_run.specs.Running.Forms.{HasRunSo}
-use Rattle.session_run.specs.Running.Runs.{Outside, OnWriteFault, run_status}
+use Rattle.session_run.specs.Running.Runs.{CountsWriteFaults, Outside, run_status}
 use Rattle.session_run.specs.Running.Unstarted.{WritesUnstarted, of_unopened}
 use Rattle.session_run.specs.Story.Begun.{first_step}
 use Rattle.session_run.specs.declared.statuses.Status.{Status}
@@ -33,7 +33,7 @@ pub record RunsOpened (form : Form) (phases : List Phase) (status : Status) (fir
   pub first_is : first_step story ≡ first
   pub legal : Legal story
   pub ran : HasRunSo form result phases story outside
-  pub fault : OnWriteFault result (Rose faults.before faults.after)
+  pub fault : CountsWriteFaults result faults.before faults.after
   pub accounted : IsAccounted (state_of story) disk.after
   pub mended : IsMended (state_of story) disk.after
   pub again : AllOpenAgain story

@@ -9,7 +9,7 @@ use Rattle.cc_names.specs.declared.memory.Or.TheVariants.{NoMemory, Is}
 use Rattle.cc_names.specs.declared.steps.Counts.{Counts}
 use Rattle.cc_names.specs.declared.steps.StoryStep.{StoryStep}
 use Rattle.cc_names.specs.declared.steps.StoryStep.TheVariants as story_steps
-use Rattle.cc_names.specs.Counts.{raised_count}
+use Rattle.cc_names.specs.Counts.{Rose, raised_count}
 use Rattle.cc_outside.specs.Feeds.{AppendsPrefix}
 use Rattle.cc_outside.specs.GhostStates.{ClockState, SinkState}
 use Rattle.cc_outside.specs.declared.sinks.WriteFault.{WriteFault}
@@ -90,11 +90,15 @@ pub record IsRunGivenUp (cut : Or WriteFault) (phases : List Phase) (story : Lis
   pub written : AppendsPrefix outside.held outside.holds (text_of_story story)
   pub cut_at : IsCutBy cut story outside.held outside.holds
 
--- the sink's faults rose where it failed
-abbrev pub OnWriteFault : {X : Type 0} → Result X (Or WriteFault) → Type 0 → Type 0
-OnWriteFault (Ok x) P = Unit {0}
-OnWriteFault (Err NoMemory) P = Unit {0}
-OnWriteFault (Err (Is fault)) P = P
+-- the sink's count of faults before and after a text was cut short: it rose where the sink failed
+abbrev pub CountsCut : Or WriteFault → ℕ → ℕ → Type 0
+CountsCut NoMemory before after = after ≡ before
+CountsCut (Is fault) before after = Rose before after
+
+-- the same before and after a text was to be written
+abbrev pub CountsWriteFaults : {X : Type 0} → Result X (Or WriteFault) → ℕ → ℕ → Type 0
+CountsWriteFaults (Ok x) before after = after ≡ before
+CountsWriteFaults (Err cut) before after = CountsCut cut before after
 
 -- the status of a call that opened a base, by whether a failure is told and whether the disk's faults rose
 abbrev pub run_status : Result Bool (Or WriteFault) → Bool → Status

@@ -14,7 +14,7 @@ use Rattle.story_log.specs.declared.opening.OpenCause.{OpenCause}
 use Rattle.story_log.specs.declared.opening.OpenCause.TheVariants as opens
 use Rattle.session_run.specs.Calls.Asked.{is_session, phases_spelled, size_limit, text_limit, text_of}
 use Rattle.session_run.specs.Calls.Causes.{Change, Intake, IsFirstWrong, IsIntakeRead, IsTaken, IsUnread, SourceFailed}
-use Rattle.session_run.specs.Calls.Causes.{GaveTooMuch, Takes, session_text}
+use Rattle.session_run.specs.Calls.Causes.{GaveTooMuch, KeepsSink, Takes, session_text}
 use Rattle.vob_replica.specs.Runs.{run_of}
 use Rattle.vob_replica.specs.declared.events.SiteError.{SiteError}
 use Rattle.vob_replica.specs.declared.runs.Replies.{Replies}
@@ -139,6 +139,7 @@ pub record WritesUnstarted (unstarted : Unstarted) (status : Status) (old new : 
     pub nothing : status ≡ statuses.NoMemory → Appends old new []
     pub memory : status ≡ statuses.NoMemory → unstarted ≡ why.Unopened opens.NoMemory
     pub fault : status ≡ statuses.WriteFault → Rose faults.before faults.after
+    pub kept : KeepsSink status faults
     pub line : status ≡ statuses.WriteFault → is_cut (unstarted_status unstarted) ≡ false
 
 -- The replies to a text of sites were written, or the line that says which of its lines says nothing, unless the sink failed,
@@ -150,6 +151,7 @@ pub record WritesResult (run : Result Replies SiteError) (status : Status) (old 
   pub prefix : status ≡ statuses.WriteFault → AppendsPrefix old new (text_of_sites run)
   pub nothing : status ≡ statuses.NoMemory → Appends old new []
   pub fault : status ≡ statuses.WriteFault → Rose faults.before faults.after
+  pub kept : KeepsSink status faults
 
 -- so it was with what a text comes to
 abbrev pub WritesReplies : List ℕ → Status → Option (List ℕ) → Option (List ℕ) → Change ℕ → Type 0

@@ -8,7 +8,7 @@ use Rattle.legal_history.specs.Stories.Lawful.{last_moment}
 use Rattle.base_core.proofs.Story.Counts.{keeps_count, keeps_further}
 use Rattle.session_run.specs.Calls.Asked.{text_limit}
 use Rattle.session_run.specs.Running.Phases.{LeavesPhase, RunsPhase}
-use Rattle.session_run.specs.Running.Runs.{IsReadyPhase, Outside}
+use Rattle.session_run.specs.Running.Runs.{CountsCut, IsReadyPhase, Outside}
 use Rattle.session_run.proofs.Running.Runs.{run_goes_on, run_leaves, run_is_cut, run_starts, in_hand}
 use Rattle.session_run.proofs.phases.run_phases.Goals as goal
 
@@ -37,7 +37,7 @@ loop-phase-init g c =
       ready = subst (AllByRecursion IsReadyPhase) items c.requires.runnable.ready;
       few = subst (λ phases. length phases ≤ text_limit) items c.requires.runnable.few;
       number = refl;
-      faults = omega arith;
+      faults = refl;
       counted = keeps_count c.args.core;
       clock = refl;
     }
@@ -97,7 +97,7 @@ loop-phase-preserved g c =
       ready = ready.1;
       few = at.invariant.few;
       number = omega (arith, at.invariant.number, length-append at.yielded (c.in-Some.phase ∷ []));
-      faults = omega (arith, at.invariant.faults, c.in_default-write_transcript.ensures.kept);
+      faults = c.in_default-write_transcript.ensures.fault ∙ at.invariant.faults;
       counted = keeps_further c.args.core at.core c.run_commands-next.result.0 at.invariant.counted
           c.run_commands-next.ensures.counted;
       clock = c.moment_of-moment.ensures.list ∙ at.invariant.clock;
@@ -127,6 +127,11 @@ returns-in-Err-write_transcript-clause-err g c =
     (in_hand at.yielded (into_iter_items at.phase-iterator) (into_iter_items c.next.new.self) _ c.args.phases.items
     c.in-Some.phase at.invariant.rest c.in-Some.ensures.steps.0 c.into_iter-phase-iterator.ensures.into_iter_gives.0)
     c.in-Err-write_transcript.ensures.err c.moment_of-moment.ensures.counted
+
+pub returns-in-Err-write_transcript-clause-fault : goal.returns-in-Err-write_transcript-clause-fault
+returns-in-Err-write_transcript-clause-fault g c =
+    subst (λ before. CountsCut c.in-Err-write_transcript.error before (g.K.Sink.ghost_state c.write_transcript.new.sink).faults)
+    c.loop-phase.invariant.faults c.in-Err-write_transcript.ensures.fault
 
 pub returns-in-Err-clause-counted : goal.returns-in-Err-clause-counted
 returns-in-Err-clause-counted g c =

@@ -22,7 +22,7 @@ invariant-loop-phase g l = record {
   ready : AllByRecursion IsReadyPhase (into_iter_items l.phase-iterator);
   few : length (into_iter_items l.initial.phase-iterator) ≤ text_limit;
   number : l.number ≡ length l.yielded;
-  faults : (g.K.Sink.ghost_state l.initial.sink).faults ≤ (g.K.Sink.ghost_state l.sink).faults;
+  faults : (g.K.Sink.ghost_state l.sink).faults ≡ (g.K.Sink.ghost_state l.initial.sink).faults;
   counted : KeepsCount l.fn.core l.core;
   clock : (g.C.Clock.ghost_state l.clock).modeled ≡ (g.C.Clock.ghost_state l.initial.clock).modeled;
 }

@@ -1,7 +1,6 @@
 use Rattle.std.proofs.Common.{List, inl, inr, refl, subst, sym}
 use Rattle.cc_names.specs.declared.steps.StoryStep.{StoryStep}
-use Rattle.session_run.specs.Calls.Asked.{form_of}
-use Rattle.session_run.specs.Calls.Causes.{Change, Intake, IsUntouched}
+use Rattle.session_run.specs.Calls.Causes.{Change, Intake, IsUntouched, intake_of}
 use Rattle.session_run.specs.Running.Runs.{Outside}
 use Rattle.session_run.proofs.Calls.Exactly.{finds_damage}
 use Rattle.session_run.proofs.Calls.Ready.{is_short}
@@ -53,6 +52,7 @@ returns-in-Ok g c =
       stopped = all.stopped;
       cause =
           all.cause;
+      sink = all.sink;
       accounted = all.accounted;
       files = all.files;
       damaged = finds_damage _ _ _ _ _ all.cause;
@@ -64,22 +64,8 @@ returns-in-Ok g c =
 
 pub returns-in-Err : goal.returns-in-Err
 returns-in-Err g c =
-    let intake : Intake = record {
-      form = form_of c.args.words.now;
-      text = record {
-        before = (g.S.Source.ghost_state c.args.source.now).left;
-        after = (g.S.Source.ghost_state
-            c.session_given.new.source).left;
-      };
-      given = record {
-        before = (g.S.Source.ghost_state c.args.source.now).given;
-        after = (g.S.Source.ghost_state c.session_given.new.source).given;
-      };
-      faults = record {
-        before = (g.S.Source.ghost_state c.args.source.now).faults;
-        after = (g.S.Source.ghost_state c.session_given.new.source).faults;
-      };
-    } in
+    let intake : Intake = intake_of c.args.words.now (g.S.Source.ghost_state c.args.source.now)
+    (g.S.Source.ghost_state c.session_given.new.source) in
     let outside : Outside = record {
       held = (g.K.Sink.ghost_state c.args.sink.now).held;
       holds = (g.K.Sink.ghost_state c.write_without_base.new.sink).held;
@@ -123,6 +109,7 @@ returns-in-Err g c =
       stopped = all.stopped;
       cause =
           all.cause;
+      sink = all.sink;
       accounted = all.accounted;
       files = all.files;
       damaged = finds_damage _ _ _ _ _ all.cause;

@@ -1,8 +1,8 @@
 -- the words have a form, whose text is a session or one of sites, or none
-use Rattle.std.proofs.Common.{sym, subst}
+use Rattle.std.proofs.Common.{refl, sym, subst}
 use Rattle.session_run.specs.Calls.Causes.{TakesNoMore, intake_by, intake_of}
 use Rattle.session_run.specs.Running.Unstarted.{GivesText, IsUnstarted}
-use Rattle.session_run.proofs.Calls.Ready.{are_said, given_so, not_given_so}
+use Rattle.session_run.proofs.Calls.Ready.{are_said, given_so, not_given_so, takes_none}
 use Rattle.session_run.proofs.sessions.session_given.Goals as goal
 
 pub text_given-requires : goal.text_given-requires
@@ -40,3 +40,6 @@ pub returns-in-Err-clause-taken : goal.returns-in-Err-clause-taken
 returns-in-Err-clause-taken g c =
     subst (λ form. TakesNoMore (intake_by form (g.S.Source.ghost_state c.args.source.now)
     (g.S.Source.ghost_state c.text_given.new.source))) c.in-Some.ensures c.text_given.ensures.taken
+
+pub returns-in_default-clause-taken : goal.returns-in_default-clause-taken
+returns-in_default-clause-taken g c = takes_none _ (record { text = refl; given = refl; calls = refl; faults = refl }) refl

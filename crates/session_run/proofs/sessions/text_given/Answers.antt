@@ -2,7 +2,7 @@
 use Rattle.std.proofs.Common.{ap, refl, Some}
 use Rattle.session_run.specs.Calls.Asked.{reads_source}
 use Rattle.session_run.specs.declared.words.Form.{Form}
-use Rattle.session_run.proofs.Calls.Ready.{gives_big, gives_none}
+use Rattle.session_run.proofs.Calls.Ready.{gives_big, gives_none, takes_none}
 use Rattle.session_run.proofs.sessions.text_given.Goals as goal
 
 pub returns-in-Run : goal.returns-in-Run
@@ -26,10 +26,19 @@ returns-in-Sites g c =
 pub returns-in-Ok-clause-gives : goal.returns-in-Ok-clause-gives
 returns-in-Ok-clause-gives g c =
     let said = rw c.in-Big.is at c.requires in
-    rw c.in-Big.is (gives_big c.in-Big.seed c.in-Big.size _ c.in-Ok.text (record { text = refl; given = refl; faults = refl })
+    rw c.in-Big.is (gives_big c.in-Big.seed c.in-Big.size _ c.in-Ok.text (record { text = refl; given = refl; calls = refl; faults = refl })
     said
     c.in-Ok.ensures.text c.in-Ok.ensures.short)
 
 pub returns-in-Verify-clause-gives : goal.returns-in-Verify-clause-gives
 returns-in-Verify-clause-gives g c =
-    rw c.in-Verify.is (gives_none _ c.of.result (record { text = refl; given = refl; faults = refl }) (cc))
+    rw c.in-Verify.is (gives_none _ c.of.result (record { text = refl; given = refl; calls = refl; faults = refl }) (cc))
+
+pub returns-in-Ok-clause-taken : goal.returns-in-Ok-clause-taken
+returns-in-Ok-clause-taken g c = takes_none _ (record { text = refl; given = refl; calls = refl; faults = refl }) refl
+
+pub returns-in-Err-clause-taken : goal.returns-in-Err-clause-taken
+returns-in-Err-clause-taken g c = takes_none _ (record { text = refl; given = refl; calls = refl; faults = refl }) refl
+
+pub returns-in-Verify-clause-taken : goal.returns-in-Verify-clause-taken
+returns-in-Verify-clause-taken g c = takes_none _ (record { text = refl; given = refl; calls = refl; faults = refl }) refl
