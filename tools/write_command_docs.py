@@ -20,16 +20,22 @@ WIDTH = 120
 FROM_CLEARCASE_HEAD = """\
 # Coming from ClearCase, git, make or Bazel
 
-Written by `tools/write_command_docs.py` from `tools/command_table.py`. Each command is a line of a session, which `ccbase FILE run`
-reads from standard input. REFERENCE explains them, FORMATS has their grammar.
+Written by `tools/write_command_docs.py` from `tools/command_table.py`. Each command is a line of a session. REFERENCE explains them,
+FORMATS has their grammar.
+"""
+
+CLEARCASE_HEAD = """\
+## From ClearCase
+
+An empty last column means no difference. Options in the second column are the same in ClearCase. V and W are views, P and Q paths, B
+and L types of branches and of labels.
 """
 
 ELSEWHERE_HEAD = """\
 ## From git, make and Bazel
 
 The nearest counterparts. A version is of one file, so there is no commit of a whole tree; use a label. A build compares what
-scripts *read* with what the view selects now. Prerequisites only decide the order, and neither timestamps nor declared inputs
-decide what is rebuilt.
+scripts *read* with what the view selects now. Prerequisites only decide the order; neither timestamps nor declared inputs count.
 """
 
 MISSING_HEAD = """\
@@ -49,39 +55,52 @@ def code(text):
     return f"`{text}`" if text else ""
 
 
-def rows_of(command):
-    """A command and its options, as (form, entry)."""
-    yield command.form, command
-    for option in command.options:
-        yield f"{command.name} {option.form}", option
+def is_same(command, option):
+    """Whether an option has its name and its meaning in ClearCase too."""
+    return option.clearcase == code(f"{command.name} {option.form}") and not option.differs
 
 
 def clearcase_rows(group):
-    """The lines of a group in the first table."""
+    """The lines of a group in the first table. An option that is the same in ClearCase is in the line of its command."""
     for command in group.commands:
-        for form, entry in rows_of(command):
-            body = ", with a body" if entry is command and command.body else ""
-            yield f"| {code(form)}{body} | {entry.does} | {entry.clearcase or 'no counterpart'} | {cell(entry.differs)} |"
+        same = [option for option in command.options if is_same(command, option)]
+        does = ". ".join([command.does, *(f"{code(option.form)}: {option.does}" for option in same)])
+        form = code(command.form) + (", with a body" if command.body else "")
+        yield f"| {form} | {does} | {command.clearcase or 'no counterpart'} | {cell(command.differs)} |"
+        for option in command.options:
+            if option not in same:
+                yield f"| {code(f'{command.name} {option.form}')} | {option.does} | {option.clearcase} | {cell(option.differs)} |"
 
 
 def clearcase_table():
     """The commands by groups, each with its counterpart in ClearCase."""
-    lines = ["## From ClearCase", "", "Where the last column is empty, there is no difference.", ""]
-    for word, means in table.WORDS:
-        lines.append(f"- `{word}`: {means}")
+    lines = [CLEARCASE_HEAD]
     for group in table.GROUPS:
-        lines += ["", f"### {group.title}", "", "| line | what it does | in ClearCase | how it differs |", "|---|---|---|---|"]
-        lines += clearcase_rows(group)
-    return "\n".join(lines) + "\n"
+        lines += [f"### {group.title}", "", "| line | does | ClearCase | difference |", "|---|---|---|---|"]
+        lines += [*clearcase_rows(group), ""]
+    return "\n".join(lines)
+
+
+def named(command):
+    """A command by its first word, or by its form where another has the same word."""
+    names = [other.name for other in table.commands()]
+    return command.form if names.count(command.name) > 1 else command.name
+
+
+def rows_elsewhere(columns):
+    """The commands and options that have a counterpart in one of the columns, each a field of the table of commands."""
+    for command in table.commands():
+        entries = [(named(command), command), *((f"{command.name} {option.form}", option) for option in command.options)]
+        for form, entry in entries:
+            cells = [cell(getattr(entry, column)) for column in columns]
+            if any(cells):
+                yield f"| {code(form)} | {' | '.join(cells)} |"
 
 
 def elsewhere_table():
-    """The commands that have a counterpart in git, make or Bazel."""
-    lines = [ELSEWHERE_HEAD, "| line | git | make | Bazel |", "|---|---|---|---|"]
-    for command in table.commands():
-        for form, entry in rows_of(command):
-            if entry.git or entry.make or entry.bazel:
-                lines.append(f"| {code(form)} | {cell(entry.git)} | {cell(entry.make)} | {cell(entry.bazel)} |")
+    """The commands that have a counterpart in git, and those that have one in make or Bazel."""
+    lines = [ELSEWHERE_HEAD, "| command | git |", "|---|---|", *rows_elsewhere(["git"])]
+    lines += ["", "| command | make | Bazel |", "|---|---|---|", *rows_elsewhere(["make", "bazel"])]
     return "\n".join(lines) + "\n"
 
 
