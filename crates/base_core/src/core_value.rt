@@ -58,6 +58,7 @@ impl<D: Disk> Core<D> {
     ghost use Rattle.disk_model.specs.Counting.{next_count};
     ghost use Rattle.disk_model.specs.DiskStates.{IfModeled, Both};
     ghost use Rattle.vob_journal.specs.Added.{WritesOn};
+    ghost use Rattle.vob_journal.specs.Pieces.{ReadsOnce};
 
     /// Opens the base that a disk stands for. Reads its journal once, in time linear in its bytes and for each row that of
     /// `fits`, and writes nothing. Names are found by hashing them so. A disk whose base cannot be opened comes back with the
@@ -67,6 +68,10 @@ impl<D: Disk> Core<D> {
         ensures ok { IfOk result (λ core. OpensCore (D.ghost_state disk) core.story core.ghost_state) }
         ensures err { IfErr result
             (λ fault. FailsToOpen (D.ghost_state disk) fault.cause (D.ghost_state fault.disk)) }
+        ensures once { MatchResult result
+            (λ core. Both ReadsOnce (D.ghost_state disk).modeled core.ghost_state.modeled)
+            (λ fault. Both ReadsOnce (D.ghost_state disk).modeled
+            (D.ghost_state fault.disk).modeled) }
     {
         match open_log(alloc, hashing, disk) {
             Ok(log) => Ok(Core {

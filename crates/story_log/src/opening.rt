@@ -1,8 +1,9 @@
 //! How a base is opened: the rows of its journal are read one by one, and each has to fit those before it.
 
-ghost use Rattle.std.specs.Prelude.{◌≡◌, [], ◌∷◌, true, IfSome, IfNone, IfOk, IfErr, OnOk};
+ghost use Rattle.std.specs.Prelude.{◌≡◌, [], ◌∷◌, true, IfSome, IfNone, IfOk, IfErr, OnOk, MatchResult};
 ghost use Rattle.base_model.specs.Fits.{fits};
-ghost use Rattle.disk_model.specs.DiskStates.{IfModeled};
+ghost use Rattle.disk_model.specs.DiskStates.{Both, IfModeled};
+ghost use Rattle.vob_journal.specs.Pieces.{IsReadUntil, ReadsNext, ReadsOnce};
 ghost use Rattle.story_log.specs.Bases.Opening.{AreSynced, StopsBy, IsOpened, FailsToOpen};
 ghost use Rattle.story_log.specs.Stored.Stops.{found_with};
 ghost use Rattle.story_log.specs.Bases.Reading.{OnlyReads, NextIs, IsMisfit, IsMissed, IsNextRow, IsNoRow, IsReadSoFar, ReadsOn, IsReadThrough};
@@ -39,6 +40,7 @@ fn next_payload<D: Disk>(alloc: Global, journal: &mut Journal<D>) -> Result<Opti
     requires { journal.old.leftover ≡ [] }
     ensures reads { OnlyReads D.ghost_state journal.old journal.new }
     ensures ok { IfOk result (λ found. NextIs D.ghost_state found journal.old journal.new) }
+    ensures forth { ReadsNext result D.ghost_state journal.old journal.new }
     ensures err { IfErr result
         (λ cause.
         IsMissed cause (D.ghost_state journal.old.disk).faults
@@ -94,6 +96,7 @@ fn read_next_row<D: Disk>(
     requires { IsReadSoFar D.ghost_state rows.now journal.old }
     ensures reads { OnlyReads D.ghost_state journal.old journal.new }
     ensures ok { IfOk result (λ found. ReadsOn D.ghost_state rows.now found journal.new) }
+    ensures forth { ReadsNext result D.ghost_state journal.old journal.new }
     ensures faultless { OnOk result
         ((D.ghost_state journal.new.disk).faults ≡ (D.ghost_state journal.old.disk).faults) }
     ensures err { IfErr result
@@ -132,6 +135,8 @@ fn read_rows<D: Disk>(
     requires { IsReadSoFar D.ghost_state [] journal.old }
     ensures reads { OnlyReads D.ghost_state journal.old journal.new }
     ensures ok { IfOk result (λ rows. IsReadThrough D.ghost_state rows.base journal.new) }
+    ensures until { Both (IsReadUntil journal.old.tail journal.old.reach)
+        (D.ghost_state journal.old.disk).modeled (D.ghost_state journal.new.disk).modeled }
     ensures faultless { OnOk result
         ((D.ghost_state journal.new.disk).faults ≡ (D.ghost_state journal.old.disk).faults) }
     ensures err { IfErr result
@@ -166,6 +171,10 @@ pub fn open_log<D: Disk>(
     ensures ok { IfOk result (λ log. IsOpened (D.ghost_state disk) log) }
     ensures err { IfErr result
         (λ fault. FailsToOpen (D.ghost_state disk) fault.cause (D.ghost_state fault.disk)) }
+    ensures once { MatchResult result
+        (λ log. Both ReadsOnce (D.ghost_state disk).modeled log.ghost_state.modeled)
+        (λ fault. Both ReadsOnce (D.ghost_state disk).modeled
+        (D.ghost_state fault.disk).modeled) }
 {
     let handed = disk.counts();
     let mut journal = match Journal::open(disk) {

@@ -15,7 +15,7 @@ use Rattle.vob_journal.specs.Moves.{Stands, Moves}
 use Rattle.vob_journal.specs.Reads.{Rests}
 use Rattle.vob_journal.specs.Shown.{modeled_list, modeled_rest, modeled_leftover, JournalInvariant}
 use Rattle.vob_journal.specs.Tails.{IsWhole, HoldsPrefix, IsTail, IsStillRead, list_at, leftover_at}
-use Rattle.vob_journal.specs.Windows.{IfShows}
+use Rattle.vob_journal.specs.Windows.{IfShows, StartsBy}
 use Rattle.vob_journal.specs.declared.window.Window.{Window}
 use Rattle.vob_journal.specs.Added.{may_read}
 use Rattle.vob_journal.proofs.Adding.{adds_one}
@@ -115,7 +115,8 @@ same_moves (Some d) list leftover now = record { passes = passes_none d _; now =
 -- what is known while a journal is read
 pub reading_of : (modeled : Option Device) (ended settled : Bool) (tail size : ℕ) (window : Option Window) → ended ≡ false
     → JournalInvariant modeled ended settled tail size window
-    → (tail ≤ size) × (size ≤ 2 ^ 62) × IfShows window modeled × IfModeled modeled (IsStillRead tail size)
+    → (tail ≤ size) × (size ≤ 2 ^ 62) × (StartsBy window tail × IfShows window modeled)
+    × IfModeled modeled (IsStillRead tail size)
 reading_of modeled ended settled tail size window is kept = subst (λ b. JournalInvariant modeled b settled tail size window) is
     kept
 

@@ -5,8 +5,10 @@ pub mod Journals
 pub mod Leaving
 pub mod Passing
 pub mod Phasing
+pub mod Pieces
 pub mod Settling
 pub mod Staying
 pub mod Telling
 mod WorkedForeign
 mod WorkedFrames
+mod WorkedPieces

@@ -34,6 +34,11 @@ abbrev pub ShowsOn : Option Device → Found → Type 0
 ShowsOn modeled (Payload payload window) = IfShows (Some window) modeled
 ShowsOn modeled (End settled) = Unit {0}
 
+-- the window in which it was read begins at this place or before
+abbrev pub BeginsBy : ℕ → Found → Type 0
+BeginsBy tail (Payload payload window) = window.start ≤ tail
+BeginsBy tail (End settled) = Unit {0}
+
 -- a whole frame lies within what is left
 abbrev pub FitsIn : ℕ → Head → Type 0
 FitsIn left (Whole size) = 5 + size ≤ left

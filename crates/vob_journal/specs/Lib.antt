@@ -7,6 +7,7 @@ pub mod Frames
 pub mod Lefts
 pub mod Moves
 pub mod Phases
+pub mod Pieces
 pub mod Reads
 pub mod Shown
 pub mod Storing

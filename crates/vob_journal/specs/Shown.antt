@@ -4,13 +4,13 @@ use Rattle.disk_model.specs.Devices.{Device, bytes_now}
 use Rattle.vob_journal.specs.declared.left.Left.{Left}
 use Rattle.vob_journal.specs.Frames.{frames}
 use Rattle.vob_journal.specs.Tails.{list_at, leftover_at, IsTail, IsStillRead}
-use Rattle.vob_journal.specs.Windows.{IfShows}
+use Rattle.vob_journal.specs.Windows.{IfShows, StartsBy}
 use Rattle.vob_journal.specs.declared.window.Window.{Window}
 use Rattle.disk_model.specs.DiskStates.{IfModeled}
 
 -- A journal: its disk; the place after its last frame read or written; the whole list, what is still to be read of it,
 -- and what a fault left over after it, each of them empty where the disk does not model its device; whether the end
--- was read, whether the tail is settled, and what the last failed call left.
+-- was read, whether the tail is settled, and what the last failed call left; and how far the journal was read.
 pub record Shown (D : Type 0) : Type 0 where
   pub disk : D
   pub tail : ℕ
@@ -20,6 +20,7 @@ pub record Shown (D : Type 0) : Type 0 where
   pub ended : Bool
   pub settled : Bool
   pub left : Left
+  pub reach : ℕ
 
 -- what is still to be read
 abbrev pub rest_at : Bool → ℕ → Device → List (List ℕ)
@@ -50,4 +51,5 @@ modeled_leftover (Some d) ended settled tail = leftover_of ended settled tail d
 abbrev pub JournalInvariant : Option Device → Bool → Bool → ℕ → ℕ → Option Window → Type 0
 JournalInvariant modeled true settled tail size window = (tail ≤ 2 ^ 62) × IfModeled modeled (IsTail settled tail)
 JournalInvariant modeled false settled tail size window =
-    (tail ≤ size) × (size ≤ 2 ^ 62) × IfShows window modeled × IfModeled modeled (IsStillRead tail size)
+    (tail ≤ size) × (size ≤ 2 ^ 62) × (StartsBy window tail × IfShows window modeled)
+    × IfModeled modeled (IsStillRead tail size)

@@ -36,6 +36,7 @@ pub struct Journal<D: Disk> {
 
 impl<D: Disk> Model for Journal<D> {
     ghost use Rattle.vob_journal.specs.Shown.{Shown, modeled_list, modeled_rest, modeled_leftover, JournalInvariant};
+    ghost use Rattle.vob_journal.specs.Windows.{reach_of};
 
     ghost Value = { Shown D };
 
@@ -48,6 +49,7 @@ impl<D: Disk> Model for Journal<D> {
       ended = j.ended;
       settled = j.settled;
       left = j.left;
+      reach = reach_of j.window;
     } };
 
     ghost invariant = { λ j.
@@ -64,6 +66,7 @@ impl<D: Disk> Journal<D> {
     ghost use Rattle.vob_journal.specs.Lefts.{FailsInPhase, leftover_after, settled_after};
     ghost use Rattle.vob_journal.specs.Moves.{Moves, Stands};
     ghost use Rattle.vob_journal.specs.Phases.{Spends, calls_of};
+    ghost use Rattle.vob_journal.specs.Pieces.{ReadsNext};
     ghost use Rattle.vob_journal.specs.Reads.{SameFiles, CountsReads};
 
     /// The journal of a disk that was handed in. Asks its length, and reads nothing yet. Where that fails the disk
@@ -77,7 +80,8 @@ impl<D: Disk> Journal<D> {
         ensures begins { IfOk result
             (λ journal.
             (journal.rest ≡ journal.list) × (journal.leftover ≡ []) × (journal.tail ≡ 0)
-            × (journal.ended ≡ false) × (journal.left ≡ lefts.Nothing)) }
+            × (journal.ended ≡ false) × (journal.left ≡ lefts.Nothing)
+            × (journal.reach ≡ 0)) }
         ensures modeled { MatchResult result
             (λ journal. Both (Measures 0) (D.ghost_state disk).modeled
             (D.ghost_state journal.disk).modeled)
@@ -109,8 +113,8 @@ impl<D: Disk> Journal<D> {
         }
     }
 
-    /// The next payload, or None at the end of the list. Reads in pieces of at least 64 KiB, so that all payloads take
-    /// time linear in the journal. Whatever it answers, both files are as they were.
+    /// The next payload, or None at the end of the list. Reads in pieces of at least 64 KiB, each no earlier than the one before
+    /// and further, so that all payloads take time linear in the journal. Whatever it answers, both files are as they were.
     pub fn next(&mut self, alloc: Global) -> Result<Option<Text>, Or<DiskFault>>
         ensures gives { IfOk result
             (λ found.
@@ -131,6 +135,7 @@ impl<D: Disk> Journal<D> {
             (D.ghost_state self.new.disk).modeled }
         ensures adds { Both (Adds may_read) (D.ghost_state self.old.disk).modeled
             (D.ghost_state self.new.disk).modeled }
+        ensures forth { ReadsNext result D.ghost_state self.old self.new }
         ensures counts { CountsReads 2 result (D.ghost_state self.old.disk)
             (D.ghost_state self.new.disk) }
     {

@@ -1,11 +1,12 @@
 //! How the frames of a journal are read, one by one.
 
-ghost use Rattle.std.specs.Prelude.{◌≡◌, ◌≤◌, ◌<◌, ◌+◌, ◌-◌, ◌^◌, List, ℕ, min, length, take, drop, IfOk, Some};
+ghost use Rattle.std.specs.Prelude.{◌≡◌, ◌≤◌, ◌<◌, ◌+◌, ◌-◌, ◌^◌, List, ℕ, min, length, take, drop, IfOk, OnErr, Some};
 ghost use Rattle.disk_model.specs.Devices.{bytes_now};
 ghost use Rattle.disk_model.specs.DiskStates.{IfModeled, Both};
-ghost use Rattle.vob_journal.specs.Windows.{IfShows};
+ghost use Rattle.vob_journal.specs.Pieces.{IsReadUntil, ReadsFrame};
+ghost use Rattle.vob_journal.specs.Windows.{IfShows, StartsBy, reach_of};
 ghost use Rattle.vob_journal.specs.Reads.{Rests, CountsReads};
-ghost use Rattle.vob_journal.specs.Found.{HeadTells, FindsAtHead, IsPayload, IsFrameWithin, ShowsOn, FitsIn};
+ghost use Rattle.vob_journal.specs.Found.{BeginsBy, HeadTells, FindsAtHead, IsPayload, IsFrameWithin, ShowsOn, FitsIn};
 
 use crate::window::{Window, look};
 use cc_names::memory::Or;
@@ -68,13 +69,21 @@ pub(crate) fn read_frame<D: Disk>(
     requires within { tail ≤ size }
     requires small { size ≤ 2 ^ 62 }
     requires all { IfModeled (D.ghost_state disk.old).modeled (λ d. size ≡ length (bytes_now 0 d)) }
+    requires starts { StartsBy window tail }
     requires shows { IfShows window (D.ghost_state disk.old).modeled }
     ensures found { IfOk result
         (λ found. IfModeled (D.ghost_state disk.old).modeled
         (λ d. FindsAtHead found (drop tail (bytes_now 0 d)))) }
     ensures within { IfOk result (IsFrameWithin tail size) }
+    ensures begins { IfOk result (BeginsBy tail) }
     ensures shows { IfOk result (ShowsOn (D.ghost_state disk.new).modeled) }
     ensures rests { Both Rests (D.ghost_state disk.old).modeled (D.ghost_state disk.new).modeled }
+    ensures forth { IfOk result
+        (λ found. Both (ReadsFrame tail (reach_of window) found) (D.ghost_state disk.old).modeled
+        (D.ghost_state disk.new).modeled) }
+    ensures until { OnErr result
+        (Both (IsReadUntil tail (reach_of window)) (D.ghost_state disk.old).modeled
+        (D.ghost_state disk.new).modeled) }
     ensures counts { CountsReads 2 result (D.ghost_state disk.old) (D.ghost_state disk.new) }
 {
     let left = size - tail;
@@ -104,14 +113,22 @@ fn read_payload<D: Disk>(
     requires within { tail + (5 + count) ≤ size }
     requires small { size ≤ 2 ^ 62 }
     requires all { IfModeled (D.ghost_state disk.old).modeled (λ d. size ≡ length (bytes_now 0 d)) }
+    requires starts { window.start ≤ tail }
     requires shows { IfShows (Some window) (D.ghost_state disk.old).modeled }
     ensures found { IfOk result
         (λ found.
         IfModeled (D.ghost_state disk.old).modeled
         (λ d. IsPayload found (take count (drop 5 (drop tail (bytes_now 0 d)))))) }
     ensures within { IfOk result (IsFrameWithin tail size) }
+    ensures begins { IfOk result (BeginsBy tail) }
     ensures shows { IfOk result (ShowsOn (D.ghost_state disk.new).modeled) }
     ensures rests { Both Rests (D.ghost_state disk.old).modeled (D.ghost_state disk.new).modeled }
+    ensures forth { IfOk result
+        (λ found. Both (ReadsFrame tail (reach_of (Some window)) found)
+        (D.ghost_state disk.old).modeled (D.ghost_state disk.new).modeled) }
+    ensures until { OnErr result
+        (Both (IsReadUntil tail (reach_of (Some window))) (D.ghost_state disk.old).modeled
+        (D.ghost_state disk.new).modeled) }
     ensures counts { CountsReads 1 result (D.ghost_state disk.old) (D.ghost_state disk.new) }
 {
     let window = match look(alloc, disk, Some(window), size, tail, 5 + count) {

@@ -17,8 +17,9 @@ use Rattle.legal_history.specs.Stories.Lawful.{Legal, LegalFrom}
 use Rattle.vob_journal.specs.Frames.{frames}
 use Rattle.vob_journal.specs.Reads.{SameFiles}
 use Rattle.vob_journal.proofs.Journals.{stable_image}
-use Rattle.vob_journal.specs.Added.{Adds, may_read}
-use Rattle.vob_journal.proofs.Staying.{modeled_stay, modeled_adds_none}
+use Rattle.vob_journal.specs.Pieces.{ReadsOnce}
+use Rattle.vob_journal.proofs.Pieces.{modeled_once_none}
+use Rattle.vob_journal.proofs.Staying.{modeled_stay}
 use Rattle.story_log.specs.Bases.Opening.{AreSynced}
 use Rattle.story_log.specs.Stored.Stops.{OfEachStop, found_in, found_on}
 use Rattle.story_log.specs.Stopping.Backed.{IsAccounted, IsSettled}
@@ -133,7 +134,7 @@ keeps_prefix before now story begins legal accounted mended again = record {
   };
   on_none = λ closed. absurd (not_closed story begins.first closed);
   files = λ closed. absurd (not_closed story begins.first closed);
-  reads = λ closed. absurd (not_closed story begins.first closed);
+  once = λ closed. absurd (not_closed story begins.first closed);
 }
   where
     begun : IsBegun story (oldest_first begins.base) begins.handed.counts begins.handed.tells
@@ -170,18 +171,18 @@ stays_untouched disk counted handed = record {
   on_base = λ opened. absurd (cc);
   on_none = λ closed. found_stays disk.modeled disk.ticks counted.modeled handed;
   files = λ closed. modeled_stay disk.modeled;
-  reads = λ closed. modeled_adds_none disk.modeled;
+  once = λ closed. modeled_once_none disk.modeled;
 }
 
 pub stays_closed : (before now : DiskState) (story : List StoryStep) → story ≡ [] → is_some now.modeled ≡ is_some before.modeled
-    → StopKeepsFound before now → Both (Adds may_read) before.modeled now.modeled → Both SameFiles before.modeled now.modeled
+    → StopKeepsFound before now → Both ReadsOnce before.modeled now.modeled → Both SameFiles before.modeled now.modeled
     → IsStopped before now story
-stays_closed before now story empty tells same reads files = record {
+stays_closed before now story empty tells same once files = record {
   tells = tells;
   on_base = λ opened. absurd (not_opened story empty opened);
   on_none = λ closed. same;
   files = λ closed. files;
-  reads = λ closed. reads;
+  once = λ closed. once;
 }
   where
     not_opened : (xs : List StoryStep) → xs ≡ [] → is_opened xs ≡ true → ⊥

@@ -14,6 +14,7 @@ use Rattle.cc_names.proofs.Common.{and_false}
 use Rattle.cc_outside.specs.Feeds.{AppendsPrefix}
 use Rattle.cc_outside.specs.declared.sinks.WriteFault.{WriteFault}
 use Rattle.disk_model.specs.DiskStates.{DiskState, Both, IsCounted}
+use Rattle.vob_journal.specs.Pieces.{ReadsOnce}
 use Rattle.vob_journal.specs.Reads.{SameFiles}
 use Rattle.vob_journal.proofs.Staying.{modeled_stay}
 use Rattle.story_log.specs.Stopping.Backed.{IsAccounted, may_be_open}
@@ -469,12 +470,12 @@ open_cause opens.DiskFault rose intake faults disk by asked is = (asked, is, λ 
 
 promised_closed : (because : OpenCause) (status : Status) (intake : Intake) (outside : Outside) (faults : Change ℕ)
     (disk : Change DiskState) → outside.reading ≡ outside.first → IsAsked intake → FailsToOpen disk.before because disk.after
-    → WritesUnstarted (of_unopened because (disk_rose disk)) status outside.held outside.holds faults
+    → Both ReadsOnce disk.before.modeled disk.after.modeled → WritesUnstarted (of_unopened because (disk_rose disk)) status outside.held outside.holds faults
     → Promised status [] intake outside faults disk
-promised_closed because status intake outside faults disk unread asked fails wrote =
+promised_closed because status intake outside faults disk unread asked fails once wrote =
     unstarted_so (of_unopened because (disk_rose disk)) status intake outside faults disk fails.files unread
     (open_cause because (disk_rose disk) intake faults disk refl asked fails.because) wrote
-    (stays_closed disk.before disk.after [] refl fails.tells fails.unchanged fails.reads fails.files)
+    (stays_closed disk.before disk.after [] refl fails.tells fails.unchanged once fails.files)
 
 -- a text of sites comes to a status that is not cut, and what is written is its text
 sites_uncut : (run : Result Replies SiteError) → is_cut (status_of_sites run) ≡ false
@@ -640,7 +641,7 @@ promised_run form phases status story intake outside faults disk was now gives (
       accounted = λ opened. record {
         opened = run.opened;
         faultless = run.faultless;
-        reads = run.adds;
+        once = run.once;
         files = run.files;
         counted = ran.counted;
         calls = blamed disk.before run.opened disk.after story _ _ _ was run.fit now run.faultless run.adds run.begins.first
@@ -651,7 +652,7 @@ promised_run form phases status story intake outside faults disk was now gives (
 promised_run form phases status story intake outside faults disk was now gives (inr closed) =
     subst (λ s. Promised status s intake outside faults disk) (sym closed.empty)
     (promised_closed closed.because status intake outside faults disk closed.unread (asked intake form phases gives) closed.fails
-    closed.wrote)
+    closed.once closed.wrote)
 
 -- a base that was just opened, and its story since
 pub begins_on : (disk opened : DiskState) (one story : List StoryStep) (first : Option StoryStep) → OpensCore disk one opened

@@ -7,7 +7,8 @@ use Rattle.disk_model.specs.Counting.{next_count}
 use Rattle.disk_model.specs.DiskStates.{DiskState, IfModeled, Both}
 use Rattle.legal_history.specs.Stories.States.{start}
 use Rattle.legal_history.specs.Stories.Steps.{after, state_of}
-use Rattle.vob_journal.specs.Added.{Adds, WritesOn, may_read}
+use Rattle.vob_journal.specs.Added.{WritesOn}
+use Rattle.vob_journal.specs.Pieces.{ReadsOnce}
 use Rattle.vob_journal.specs.Reads.{SameFiles, SameObjects}
 use Rattle.story_log.specs.Stopping.Backed.{may_be_open}
 use Rattle.base_core.specs.Story.Counted.{CountsSteps}
@@ -33,13 +34,13 @@ pub record CountsFrom (opened closed : DiskState) (story : List StoryStep) : Typ
   pub counts : CountsSteps (after start first) steps opened ended
   pub settled : SettlesJournal (may_be_open (state_of story).ends) ended closed
 
--- *Whose fault*: opening counted no fault and made calls that read alone, which left both files as they were. From then on the
+-- *Whose fault*: opening counted no fault and read the journal once, which left both files as they were. From then on the
 -- count rose at the faults of the history, and once more at most as the journal was settled, by the counts of some disk between
 -- one step and the next. Where the disk models its device, the calls that it tells say at which tick each of them failed.
 pub record IsAccountedFor (disk : Change DiskState) (story : List StoryStep) : Type 0 where
   pub opened : DiskState
   pub faultless : opened.faults ≡ disk.before.faults
-  pub reads : Both (Adds may_read) disk.before.modeled opened.modeled
+  pub once : Both ReadsOnce disk.before.modeled opened.modeled
   pub files : Both SameFiles disk.before.modeled opened.modeled
   pub counted : CountsFrom opened disk.after story
   pub calls : IfModeled disk.after.modeled (IsBlamed disk.before.ticks story)

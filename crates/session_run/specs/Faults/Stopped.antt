@@ -8,7 +8,7 @@ use Rattle.disk_model.specs.DiskStates.{DiskState, Both, IfModeled}
 use Rattle.legal_history.specs.Stories.States.{State, Opening, faults_of, ticks_of}
 use Rattle.legal_history.specs.Stories.Steps.{state_of}
 use Rattle.cc_names.specs.Counts.{rises}
-use Rattle.vob_journal.specs.Added.{Adds, may_read}
+use Rattle.vob_journal.specs.Pieces.{ReadsOnce}
 use Rattle.vob_journal.specs.Reads.{SameFiles}
 use Rattle.story_log.specs.Stored.Founds.{Found}
 use Rattle.story_log.specs.Stored.Stops.{OfEachStop, found_on}
@@ -67,10 +67,10 @@ AllOpenAgain story = (opening : Opening) (k : ℕ) (found : Found)
     → MayBeFound opening (state_of story).ends k found → OpensAgain opening.base found
 
 -- *Stopped*: what a stop at each device call finds, from what the disk told as it was handed in and as it came back. Where no
--- base was opened both files are as they were, and calls that read were made alone.
+-- base was opened both files are as they were, and the journal was read once, or in part, or not at all.
 pub record IsStopped (before after : DiskState) (story : List StoryStep) : Type 0 where
   pub tells : is_some after.modeled ≡ is_some before.modeled
   pub on_base : is_opened story ≡ true → KeepsPrefix before after story
   pub on_none : is_opened story ≡ false → StopKeepsFound before after
   pub files : is_opened story ≡ false → Both SameFiles before.modeled after.modeled
-  pub reads : is_opened story ≡ false → Both (Adds may_read) before.modeled after.modeled
+  pub once : is_opened story ≡ false → Both ReadsOnce before.modeled after.modeled

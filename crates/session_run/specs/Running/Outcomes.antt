@@ -7,6 +7,7 @@ use Rattle.cc_names.specs.Counts.{rises}
 use Rattle.cc_outside.specs.declared.sinks.WriteFault.{WriteFault}
 use Rattle.disk_model.specs.DiskStates.{DiskState, Both, IsCounted}
 use Rattle.vob_journal.specs.Added.{Adds, may_read}
+use Rattle.vob_journal.specs.Pieces.{ReadsOnce}
 use Rattle.vob_journal.specs.Reads.{SameFiles}
 use Rattle.legal_history.specs.Stories.Steps.{state_of}
 use Rattle.legal_history.specs.Stories.Lawful.{Legal}
@@ -48,6 +49,7 @@ pub record RunsOn (form : Form) (phases : List Phase) (status : Status) (story :
   pub faultless : opened.faults ≡ disk.before.faults
   pub fit : IsCounted opened
   pub adds : Both (Adds may_read) disk.before.modeled opened.modeled
+  pub once : Both ReadsOnce disk.before.modeled opened.modeled
   pub files : Both SameFiles disk.before.modeled opened.modeled
   pub runs : RunsOpened form phases status first story disk.before.faults (record { before = opened; after = disk.after }) outside
       faults
@@ -57,6 +59,7 @@ pub record StaysClosed (status : Status) (story : List StoryStep) (outside : Out
     (disk : Change DiskState) : Type 0 where
   pub because : OpenCause
   pub fails : FailsToOpen disk.before because disk.after
+  pub once : Both ReadsOnce disk.before.modeled disk.after.modeled
   pub empty : story ≡ []
   pub unread : outside.reading ≡ outside.first
   pub wrote : WritesUnstarted (of_unopened because (disk_rose disk)) status outside.held outside.holds faults

@@ -165,7 +165,7 @@ pub read_since : {D : Type 0} (ghost_state : D → DiskState) (first : DiskState
 read_since ghost_state first opened read new reads = adds_on first.modeled (ghost_state opened.disk).modeled
     (ghost_state read.disk).modeled new.adds reads.adds
 
--- why reading stopped, told of the disk as it was handed in
+-- why reading stopped, said of the disk as it was handed in
 found_first : (list : List (List ℕ)) (d e : Device) → SameFiles d e → list ≡ frames (bytes_now 0 d)
     → found_with list e ≡ found_on d
 found_first list d e same is = λ i. record { frames = is i; objects = ap (λ (file : File). file.bytes) same.objects i }

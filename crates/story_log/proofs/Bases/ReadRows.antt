@@ -1,6 +1,6 @@
 -- How the rows of a journal are read, and what reading leaves.
 use Rattle.std.proofs.Common.{◌≡◌, ℕ, ◌&&◌, true, Option, Some, List, [], ◌∷◌, ◌++◌, sym, ap, ap₂, subst, ◌∙◌}
-use Rattle.std.proofs.Common.{inl, inr, arith}
+use Rattle.std.proofs.Common.{inl, inr, refl, arith}
 use Rattle.std.proofs.lemmas.List.{append_assoc, append-nil}
 use Rattle.std.proofs.lemmas.Bool.{and_parts}
 use Rattle.cc_names.specs.Formed.{Plain}
@@ -19,8 +19,9 @@ use Rattle.vob_journal.specs.Reads.{SameFiles}
 use Rattle.vob_journal.specs.Shown.{Shown}
 use Rattle.vob_journal.proofs.Adding.{adds_then}
 use Rattle.vob_journal.proofs.Passing.{passes_then}
-use Rattle.vob_journal.proofs.Staying.{modeled_then}
-use Rattle.vob_journal.proofs.Telling.{both_then, modeled_back, modeled_next, modeled_both, modeled_from}
+use Rattle.vob_journal.proofs.Journals.{same_moves}
+use Rattle.vob_journal.proofs.Staying.{modeled_adds_none, modeled_stay, modeled_then}
+use Rattle.vob_journal.proofs.Telling.{both_then, modeled_back, modeled_next, modeled_both, modeled_from, modeled_map}
 use Rattle.story_log.specs.Bases.Opening.{StopsBy}
 use Rattle.story_log.specs.Bases.Reading.{OnlyReads, NextIs, IsMissed, IsNextRow, IsNoRow, IsReadSoFar}
 use Rattle.story_log.specs.Stored.Damaged.{IsDamaged}
@@ -90,6 +91,21 @@ pub adds_on : (one two three : Option Device) → Both (Adds may_read) one two �
     → Both (Adds may_read) one three
 adds_on one two three h g = both_then (Adds may_read) (Adds may_read) (Adds may_read) one two three (adds_then may_read) h g
 
+-- where nothing was read yet
+pub reads_none : {D : Type 0} (ghost_state : D → DiskState) (base : Base) (journal : Shown D)
+    → IsReadSoFar ghost_state base journal → OnlyReads ghost_state journal journal
+reads_none ghost_state base journal h = record {
+  list = refl;
+  left = refl;
+  ticks = omega arith;
+  stops = same_moves (ghost_state journal.disk).modeled journal.list []
+      (modeled_map (λ d. (image : List ℕ) → LeavesNow 0 d image → frames image ≡ journal.list)
+      (λ d. (image : List ℕ) → LeavesNow 0 d image → Stands journal.list [] image) (ghost_state journal.disk).modeled
+      (λ d now image left. inl (now image left)) h.now);
+  adds = modeled_adds_none (ghost_state journal.disk).modeled;
+  files = modeled_stay (ghost_state journal.disk).modeled;
+}
+
 -- reads one after the other
 pub reads_then : {D : Type 0} (ghost_state : D → DiskState) (one two three : Shown D) → OnlyReads ghost_state one two
     → OnlyReads ghost_state two three → OnlyReads ghost_state one three
@@ -129,7 +145,7 @@ stops_unread modeled found (causes.Damaged n) old new missed = absurd missed
 stops_unread modeled found causes.DiskFault old new missed = missed
 stops_unread modeled found causes.NoMemory old new missed = missed
 
--- why reading stopped after reads, told of the journal before them
+-- why reading stopped after reads, said of the journal before them
 found_behind : (list list' : List (List ℕ)) (d e : Device) → SameFiles d e → list' ≡ list → found_with list' e ≡ found_with list d
 found_behind list list' d e same is =
     λ i. record { frames = is i; objects = ap (λ (file : File). file.bytes) same.objects i }

@@ -26,7 +26,7 @@ use Rattle.story_log.specs.Stored.Kept.{IsHeld}
 use Rattle.story_log.specs.Stored.Payloads.{payloads}
 use Rattle.story_log.specs.Stored.Stops.{found_in}
 use Rattle.story_log.specs.Stored.Taken.{ObjectExtent, extents_of, taken_after, taken}
-use Rattle.story_log.specs.Stopping.Backed.{IsLoose, IsMirrored}
+use Rattle.story_log.specs.Stopping.Backed.{IsLeftOver, IsMirrored}
 use Rattle.story_log.specs.Stopping.Standing.{base_by, tick_of, left_within, StandsFor, MayBeFound}
 use Rattle.story_log.proofs.Stored.Bases.{held_with_fitting}
 use Rattle.story_log.proofs.Stored.Fitting.{no_extents, takes_nothing}
@@ -75,37 +75,37 @@ after_all opening (Committed row tick ∷ earlier) k found later h = inl (later,
 after_all opening (Faulted left faults tick ∷ earlier) k found later h = inl (later, h)
 
 -- what is left over is a row that the files represent
-loose_stands : (file : File) (stored b : Base) (left : Option Plain) (list leftover : List (List ℕ)) (loose : List Extent)
+orphaned_stands : (file : File) (stored b : Base) (left : Option Plain) (list leftover : List (List ℕ)) (orphaned : List Extent)
     (shown : List (List ℕ)) (image : List ℕ)
-    → list ≡ payloads stored → AreFormed stored → IsHeld file stored b → IsLoose file stored b left leftover loose
+    → list ≡ payloads stored → AreFormed stored → IsHeld file stored b → IsLeftOver file stored b left leftover orphaned
     → shown ≡ list ++ leftover → IsImage file image
     → StandsFor b left (record { frames = shown; objects = image })
-loose_stands file stored b None list leftover loose shown image spelled formed held none is leaves =
+orphaned_stands file stored b None list leftover orphaned shown image spelled formed held none is leaves =
     inl (held_in_image file stored b shown image held formed (is ∙ ap (λ l. list ++ l) none ∙ append-nil list ∙ spelled) leaves)
-loose_stands file stored b (Some row) list leftover loose shown image spelled formed held (inl none) is leaves =
+orphaned_stands file stored b (Some row) list leftover orphaned shown image spelled formed held (inl none) is leaves =
     inl (held_in_image file stored b shown image held formed (is ∙ ap (λ l. list ++ l) none ∙ append-nil list ∙ spelled) leaves)
-loose_stands file stored b (Some row) list leftover loose shown image spelled formed held (inr left) is leaves =
+orphaned_stands file stored b (Some row) list leftover orphaned shown image spelled formed held (inr left) is leaves =
     let whole : shown ≡ payloads (left.spelt ∷ stored) = is ∙ ap (λ l. list ++ l) left.is
     ∙ ap (λ l. l ++ spelling_of left.spelt ∷ []) spelled in
     inr (held_in_image file (left.spelt ∷ stored) (row ∷ b) shown image left.held (left.formed, formed) whole leaves)
 
 -- what stands in both files stands for the base, or for that and the row that a fault left
 pub stands_so : (opening : Opening) (ends : List End) (list leftover : List (List ℕ)) (left : Left) (owned : List ObjectExtent)
-    (loose : List Extent) (d : Device) (journal objects : List ℕ)
-    → IsMirrored opening ends list leftover left owned loose d → Stands list leftover journal → LeavesNow 1 d objects
+    (orphaned : List Extent) (d : Device) (journal objects : List ℕ)
+    → IsMirrored opening ends list leftover left owned orphaned d → Stands list leftover journal → LeavesNow 1 d objects
     → StandsFor (base_by opening ends) (hanging ends) (found_in journal objects)
-stands_so opening ends list leftover left owned loose d journal objects h (inl is) leaves =
+stands_so opening ends list leftover left owned orphaned d journal objects h (inl is) leaves =
     inl (held_in_image (file_of 1 d) h.stored (base_by opening ends) (frames journal) objects h.held h.formed (is
     ∙ h.list_is) leaves)
-stands_so opening ends list leftover left owned loose d journal objects h (inr is) leaves =
-    loose_stands (file_of 1 d) h.stored (base_by opening ends) (hanging ends) list leftover loose (frames journal) objects
+stands_so opening ends list leftover left owned orphaned d journal objects h (inr is) leaves =
+    orphaned_stands (file_of 1 d) h.stored (base_by opening ends) (hanging ends) list leftover orphaned (frames journal) objects
     h.list_is h.formed h.held h.leftover_is is leaves
 
 -- A call on the journal that ends in a commit or a fault: what is kept after it. `within` tells what a stop finds that has the
 -- new list and what is left over after it.
 module _ (opening : Opening) (ends : List End) (end : End) (list leftover list' leftover' : List (List ℕ)) (left left' : Left)
-    (owned owned' : List ObjectExtent) (loose loose' : List Extent) (d e : Device)
-    (h : IsMirrored opening ends list leftover left owned loose d) (ticked : ticks_of (Some opening) ends ≤ length d.calls)
+    (owned owned' : List ObjectExtent) (orphaned orphaned' : List Extent) (d e : Device)
+    (h : IsMirrored opening ends list leftover left owned orphaned d) (ticked : ticks_of (Some opening) ends ≤ length d.calls)
     (moves : Moves list leftover list' leftover' d e)
     (tick : tick_of end ≡ length e.calls) where
   within_end : (k : ℕ) (journal objects : List ℕ) → ticks_of (Some opening) ends < k → k ≤ tick_of end
@@ -117,18 +117,18 @@ module _ (opening : Opening) (ends : List End) (end : End) (list leftover list' 
       inr (
         before,
         inl (after_all opening ends k (found_in journal objects) later
-            (stands_so opening ends list leftover left owned loose d journal objects h stands leaves)),
+            (stands_so opening ends list leftover left owned orphaned d journal objects h stands leaves)),
       )
   within_end k journal objects later before within (inr is) leaves = inr (before, inr (later, within journal objects is leaves))
 
   covered_end : (stored' : Base) → list' ≡ payloads stored' → AreFormed stored'
       → IsHeld (file_of 1 d) stored' (base_by opening (end ∷ ends)) → owned' ≡ taken stored'
-      → IsLoose (file_of 1 d) stored' (base_by opening (end ∷ ends)) (hanging (end ∷ ends)) leftover' loose'
+      → IsLeftOver (file_of 1 d) stored' (base_by opening (end ∷ ends)) (hanging (end ∷ ends)) leftover' orphaned'
       → (left' ≡ lefts.Nothing → leftover' ≡ [])
       → ((j o : List ℕ) → frames j ≡ list' ++ leftover' → LeavesNow 1 d o
       → StandsFor (base_by opening ends) (left_within end) (found_in j o))
-      → IsMirrored opening (end ∷ ends) list' leftover' left' owned' loose' e
-  covered_end stored' spelled formed held owned_are is_loose nothing within =
+      → IsMirrored opening (end ∷ ends) list' leftover' left' owned' orphaned' e
+  covered_end stored' spelled formed held owned_are is_orphaned nothing within =
       let b = base_by opening (end ∷ ends) in
       let same = sym moves.passes.objects in
       record {
@@ -137,7 +137,7 @@ module _ (opening : Opening) (ends : List End) (end : End) (list leftover list' 
         formed = formed;
         held = subst (λ s. IsHeld s stored' b) same held;
         owned_are = owned_are;
-        leftover_is = subst (λ s. IsLoose s stored' b (hanging (end ∷ ends)) leftover' loose') same is_loose;
+        leftover_is = subst (λ s. IsLeftOver s stored' b (hanging (end ∷ ends)) leftover' orphaned') same is_orphaned;
         nothing = nothing;
         stops = λ k journal objects later j o.
             let inside = within_calls 0 e k journal j in
@@ -152,18 +152,18 @@ module _ (opening : Opening) (ends : List End) (end : End) (list leftover list' 
 -- a row was committed, which its frame spells so
 commit_mirrored : (opening : Opening) (ends : List End) (row spelt : Plain) (tick : ℕ)
     (list leftover list' leftover' : List (List ℕ)) (left left' : Left) (owned owned' : List ObjectExtent)
-    (loose loose' : List Extent) (d e : Device)
-    (h : IsMirrored opening ends list leftover left owned loose d) → ticks_of (Some opening) ends ≤ length d.calls
+    (orphaned orphaned' : List Extent) (d e : Device)
+    (h : IsMirrored opening ends list leftover left owned orphaned d) → ticks_of (Some opening) ends ≤ length d.calls
     → Moves list leftover list' leftover' d e → tick ≡ length e.calls
     → list' ≡ list ++ spelling_of spelt ∷ [] → leftover' ≡ [] → IsFormed spelt
     → IsHeld (file_of 1 d) (spelt ∷ h.stored) (row ∷ base_by opening ends)
     → owned' ≡ taken_after (size h.stored) spelt.deed owned → IsMirrored opening (Committed row tick ∷ ends) list' leftover' left'
-    owned' loose' e
-commit_mirrored opening ends row spelt tick list leftover list' leftover' left left' owned owned' loose loose' d e h ticked moves
+    owned' orphaned' e
+commit_mirrored opening ends row spelt tick list leftover list' leftover' left left' owned owned' orphaned orphaned' d e h ticked moves
     at grown none formed held owned_are =
     let spelled : list' ≡ payloads (spelt ∷ h.stored) = grown ∙ ap (λ l. l ++ spelling_of spelt ∷ []) h.list_is in
     let all : list' ++ leftover' ≡ payloads (spelt ∷ h.stored) = ap (λ l. list' ++ l) none ∙ append-nil list' ∙ spelled in
-    covered_end opening ends (Committed row tick) list leftover list' leftover' left left' owned owned' loose loose' d e h ticked
+    covered_end opening ends (Committed row tick) list leftover list' leftover' left left' owned owned' orphaned orphaned' d e h ticked
     moves at (spelt ∷ h.stored) spelled (formed, h.formed) held
     (owned_are ∙ ap (taken_after (size h.stored) spelt.deed) h.owned_are) none (λ is. none)
     (λ j o is leaves. inr (held_in_image (file_of 1 d) (spelt ∷ h.stored) (row ∷ base_by opening ends) (frames j) o held (
@@ -173,65 +173,65 @@ commit_mirrored opening ends row spelt tick list leftover list' leftover' left l
 
 -- the extents of what is left over after a failed append, by what the journal says that it left: none, those before it, or those
 -- of the row
-abbrev LooseSo : Left → List Extent → List Extent → List Extent → Type 0
-LooseSo lefts.Nothing loose placed now = now ≡ []
-LooseSo lefts.Earlier loose placed now = now ≡ loose
-LooseSo lefts.InFlight loose placed now = now ≡ placed
+abbrev LeftOverSo : Left → List Extent → List Extent → List Extent → Type 0
+LeftOverSo lefts.Nothing orphaned placed now = now ≡ []
+LeftOverSo lefts.Earlier orphaned placed now = now ≡ orphaned
+LeftOverSo lefts.InFlight orphaned placed now = now ≡ placed
 
 -- the disk failed: what is left over then
-fault_loose : (file : File) (stored b : Base) (earlier found : Option Plain) (row spelt : Plain)
-    (leftover leftover' : List (List ℕ)) (loose loose' : List Extent) (left' : Left)
-    → IsLoose file stored b earlier leftover loose → leftover' ≡ leftover_after left' leftover (spelling_of spelt)
-    → LeftSo earlier row left' found → LooseSo left' loose (extents_of spelt.deed) loose'
+fault_orphaned : (file : File) (stored b : Base) (earlier found : Option Plain) (row spelt : Plain)
+    (leftover leftover' : List (List ℕ)) (orphaned orphaned' : List Extent) (left' : Left)
+    → IsLeftOver file stored b earlier leftover orphaned → leftover' ≡ leftover_after left' leftover (spelling_of spelt)
+    → LeftSo earlier row left' found → LeftOverSo left' orphaned (extents_of spelt.deed) orphaned'
     → IsFormed spelt → (left' ≡ lefts.InFlight → IsHeld file (spelt ∷ stored) (row ∷ b))
-    → IsLoose file stored b found leftover' loose'
-fault_loose file stored b earlier found row spelt leftover leftover' loose loose' lefts.Nothing was is so extents formed held =
-    subst (λ o. IsLoose file stored b o leftover' loose') (sym so) is
-fault_loose file stored b earlier found row spelt leftover leftover' loose loose' lefts.Earlier was is so extents formed held =
-    subst (λ o. IsLoose file stored b o leftover' loose') (sym so)
-    (subst (λ l. IsLoose file stored b earlier l loose') (sym is) (subst (IsLoose file stored b earlier leftover) (sym extents)
+    → IsLeftOver file stored b found leftover' orphaned'
+fault_orphaned file stored b earlier found row spelt leftover leftover' orphaned orphaned' lefts.Nothing was is so extents formed held =
+    subst (λ o. IsLeftOver file stored b o leftover' orphaned') (sym so) is
+fault_orphaned file stored b earlier found row spelt leftover leftover' orphaned orphaned' lefts.Earlier was is so extents formed held =
+    subst (λ o. IsLeftOver file stored b o leftover' orphaned') (sym so)
+    (subst (λ l. IsLeftOver file stored b earlier l orphaned') (sym is) (subst (IsLeftOver file stored b earlier leftover) (sym extents)
     was))
-fault_loose file stored b earlier found row spelt leftover leftover' loose loose' lefts.InFlight was is so extents formed held =
-    subst (λ o. IsLoose file stored b o leftover' loose') (sym so)
+fault_orphaned file stored b earlier found row spelt leftover leftover' orphaned orphaned' lefts.InFlight was is so extents formed held =
+    subst (λ o. IsLeftOver file stored b o leftover' orphaned') (sym so)
     (inr (record { spelt = spelt; is = is; formed = formed; extents_are = extents; held = held refl }))
 
 fault_mirrored : (opening : Opening) (ends : List End) (row spelt : Plain) (found : Option Plain) (faults tick : ℕ)
-    (list leftover list' leftover' : List (List ℕ)) (left left' : Left) (owned : List ObjectExtent) (loose loose' : List Extent)
+    (list leftover list' leftover' : List (List ℕ)) (left left' : Left) (owned : List ObjectExtent) (orphaned orphaned' : List Extent)
     (d e : Device)
-    (h : IsMirrored opening ends list leftover left owned loose d) → ticks_of (Some opening) ends ≤ length d.calls
+    (h : IsMirrored opening ends list leftover left owned orphaned d) → ticks_of (Some opening) ends ≤ length d.calls
     → Moves list leftover list' leftover' d e → tick ≡ length e.calls
     → list' ≡ list → leftover' ≡ leftover_after left' leftover (spelling_of spelt) → LeftSo (hanging ends) row left' found
-    → LooseSo left' loose (extents_of spelt.deed) loose' → IsFormed spelt
+    → LeftOverSo left' orphaned (extents_of spelt.deed) orphaned' → IsFormed spelt
     → (left' ≡ lefts.InFlight → IsHeld (file_of 1 d) (spelt ∷ h.stored) (row ∷ base_by opening ends))
-    → IsMirrored opening (Faulted found faults tick ∷ ends) list' leftover' left' owned loose' e
-fault_mirrored opening ends row spelt found faults tick list leftover list' leftover' left left' owned loose loose' d e h ticked
+    → IsMirrored opening (Faulted found faults tick ∷ ends) list' leftover' left' owned orphaned' e
+fault_mirrored opening ends row spelt found faults tick list leftover list' leftover' left left' owned orphaned orphaned' d e h ticked
     moves at same is so extents formed held =
     let b = base_by opening ends in
     let file = file_of 1 d in
-    let now = fault_loose file h.stored b (hanging ends) found row spelt leftover leftover' loose loose' left' h.leftover_is is so
+    let now = fault_orphaned file h.stored b (hanging ends) found row spelt leftover leftover' orphaned orphaned' left' h.leftover_is is so
     extents formed held in
     let spelled : list' ≡ payloads h.stored = same ∙ h.list_is in
-    covered_end opening ends (Faulted found faults tick) list leftover list' leftover' left left' owned owned loose loose' d e h
+    covered_end opening ends (Faulted found faults tick) list leftover list' leftover' left left' owned owned orphaned orphaned' d e h
     ticked moves at h.stored spelled h.formed h.held h.owned_are now
     (λ none. is ∙ ap (λ l. leftover_after l leftover (spelling_of spelt)) none)
-    (λ j o shown leaves. loose_stands file h.stored b found list' leftover' loose' (frames j) o spelled h.formed h.held now shown
+    (λ j o shown leaves. orphaned_stands file h.stored b found list' leftover' orphaned' (frames j) o spelled h.formed h.held now shown
     leaves)
 
 -- the tail was settled, or this failed
 settle_mirrored : (opening : Opening) (ends : List End) (list leftover list' leftover' : List (List ℕ)) (left left' : Left)
-    (owned : List ObjectExtent) (loose loose' : List Extent) (d e : Device)
-    (h : IsMirrored opening ends list leftover left owned loose d) → ticks_of (Some opening) ends ≤ length d.calls
+    (owned : List ObjectExtent) (orphaned orphaned' : List Extent) (d e : Device)
+    (h : IsMirrored opening ends list leftover left owned orphaned d) → ticks_of (Some opening) ends ≤ length d.calls
     → Moves list leftover list' leftover' d e → list' ≡ list
-    → (leftover' ≡ []) ⊎ ((leftover' ≡ leftover) × (loose' ≡ loose)) → (left' ≡ lefts.Nothing → leftover' ≡ [])
-    → IsMirrored opening ends list' leftover' left' owned loose' e
-settle_mirrored opening ends list leftover list' leftover' left left' owned loose loose' d e h ticked moves same less nothing =
+    → (leftover' ≡ []) ⊎ ((leftover' ≡ leftover) × (orphaned' ≡ orphaned)) → (left' ≡ lefts.Nothing → leftover' ≡ [])
+    → IsMirrored opening ends list' leftover' left' owned orphaned' e
+settle_mirrored opening ends list leftover list' leftover' left left' owned orphaned orphaned' d e h ticked moves same less nothing =
     record {
       stored = h.stored;
       list_is = same ∙ h.list_is;
       formed = h.formed;
       held = subst (λ s. IsHeld s h.stored b) (sym moves.passes.objects) h.held;
       owned_are = h.owned_are;
-      leftover_is = subst (λ s. IsLoose s h.stored b (hanging ends) leftover' loose') (sym moves.passes.objects) now;
+      leftover_is = subst (λ s. IsLeftOver s h.stored b (hanging ends) leftover' orphaned') (sym moves.passes.objects) now;
       nothing = nothing;
       stops = λ k journal objects later j o. elim ((since_passes d e (Between list leftover list' leftover') moves.passes).each k
           journal objects j o) [
@@ -245,26 +245,26 @@ settle_mirrored opening ends list leftover list' leftover' left left' owned loos
     b : Base
     b = base_by opening ends
 
-    none_loose : (left : Option Plain) → leftover' ≡ [] → IsLoose (file_of 1 d) h.stored b left leftover' loose'
-    none_loose None none = none
-    none_loose (Some row) none = inl none
+    none_orphaned : (left : Option Plain) → leftover' ≡ [] → IsLeftOver (file_of 1 d) h.stored b left leftover' orphaned'
+    none_orphaned None none = none
+    none_orphaned (Some row) none = inl none
 
-    now_of : (leftover' ≡ []) ⊎ ((leftover' ≡ leftover) × (loose' ≡ loose))
-        → IsLoose (file_of 1 d) h.stored b (hanging ends) leftover' loose'
-    now_of (inl none) = none_loose (hanging ends) none
+    now_of : (leftover' ≡ []) ⊎ ((leftover' ≡ leftover) × (orphaned' ≡ orphaned))
+        → IsLeftOver (file_of 1 d) h.stored b (hanging ends) leftover' orphaned'
+    now_of (inl none) = none_orphaned (hanging ends) none
     now_of (inr kept) =
-        subst (λ l. IsLoose (file_of 1 d) h.stored b (hanging ends) l loose') (sym kept.0)
-        (subst (IsLoose (file_of 1 d) h.stored b (hanging ends) leftover) (sym kept.1) h.leftover_is)
+        subst (λ l. IsLeftOver (file_of 1 d) h.stored b (hanging ends) l orphaned') (sym kept.0)
+        (subst (IsLeftOver (file_of 1 d) h.stored b (hanging ends) leftover) (sym kept.1) h.leftover_is)
 
-    now : IsLoose (file_of 1 d) h.stored b (hanging ends) leftover' loose'
+    now : IsLeftOver (file_of 1 d) h.stored b (hanging ends) leftover' orphaned'
     now = now_of less
 
     between : (journal objects : List ℕ) → Between list leftover list' leftover' journal → LeavesNow 1 d objects
         → StandsFor b (hanging ends) (found_in journal objects)
-    between journal objects (inl one) leaves = stands_so opening ends list leftover left owned loose d journal objects h one
+    between journal objects (inl one) leaves = stands_so opening ends list leftover left owned orphaned d journal objects h one
         leaves
     between journal objects (inr is) leaves =
-        loose_stands (file_of 1 d) h.stored b (hanging ends) list' leftover' loose' (frames journal) objects (same
+        orphaned_stands (file_of 1 d) h.stored b (hanging ends) list' leftover' orphaned' (frames journal) objects (same
         ∙ h.list_is) h.formed h.held now is leaves
 
 -- where nothing is modeled nothing is modeled later
@@ -292,11 +292,11 @@ module _ (opening : Opening) (ends : List End) (list leftover list' leftover' : 
       grown.1 formed (held_with_fitting (file_of 1 d) h.stored b row h.held fit)
       (sym (takes_nothing (size h.stored) b row.deed fit))
 
-  nothing_loose : (row : Plain) (how : Left) → fits (base_by opening ends) row.deed ≡ true
-      → LooseSo how [] (extents_of row.deed) []
-  nothing_loose row lefts.Nothing fit = refl
-  nothing_loose row lefts.Earlier fit = refl
-  nothing_loose row lefts.InFlight fit = sym (no_extents (base_by opening ends) row.deed fit)
+  nothing_orphaned : (row : Plain) (how : Left) → fits (base_by opening ends) row.deed ≡ true
+      → LeftOverSo how [] (extents_of row.deed) []
+  nothing_orphaned row lefts.Nothing fit = refl
+  nothing_orphaned row lefts.Earlier fit = refl
+  nothing_orphaned row lefts.InFlight fit = sym (no_extents (base_by opening ends) row.deed fit)
 
   pub fault_covered : (row : Plain) (found : Option Plain) (faults tick : ℕ) (one two : Option Device)
       → IfModeled one (IsMirrored opening ends list leftover left [] [])
@@ -310,7 +310,7 @@ module _ (opening : Opening) (ends : List End) (list leftover list' leftover' : 
   fault_covered row found faults tick (Some d) None h ticked moves at stays so fit formed = absurd moves
   fault_covered row found faults tick (Some d) (Some e) h ticked moves at stays so fit formed =
       fault_mirrored opening ends row row found faults tick list leftover list' leftover' left left' [] [] [] d e h ticked moves
-      at stays.0 stays.1 so (nothing_loose row left' fit) formed
+      at stays.0 stays.1 so (nothing_orphaned row left' fit) formed
       (λ flies. held_with_fitting (file_of 1 d) h.stored (base_by opening ends) row h.held fit)
 
   pub settle_covered : (one two : Option Device) → IfModeled one (IsMirrored opening ends list leftover left [] [])

@@ -15,11 +15,11 @@ use Rattle.story_log.specs.Stored.Founds.{Found}
 use Rattle.story_log.proofs.Stored.Fitting.{base_is_stored, fits_as_plain}
 use Rattle.story_log.specs.Stored.Damaged.{IsDamaged, IsUndamaged, RepresentedIsUndamaged, FoundIsDamagedOnce, FramesAreOfOneList}
 
--- a row that keeps its form is told by its spelling
+-- a row that keeps its form is known by its spelling
 row_by_spelling : (one two : Plain) → IsFormed one → IsFormed two → spelling_of one ≡ spelling_of two → one ≡ two
 row_by_spelling one two h k is = one_spelling one two h k is
 
--- where two lists that go on are the same, their fronts are, or one front is a part of the other
+-- where two lists that go on are the same, their first parts are, or one first part is a part of the other
 abbrev Goes : List (List ℕ) → List ℕ → List (List ℕ) → Type 0
 Goes prefix next whole = (rest : List (List ℕ)) × (whole ≡ prefix ++ next ∷ rest)
 
@@ -62,7 +62,7 @@ same_last xs ys x y e = by (which_prefix xs ys [] [] x y e)
     by (inr (inl goes)) = absurd (too_long xs goes.0 [] x y (e ∙ ap (λ l. l ++ y ∷ []) goes.1))
     by (inr (inr goes)) = absurd (too_long ys goes.0 [] y x (sym e ∙ ap (λ l. l ++ x ∷ []) goes.1))
 
--- formed rows are told by the frames
+-- formed rows are known by the frames
 pub same_base : (b c : Base) → AreFormed b → AreFormed c → payloads b ≡ payloads c → b ≡ c
 same_base [] [] h k e = refl
 same_base [] (two ∷ c) h k e = absurd (none_left (payloads c) [] (spelling_of two) e)
@@ -71,7 +71,7 @@ same_base (one ∷ b) (two ∷ c) h k e =
     let parts = same_last (payloads b) (payloads c) (spelling_of one) (spelling_of two) e in
     ap₂ (λ row older. row ∷ older) (row_by_spelling one two h.0 k.0 parts.1) (same_base b c h.1 k.1 parts.0)
 
--- where a front of the frames ends, the next payload spells the row there
+-- where the first frames end, the next payload spells the row there
 record GoesOn (long : ℕ) (prefix : List (List ℕ)) (payload : List ℕ) : Type 0 where
   older : Base
   row : Plain
@@ -124,7 +124,7 @@ stored_undamaged found stored spelled formed good n damaged =
 pub represented_undamaged : RepresentedIsUndamaged
 represented_undamaged found b r = stored_undamaged found r.stored r.spelled r.formed r.good
 
--- what was found, up to the frame in front of one
+-- what was found, up to the frame before one
 abbrev cut : Found → Base → Found
 cut found stored = record { frames = payloads stored; objects = found.objects }
 

@@ -33,9 +33,9 @@ deed_as_spelt : (lives : Bool) (objects : List ℕ) (spelt deed : Deed) → (cod
 deed_as_spelt lives objects (deeds.PublishAt view targets script entries stored) deed none is = absurd (none refl)
 deed_as_spelt lives objects spelt deed none is = is
 
-all_front : {A : Type 0} (P : A → Type 0) (xs ys : List A) → AllByRecursion P (xs ++ ys) → AllByRecursion P xs
-all_front P [] ys all = tt
-all_front P (x ∷ xs) ys all = (all.0, all_front P xs ys all.1)
+all_of_first : {A : Type 0} (P : A → Type 0) (xs ys : List A) → AllByRecursion P (xs ++ ys) → AllByRecursion P xs
+all_of_first P [] ys all = tt
+all_of_first P (x ∷ xs) ys all = (all.0, all_of_first P xs ys all.1)
 
 all_back : {A : Type 0} (P : A → Type 0) (xs ys : List A) → AllByRecursion P (xs ++ ys) → AllByRecursion P ys
 all_back P [] ys all = all
@@ -49,7 +49,7 @@ rows_as_spelt lives objects (spelt ∷ earlier) [] none are = absurd are
 rows_as_spelt lives objects (spelt ∷ earlier) (row ∷ older) none are =
     let here = (all_back HasNoExtent (payloads earlier) (spelling_of spelt ∷ []) none).0 in
     let deed = deed_as_spelt (lives (size older)) objects spelt.deed row.deed (λ code. here (code_at spelt ∙ code)) are.0.deed in
-    let rest = rows_as_spelt lives objects earlier older (all_front HasNoExtent (payloads earlier) (spelling_of spelt ∷ []) none)
+    let rest = rows_as_spelt lives objects earlier older (all_of_first HasNoExtent (payloads earlier) (spelling_of spelt ∷ []) none)
     are.1 in
     λ i. record { tag = are.0.tag i; moment = are.0.moment i; deed = deed i } ∷ rest i
 

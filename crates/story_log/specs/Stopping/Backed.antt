@@ -29,21 +29,21 @@ pub record IsLeft (file : File) (stored b : Base) (row : Plain) (leftover : List
   pub held : IsHeld file (spelt ∷ stored) (row ∷ b)
 
 -- what is left over after the journal's list is nothing, or such a row
-abbrev pub IsLoose : File → Base → Base → Option Plain → List (List ℕ) → List Extent → Type 0
-IsLoose file stored b None leftover extents = leftover ≡ []
-IsLoose file stored b (Some row) leftover extents = (leftover ≡ []) ⊎ IsLeft file stored b row leftover extents
+abbrev pub IsLeftOver : File → Base → Base → Option Plain → List (List ℕ) → List Extent → Type 0
+IsLeftOver file stored b None leftover extents = leftover ≡ []
+IsLeftOver file stored b (Some row) leftover extents = (leftover ≡ []) ⊎ IsLeft file stored b row leftover extents
 
 -- The rows of a journal with this list, as frames spell them, are those of the base after these commits and faults, and the file
 -- of objects keeps what is needed of them; what is left over after the list is what the newest fault left. The extents that are
 -- taken are those of live objects, and those of the row that is left over.
 pub record IsMirrored (opening : Opening) (ends : List End) (list leftover : List (List ℕ)) (left : Left)
-    (owned : List ObjectExtent) (loose : List Extent) (d : Device) : Type 0 where
+    (owned : List ObjectExtent) (orphaned : List Extent) (d : Device) : Type 0 where
   pub stored : Base
   pub list_is : list ≡ payloads stored
   pub formed : AreFormed stored
   pub held : IsHeld (file_of 1 d) stored (base_by opening ends)
   pub owned_are : owned ≡ taken stored
-  pub leftover_is : IsLoose (file_of 1 d) stored (base_by opening ends) (hanging ends) leftover loose
+  pub leftover_is : IsLeftOver (file_of 1 d) stored (base_by opening ends) (hanging ends) leftover orphaned
   pub nothing : left ≡ lefts.Nothing → leftover ≡ []
   pub stops : (k : ℕ) (journal objects : List ℕ) → opening.counts.ticks < k → Leaves 0 d k journal → Leaves 1 d k objects
       → MayBeFound opening ends k (found_in journal objects)

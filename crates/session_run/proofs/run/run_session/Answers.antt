@@ -36,6 +36,7 @@ returns-in-Ok g c =
       faultless = c.in-Ok.ensures.ok.faultless;
       fit = c.in-Ok.ensures.ok.fit;
       adds = c.in-Ok.ensures.ok.adds;
+      once = c.in-Ok.ensures.once;
       files = c.in-Ok.ensures.ok.files;
       runs =
           subst (λ n. RunsOpened c.args.given.form c.args.given.phases.items ended.status (first_step core.story) ended.history n
@@ -54,6 +55,7 @@ returns-in-Err g c =
     inr (record {
       because = cause;
       fails = c.in-Err.ensures.err;
+      once = c.in-Err.ensures.once;
       empty = c.empty.ensures;
       unread = refl;
       wrote = subst (λ unstarted. WritesUnstarted unstarted c.write_unstarted.result (g.K.Sink.ghost_state c.args.sink.now).held

@@ -1,5 +1,11 @@
 -- a base is opened, or is not
-use Rattle.std.proofs.Common.{sym, ◌∙◌, ap, subst}
+use Rattle.std.proofs.Common.{◌≡◌, sym, ◌∙◌, ap, subst}
+use Rattle.disk_model.specs.Devices.{Measures}
+use Rattle.disk_model.specs.DiskStates.{Both, DiskState}
+use Rattle.vob_journal.specs.Pieces.{IsReadUntil, ReadsOnce}
+use Rattle.vob_journal.specs.Shown.{Shown}
+use Rattle.vob_journal.proofs.Pieces.{modeled_once, modeled_once_idle}
+use Rattle.story_log.specs.Logging.Logs.{Logged}
 use Rattle.story_log.specs.Story.Handed.{handed_disk}
 use Rattle.story_log.specs.Bases.Opening.{FailsToOpen}
 use Rattle.story_log.specs.declared.opening.OpenCause.TheVariants as causes
@@ -9,6 +15,16 @@ use Rattle.story_log.proofs.opening.open_log.Goals as goal
 
 pub open-requires : goal.open-requires
 open-requires g c = journal_synced (g.D.Disk.ghost_state c.args.disk).modeled c.requires
+
+-- the calls of an opening, where the journal's length was told
+once_since : {D : Type 0} (ghost_state : D → DiskState) (first : DiskState) (opened read : Shown D) → opened.tail ≡ 0
+    → opened.reach ≡ 0 → Both (Measures 0) first.modeled (ghost_state opened.disk).modeled
+    → Both (IsReadUntil opened.tail opened.reach) (ghost_state opened.disk).modeled (ghost_state read.disk).modeled
+    → Both ReadsOnce first.modeled (ghost_state read.disk).modeled
+once_since ghost_state first opened read tail reach made until =
+    modeled_once first.modeled (ghost_state opened.disk).modeled (ghost_state read.disk).modeled made
+    (subst (λ n. Both (IsReadUntil 0 n) (ghost_state opened.disk).modeled (ghost_state read.disk).modeled) reach
+    (subst (λ n. Both (IsReadUntil n opened.reach) (ghost_state opened.disk).modeled (ghost_state read.disk).modeled) tail until))
 
 pub returns-in-Err-clause-err : goal.returns-in-Err-clause-err
 returns-in-Err-clause-err g c =
@@ -77,3 +93,35 @@ returns-in-Err-open-clause-err g c =
     (read_since ghost_state first opened read new c.in-Ok-read_rows.ensures.reads)
     (files_first ghost_state first opened read new c.in-Ok-read_rows.ensures.reads) (c.in-Ok-read_rows.ensures.faultless
     ∙ new.counts.1))
+
+pub returns-in-Err-clause-once : goal.returns-in-Err-clause-once
+returns-in-Err-clause-once g c = modeled_once_idle _ _ c.in-Err.ensures.modeled
+
+pub returns-in-Err-read_rows-clause-once : goal.returns-in-Err-read_rows-clause-once
+returns-in-Err-read_rows-clause-once g c =
+    let ghost_state = g.D.Disk.ghost_state in
+    let first = ghost_state c.args.disk in
+    let begins = c.in-Ok.ensures.begins in
+    subst (λ disk. Both ReadsOnce first.modeled (ghost_state disk).modeled) (sym c.into_disk.ensures)
+    (once_since ghost_state first c.in-Ok.journal c.read_rows.new.journal begins.2 begins.5 c.in-Ok.ensures.modeled
+    c.in-Err-read_rows.ensures.until)
+
+pub returns-in-Ok-open-clause-once : goal.returns-in-Ok-open-clause-once
+returns-in-Ok-open-clause-once g c =
+    let ghost_state = g.D.Disk.ghost_state in
+    let first = ghost_state c.args.disk in
+    let begins = c.in-Ok.ensures.begins in
+    subst (λ (s : DiskState). Both ReadsOnce first.modeled s.modeled) (sym (ap (λ (l : Logged). l.ghost_state)
+    c.in-Ok-open.ensures.ok))
+    (once_since ghost_state first c.in-Ok.journal c.read_rows.new.journal begins.2 begins.5 c.in-Ok.ensures.modeled
+    c.in-Ok-read_rows.ensures.until)
+
+pub returns-in-Err-open-clause-once : goal.returns-in-Err-open-clause-once
+returns-in-Err-open-clause-once g c =
+    let ghost_state = g.D.Disk.ghost_state in
+    let first = ghost_state c.args.disk in
+    let begins = c.in-Ok.ensures.begins in
+    subst (λ disk. Both ReadsOnce first.modeled (ghost_state disk).modeled) (sym (c.into_disk-in-Err-open.ensures
+    ∙ ap (λ journal. journal.disk) c.in-Err-open.ensures.err))
+    (once_since ghost_state first c.in-Ok.journal c.read_rows.new.journal begins.2 begins.5 c.in-Ok.ensures.modeled
+    c.in-Ok-read_rows.ensures.until)

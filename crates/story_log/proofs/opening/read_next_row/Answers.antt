@@ -1,6 +1,9 @@
 -- one more row of a journal
-use Rattle.std.proofs.Common.{Some, sym, subst}
+use Rattle.std.proofs.Common.{ℕ, List, Option, Some, Ok, sym, subst}
+use Rattle.vob_journal.specs.Pieces.{ReadsNext}
+use Rattle.vob_journal.proofs.Pieces.{modeled_until}
 use Rattle.story_log.specs.Bases.Reading.{NextIs}
+use Rattle.story_log.specs.declared.opening.OpenCause.{OpenCause}
 use Rattle.story_log.proofs.Bases.ReadRows.{read_more, stops_here}
 use Rattle.story_log.proofs.opening.read_next_row.Goals as goal
 
@@ -21,3 +24,18 @@ returns-clause-err g c =
     subst (λ f. NextIs g.D.Disk.ghost_state f old new) c.in-Ok-Some.field-0-is c.in-Ok-Some.ensures.ok in
     stops_here g.D.Disk.ghost_state c.args.rows.now c.as_bytes.result.now c.in-Err-next_row.cause old new c.requires
     (subst (λ p. NextIs g.D.Disk.ghost_state (Some p) old new) (sym c.as_bytes.ensures) next) c.in-Err-next_row.ensures.err
+
+pub returns-in-Ok-clause-forth : goal.returns-in-Ok-clause-forth
+returns-in-Ok-clause-forth g c =
+    subst (λ (f : Option (List ℕ)). ReadsNext {E = OpenCause} (Ok f) g.D.Disk.ghost_state c.args.journal.now
+    c.next_payload.new.journal) c.in-Ok-Some.field-0-is c.in-Ok-Some.ensures.forth
+
+pub returns-clause-forth : goal.returns-clause-forth
+returns-clause-forth g c =
+    modeled_until _ _ _ _ _ _ (subst (λ (f : Option (List ℕ)). ReadsNext {E = OpenCause} (Ok f) g.D.Disk.ghost_state
+    c.args.journal.now c.next_payload.new.journal) c.in-Ok-Some.field-0-is c.in-Ok-Some.ensures.forth)
+
+pub returns-in-Ok-None-clause-forth : goal.returns-in-Ok-None-clause-forth
+returns-in-Ok-None-clause-forth g c =
+    subst (λ (f : Option (List ℕ)). ReadsNext {E = OpenCause} (Ok f) g.D.Disk.ghost_state c.args.journal.now
+    c.next_payload.new.journal) c.in-Ok-None.field-0-is c.in-Ok-None.ensures.forth

@@ -1,7 +1,7 @@
 use Rattle.std.proofs.Common.{◌≡◌, ◌≤◌, ◌+◌, Some, None, length, drop, sym, ◌∙◌, subst, arith}
 use Rattle.disk_model.specs.Devices.{bytes_now}
 use Rattle.disk_model.specs.DiskStates.{IfModeled}
-use Rattle.vob_journal.specs.Found.{FindsAtHead, IsFrameWithin, ShowsOn}
+use Rattle.vob_journal.specs.Found.{BeginsBy, FindsAtHead, IsFrameWithin, ShowsOn}
 use Rattle.vob_journal.specs.Frames.{head, is_shut}
 use Rattle.vob_journal.proofs.Leaving.{modeled_further, modeled_behind}
 use Rattle.vob_journal.proofs.Staying.{modeled_rest_on}
@@ -21,8 +21,10 @@ frames-preserved g c =
     let found = subst (λ p. IfModeled old (λ d. head (drop tail (bytes_now 0 d)) ≡ Some p)) (sym c.as_bytes.ensures) is_payload in
     let is_within : tail + (5 + length c.in-Ok-Payload.payload) ≤ c.args.size =
     subst (IsFrameWithin tail c.args.size) c.in-Ok-Payload.field-0-is answer.within in
+    let begins : c.in-Ok-Payload.seen.start ≤ tail = subst (BeginsBy tail) c.in-Ok-Payload.field-0-is answer.begins in
     record {
       within = subst (λ p. tail + (5 + length p) ≤ c.args.size) (sym c.as_bytes.ensures) is_within;
+      starts = omega (arith, begins);
       shows = subst (ShowsOn new) c.in-Ok-Payload.field-0-is answer.shows;
       rests = modeled_rest_on first old new kept.rests answer.rests;
       so_far = modeled_further tail c.as_bytes.result.now first old kept.rests found kept.so_far;

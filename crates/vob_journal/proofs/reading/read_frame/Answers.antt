@@ -5,6 +5,7 @@ use Rattle.vob_journal.specs.declared.reading.Head.TheVariants.{Whole, Shut, Cut
 use Rattle.vob_journal.specs.declared.reading.Found.TheVariants.{End}
 use Rattle.vob_journal.specs.Found.{HeadTells, FindsAtHead}
 use Rattle.vob_journal.proofs.Finding.{modeled_head, modeled_frame}
+use Rattle.vob_journal.proofs.Pieces.{frame_forth, frame_until, modeled_until, modeled_until_none}
 use Rattle.vob_journal.proofs.Staying.{modeled_rest_on}
 use Rattle.vob_journal.proofs.Telling.{modeled_map}
 use Rattle.vob_journal.proofs.reading.read_frame.Goals as goal
@@ -52,3 +53,20 @@ returns-in-Cut-clause-found g c =
 
 pub returns-in-Whole-clause-rests : goal.returns-in-Whole-clause-rests
 returns-in-Whole-clause-rests g c = modeled_rest_on _ _ _ c.in-Ok.ensures.rests c.read_payload.ensures.rests
+
+pub returns-in-Whole-clause-forth : goal.returns-in-Whole-clause-forth
+returns-in-Whole-clause-forth g c =
+    frame_forth c.read_payload.result c.args.tail _ _ _ _ _ c.in-Ok.ensures.forth c.read_payload.ensures.forth
+
+pub returns-in-Whole-clause-until : goal.returns-in-Whole-clause-until
+returns-in-Whole-clause-until g c =
+    frame_until c.read_payload.result c.args.tail _ _ _ _ _ c.in-Ok.ensures.forth c.read_payload.ensures.until
+
+pub returns-in-Shut-clause-forth : goal.returns-in-Shut-clause-forth
+returns-in-Shut-clause-forth g c = modeled_until c.args.tail _ c.args.tail _ _ _ c.in-Ok.ensures.forth
+
+pub returns-in-Cut-clause-forth : goal.returns-in-Cut-clause-forth
+returns-in-Cut-clause-forth g c = modeled_until c.args.tail _ c.args.tail _ _ _ c.in-Ok.ensures.forth
+
+pub returns-then-left-eq0-clause-forth : goal.returns-then-left-eq0-clause-forth
+returns-then-left-eq0-clause-forth g c = modeled_until_none c.args.tail _ _

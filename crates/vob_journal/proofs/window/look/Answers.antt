@@ -1,12 +1,24 @@
-use Rattle.disk_model.specs.Devices.{Fetches, Idles}
-use Rattle.vob_journal.specs.Reads.{Rests}
-use Rattle.vob_journal.proofs.Staying.{fetched_rests, idle_rests}
-use Rattle.vob_journal.proofs.Telling.{both_map}
+use Rattle.std.proofs.Common.{sym, subst, Some, arith}
+use Rattle.disk_model.specs.DiskStates.{Both}
+use Rattle.vob_journal.specs.Pieces.{IsReadForth}
+use Rattle.vob_journal.specs.Windows.{IfShows, reach_of}
+use Rattle.vob_journal.proofs.Pieces.{modeled_forth_none, piece_forth, piece_until}
 use Rattle.vob_journal.proofs.window.look.Goals as goal
 
-pub returns-in-Err-clause-rests : goal.returns-in-Err-clause-rests
-returns-in-Err-clause-rests g c = both_map Idles Rests _ _ idle_rests c.in-Err.ensures.modeled
+pub returns-in-Some-clause-shows : goal.returns-in-Some-clause-shows
+returns-in-Some-clause-shows g c =
+    subst (λ window. IfShows window (g.D.Disk.ghost_state c.args.disk.now).modeled) c.in-Some.ensures.same c.requires.shows
 
-pub returns-clause-rests : goal.returns-clause-rests
-returns-clause-rests g c = both_map (Fetches 0 c.args.place _) Rests _ _ (fetched_rests c.args.place _)
-    c.in_default-read_at.ensures.modeled
+pub returns-in-Some-clause-forth : goal.returns-in-Some-clause-forth
+returns-in-Some-clause-forth g c =
+    subst (λ window. Both (IsReadForth c.args.place (reach_of window) c.args.place (reach_of (Some c.in-Some.window)))
+    (g.D.Disk.ghost_state c.args.disk.now).modeled (g.D.Disk.ghost_state c.args.disk.now).modeled)
+    (sym c.in-Some.ensures.same) (modeled_forth_none c.args.place _ c.args.place _ (omega arith))
+
+pub returns-in-None-clause-forth : goal.returns-in-None-clause-forth
+returns-in-None-clause-forth g c =
+    piece_forth c.read_piece.result c.args.place _ c.args.needed _ _ c.in-None.ensures.further c.read_piece.ensures.from
+    c.read_piece.ensures.to c.read_piece.ensures.fetched
+
+pub returns-in-None-clause-until : goal.returns-in-None-clause-until
+returns-in-None-clause-until g c = piece_until c.read_piece.result c.args.place _ _ _ c.read_piece.ensures.idle

@@ -1,14 +1,17 @@
 -- What `next` answers, over the fields as it finds them; the journal is then seen through its model.
-use Rattle.std.proofs.Common.{◌≡◌, ◌≤◌, ◌+◌, Some, None, true, false, ◌∷◌, [], length, drop, sym, ◌∙◌, ap, subst}
+use Rattle.std.proofs.Common.{◌≡◌, ◌≤◌, ◌+◌, Some, None, true, false, ◌∷◌, [], length, drop, sym, ◌∙◌, ap, subst, arith}
 use Rattle.disk_model.specs.Devices.{bytes_now}
 use Rattle.disk_model.specs.DiskStates.{IfModeled, Both}
 use Rattle.vob_journal.specs.Added.{Adds, may_read}
 use Rattle.vob_journal.specs.Answered.{GivesNext}
-use Rattle.vob_journal.specs.Found.{FindsAtHead, IsFrameWithin, ShowsOn}
+use Rattle.vob_journal.specs.Found.{BeginsBy, FindsAtHead, IsFrameWithin, ShowsOn}
 use Rattle.vob_journal.specs.Frames.{head, is_shut}
 use Rattle.vob_journal.specs.Moves.{Moves}
+use Rattle.vob_journal.specs.Pieces.{IsReadForth, IsReadUntil, ReadsFrame}
 use Rattle.vob_journal.specs.Reads.{SameFiles}
 use Rattle.vob_journal.specs.Shown.{modeled_list, modeled_rest, modeled_leftover, JournalInvariant}
+use Rattle.vob_journal.specs.Windows.{reach_of}
+use Rattle.vob_journal.proofs.Pieces.{modeled_until_none}
 use Rattle.vob_journal.proofs.Journals.{unchanged_now, same_moves, reading_of, missed_list, rest_moves, modeled_more, more_list}
 use Rattle.vob_journal.proofs.Journals.{more_rest, ended_list, ended_leftover, ended_rest, no_leftover}
 use Rattle.vob_journal.proofs.Staying.{modeled_stay, modeled_rests, modeled_adds, modeled_adds_none}
@@ -38,9 +41,12 @@ invariant_of-self g c =
     subst (IsFrameWithin tail size) c.in-Ok-Payload.field-0-is c.in-Ok-Payload.ensures.within in
     let within = subst (λ p. tail + (5 + length p) ≤ size) (sym c.as_bytes.ensures) is_within in
     let shows = subst (ShowsOn new) c.in-Ok-Payload.field-0-is c.in-Ok-Payload.ensures.shows in
+    let begins : c.in-Ok-Payload.window.start ≤ tail =
+    subst (BeginsBy tail) c.in-Ok-Payload.field-0-is c.in-Ok-Payload.ensures.begins in
+    let starts : c.in-Ok-Payload.window.start ≤ tail + (5 + length payload) = omega (arith, begins) in
     subst (λ b. JournalInvariant new b settled (tail + (5 + length payload)) size (Some c.in-Ok-Payload.window))
     (sym c.if-self.false)
-    (within, kept.1, shows, modeled_more tail size payload old new kept.3 rests found within)
+    (within, kept.1, (starts, shows), modeled_more tail size payload old new kept.3 rests found within)
 
 pub returns-in-Ok-Payload-clause-gives : goal.returns-in-Ok-Payload-clause-gives
 returns-in-Ok-Payload-clause-gives g c =
@@ -246,3 +252,39 @@ pub returns-in-Err-clause-adds : goal.returns-in-Err-clause-adds
 returns-in-Err-clause-adds g c =
     subst (λ s. Both (Adds may_read) (g.D.Disk.ghost_state s.disk).modeled (g.D.Disk.ghost_state c.read_frame.new.disk).modeled)
     c.self.view_is (modeled_adds _ _ c.in-Err.ensures.rests)
+
+pub returns-then-self-clause-forth : goal.returns-then-self-clause-forth
+returns-then-self-clause-forth g c = modeled_until_none _ _ _
+
+pub returns-in-Ok-Payload-clause-forth : goal.returns-in-Ok-Payload-clause-forth
+returns-in-Ok-Payload-clause-forth g c =
+    let old = (g.D.Disk.ghost_state c.self.inside.disk).modeled in
+    let new = (g.D.Disk.ghost_state c.read_frame.new.disk).modeled in
+    let tail = c.self.inside.tail in
+    let window = c.in-Ok-Payload.window in
+    let forth : Both (IsReadForth tail (reach_of c.self.inside.window) (tail + (5 + length c.in-Ok-Payload.payload))
+    (reach_of (Some window))) old new =
+    subst (λ found. Both (ReadsFrame tail (reach_of c.self.inside.window) found) old new) c.in-Ok-Payload.field-0-is
+    (subst (λ held. Both (ReadsFrame tail (reach_of held) c.in-Ok-Payload.field-0) old new) c.take-window.ensures.value
+    c.in-Ok-Payload.ensures.forth) in
+    subst (λ s. Both (IsReadForth s.tail s.reach (tail + (5 + length c.as_bytes.result.now)) (reach_of (Some window)))
+    (g.D.Disk.ghost_state s.disk).modeled new) c.self.view_is
+    (subst (λ p. Both (IsReadForth tail (reach_of c.self.inside.window) (tail + (5 + length p)) (reach_of (Some window))) old new)
+    (sym c.as_bytes.ensures) forth)
+
+pub returns-in-Ok-End-clause-forth : goal.returns-in-Ok-End-clause-forth
+returns-in-Ok-End-clause-forth g c =
+    let old = (g.D.Disk.ghost_state c.self.inside.disk).modeled in
+    let new = (g.D.Disk.ghost_state c.read_frame.new.disk).modeled in
+    let until : Both (IsReadUntil c.self.inside.tail (reach_of c.self.inside.window)) old new =
+    subst (λ found. Both (ReadsFrame c.self.inside.tail (reach_of c.self.inside.window) found) old new) c.in-Ok-End.field-0-is
+    (subst (λ held. Both (ReadsFrame c.self.inside.tail (reach_of held) c.in-Ok-End.field-0) old new)
+    c.take-window.ensures.value c.in-Ok-End.ensures.forth) in
+    subst (λ s. Both (IsReadUntil s.tail s.reach) (g.D.Disk.ghost_state s.disk).modeled new) c.self.view_is until
+
+pub returns-in-Err-clause-forth : goal.returns-in-Err-clause-forth
+returns-in-Err-clause-forth g c =
+    subst (λ s. Both (IsReadUntil s.tail s.reach) (g.D.Disk.ghost_state s.disk).modeled
+    (g.D.Disk.ghost_state c.read_frame.new.disk).modeled) c.self.view_is
+    (subst (λ held. Both (IsReadUntil c.self.inside.tail (reach_of held)) (g.D.Disk.ghost_state c.self.inside.disk).modeled
+    (g.D.Disk.ghost_state c.read_frame.new.disk).modeled) c.take-window.ensures.value c.in-Err.ensures.until)

@@ -7,7 +7,7 @@ pub invariant_of-result : goal.invariant_of-result
 invariant_of-result g c = (
   omega arith,
   c.in-Ok.ensures.most,
-  tt,
+  (tt, tt),
   opened_reading c.in-Ok.size _ _ c.requires c.in-Ok.ensures.length
       c.in-Ok.ensures.modeled,
 )
@@ -16,7 +16,7 @@ pub returns-in-Ok-clause-list : goal.returns-in-Ok-clause-list
 returns-in-Ok-clause-list g c = opened_list _ _ c.in-Ok.ensures.modeled
 
 pub returns-in-Ok-clause-begins : goal.returns-in-Ok-clause-begins
-returns-in-Ok-clause-begins g c = (opened_rest _, no_leftover _ _ _, refl, refl, refl)
+returns-in-Ok-clause-begins g c = (opened_rest _, no_leftover _ _ _, refl, refl, refl, refl)
 
 pub returns-in-Ok-clause-moves : goal.returns-in-Ok-clause-moves
 returns-in-Ok-clause-moves g c = opened_moves _ _ c.requires c.in-Ok.ensures.modeled
