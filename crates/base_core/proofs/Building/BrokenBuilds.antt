@@ -54,7 +54,8 @@ broken_state s lane build left faults tick = record s {
 }
 
 pub after_fault : (s : State) (lane : ℕ) (build : Build) (left : Option Plain) (before faults tick : ℕ)
-    → build_by s (next_tag s lane) ≡ Some build → after s (story_steps.Fault (next_tag s lane) left before faults tick) ≡ broken_state s lane build left faults tick
+    → build_by s (next_tag s lane) ≡ Some build → after s (story_steps.Fault (next_tag s lane) left before faults tick)
+    ≡ broken_state s lane build left faults tick
 after_fault s lane build left before faults tick is = ap (λ o. record s {
   done = done_by_fault s.done lane o;
   active = faulted_in s.active lane o;

@@ -45,13 +45,15 @@ with_steps log steps = record {
 
 -- what is kept after a step by which a unit of a lane's build comes to something, without a row
 pub preserved_note : (log : Logged) (lanes : List LaneState) (now : ℕ) (step : Step) (x : StoryStep) (lane n : ℕ) (build : Build)
-    (came : Came) → shown_as step ≡ Some x → is_quiet x ≡ true → CoreInvariant log lanes now → 1 ≤ lane → lane ≤ length lanes → build_of (state_of log.story).active lane ≡ Some build
+    (came : Came) → shown_as step ≡ Some x → is_quiet x ≡ true → CoreInvariant log lanes now → 1 ≤ lane → lane ≤ length lanes
+    → build_of (state_of log.story).active lane ≡ Some build
     → Lawful (state_of log.story) x → after (state_of log.story) x ≡ record (state_of log.story)
     { active = put nat_cmp lane (with_came build (Some n) came) (state_of log.story).active }
     → ((l : ℕ) → replies_after (state_of log.story) x (replies_of log.story) l ≡ replies_of log.story l)
     → CoreInvariant (with_step log step) (put_build lanes lane (Some (with_came build (Some n) came))) now
 preserved_note log lanes now step x lane n build came shown quiet h low high is lawful leaves said =
-    subst (λ o. CoreInvariant (with_steps log (option_to_list o)) (put_build lanes lane (Some (with_came build (Some n) came))) now)
+    subst (λ o. CoreInvariant (with_steps log (option_to_list o)) (put_build lanes lane (Some (with_came build (Some n) came)))
+    now)
     (sym shown)
     (preserved_put log lanes now x log.base log.ghost_state lane (with_came build (Some n) came) h low high
     (record { lawful = lawful; names = names_none IsFormed x quiet; leads = ap (λ t. t.base) leaves ∙ h.story.base })

@@ -120,7 +120,7 @@ whole_tells {story = story} {failed = failed} h =
     let form : h.asked.taken.form ≡ forms.Run = let words = h.asked.taken.words in cc in
     subst (λ form. tells_failure form story ≡ failed) form h.failures
 
--- what a source gave is read to its end by two calls, and no third call is made; nor is there a call for a form that does not read
+-- what a source gave is read to its end by two calls, and no third call is made; a form that does not read makes none
 -- it
 rests : TakesNoMore (gave forms.Run once 22)
 rests = record { most = omega arith; unread = λ reads. absurd cc; rests = λ before. refl }

@@ -470,7 +470,8 @@ open_cause opens.DiskFault rose intake faults disk by asked is = (asked, is, λ 
 
 promised_closed : (because : OpenCause) (status : Status) (intake : Intake) (outside : Outside) (faults : Change ℕ)
     (disk : Change DiskState) → outside.reading ≡ outside.first → IsAsked intake → FailsToOpen disk.before because disk.after
-    → Both ReadsOnce disk.before.modeled disk.after.modeled → WritesUnstarted (of_unopened because (disk_rose disk)) status outside.held outside.holds faults
+    → Both ReadsOnce disk.before.modeled disk.after.modeled → WritesUnstarted (of_unopened because (disk_rose disk)) status
+    outside.held outside.holds faults
     → Promised status [] intake outside faults disk
 promised_closed because status intake outside faults disk unread asked fails once wrote =
     unstarted_so (of_unopened because (disk_rose disk)) status intake outside faults disk fails.files unread

@@ -159,11 +159,13 @@ commit_mirrored : (opening : Opening) (ends : List End) (row spelt : Plain) (tic
     → IsHeld (file_of 1 d) (spelt ∷ h.stored) (row ∷ base_by opening ends)
     → owned' ≡ taken_after (size h.stored) spelt.deed owned → IsMirrored opening (Committed row tick ∷ ends) list' leftover' left'
     owned' orphaned' e
-commit_mirrored opening ends row spelt tick list leftover list' leftover' left left' owned owned' orphaned orphaned' d e h ticked moves
+commit_mirrored opening ends row spelt tick list leftover list' leftover' left left' owned owned' orphaned orphaned' d e h ticked
+    moves
     at grown none formed held owned_are =
     let spelled : list' ≡ payloads (spelt ∷ h.stored) = grown ∙ ap (λ l. l ++ spelling_of spelt ∷ []) h.list_is in
     let all : list' ++ leftover' ≡ payloads (spelt ∷ h.stored) = ap (λ l. list' ++ l) none ∙ append-nil list' ∙ spelled in
-    covered_end opening ends (Committed row tick) list leftover list' leftover' left left' owned owned' orphaned orphaned' d e h ticked
+    covered_end opening ends (Committed row tick) list leftover list' leftover' left left' owned owned' orphaned orphaned' d e h
+    ticked
     moves at (spelt ∷ h.stored) spelled (formed, h.formed) held
     (owned_are ∙ ap (taken_after (size h.stored) spelt.deed) h.owned_are) none (λ is. none)
     (λ j o is leaves. inr (held_in_image (file_of 1 d) (spelt ∷ h.stored) (row ∷ base_by opening ends) (frames j) o held (
@@ -185,18 +187,23 @@ fault_orphaned : (file : File) (stored b : Base) (earlier found : Option Plain) 
     → LeftSo earlier row left' found → LeftOverSo left' orphaned (extents_of spelt.deed) orphaned'
     → IsFormed spelt → (left' ≡ lefts.InFlight → IsHeld file (spelt ∷ stored) (row ∷ b))
     → IsLeftOver file stored b found leftover' orphaned'
-fault_orphaned file stored b earlier found row spelt leftover leftover' orphaned orphaned' lefts.Nothing was is so extents formed held =
+fault_orphaned file stored b earlier found row spelt leftover leftover' orphaned orphaned' lefts.Nothing was is so extents formed
+    held =
     subst (λ o. IsLeftOver file stored b o leftover' orphaned') (sym so) is
-fault_orphaned file stored b earlier found row spelt leftover leftover' orphaned orphaned' lefts.Earlier was is so extents formed held =
+fault_orphaned file stored b earlier found row spelt leftover leftover' orphaned orphaned' lefts.Earlier was is so extents formed
+    held =
     subst (λ o. IsLeftOver file stored b o leftover' orphaned') (sym so)
-    (subst (λ l. IsLeftOver file stored b earlier l orphaned') (sym is) (subst (IsLeftOver file stored b earlier leftover) (sym extents)
+    (subst (λ l. IsLeftOver file stored b earlier l orphaned') (sym is)
+    (subst (IsLeftOver file stored b earlier leftover) (sym extents)
     was))
-fault_orphaned file stored b earlier found row spelt leftover leftover' orphaned orphaned' lefts.InFlight was is so extents formed held =
+fault_orphaned file stored b earlier found row spelt leftover leftover' orphaned orphaned' lefts.InFlight was is so extents formed
+    held =
     subst (λ o. IsLeftOver file stored b o leftover' orphaned') (sym so)
     (inr (record { spelt = spelt; is = is; formed = formed; extents_are = extents; held = held refl }))
 
 fault_mirrored : (opening : Opening) (ends : List End) (row spelt : Plain) (found : Option Plain) (faults tick : ℕ)
-    (list leftover list' leftover' : List (List ℕ)) (left left' : Left) (owned : List ObjectExtent) (orphaned orphaned' : List Extent)
+    (list leftover list' leftover' : List (List ℕ)) (left left' : Left) (owned : List ObjectExtent)
+    (orphaned orphaned' : List Extent)
     (d e : Device)
     (h : IsMirrored opening ends list leftover left owned orphaned d) → ticks_of (Some opening) ends ≤ length d.calls
     → Moves list leftover list' leftover' d e → tick ≡ length e.calls
@@ -204,17 +211,21 @@ fault_mirrored : (opening : Opening) (ends : List End) (row spelt : Plain) (foun
     → LeftOverSo left' orphaned (extents_of spelt.deed) orphaned' → IsFormed spelt
     → (left' ≡ lefts.InFlight → IsHeld (file_of 1 d) (spelt ∷ h.stored) (row ∷ base_by opening ends))
     → IsMirrored opening (Faulted found faults tick ∷ ends) list' leftover' left' owned orphaned' e
-fault_mirrored opening ends row spelt found faults tick list leftover list' leftover' left left' owned orphaned orphaned' d e h ticked
+fault_mirrored opening ends row spelt found faults tick list leftover list' leftover' left left' owned orphaned orphaned' d e h
+    ticked
     moves at same is so extents formed held =
     let b = base_by opening ends in
     let file = file_of 1 d in
-    let now = fault_orphaned file h.stored b (hanging ends) found row spelt leftover leftover' orphaned orphaned' left' h.leftover_is is so
+    let now = fault_orphaned file h.stored b (hanging ends) found row spelt leftover leftover' orphaned orphaned' left'
+    h.leftover_is is so
     extents formed held in
     let spelled : list' ≡ payloads h.stored = same ∙ h.list_is in
-    covered_end opening ends (Faulted found faults tick) list leftover list' leftover' left left' owned owned orphaned orphaned' d e h
+    covered_end opening ends (Faulted found faults tick) list leftover list' leftover' left left' owned owned orphaned orphaned' d
+    e h
     ticked moves at h.stored spelled h.formed h.held h.owned_are now
     (λ none. is ∙ ap (λ l. leftover_after l leftover (spelling_of spelt)) none)
-    (λ j o shown leaves. orphaned_stands file h.stored b found list' leftover' orphaned' (frames j) o spelled h.formed h.held now shown
+    (λ j o shown leaves. orphaned_stands file h.stored b found list' leftover' orphaned' (frames j) o spelled h.formed h.held now
+    shown
     leaves)
 
 -- the tail was settled, or this failed
@@ -224,7 +235,8 @@ settle_mirrored : (opening : Opening) (ends : List End) (list leftover list' lef
     → Moves list leftover list' leftover' d e → list' ≡ list
     → (leftover' ≡ []) ⊎ ((leftover' ≡ leftover) × (orphaned' ≡ orphaned)) → (left' ≡ lefts.Nothing → leftover' ≡ [])
     → IsMirrored opening ends list' leftover' left' owned orphaned' e
-settle_mirrored opening ends list leftover list' leftover' left left' owned orphaned orphaned' d e h ticked moves same less nothing =
+settle_mirrored opening ends list leftover list' leftover' left left' owned orphaned orphaned' d e h ticked moves same less
+    nothing =
     record {
       stored = h.stored;
       list_is = same ∙ h.list_is;

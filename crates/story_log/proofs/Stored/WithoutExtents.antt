@@ -49,7 +49,8 @@ rows_as_spelt lives objects (spelt ∷ earlier) [] none are = absurd are
 rows_as_spelt lives objects (spelt ∷ earlier) (row ∷ older) none are =
     let here = (all_back HasNoExtent (payloads earlier) (spelling_of spelt ∷ []) none).0 in
     let deed = deed_as_spelt (lives (size older)) objects spelt.deed row.deed (λ code. here (code_at spelt ∙ code)) are.0.deed in
-    let rest = rows_as_spelt lives objects earlier older (all_of_first HasNoExtent (payloads earlier) (spelling_of spelt ∷ []) none)
+    let rest = rows_as_spelt lives objects earlier older (all_of_first HasNoExtent (payloads earlier) (spelling_of spelt ∷ [])
+    none)
     are.1 in
     λ i. record { tag = are.0.tag i; moment = are.0.moment i; deed = deed i } ∷ rest i
 

@@ -15,7 +15,8 @@ HasNoExtent payload = get_or payload 21 0 ≡ 23 → ⊥
 
 -- Frames that spell the rows of a base of formed rows represent it, whatever the file of objects has.
 abbrev pub SpelledIsRepresented : Type 0
-SpelledIsRepresented = (found : Found) (b : Base) → is_base b ≡ true → AreFormed b → found.frames ≡ payloads b → Represents found b
+SpelledIsRepresented = (found : Found) (b : Base) → is_base b ≡ true → AreFormed b → found.frames ≡ payloads b
+    → Represents found b
 
 -- Where no frame names an extent, and a base is one of formed rows, the frames represent it exactly where they spell its rows.
 abbrev pub WithoutExtentsNothingChanges : Type 0

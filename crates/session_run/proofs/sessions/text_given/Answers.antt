@@ -26,7 +26,8 @@ returns-in-Sites g c =
 pub returns-in-Ok-clause-gives : goal.returns-in-Ok-clause-gives
 returns-in-Ok-clause-gives g c =
     let said = rw c.in-Big.is at c.requires in
-    rw c.in-Big.is (gives_big c.in-Big.seed c.in-Big.size _ c.in-Ok.text (record { text = refl; given = refl; calls = refl; faults = refl })
+    rw c.in-Big.is (gives_big c.in-Big.seed c.in-Big.size _ c.in-Ok.text
+    (record { text = refl; given = refl; calls = refl; faults = refl })
     said
     c.in-Ok.ensures.text c.in-Ok.ensures.short)
 

@@ -60,7 +60,8 @@ acts_so log new story row appends.Committed same next became =
 acts_so log new story row appends.Faulted same next became =
     let done : IsFaulted log new row None = became in
     next_faults story new.story row done.left done.before done.faults done.tick
-    (ap (λ (l : Logged). l.story) done.grows ∙ ap (λ t. t ++ story_steps.Fault row.tag done.left done.before done.faults done.tick ∷ []) same) next
+    (ap (λ (l : Logged). l.story) done.grows ∙ ap (λ t. t ++ story_steps.Fault row.tag done.left done.before done.faults done.tick
+    ∷ []) same) next
 
 pub append-requires-clause-fits : goal.append-requires-clause-fits
 append-requires-clause-fits g c =
