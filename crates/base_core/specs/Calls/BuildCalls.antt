@@ -1,5 +1,4 @@
 -- What the calls of a core on a lane's build ask and leave.
-use Rattle.std.specs.Bool.{⊥}
 use Rattle.std.specs.Prelude.{◌≡◌, ℕ, ◌<◌, true, false, Option, Some, None, Ok, List, [], length}
 use Rattle.std.specs.Ordering.{nat_cmp}
 use Rattle.std.specs.FinMap.Entries.{put}
