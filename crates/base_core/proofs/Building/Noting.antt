@@ -35,7 +35,7 @@ noted_preserved s lane build n came h = record {
 }
 
 -- a log with more steps of its story
-with_steps : Logged → List StoryStep → Logged
+abbrev with_steps : Logged → List StoryStep → Logged
 with_steps log steps = record {
   story = log.story ++ steps;
   base = log.base;
