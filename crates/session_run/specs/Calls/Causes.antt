@@ -185,7 +185,7 @@ pub record IsToOpen (intake : Intake) : Type 0 where
   pub text : is_some (session_text intake) ≡ true
   pub faultless : SourceFailed intake → ⊥
 
--- *The sink*, whatever the status: its count of faults rises where the status says that it failed, and nowhere else.
+-- *The sink*: unless the status says that it failed, its count of faults is as it was.
 abbrev pub KeepsSink : Status → Change ℕ → Type 0
 KeepsSink status faults = status ≢ statuses.WriteFault → faults.after ≡ faults.before
 
@@ -199,8 +199,8 @@ pub record FindsDamage (status : Status) (intake : Intake) (disk : Change DiskSt
 pub record LeavesAlone (intake : Intake) (disk : Change DiskState) (story : List StoryStep) : Type 0 where
   pub unless_asked : IsAsked intake ⊎ IsUntouched disk story
 
--- *How far a source is read*, whatever the status: it gave at most one byte more than a text may have, and where the words are
--- of no form that reads it, it was not read
+-- *How far a source is read*, whatever the status: it gave at most one byte more than a text may have; where the words are of no
+-- form that reads it, it was not read; and no call of it was made after the one at which it ended.
 pub record TakesNoMore (intake : Intake) : Type 0 where
   pub most : RoseAtMost (text_limit + 1) intake.given.before intake.given.after
   pub unread : reads_source intake.form ≡ false → IsUnread intake

@@ -34,7 +34,7 @@ pub record CountsFrom (opened closed : DiskState) (story : List StoryStep) : Typ
   pub counts : CountsSteps (after start first) steps opened ended
   pub settled : SettlesJournal (may_be_open (state_of story).ends) ended closed
 
--- *Whose fault*: opening counted no fault and read the journal once, which left both files as they were. From then on the
+-- *Accounted*: opening counted no fault and read the journal once, which left both files as they were. From then on the
 -- count rose at the faults of the history, and once more at most as the journal was settled, by the counts of some disk between
 -- one step and the next. Where the disk models its device, the calls that it tells say at which tick each of them failed.
 pub record IsAccountedFor (disk : Change DiskState) (story : List StoryStep) : Type 0 where

@@ -16,7 +16,7 @@ abbrev pub failed_by : ℕ → List Event → ℕ
 failed_by tick calls = failures (take tick calls)
 
 -- A fault whose command began its calls when so many had failed. It has this count and the one by its own tick, which is one
--- greater: one call failed within it and no more, so that no fault hides the failed calls of the command behind it. Once ticks
+-- greater: one call failed within it and no more, so that no fault hides the failed calls of the command after it. Once ticks
 -- have come to their end no call is made any more, and none can fail.
 abbrev pub MeetsFault : ℕ → ℕ → ℕ → ℕ → List Event → Type 0
 MeetsFault failed before faults tick calls = tick < 2 ^ 64 - 1 → (before ≡ failed) × (faults ≡ failed_by tick calls)

@@ -38,7 +38,7 @@ pub record IsRunThrough (phases : List Phase) (story : List StoryStep) : Type 0 
   pub phases_are : phases_begun story ≡ phases
   pub finished : all_done (state_of story) ≡ true
 
--- where the sink failed: `run` writes as it goes, so its last transcript is cut; `big` and `verify` write behind their session
+-- where the sink failed: `run` writes as it goes, so its last transcript is cut; `big` and `verify` write after their session
 abbrev pub IsCutSo : Form → Or WriteFault → List Phase → List StoryStep → Outside → Type 0
 IsCutSo form NoMemory phases story outside = Unit {0}
 IsCutSo forms.Run (Is fault) phases story outside = IsCutAtLast story (earlier_text story) outside.held outside.holds

@@ -90,7 +90,8 @@ pub record IsRunGivenUp (cut : Or WriteFault) (phases : List Phase) (story : Lis
   pub written : AppendsPrefix outside.held outside.holds (text_of_story story)
   pub cut_at : IsCutBy cut story outside.held outside.holds
 
--- the sink's count of faults before and after a text was cut short: it rose where the sink failed
+-- the sink's count of faults before and after a text was cut short: it rose where the sink failed,
+-- and is as it was where memory ran out
 abbrev pub CountsCut : Or WriteFault → ℕ → ℕ → Type 0
 CountsCut NoMemory before after = after ≡ before
 CountsCut (Is fault) before after = Rose before after
