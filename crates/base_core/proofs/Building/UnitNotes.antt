@@ -38,12 +38,12 @@ true_or_false : (b : Bool) → b ≡ true → b ≡ false → ⊥
 true_or_false b t f = cc
 
 -- the step as which it is shown
-record IsShownNote (s : State) (lane n : ℕ) (step : Step) (came : Came) : Type 0 where
-  x : StoryStep
-  is : shown_as step ≡ Some x
-  notes : NotesAs s lane n came x
+pub record IsShownNote (s : State) (lane n : ℕ) (step : Step) (came : Came) : Type 0 where
+  pub x : StoryStep
+  pub is : shown_as step ≡ Some x
+  pub notes : NotesAs s lane n came x
 
-shown_note : (s : State) (lane n : ℕ) (step : Step) (came : Came) → Notes s lane n step came → IsShownNote s lane n step came
+pub shown_note : (s : State) (lane n : ℕ) (step : Step) (came : Came) → Notes s lane n step came → IsShownNote s lane n step came
 shown_note s lane n step came h = by (shown_as step) refl h
   where
     by : (o : Option StoryStep) → shown_as step ≡ o → NotesIf s lane n came o → IsShownNote s lane n step came
