@@ -50,7 +50,7 @@ pub record MayOpen (tail : ℕ) (payload : List ℕ) (d e : Device) : Type 0 whe
   pub ajar : IsAjar (list_at tail d) (payload ∷ []) tail (file_of 0 e)
   pub adds : Adds may_write d e
 
--- Ok after exactly so many device calls; a fault after one call or more, at most so many, the last of which failed
+-- Ok after exactly so many device calls; a fault after one call or more, at most so many, one of which failed
 abbrev pub Spends : {T E : Type 0} → ℕ → Result T E → DiskState → DiskState → Type 0
 Spends calls result old new = MatchResult result
     (λ _. (new.ticks ≡ old.ticks + calls) × (new.faults ≡ old.faults))

@@ -49,7 +49,7 @@ ReadsNext (Ok None) ghost_state old new =
 ReadsNext (Err fault) ghost_state old new =
     Both (IsReadUntil old.tail old.reach) (ghost_state old.disk).modeled (ghost_state new.disk).modeled
 
--- these calls, the newest first, read a journal once: none was made; or its length was asked, and it was read forth from its start
+-- these calls, the newest first, read a journal once: none was made; or its length was asked, and it was read on from its start
 abbrev pub OpensBy : List Event → Type 0
 OpensBy calls = (calls ≡ [])
     ⊎ ((pieces : List Event) × (to has : ℕ) × (calls ≡ pieces ++ Measured 0 ∷ []) × ReadsForth 0 0 pieces to has)

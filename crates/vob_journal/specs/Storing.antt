@@ -20,4 +20,5 @@ pub record KeepsJournal {D : Type 0} (ghost_state : D → DiskState) (old new : 
   pub ended : new.ended ≡ old.ended
   pub settled : new.settled ≡ old.settled
   pub left : new.left ≡ old.left
+  pub reach : new.reach ≡ old.reach
   pub stores : Both StoresOn (ghost_state old.disk).modeled (ghost_state new.disk).modeled

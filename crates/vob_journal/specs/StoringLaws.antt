@@ -39,6 +39,7 @@ keeps_itself ghost_state journal = record {
   ended = refl;
   settled = refl;
   left = refl;
+  reach = refl;
   stores = modeled_nothing (ghost_state journal.disk).modeled;
 }
 
@@ -52,6 +53,7 @@ keeps_on ghost_state one two three first then = record {
   ended = then.ended ∙ first.ended;
   settled = then.settled ∙ first.settled;
   left = then.left ∙ first.left;
+  reach = then.reach ∙ first.reach;
   stores = modeled_then (ghost_state one.disk).modeled (ghost_state two.disk).modeled (ghost_state three.disk).modeled
       first.stores then.stores;
 }

@@ -113,8 +113,9 @@ impl<D: Disk> Journal<D> {
         }
     }
 
-    /// The next payload, or None at the end of the list. Reads in pieces of at least 64 KiB, each no earlier than the one before
-    /// and further, so that all payloads take time linear in the journal. Whatever it answers, both files are as they were.
+    /// The next payload, or None at the end of the list, after which no call is made. Reads in pieces of at least 64 KiB, each
+    /// no earlier than the one before and further, so that all payloads take time linear in the journal. Whatever it answers, both
+    /// files are as they were.
     pub fn next(&mut self, alloc: Global) -> Result<Option<Text>, Or<DiskFault>>
         ensures gives { IfOk result
             (λ found.
@@ -136,6 +137,7 @@ impl<D: Disk> Journal<D> {
         ensures adds { Both (Adds may_read) (D.ghost_state self.old.disk).modeled
             (D.ghost_state self.new.disk).modeled }
         ensures forth { ReadsNext result D.ghost_state self.old self.new }
+        ensures rests { self.old.ended ≡ true → MakesNoCall result self.old.disk self.new.disk }
         ensures counts { CountsReads 2 result (D.ghost_state self.old.disk)
             (D.ghost_state self.new.disk) }
     {
@@ -244,7 +246,7 @@ impl<D: Disk> Journal<D> {
         }
     }
 
-    /// What the last call of `append` or `settle` left behind the list.
+    /// What the last call of `append` or `settle` left after the list.
     pub fn left_by_last_call(&self) -> Left
         ensures { result ≡ self.now.left }
     {

@@ -147,8 +147,8 @@ fn put_on_branch(
     Ok(())
 }
 
-/// The same. Takes constant time where the branch is at the place `near` and the version is its last one. Else `near` becomes its
-/// place, in time logarithmic in the branches.
+/// The same. Takes constant time where the branch is at the place `near` and the version is its last one. Where it is elsewhere
+/// `near` becomes its place, in time logarithmic in the branches.
 fn put_version_near(
     trees: &mut Vec<Branch>,
     near: &mut usize,

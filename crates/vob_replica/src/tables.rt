@@ -216,8 +216,8 @@ impl Table {
         let _entries = self.entries.as_slice();
     }
 
-    /// The number of a site; 0 where none of its operations is known. Takes constant time where the site is the one that was raised
-    /// last or the next one, else time logarithmic in the sites.
+    /// The number of a site; 0 where none of its operations is known. Takes constant time where the site is the one that was
+    /// raised last or the next one, else time logarithmic in the sites.
     pub fn number(&self, site: &Name) -> u64
         ensures { result ≡ number_in self.now site.now }
     {
@@ -226,7 +226,7 @@ impl Table {
     }
 
     /// Whether an operation is among those of the table. `near` is where its site may stand, and is then where it stands: there
-    /// it is found in constant time, else in time linear in the sites.
+    /// it is found in constant time, else in time logarithmic in the sites.
     pub(crate) fn holds_near(&self, near: &mut usize, identity: &Identity) -> bool
         ensures { result ≡ holds self.now identity.now }
     {
@@ -288,8 +288,8 @@ impl Table {
         Ok(Table { entries, near: 0 })
     }
 
-    /// Whether the table holds all that another does. Takes time linear in the sites of the other where they are those of this one,
-    /// else also logarithmic in the sites for each.
+    /// Whether the table holds all that another does. Takes time linear in the sites of the other where they are those of this
+    /// one, else also logarithmic in the sites for each.
     pub(crate) fn covers(&self, others: &[Identity]) -> bool
         ensures { result ≡ is_none (first_gap others.now self.now) }
     {

@@ -33,7 +33,7 @@ use Rattle.base_core.specs.Calls.Building.{BuildInvariant}
 use Rattle.base_core.specs.Story.Replying.{replies_by}
 use Rattle.story_log.specs.Story.Telling.{shown_as}
 
--- By this step of a story unit n of a lane's build comes to something without a row, and no command is replied.
+-- By this step of a story, unit n of a lane's build comes to something without a row, and no command is replied.
 pub record NotesAs (s : State) (lane n : ℕ) (came : Came) (x : StoryStep) : Type 0 where
   pub build : Build
   pub active : build_of s.active lane ≡ Some build
