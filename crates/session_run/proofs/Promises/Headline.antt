@@ -99,7 +99,7 @@ session_run status story form phases intake outside failed gives ran = record {
       (λ modeled e. e ∙ ap (clock_moments modeled outside.first) (sym (clock_length modeled outside.first (length phases))
       ∙ sym (ap length e)));
   read = let times = ran.reading_is ∙ ap (raised_count outside.first) (sym (ap length ran.phases_are)) in
-      record { once = λ other. times; most = inl times };
+      record { once = λ other. times; most = inl times; none = λ closed. absurd (let opened = ran.opened in cc) };
 }
 
 session_cut : (status : Status) (cut : Or WriteFault) (story : List StoryStep) (form : Form) (phases : List Phase)
@@ -126,7 +126,8 @@ session_none status intake outside not unread = record {
       → none ≡ []) (λ bytes e. refl);
   moments = always outside.moments (λ modeled. let none : List ℕ = [] in
       none ≡ clock_moments modeled outside.first 0) (λ modeled. refl);
-  read = let times = unread ∙ sym (raised_none outside.first) in record { once = λ other. times; most = inl times };
+  read = let times = unread ∙ sym (raised_none outside.first) in
+      record { once = λ other. times; most = inl times; none = λ closed. times };
 }
 
 -- a form that writes after its session had run it through where the sink failed
@@ -151,11 +152,19 @@ run_session (Ok failed) rose story form phases intake outside gives ran =
     session_run _ story form phases intake outside failed gives ran
 run_session (Err NoMemory) rose story form phases intake outside gives left =
     session_cut _ NoMemory story form phases intake outside (λ through. absurd (cc)) gives left
-    (record { once = λ other. absurd (other refl); most = left.reading_is })
+    (record {
+      once = λ other. absurd (other refl);
+      most = left.reading_is;
+      none = λ closed. absurd (let opened = left.opened in cc);
+    })
 run_session (Err (Is fault)) rose story form phases intake outside gives left =
     session_cut _ (Is fault) story form phases intake outside (λ through.
     (behind_words intake form fault phases story outside gives.words left.cut_at through).phases_are) gives left
-    (record { once = λ other. left.reading_is; most = inl left.reading_is })
+    (record {
+      once = λ other. left.reading_is;
+      most = inl left.reading_is;
+      none = λ closed. absurd (let opened = left.opened in cc);
+    })
 
 -- One legal history
 not_cut : (failed rose : Bool) → run_status (Ok failed) rose ≡ statuses.WriteFault → ⊥
@@ -579,7 +588,8 @@ replied_session status intake outside words unread = record {
       → none ≡ []) (λ bytes e. refl);
   moments = always outside.moments (λ modeled. let none : List ℕ = [] in
       none ≡ clock_moments modeled outside.first 0) (λ modeled. refl);
-  read = let times = unread ∙ sym (raised_none outside.first) in record { once = λ other. times; most = inl times };
+  read = let times = unread ∙ sym (raised_none outside.first) in
+      record { once = λ other. times; most = inl times; none = λ closed. times };
 }
 
 -- a status that is cut has its cause, and each other is that of the text

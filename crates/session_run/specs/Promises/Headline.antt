@@ -66,11 +66,12 @@ clock_readings before after = record { before = before.readings; after = after.r
 abbrev pub ReadsTimes : ℕ → Change ℕ → Type 0
 ReadsTimes count readings = readings.after ≡ raised_count readings.before count
 
--- The clock was read once for each phase that began. Where memory ran out it may have been read once more, for a phase that did
--- not begin.
+-- The clock was read once for each phase that began, and not where no base was opened. Where memory ran out it may have been read
+-- once more, for a phase that did not begin.
 pub record ReadsClock (status : Status) (story : List StoryStep) (readings : Change ℕ) : Type 0 where
   pub once : status ≢ statuses.NoMemory → ReadsTimes (length (phases_begun story)) readings
   pub most : ReadsTimes (length (phases_begun story)) readings ⊎ ReadsTimes (length (phases_begun story) + 1) readings
+  pub none : is_opened story ≡ false → ReadsTimes 0 readings
 
 -- *The session*: the phases of the history are the first of the session that the words ask for, and all of them where it was run
 -- through; where its text spells none the history is empty. Their moments are the clock's, in order, which is read once a phase.
