@@ -10,7 +10,8 @@ use Rattle.cc_names.specs.declared.commands.Command.{Command}
 use Rattle.cc_names.specs.declared.commands.Command.TheVariants as commands
 use Rattle.cc_names.specs.declared.commands.Query.{Query}
 use Rattle.cc_names.specs.declared.commands.Query.TheVariants as queries
-use Rattle.cc_names.specs.CommandWords.{change_word, query_word, word_of}
+use Rattle.session_text.specs.CommandWords.{change_word, word_of}
+use Rattle.session_text.specs.Commands.{query_word}
 use Rattle.session_text.specs.Commands.{moves, read_mv, by_record, read_labels, read_mklabel, read_scrub, read_cat, read_diffcr}
 use Rattle.session_text.specs.Commands.{read_mkarrow, read_findmerge, Line, query_lines, types_on, table, said_in, command_of}
 use Rattle.session_text.specs.Kinds.{Rest, kinds_of}

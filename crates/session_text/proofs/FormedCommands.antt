@@ -15,7 +15,9 @@ use Rattle.cc_names.specs.declared.commands.Query.TheVariants as queries
 use Rattle.session_text.specs.Commands.{read_rmview, read_mkbranch, read_save, moves, read_mv, by_record, read_labels}
 use Rattle.session_text.specs.Commands.{read_mklabel, read_rmlabel, read_scrub, read_ls, read_cat, read_diffcr, read_covers}
 use Rattle.session_text.specs.Commands.{read_mkarrow, read_findmerge, Line, table, said_in, command_of}
-use Rattle.session_text.specs.Formed.{IsChange, IsClearmake, IsCommand, IsQuery, IsVersionName}
+use Rattle.session_text.specs.Commands.{IsQuery}
+use Rattle.session_text.specs.Formed.{IsChange, IsClearmake, IsCommand}
+use Rattle.session_text.specs.Words.{IsVersionName}
 use Rattle.session_text.specs.Shapes.{has_flag, without_flag, read_first_name, behind_first, view, only_type, view_path}
 use Rattle.session_text.specs.Shapes.{view_below, maybe_path, type_path, path_type, flag_path, flag_below, fits_beside}
 use Rattle.session_text.specs.Words.{Said, where_so, name_word, age_word, version_word, cat_word, latest_word, both, says}

@@ -1,6 +1,6 @@
 -- The commands: the word of each, the words after it, and what they say. Where a command comes, it gets a definition and
 -- a line of the table or of a part of it here.
-use Rattle.std.specs.Prelude.{ℕ, Bool, true, false, Result, Ok, Err, List, [], ◌∷◌, codes, map, if◌then◌else◌}
+use Rattle.std.specs.Prelude.{ℕ, Bool, true, false, Result, Ok, Err, List, [], ◌∷◌, codes, map, if◌then◌else◌, IfSome}
 use Rattle.std.specs.Str.{bytes_eq}
 use Rattle.cc_names.specs.declared.commands.Change.{Change}
 use Rattle.cc_names.specs.declared.commands.Change.TheVariants as changes
@@ -10,11 +10,14 @@ use Rattle.cc_names.specs.declared.commands.Command.TheVariants as commands
 use Rattle.cc_names.specs.declared.commands.Query.{Query}
 use Rattle.cc_names.specs.declared.commands.Query.TheVariants as queries
 use Rattle.cc_names.specs.Answers.{Gives}
+use Rattle.cc_names.specs.Formed.{IsBelowRoot, IsTypeName}
+use Rattle.cc_names.specs.Names.{IsName}
+use Rattle.cc_names.specs.Paths.{IsPath}
 use Rattle.cc_names.specs.declared.memory.Or.{Or}
 use Rattle.cc_names.specs.declared.refusals.SessionCause.{SessionCause}
 use Rattle.cc_names.specs.declared.refusals.SessionCause.TheVariants.{UnknownCommand, BadWord}
 use Rattle.session_text.specs.Words.{Said, where_so, name_word, age_word, version_word, cat_word, latest_word, both, says}
-use Rattle.session_text.specs.Words.{and_says}
+use Rattle.session_text.specs.Words.{IsVersionName, and_says}
 use Rattle.session_text.specs.Shapes.{has_flag, without_flag, view, only_type, view_path, view_below, type_path, path_type}
 use Rattle.session_text.specs.Shapes.{maybe_path, read_first_name, behind_first, flag_path, flag_below, fits_beside}
 use Rattle.session_text.specs.Clearmake.{clearmake}
@@ -174,6 +177,34 @@ read_findmerge (v ∷ p ∷ flag ∷ latest ∷ []) =
     where_so (bytes_eq flag (codes "-fversion"))
     (says (λ at. queries.Findmerge at.0.0 at.0.1 at.1) (both (view_path (v ∷ p ∷ [])) (latest_word latest)))
 read_findmerge _ = Err BadWord
+
+-- the word of a query
+abbrev pub query_word : Query → List ℕ
+query_word (queries.Catcs view) = codes "catcs"
+query_word (queries.Lsdo view) = codes "lsdo"
+query_word (queries.Ls view path) = codes "ls"
+query_word (queries.Cat view path version) = codes "cat"
+query_word (queries.Describe view path) = codes "describe"
+query_word (queries.Lsvtree view path) = codes "lsvtree"
+query_word (queries.Lshistory view path) = codes "lshistory"
+query_word (queries.Catcr view path) = codes "catcr"
+query_word (queries.Diffcr view path other second) = codes "diffcr"
+query_word (queries.Covers seer view path) = codes "covers"
+query_word (queries.Findmerge view path branch) = codes "findmerge"
+
+-- the form of a query
+abbrev pub IsQuery : Query → Type 0
+IsQuery (queries.Catcs view) = IsName view
+IsQuery (queries.Lsdo view) = IsName view
+IsQuery (queries.Ls view path) = IsName view × IfSome path IsPath
+IsQuery (queries.Cat view path version) = IsName view × IsPath path × IfSome version IsVersionName
+IsQuery (queries.Describe view path) = IsName view × IsPath path
+IsQuery (queries.Lsvtree view path) = IsName view × IsPath path
+IsQuery (queries.Lshistory view path) = IsName view × IsPath path
+IsQuery (queries.Catcr view path) = IsName view × IsBelowRoot path
+IsQuery (queries.Diffcr view path other second) = IsName view × IsBelowRoot path × IsName other × IsBelowRoot second
+IsQuery (queries.Covers seer view path) = IsName seer × IsName view × IsPath path
+IsQuery (queries.Findmerge view path branch) = IsName view × IsPath path × IsTypeName branch
 
 -- what a reader of one kind of command answered is answered as a command, whatever was read
 abbrev pub GivesAs : {X : Type 0} → (X → Command) → Result X (Or SessionCause) → Result Command (Or SessionCause) → Type 0

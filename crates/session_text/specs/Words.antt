@@ -1,9 +1,10 @@
 -- What single words say.
-use Rattle.std.specs.Prelude.{ℕ, ◌-◌, Bool, true, false, ◌&&◌, nat_le, Option, Some, None, Result, Ok, Err, List, [], ◌∷◌, ◌++◌}
+use Rattle.std.specs.Prelude.{ℕ, ◌-◌, ◌<◌, ◌^◌, Bool, true, false, ◌&&◌, nat_le, Option, Some, None, Result, Ok, Err, List, [], ◌∷◌, ◌++◌}
 use Rattle.std.specs.Prelude.{codes, take, drop, length, if◌then◌else◌}
-use Rattle.std.specs.List.{position, slice_split}
+use Rattle.std.specs.List.{AllByRecursion, position, slice_split}
 use Rattle.std.specs.Result.{result_ok}
 use Rattle.std.specs.Str.{bytes_eq}
+use Rattle.cc_names.specs.Formed.{IsTypeName}
 use Rattle.cc_names.specs.Names.{name_of}
 use Rattle.cc_names.specs.Numbers.{number_of}
 use Rattle.cc_names.specs.Paths.{path_of, is_root, is_slash, is_at}
@@ -11,6 +12,10 @@ use Rattle.cc_names.specs.TypeNames.{type_name_of}
 use Rattle.cc_names.specs.declared.commands.VersionName.{VersionName}
 use Rattle.cc_names.specs.declared.refusals.SessionCause.{SessionCause}
 use Rattle.cc_names.specs.declared.refusals.SessionCause.TheVariants.{BadWord}
+
+-- a version's name: the type names of its branches behind `main`, and a number of eight bytes
+abbrev pub IsVersionName : VersionName → Type 0
+IsVersionName version = AllByRecursion IsTypeName version.branches × (version.number < 2 ^ 64)
 
 -- what words say, or the cause where they say nothing
 abbrev pub Said : Type 0 → Type 0

@@ -34,7 +34,7 @@ impl Model for PhaseText {
 
 impl PhaseText {
     ghost use Rattle.std.specs.Prelude.{◌≡◌, IfOk};
-    ghost use Rattle.cc_names.specs.CommandWords.{words_of_command};
+    ghost use Rattle.session_text.specs.CommandWords.{words_of_command};
     ghost use Rattle.session_text.specs.Reading.{lines_at};
     ghost use Rattle.session_text.specs.Sessions.{lanes_of};
 

@@ -23,7 +23,8 @@ use Rattle.view_lookup.specs.Answering.{AnswersAs}
 use Rattle.base_model.specs.Rows.{Base, size, only_where}
 use Rattle.legal_history.specs.Builds.Active.{building, build_of, rows_reserved}
 use Rattle.legal_history.specs.Commands.Decisions.{Makes, Scene}
-use Rattle.legal_history.specs.Commands.Lines.{change_decision, decision, query_decision}
+use Rattle.legal_history.specs.Commands.Lines.{change_decision, decision}
+use Rattle.legal_history.specs.Queries.QueryLines.{query_decision}
 use Rattle.legal_history.specs.Stories.Commanded.{next_command_of}
 use Rattle.legal_history.specs.Stories.States.{State, scene, done_of, command_behind, same_tag, next_tag, next_command}
 use Rattle.legal_history.specs.Stories.States.{decision_for}

@@ -12,7 +12,7 @@ use Rattle.base_model.specs.Seen.{at}
 use Rattle.base_model.specs.Views.{spec_text}
 use Rattle.legal_history.specs.Commands.Decisions.{Decision, Answers, answers}
 use Rattle.legal_history.specs.Commands.Found.{for_selected, for_object}
-use Rattle.legal_history.specs.Commands.Lines.{query_decision}
+use Rattle.legal_history.specs.Queries.QueryLines.{query_decision}
 use Rattle.legal_history.specs.Commands.Tests.{needs_view}
 use Rattle.legal_history.specs.Queries.ElementTexts.{describe_text, lsvtree_text}
 use Rattle.legal_history.specs.Queries.HistoryTexts.{lshistory_text}

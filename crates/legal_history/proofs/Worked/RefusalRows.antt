@@ -14,7 +14,8 @@ use Rattle.cc_names.specs.declared.rows.Out.TheVariants as outs
 use Rattle.cc_names.specs.declared.rows.TypeKind.TheVariants as type_kinds
 use Rattle.base_model.specs.Fits.{is_base}
 use Rattle.legal_history.specs.Commands.Decisions.{Decision, Makes, Scene, needs_room}
-use Rattle.legal_history.specs.Commands.Lines.{change_decision, query_decision}
+use Rattle.legal_history.specs.Commands.Lines.{change_decision}
+use Rattle.legal_history.specs.Queries.QueryLines.{query_decision}
 use Rattle.legal_history.specs.Queries.VersionNames.{line}
 use Rattle.legal_history.specs.Worked.{base_of, tag}
 use Rattle.legal_history.proofs.Worked.TwoViews.{v, hi, unit}

@@ -1,8 +1,10 @@
--- The queries: the tests of each in their order, and its text.
+-- The queries: the tests of each in their order, its text, and the decision on each, a line a query.
 use Rattle.std.specs.Prelude.{ℕ, ◌||◌, is_none, Option, Some, None, Result, List, [], ◌∷◌, codes, unwrap_or, option_and_then}
 use Rattle.std.specs.Prelude.{bytes_eq}
 use Rattle.cc_names.specs.Paths.{root}
 use Rattle.cc_names.specs.References.{held_at}
+use Rattle.cc_names.specs.declared.commands.Query.{Query}
+use Rattle.cc_names.specs.declared.commands.Query.TheVariants as queries
 use Rattle.cc_names.specs.declared.commands.VersionName.{VersionName}
 use Rattle.cc_names.specs.declared.refusals.Refusal.{Refusal}
 use Rattle.cc_names.specs.declared.refusals.Refusal.TheVariants as refusals
@@ -129,3 +131,17 @@ findmerge_tests b v path name seen =
 -- `findmerge V P -fversion .../B/LATEST`: what is on the branch and has not reached the selected versions at the path and below
 abbrev pub findmerge : Base → List ℕ → List ℕ → List ℕ → Result Decision Refusal
 findmerge b v path name = answers (findmerge_tests b v path name (at b v path)) (findmerge_text b v path name)
+
+-- What is decided of a query, by the base alone: its first refusal in the order of its tests, else its text.
+abbrev pub query_decision : Base → Query → Result Decision Refusal
+query_decision b (queries.Catcs v) = catcs b v
+query_decision b (queries.Lsdo v) = lsdo b v
+query_decision b (queries.Ls v path) = ls b v path
+query_decision b (queries.Cat v path version) = cat b v path version
+query_decision b (queries.Describe v path) = describe b v path
+query_decision b (queries.Lsvtree v path) = lsvtree b v path
+query_decision b (queries.Lshistory v path) = lshistory b v path
+query_decision b (queries.Catcr v path) = catcr b v path
+query_decision b (queries.Diffcr v path other second) = diffcr b v path other second
+query_decision b (queries.Covers seer v path) = covers b seer v path
+query_decision b (queries.Findmerge v path branch) = findmerge b v path branch

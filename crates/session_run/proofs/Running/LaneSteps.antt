@@ -23,7 +23,8 @@ use Rattle.clearmake.specs.Going.{SamePhase, Finishes, lane_of}
 use Rattle.clearmake.specs.Nexts.{next_of_lane, next_by}
 use Rattle.base_model.specs.Rows.{Base, only_where}
 use Rattle.legal_history.specs.Commands.Decisions.{Scene, Decision, Makes, Answers, Begins}
-use Rattle.legal_history.specs.Commands.Lines.{change_decision, decision, query_decision}
+use Rattle.legal_history.specs.Commands.Lines.{change_decision, decision}
+use Rattle.legal_history.specs.Queries.QueryLines.{query_decision}
 use Rattle.legal_history.proofs.Decisions.Handed.{IfDecided}
 use Rattle.legal_history.proofs.Decisions.Queried.{query_is}
 use Rattle.legal_history.specs.Stories.States.{State, start, scene, done_of, with_done, is_next, next_tag, decision_for}

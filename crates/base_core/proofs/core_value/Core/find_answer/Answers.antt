@@ -2,7 +2,7 @@
 use Rattle.std.proofs.Common.{◌≡◌, None, ap, sym, subst, ◌∙◌}
 use Rattle.view_lookup.specs.Answering.{AnswersAs}
 use Rattle.legal_history.specs.Builds.Active.{build_of}
-use Rattle.legal_history.specs.Commands.Lines.{query_decision}
+use Rattle.legal_history.specs.Queries.QueryLines.{query_decision}
 use Rattle.legal_history.specs.Stories.Steps.{state_of}
 use Rattle.clearmake.specs.Nexts.{next_of_lane}
 use Rattle.base_core.proofs.Keeping.Idle.{acting_is_free}

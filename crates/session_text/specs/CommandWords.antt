@@ -8,8 +8,7 @@ use Rattle.cc_names.specs.declared.commands.Lane.{Lane}
 use Rattle.cc_names.specs.declared.commands.LaneWords.{LaneWords}
 use Rattle.cc_names.specs.declared.commands.Phase.{Phase}
 use Rattle.cc_names.specs.declared.commands.PhaseWords.{PhaseWords}
-use Rattle.cc_names.specs.declared.commands.Query.{Query}
-use Rattle.cc_names.specs.declared.commands.Query.TheVariants as queries
+use Rattle.session_text.specs.Commands.{query_word}
 
 -- the word of a change
 abbrev pub change_word : Change → List ℕ
@@ -34,20 +33,6 @@ change_word (changes.Rmlabel view label path) = codes "rmlabel"
 change_word (changes.Mkarrow view path version) = codes "mkarrow"
 change_word (changes.Rmdo view path) = codes "rmdo"
 change_word (changes.Scrub age) = codes "scrub"
-
--- the word of a query
-abbrev pub query_word : Query → List ℕ
-query_word (queries.Catcs view) = codes "catcs"
-query_word (queries.Lsdo view) = codes "lsdo"
-query_word (queries.Ls view path) = codes "ls"
-query_word (queries.Cat view path version) = codes "cat"
-query_word (queries.Describe view path) = codes "describe"
-query_word (queries.Lsvtree view path) = codes "lsvtree"
-query_word (queries.Lshistory view path) = codes "lshistory"
-query_word (queries.Catcr view path) = codes "catcr"
-query_word (queries.Diffcr view path other second) = codes "diffcr"
-query_word (queries.Covers seer view path) = codes "covers"
-query_word (queries.Findmerge view path branch) = codes "findmerge"
 
 -- the word of a command
 abbrev pub word_of : Command → List ℕ
