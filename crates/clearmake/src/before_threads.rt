@@ -59,7 +59,7 @@ fn are_done<T: PhaseService>(service: &T, lanes: u32) -> bool
 }
 
 /// A round: each lane that is not set aside takes its turn, until one comes to a build. A lane is set aside that has nothing
-/// left to do, since to look after its last command again and again may take long, and one for which memory ran out.
+/// left to do, since it may take long to look past its last command again and again, and one for which memory ran out.
 fn take_turns<T: PhaseService>(
     service: &mut T,
     alloc: Global,

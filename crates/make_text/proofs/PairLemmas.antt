@@ -125,7 +125,7 @@ from_pair suffixes bytes all h =
     and_from (is_among suffixes (take (first_length bytes) bytes)) (is_among suffixes (drop (first_length bytes) bytes))
     (ap (is_among suffixes) first ∙ f.among) (ap (is_among suffixes) rest ∙ t.among)
 
--- bytes are two suffixes put together where they are so cut before the first `.` behind their first byte
+-- bytes are two suffixes put together where they are so cut before the first `.` after their first byte
 pub pair_cut : (suffixes : List (List ℕ)) (bytes : List ℕ) → list_all is_suffix suffixes ≡ true →
     (is_among suffixes (take (first_length bytes) bytes) && is_among suffixes (drop (first_length bytes) bytes))
     ≡ is_pair_of suffixes bytes

@@ -36,7 +36,7 @@ abbrev pub before_period : List ℕ → ℕ
 before_period [] = 0
 before_period (b ∷ bytes) = if b == 46 then 0 else suc (before_period bytes)
 
--- how many bytes stand before the first `.` behind the first byte
+-- how many bytes stand before the first `.` after the first byte
 abbrev pub first_length : List ℕ → ℕ
 first_length [] = 0
 first_length (b ∷ bytes) = suc (before_period bytes)

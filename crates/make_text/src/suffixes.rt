@@ -49,7 +49,7 @@ fn before_period(bytes: &[u8]) -> usize
     bytes.len()
 }
 
-/// Bytes cut before the first `.` behind their first byte.
+/// Bytes cut before the first `.` after their first byte.
 fn cut(bytes: &[u8]) -> (&[u8], &[u8])
     ensures first { result.0.now ≡ take (first_length bytes.now) bytes.now }
     ensures second { result.1.now ≡ drop (first_length bytes.now) bytes.now }
@@ -93,7 +93,7 @@ impl Suffixes {
         Ok(())
     }
 
-    /// Puts the suffixes behind `.SUFFIXES` behind the others, or leaves none where there are none of these. Takes time linear in
+    /// Puts the suffixes after `.SUFFIXES` after the others, or leaves none where there are none of these. Takes time linear in
     /// them.
     pub(crate) fn take(&mut self, alloc: Global, suffixes: &[Path]) -> Result<(), NoMemory>
         requires { list_all is_suffix suffixes.now ≡ true }
@@ -130,7 +130,7 @@ impl Suffixes {
     }
 
     /// Whether bytes are two suffixes put together. Takes time linear in them: only the first byte of a suffix is a `.`, so the
-    /// second begins at the first `.` behind their first byte.
+    /// second begins at the first `.` after their first byte.
     pub(crate) fn has_pair(&self, alloc: Global, bytes: &[u8]) -> Result<bool, NoMemory>
         ensures { IfOk result (λ is_pair. is_pair ≡ is_pair_of self.now bytes.now) }
     {

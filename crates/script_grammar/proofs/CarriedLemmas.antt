@@ -20,7 +20,7 @@ pub trace_of-and_then : {A B : Type 0} (files : Files) (reads : List (List ℕ))
 trace_of-and_then files reads (Done a) next = refl
 trace_of-and_then files reads (Asks path more) next = trace_of-and_then files (with_read reads path) (more (files path)) next
 
--- answers that were `Broken` behind a count were so behind a lower one
+-- answers that were `Broken` after a count were so after a lower one
 broken_from : (lower old new : ℕ) → lower ≤ old → Rose old new → Rose lower new
 broken_from lower old new h rose = λ below. omega (arith, h, rose below)
 

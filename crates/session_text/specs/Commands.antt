@@ -94,7 +94,7 @@ read_mkbrtype words = says changes.Mkbrtype (only_type words)
 abbrev pub by_record : List ℕ → Bool → List (List ℕ) → Said Change
 by_record v replace words = says (λ at. changes.MklabelConfig v replace at.0 at.1) (path_type words)
 
--- `mklabel V [-replace] L P`, and with `-config`, by the words behind the flag
+-- `mklabel V [-replace] L P`, and with `-config`, by the words after the flag
 abbrev pub read_labels : Bool → List (List ℕ) → List ℕ → Said Change
 read_labels replace words v =
     if has_flag (codes "-config") words then by_record v replace (without_flag (codes "-config") words)

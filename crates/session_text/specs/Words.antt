@@ -13,7 +13,7 @@ use Rattle.cc_names.specs.declared.commands.VersionName.{VersionName}
 use Rattle.cc_names.specs.declared.refusals.SessionCause.{SessionCause}
 use Rattle.cc_names.specs.declared.refusals.SessionCause.TheVariants.{BadWord}
 
--- a version's name: the type names of its branches behind `main`, and a number of eight bytes
+-- a version's name: the type names of its branches after `main`, and a number of eight bytes
 abbrev pub IsVersionName : VersionName → Type 0
 IsVersionName version = AllByRecursion IsTypeName version.branches × (version.number < 2 ^ 64)
 
@@ -60,7 +60,7 @@ age_word word = within_limits 0 9223372036854775807 (number_of word)
 abbrev pub jobs_word : List ℕ → Said ℕ
 jobs_word word = within_limits 1 64 (number_of word)
 
--- a version of these branches behind `main`, where there is a number
+-- a version of these branches after `main`, where there is a number
 abbrev pub version_of_parts : List (List ℕ) → Option ℕ → Said VersionName
 version_of_parts branches (Some n) = Ok (record { branches = branches; number = n })
 version_of_parts branches None = Err BadWord
@@ -98,7 +98,7 @@ abbrev pub and_says : {X Y : Type 0} → (X → Said Y) → Said X → Said Y
 and_says more (Ok x) = more x
 and_says more (Err cause) = Err cause
 
--- a path and, behind `@@`, a version of the element there, by the place of the first `@`
+-- a path and, after `@@`, a version of the element there, by the place of the first `@`
 abbrev pub cat_by : List ℕ → Option ℕ → Said (List ℕ × Option VersionName)
 cat_by word None = says (λ path. (path, None)) (path_word word)
 cat_by word (Some place) =

@@ -213,7 +213,7 @@ fn read_mklabel_config(
     })
 }
 
-/// `mklabel V [-replace] L P`, and with `-config`, by the words behind the flag
+/// `mklabel V [-replace] L P`, and with `-config`, by the words after the flag
 fn read_labels(
     alloc: Global,
     view: Name,

@@ -85,7 +85,7 @@ impl Model for LanesLeft {
     ghost view = { λ s. lanes_of (lines_at s.place) };
 }
 
-/// The name that the words behind `lane` say, where they say one.
+/// The name that the words after `lane` say, where they say one.
 fn name_said(alloc: Global, words: Words<'_>) -> Result<Name, NoMemory>
     requires { LaneNames words }
     ensures { IfOk result (λ name. view words.entry ≡ Ok name) }

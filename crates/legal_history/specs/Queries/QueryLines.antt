@@ -56,7 +56,7 @@ abbrev pub text_row : Base → List ℕ → List ℕ → Seen → Option ℕ
 text_row b v path Nothing = held_at (objects_held b) v path
 text_row b v path seen = file_at b v path
 
--- The text that a row made at a path. It is asked for behind the tests of `cat` alone, which leave a row, and each makes
+-- The text that a row made at a path. It is asked for after the tests of `cat` alone, which leave a row, and each makes
 -- the text of a file or of an object there.
 abbrev pub made_text_at : Base → List ℕ → Option ℕ → List ℕ
 made_text_at b path row = unwrap_or (option_and_then (λ r. text b r path) row) []
