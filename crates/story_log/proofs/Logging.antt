@@ -1,6 +1,5 @@
 -- What a log shows and keeps after each step.
 pub mod Appended
-pub mod Leavings
 pub mod LogSteps
 pub mod Logged
 pub mod Logging

@@ -2,12 +2,11 @@
 
 ghost use Rattle.std.specs.Prelude.{◌≡◌, ◌+◌, ◌<◌, ◌≤◌, ◌^◌, ◌++◌, ◌∷◌, [], length, true, false, IfOk, OnOk, OnErr, option_copied};
 ghost use Rattle.row_form.specs.Spelled.{spelling_of};
-ghost use Rattle.story_log.specs.Logging.Leaving.{left_in};
+ghost use Rattle.story_log.specs.Logging.Leaving.{LeftSo};
 ghost use Rattle.std.specs.Vec.{vec_len, vec_capacity};
 ghost use Rattle.std.specs.Option.{option_to_list};
 
 use crate::history::History;
-use cc_names::copies::Copied;
 use cc_names::memory::NoMemory;
 use cc_names::names::Name;
 use cc_names::paths::Path;
@@ -18,6 +17,7 @@ use row_form::spell;
 use session_text::PhaseText;
 use std::alloc::Global;
 use std::marker::Model;
+use std::snapshot::Snapshot;
 use view_lookup::{FirstRows, Rows, prepare, remember};
 use vob_journal::{Frame, Journal, Left};
 
@@ -36,6 +36,8 @@ pub struct Log<D: Disk> {
     rows: Rows,
     phases: Vec<PhaseText>,
     steps: Vec<Step>,
+    /// The row that the newest fault left, where no row was committed since.
+    left: Option<Row>,
     /// The disk's counts as it was handed in.
     handed: Counts,
     journal: Journal<D>,
@@ -43,7 +45,7 @@ pub struct Log<D: Disk> {
 
 impl<D: Disk> Model for Log<D> {
     ghost use Rattle.story_log.specs.Story.Handed.{handed_disk};
-    ghost use Rattle.story_log.specs.Logging.Logs.{Logged, IsLogged};
+    ghost use Rattle.story_log.specs.Logging.Logs.{Logged, KeepsLeft, IsLogged};
     ghost use Rattle.story_log.specs.Story.Telling.{story_of};
     ghost use Rattle.base_rows.specs.Order.{oldest_first};
 
@@ -60,7 +62,9 @@ impl<D: Disk> Model for Log<D> {
     ghost invariant = { λ log.
         IsLogged (handed_disk log.handed D.tells) log.steps.items log.rows.base log.phases.items
         (D.ghost_state log.journal.disk) log.journal.list log.journal.leftover log.journal.ended
-        log.journal.left log.journal.settled };
+        log.journal.left log.journal.settled
+        × KeepsLeft (handed_disk log.handed D.tells) log.steps.items log.rows.base log.phases.items
+        log.left };
 }
 
 /// The frame of a row. A row that is spelled in 2^32 bytes or more counts as want of memory.
@@ -74,29 +78,14 @@ fn frame_of(alloc: Global, row: &Row) -> Result<Frame, NoMemory>
     Frame::of(alloc, payload.as_bytes())
 }
 
-/// The row that may be found after the rows: what the newest fault left, if no row was committed since. Looks at the steps
-/// since the newest commit or fault.
-fn left_behind(steps: &[Step]) -> Option<&Row>
-    ensures { option_copied result ≡ left_in steps.now }
+/// The row that may be found after those of the base once an append failed, by what the journal left.
+fn left_after(how: Left, earlier: Option<Row>, row: Row) -> Option<Row>
+    ensures { LeftSo earlier row how result }
 {
-    let mut rest = steps;
-    while let Some((step, earlier)) = rest.split_last() {
-        match step {
-            Step::Commit { .. } => return None,
-            Step::Fault { left, .. } => return left.as_ref(),
-            _ => rest = earlier,
-        }
-    }
-    None
-}
-
-/// A copy of that row.
-fn copy_left(alloc: Global, steps: &[Step]) -> Result<Option<Row>, NoMemory>
-    ensures { IfOk result (λ left. left ≡ left_in steps.now) }
-{
-    match left_behind(steps) {
-        None => Ok(None),
-        Some(row) => Ok(Some(row.copy(alloc)?)),
+    match how {
+        Left::Nothing => None,
+        Left::Earlier => earlier,
+        Left::InFlight => Some(row),
     }
 }
 
@@ -163,6 +152,7 @@ impl<D: Disk> Log<D> {
             rows,
             phases: Vec::new(alloc),
             steps,
+            left: None,
             handed,
             journal,
         })
@@ -189,7 +179,7 @@ impl<D: Disk> Log<D> {
 
     /// Commits a row: it is appended to the journal and then added to the history; or the disk fault is added, followed
     /// by the step that ends the build, if there is one. Takes all memory first; an `Err` changes nothing. Takes time
-    /// linear in the row, in the steps since the last commit or fault, and in the row that a fault left there.
+    /// linear in the row.
     pub fn append(
         &mut self,
         alloc: Global,
@@ -202,7 +192,6 @@ impl<D: Disk> Log<D> {
         ensures err { OnErr result (self.new ≡ self.old) }
     {
         let frame = frame_of(alloc, &row)?;
-        let earlier = copy_left(alloc, self.steps.as_slice())?;
         let prepared = prepare(alloc, &self.rows, row.deed())?;
         self.rows.reserve(row.deed(), &prepared)?;
         self.steps.reserve(2)?;
@@ -211,18 +200,15 @@ impl<D: Disk> Log<D> {
         let before = self.journal.counts().faults;
         if let Ok(tick) = self.journal.append(&frame) {
             self.steps.push_reserved(Step::Commit { tag, number, tick });
+            self.left = None;
             self.rows.push(row, prepared);
             return Ok(Appended::Committed);
         }
         let counts = self.journal.counts();
-        let left = match self.journal.left_by_last_call() {
-            Left::Nothing => None,
-            Left::Earlier => earlier,
-            Left::InFlight => Some(row),
-        };
+        self.left = left_after(self.journal.left_by_last_call(), self.left.take(), row);
         let fault = Step::Fault {
             tag,
-            left,
+            left: Snapshot::of(&self.left),
             before,
             after: counts.faults,
             tick: counts.ticks,
@@ -302,6 +288,7 @@ impl<D: Disk> Log<D> {
             rows,
             phases,
             steps,
+            left: _,
             handed,
             journal,
         } = self;

@@ -40,7 +40,7 @@ preserved_fault : (log : Logged) (lanes : List LaneState) (now : ℕ) (row : Pla
     → rises (ticks_of (state_of log.story).opened (state_of log.story).ends) tick ≡ true → CoreInvariant log lanes now
     → FinishesCommand row.deed → row.moment ≡ now → decision_for (state_of log.story) row.tag ≡ Some (Ok (Makes row.deed))
     → 1 ≤ row.tag.lane → row.tag.lane ≤ length lanes → IsFormed row
-    → CoreInvariant (with_step_on log (steps.Fault row.tag left before faults tick) ghost_state)
+    → CoreInvariant (with_step_on log (story_steps.Fault row.tag left before faults tick) ghost_state)
     (with_reply lanes row.tag.lane replies.DiskFault) now
 preserved_fault log lanes now row left before faults tick ghost_state rose later leaves ticked h finishes in_time made low high
     formed =
@@ -86,12 +86,12 @@ pub preserved_next_fault : (log : Logged) (lanes : List LaneState) (now : ℕ) (
     → faults_of (state_of log.story).opened (state_of log.story).ends ≤ before → MayLeaveRow (state_of log.story) row left
     → rises (ticks_of (state_of log.story).opened (state_of log.story).ends) tick ≡ true → log.story ≡ story → lane ≡ row.tag.lane
     → CoreInvariant log lanes now → IsRowToCommit (state_of story) row → IsFormed row
-    → CoreInvariant (with_step_on log (steps.Fault row.tag left before faults tick) ghost_state)
+    → CoreInvariant (with_step_on log (story_steps.Fault row.tag left before faults tick) ghost_state)
     (with_reply lanes lane replies.DiskFault) now
 preserved_next_fault log lanes now story row lane left before faults tick ghost_state rose later leaves ticked same at_lane h next
     formed =
     let here : IsRowToCommit (state_of log.story) row = subst (λ t. IsRowToCommit (state_of t) row) (sym same) next in
-    subst (λ l. CoreInvariant (with_step_on log (steps.Fault row.tag left before faults tick) ghost_state)
+    subst (λ l. CoreInvariant (with_step_on log (story_steps.Fault row.tag left before faults tick) ghost_state)
     (with_reply lanes l replies.DiskFault) now) (sym at_lane)
     (preserved_fault log lanes now row left before faults tick ghost_state rose later leaves ticked h here.finishes
     (here.at_moment ∙ h.phase.moment) here.made here.of_next.from

@@ -64,7 +64,7 @@ after_fault s lane build left before faults tick is = ap (λ o. record s {
 
 -- the log after a fault under a lane's build, and after the end of it
 abbrev pub broken_log : Logged → Tag → Option Plain → ℕ → ℕ → ℕ → DiskState → Logged
-broken_log log tag left before faults tick ghost_state = with_step (with_step_on log (steps.Fault tag left before faults tick)
+broken_log log tag left before faults tick ghost_state = with_step (with_step_on log (story_steps.Fault tag left before faults tick)
     ghost_state) (steps.End tag)
 
 -- what is kept then
@@ -107,7 +107,7 @@ preserved_broken log lanes now lane build row left before faults tick ghost_stat
     end = story_steps.End tag
 
     failed : Logged
-    failed = with_step_on log (steps.Fault tag left before faults tick) ghost_state
+    failed = with_step_on log (story_steps.Fault tag left before faults tick) ghost_state
 
     story' : List StoryStep
     story' = log.story ++ fault ∷ []
@@ -205,15 +205,15 @@ pub preserved_broken_object : (log : Logged) (lanes : List LaneState) (now lane 
     → faults_of (state_of log.story).opened (state_of log.story).ends ≤ before → MayLeaveRow (state_of log.story) row left
     → rises (ticks_of (state_of log.story).opened (state_of log.story).ends) tick ≡ true → CoreInvariant log lanes now
     → Gives (state_of log.story) lane n row object → tag ≡ next_tag (state_of log.story) lane → IsFormed row
-    → CoreInvariant (with_step (with_step_on log (steps.Fault row.tag left before faults tick) ghost_state) (steps.End tag))
+    → CoreInvariant (with_step (with_step_on log (story_steps.Fault row.tag left before faults tick) ghost_state) (steps.End tag))
     (with_closed lanes lane replies.DiskFault) now
 preserved_broken_object log lanes now lane n row object tag left before faults tick ghost_state rose later leaves ticked h g
     tagged formed =
     let s = state_of log.story in
     let slot = lane_slot log lanes now lane g.build h g.active in
-    subst (λ t. CoreInvariant (with_step (with_step_on log (steps.Fault row.tag left before faults tick) ghost_state)
+    subst (λ t. CoreInvariant (with_step (with_step_on log (story_steps.Fault row.tag left before faults tick) ghost_state)
     (steps.End t)) (with_closed lanes lane replies.DiskFault) now) (sym tagged)
-    (subst (λ t. CoreInvariant (with_step (with_step_on log (steps.Fault t left before faults tick) ghost_state)
+    (subst (λ t. CoreInvariant (with_step (with_step_on log (story_steps.Fault t left before faults tick) ghost_state)
     (steps.End (next_tag s lane))) (with_closed lanes lane replies.DiskFault) now) (sym g.of_tag)
     (preserved_broken log lanes now lane g.build row left before faults tick ghost_state rose later leaves ticked h slot.from
     slot.upto g.active g.of_tag g.may formed))
@@ -222,13 +222,13 @@ preserved_broken_object log lanes now lane n row object tag left before faults t
 pub broken_object_finishes : (log : Logged) (lanes : List LaneState) (now : ℕ) (story : List StoryStep) (lane n : ℕ) (row : Plain)
     (object : ℕ) (tag : Tag) (left : Option Plain) (before faults tick : ℕ) (ghost_state : DiskState) → log.story ≡ story
     → CoreInvariant log lanes now → Gives (state_of log.story) lane n row object → tag ≡ next_tag (state_of log.story) lane
-    → Finishes story (with_step (with_step_on log (steps.Fault row.tag left before faults tick) ghost_state)
+    → Finishes story (with_step (with_step_on log (story_steps.Fault row.tag left before faults tick) ghost_state)
     (steps.End tag)).story lane
 broken_object_finishes log lanes now story lane n row object tag left before faults tick ghost_state same h g tagged =
     let s = state_of log.story in
     let by_tag = build_is_by s lane g.build g.active (h.builds.kept lane g.build g.active).tag in
-    subst (λ t. Finishes t (with_step (with_step_on log (steps.Fault row.tag left before faults tick) ghost_state)
+    subst (λ t. Finishes t (with_step (with_step_on log (story_steps.Fault row.tag left before faults tick) ghost_state)
     (steps.End tag)).story lane) same
-    (subst (λ t. Finishes log.story (with_step (with_step_on log (steps.Fault t left before faults tick) ghost_state)
+    (subst (λ t. Finishes log.story (with_step (with_step_on log (story_steps.Fault t left before faults tick) ghost_state)
     (steps.End tag)).story lane) (tagged ∙ sym g.of_tag)
     (broken_finishes log log.story lane g.build tag left before faults tick ghost_state refl by_tag tagged))

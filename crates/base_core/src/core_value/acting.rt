@@ -18,6 +18,7 @@ use cc_names::texts::Text;
 use checkout_desk::{decide, view_of};
 use disk_model::Disk;
 use std::alloc::Global;
+use std::snapshot::Snapshot;
 use story_log::Appended;
 use view_lookup::replied_name;
 
@@ -146,15 +147,15 @@ impl<D: Disk> Core<D> {
     }
 
     /// Answers its lane's next command. An `Err` changes nothing.
-    fn tell_answer(&mut self, alloc: Global, tag: Tag, text: Text) -> Result<(), NoMemory>
+    fn tell_answer(&mut self, tag: Tag, text: Text) -> Result<(), NoMemory>
         requires { IsNextAnswer (state_of self.old.story) tag text (replies.Answer text) }
         ensures ok { OnOk result (Acts self.old.story self.new.story tag.lane dones.Answered) }
         ensures err { OnErr result (self.new ≡ self.old) }
         ensures counted { KeepsCount self.old self.new }
     {
-        let replied = text.copy(alloc)?;
-        self.log.tell(Step::Answer { tag, text })?;
-        self.lanes.reply(tag.lane, Reply::Answer(replied));
+        let kept = Snapshot::of(&text);
+        self.log.tell(Step::Answer { tag, text: kept })?;
+        self.lanes.reply(tag.lane, Reply::Answer(text));
         Ok(())
     }
 
@@ -165,7 +166,8 @@ impl<D: Disk> Core<D> {
         ensures err { OnErr result (self.new ≡ self.old) }
         ensures counted { KeepsCount self.old self.new }
     {
-        let text = Text::of(Vec::new(alloc));
+        let nothing = Text::of(Vec::new(alloc));
+        let text = Snapshot::of(&nothing);
         self.log.tell(Step::Answer { tag, text })?;
         self.lanes.reply(tag.lane, Reply::Count(0));
         Ok(())
@@ -209,7 +211,7 @@ impl<D: Disk> Core<D> {
         let tag = self.tag(lane);
         match self.find_answer(alloc, lane, query) {
             Ok(text) => {
-                self.tell_answer(alloc, tag, text)?;
+                self.tell_answer(tag, text)?;
                 Ok(Done::Answered)
             }
             Err(Or::Is(refusal)) => {

@@ -1,5 +1,5 @@
 -- The step that tells the opening of a base tells all its rows.
-use Rattle.std.proofs.Common.{◌≡◌, ℕ, suc, ◌+◌, ◌-◌, Bool, List, [], ◌∷◌, length, drop, sym, ap, ap₂, subst, ◌∙◌, arith}
+use Rattle.std.proofs.Common.{◌≡◌, ℕ, suc, ◌+◌, ◌-◌, Bool, None, List, [], ◌∷◌, length, drop, sym, ap, ap₂, subst, ◌∙◌, arith}
 use Rattle.std.proofs.lemmas.List.{length-reverse, take_all, drop_all}
 use Rattle.cc_names.specs.Formed.{Plain}
 use Rattle.cc_names.specs.declared.commands.Phase.{Phase}
@@ -9,10 +9,11 @@ use Rattle.cc_names.specs.declared.steps.StoryStep.{StoryStep}
 use Rattle.cc_names.specs.declared.steps.StoryStep.TheVariants as story_steps
 use Rattle.disk_model.specs.DiskStates.{DiskState}
 use Rattle.base_model.specs.Rows.{Base, size}
+use Rattle.legal_history.specs.Stories.States.{hanging}
 use Rattle.legal_history.specs.Stories.Steps.{state_of}
 use Rattle.vob_journal.specs.declared.left.Left.{Left}
 use Rattle.story_log.specs.Stopping.Backed.{IsBacked}
-use Rattle.story_log.specs.Logging.Logs.{IsLogged, Logged, opened_log}
+use Rattle.story_log.specs.Logging.Logs.{KeepsLeft, IsLogged, Logged, opened_log}
 use Rattle.story_log.specs.Story.Telling.{story_of, AreNamedBySteps}
 use Rattle.base_rows.specs.Order.{oldest_first}
 use Rattle.story_log.specs.Story.Handed.{Handed}
@@ -55,6 +56,14 @@ opened_logged handed base n kept phases ghost_state list leftover ended left set
       backed = subst (λ story. IsBacked (state_of story) ghost_state list leftover ended left settled)
           (sym (opened_story handed (oldest_first base) n (counted base n count))) backed;
     }))
+
+-- no row may be found after those of a base that was opened
+pub opened_left : (handed : Handed) (base : Base) (n : ℕ) (kept : List Step) (phases : List Phase) → n ≡ size base
+    → kept ≡ steps.Opened n ∷ [] → phases ≡ [] → KeepsLeft handed kept base phases None
+opened_left handed base n kept phases count opens none =
+    sym (ap (λ story. hanging (state_of story).ends)
+    (ap₂ (λ all ps. story_of handed all (oldest_first base) ps) opens none
+    ∙ opened_story handed (oldest_first base) n (counted base n count)))
 
 pub opened_shown : (handed : Handed) (base : Base) (n : ℕ) (kept : List Step) (phases : List Phase) (ghost_state : DiskState)
     → n ≡ size base → kept ≡ steps.Opened n ∷ [] → phases ≡ []

@@ -1,15 +1,18 @@
 -- What a log shows after one more step.
 use Rattle.std.proofs.Common.{◌≡◌, ℕ, ◌+◌, true, List, [], ◌∷◌, ◌++◌, reverse, ap, sym, subst, ◌∙◌, length, arith}
 use Rattle.std.proofs.lemmas.List.{length-reverse, reverse-append, reverse-reverse}
+use Rattle.std.specs.Option.{option_to_list}
+use Rattle.std.specs.Prelude.{Some, is_some}
 use Rattle.cc_names.specs.Formed.{Plain}
 use Rattle.cc_names.specs.declared.commands.Phase.{Phase}
 use Rattle.cc_names.specs.declared.rows.Tag.{Tag}
 use Rattle.cc_names.specs.declared.steps.Step.{Step}
 use Rattle.cc_names.specs.declared.steps.Step.TheVariants as steps
+use Rattle.cc_names.specs.declared.steps.StoryStep.{StoryStep}
 use Rattle.disk_model.specs.DiskStates.{DiskState}
 use Rattle.base_model.specs.Rows.{Base}
 use Rattle.story_log.specs.Logging.Logs.{Logged, with_phase, with_committed_row, with_step, with_step_on}
-use Rattle.story_log.specs.Story.Telling.{story_of, AreNamedBySteps, stands_alone}
+use Rattle.story_log.specs.Story.Telling.{story_of, AreNamedBySteps, shown_as, stands_alone}
 use Rattle.base_rows.specs.Order.{oldest_first}
 use Rattle.story_log.specs.Story.Handed.{Handed}
 use Rattle.story_log.proofs.Story.Stories.{story_of-phase, named_beginning, story_of-commit, named_commit, story_of-step}
@@ -86,16 +89,17 @@ shown_step on kept more base phases step ghost_state h alone e =
       ghost_state = ghost_state;
     }) (story_of-step on kept (oldest_first base) phases step h alone)
 
-pub shown_step_on : (on : Handed) (kept more : List Step) (base : Base) (phases : List Phase) (step : Step) (old new : DiskState)
-    → IsNamedBySteps kept base phases → stands_alone step ≡ true → more ≡ kept ++ step ∷ []
-    → shown on more base phases new ≡ with_step_on (shown on kept base phases old) step new
-shown_step_on on kept more base phases step old new h alone e =
+pub shown_step_on : (on : Handed) (kept more : List Step) (base : Base) (phases : List Phase) (step : Step) (x : StoryStep)
+    (old new : DiskState) → IsNamedBySteps kept base phases → shown_as step ≡ Some x → more ≡ kept ++ step ∷ []
+    → shown on more base phases new ≡ with_step_on (shown on kept base phases old) x new
+shown_step_on on kept more base phases step x old new h is e =
     ap (λ xs. shown on xs base phases new) e ∙ ap (λ story. record {
       story = story;
       base = base;
       phases = phases;
       ghost_state = new;
-    }) (story_of-step on kept (oldest_first base) phases step h alone)
+    }) (story_of-step on kept (oldest_first base) phases step h (ap is_some is)
+    ∙ ap (λ o. story_of on kept (oldest_first base) phases ++ option_to_list o) is)
 
 pub is_named_step : (kept more : List Step) (base : Base) (phases : List Phase) (step : Step) → IsNamedBySteps kept base phases
     → stands_alone step ≡ true → more ≡ kept ++ step ∷ [] → IsNamedBySteps more base phases

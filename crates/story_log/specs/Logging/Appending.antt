@@ -2,7 +2,7 @@
 use Rattle.std.specs.Prelude.{◌≡◌, ℕ, ◌<◌, ◌≤◌, ◌⊎◌, Bool, true, false, Option, Some, None, option_map, List}
 use Rattle.cc_names.specs.Formed.{Plain, IsFormed}
 use Rattle.cc_names.specs.declared.steps.Step.{Step}
-use Rattle.cc_names.specs.declared.steps.Step.TheVariants as steps
+use Rattle.cc_names.specs.declared.steps.StoryStep.TheVariants as story_steps
 use Rattle.disk_model.specs.Counting.{next_count}
 use Rattle.disk_model.specs.Devices.{Device}
 use Rattle.disk_model.specs.DiskStates.{DiskState, Both, IsCounted}
@@ -75,7 +75,7 @@ pub record IsFaulted (old new : Logged) (row : Plain) (ending : Option Step) : T
   pub tick : ℕ
   pub ghost_state : DiskState
   pub formed : IsFormed row
-  pub grows : new ≡ with_ending (with_step_on old (steps.Fault row.tag left before faults tick) ghost_state) ending
+  pub grows : new ≡ with_ending (with_step_on old (story_steps.Fault row.tag left before faults tick) ghost_state) ending
   pub rose : rises before faults ≡ true
   pub later : faults_of (state_of old.story).opened (state_of old.story).ends ≤ before
   pub leaves : MayLeaveRow (state_of old.story) row left

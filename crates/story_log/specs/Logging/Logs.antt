@@ -1,5 +1,5 @@
 -- A story with the rows and the phases that it names, on a disk, and what each kind of step adds to it.
-use Rattle.std.specs.Prelude.{◌≡◌, ℕ, Bool, List, [], ◌∷◌, ◌++◌}
+use Rattle.std.specs.Prelude.{◌≡◌, ℕ, Bool, Option, List, [], ◌∷◌, ◌++◌}
 use Rattle.std.specs.Option.{option_to_list}
 use Rattle.cc_names.specs.Formed.{Plain}
 use Rattle.cc_names.specs.declared.commands.Phase.{Phase}
@@ -8,6 +8,7 @@ use Rattle.cc_names.specs.declared.steps.StoryStep.{StoryStep}
 use Rattle.cc_names.specs.declared.steps.StoryStep.TheVariants as story_steps
 use Rattle.disk_model.specs.DiskStates.{DiskState}
 use Rattle.base_model.specs.Rows.{Base}
+use Rattle.legal_history.specs.Stories.States.{hanging}
 use Rattle.legal_history.specs.Stories.Steps.{state_of}
 use Rattle.vob_journal.specs.declared.left.Left.{Left}
 use Rattle.story_log.specs.Stopping.Backed.{IsBacked}
@@ -29,6 +30,11 @@ pub record IsLogged (handed : Handed) (steps : List Step) (base : Base) (phases 
   pub modeled : AreNamedBySteps 1 0 steps (oldest_first base) phases
   pub leads : (state_of (story_of handed steps (oldest_first base) phases)).base ≡ base
   pub backed : IsBacked (state_of (story_of handed steps (oldest_first base) phases)) ghost_state list leftover ended left settled
+
+-- the row that may be found after those of the base, as the newest commit or fault left it
+abbrev pub KeepsLeft : Handed → List Step → Base → List Phase → Option Plain → Type 0
+KeepsLeft handed steps base phases left =
+    left ≡ hanging (state_of (story_of handed steps (oldest_first base) phases)).ends
 
 -- this base was opened
 abbrev pub opened_log : Base → Handed → DiskState → Logged
@@ -73,10 +79,10 @@ with_step log step = record {
 abbrev pub with_ghost_state : Logged → DiskState → Logged
 with_ghost_state log ghost_state = record { story = log.story; base = log.base; phases = log.phases; ghost_state = ghost_state }
 
--- with such a step, while the disk changed
-abbrev pub with_step_on : Logged → Step → DiskState → Logged
+-- with a step of the story, while the disk changed
+abbrev pub with_step_on : Logged → StoryStep → DiskState → Logged
 with_step_on log step ghost_state = record {
-  story = log.story ++ option_to_list (shown_as step);
+  story = log.story ++ step ∷ [];
   base = log.base;
   phases = log.phases;
   ghost_state = ghost_state;

@@ -2,6 +2,7 @@
 use Rattle.std.proofs.Common.{◌≡◌, ◌<◌, Some, length, refl, ap, sym, subst, ◌∙◌}
 use Rattle.std.specs.Prelude.{IsSome}
 use Rattle.cc_names.specs.declared.steps.Step.TheVariants as steps
+use Rattle.cc_names.specs.declared.steps.StoryStep.TheVariants as story_steps
 use Rattle.legal_history.specs.Stories.Commanded.{next_command_of}
 use Rattle.legal_history.specs.Stories.States.{next_tag}
 use Rattle.legal_history.specs.Stories.Steps.{state_of}
@@ -118,7 +119,7 @@ invariant_of-self-in-Faulted g c =
     ∙ ap (λ v. next_tag (state_of v.story) c.args.lane) (sym c.self.view_is) in
     subst (λ log. CoreInvariant log c.close.new.self c.self.inside.moment) (sym done.grows)
     (subst (λ lanes. CoreInvariant (with_step (with_step_on c.self.inside.log
-    (steps.Fault c.args.row.tag done.left done.before done.faults done.tick) done.ghost_state) (steps.End c.tag-tag.result))
+    (story_steps.Fault c.args.row.tag done.left done.before done.faults done.tick) done.ghost_state) (steps.End c.tag-tag.result))
     lanes c.self.inside.moment) (sym c.close.ensures)
     (preserved_broken_object c.self.inside.log c.self.inside.lanes c.self.inside.moment c.args.lane c.args.unit c.args.row
     c.args.object c.tag-tag.result done.left done.before done.faults done.tick done.ghost_state done.rose done.later
