@@ -1,5 +1,5 @@
 -- The form of a session: what its names, paths, numbers and lists keep. What is read has it.
-use Rattle.std.specs.Prelude.{◌≡◌, ◌≢◌, ℕ, ◌<◌, ◌≤◌, ◌^◌, ◌||◌, ◌&&◌, ◌==◌, nat_le, Bool, true, List, [], map, length, IfSome}
+use Rattle.std.specs.Prelude.{◌≡◌, ◌≢◌, ℕ, ◌<◌, ◌≤◌, ◌^◌, true, List, [], map, length, IfSome}
 use Rattle.std.specs.Prelude.{IsOk}
 use Rattle.std.specs.List.{AllByRecursion, IsDistinct, list_all}
 use Rattle.std.specs.Str.{bytes_eq}
@@ -15,17 +15,9 @@ use Rattle.cc_names.specs.declared.commands.Command.TheVariants as commands
 use Rattle.cc_names.specs.declared.commands.Lane.{Lane}
 use Rattle.cc_names.specs.declared.commands.Phase.{Phase}
 use Rattle.cc_names.specs.declared.commands.Session.{Session}
+use Rattle.session_text.specs.Clearmake.{is_macro_byte, is_word_byte}
 use Rattle.session_text.specs.Commands.{IsQuery}
 use Rattle.session_text.specs.Words.{IsVersionName}
-
--- a byte of a macro's name: a letter, a digit, `_` or `.`
-abbrev pub is_macro_byte : ℕ → Bool
-is_macro_byte b =
-    (nat_le 97 b && nat_le b 122) || (nat_le 65 b && nat_le b 90) || (nat_le 48 b && nat_le b 57) || (b == 95) || (b == 46)
-
--- a byte of a word
-abbrev pub is_word_byte : ℕ → Bool
-is_word_byte b = nat_le 33 b && nat_le b 126
 
 -- a macro of a command line, whose text is of a word
 abbrev pub IsMacro : ℕ → Macro → Type 0
