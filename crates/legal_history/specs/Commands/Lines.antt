@@ -8,12 +8,12 @@ use Rattle.cc_names.specs.declared.refusals.Refusal.{Refusal}
 use Rattle.cc_names.specs.declared.rows.Kind.TheVariants.{File, Directory}
 use Rattle.cc_names.specs.declared.rows.TypeKind.TheVariants as type_kinds
 use Rattle.legal_history.specs.Commands.CheckoutLines.{checkout, mkbranch, checkin, uncheckout}
-use Rattle.legal_history.specs.Commands.Decisions.{Scene, Decision}
+use Rattle.legal_history.specs.Commands.Decisions.{Scene, Decision, answered}
 use Rattle.legal_history.specs.Commands.DirectoryLines.{mkelem, rmname, mv}
 use Rattle.legal_history.specs.Commands.FileLines.{mkview, rmview, setcs, save, rm}
 use Rattle.legal_history.specs.Commands.LabelLines.{mktype, mklabel, rmlabel, mklabel_config, mkarrow}
 use Rattle.legal_history.specs.Commands.ObjectLines.{rmdo, scrub, clearmake}
-use Rattle.legal_history.specs.Queries.QueryLines.{query_decision}
+use Rattle.legal_history.specs.Queries.QueryLines.{query_answer}
 
 -- What is decided of a change: its first refusal in the order of its tests, else its row; or that there is nothing to change.
 abbrev pub change_decision : Scene → Change → Result Decision Refusal
@@ -42,5 +42,5 @@ change_decision s (changes.Scrub age) = scrub s age
 -- What is decided of a command: of a change, of a query, or of a build, which begins or is refused.
 abbrev pub decision : Scene → Command → Result Decision Refusal
 decision s (commands.Change change) = change_decision s change
-decision s (commands.Query query) = query_decision s.base query
+decision s (commands.Query query) = answered (query_answer s.base query)
 decision s (commands.Build build) = clearmake s build.view build.file build.macros build.goals
