@@ -1,5 +1,6 @@
 -- What sources and sinks do to the bytes that they tell, and how the doubles in memory stand.
-use Rattle.std.specs.Prelude.{ℕ, ◌≤◌, Bool, true, Option, None, Result, Ok, Err, List, [], ◌++◌, ◌==◌, length, take, drop, min, if◌then◌else◌}
+use Rattle.std.specs.Prelude.{ℕ, ◌≤◌, Bool, true, Option, None, Result, Ok, Err, List, [], ◌++◌, ◌==◌, length, take, drop, min}
+use Rattle.std.specs.Prelude.{if◌then◌else◌}
 use Rattle.std.specs.List.{list_any}
 use Rattle.std.specs.Io.KnownBytes.{Appends}
 use Rattle.cc_names.specs.Counts.{raised_count}

@@ -69,7 +69,7 @@ length_past_end : frames (1 ∷ 255 ∷ 0 ∷ 0 ∷ 0 ∷ []) ≡ []
 unfolding frames
 length_past_end = refl
 
--- The first row on an empty disk, whose tail is not settled: a shut gate is written and synced; behind it the length, the payload
+-- The first row on an empty disk, whose tail is not settled: a shut gate is written and synced; after it the length, the payload
 -- and the next gate; and then the gate is opened. The calls are listed newest first.
 six_calls : (device_after_commit false 0 payload (new_device [] [])).calls
     ≡ Synced 0 ∷ Wrote 0 0 1 (1 ∷ behind_gate)
@@ -80,7 +80,7 @@ six_calls = refl
 first_frame : bytes_now 0 (device_after_commit false 0 payload (new_device [] [])) ≡ 1 ∷ behind_gate
 first_frame = refl
 
--- a second one behind a shut gate takes four calls
+-- a second one after a shut gate takes four calls
 four_calls : (device_after_commit true 7 (codes "c") (new_device (1 ∷ 2 ∷ 0 ∷ 0 ∷ 0 ∷ codes "ab" ++ 0 ∷ []) [])).calls
     ≡ Synced 0 ∷ Wrote 0 7 1 (1 ∷ 2 ∷ 0 ∷ 0 ∷ 0 ∷ codes "ab" ++ 1 ∷ 1 ∷ 0 ∷ 0 ∷ 0 ∷ codes "c" ++ 0 ∷ [])
     ∷ Synced 0 ∷ Wrote 0 8 6 (1 ∷ 2 ∷ 0 ∷ 0 ∷ 0 ∷ codes "ab" ++ 0 ∷ 1 ∷ 0 ∷ 0 ∷ 0 ∷ codes "c" ++ 0 ∷ []) ∷ []

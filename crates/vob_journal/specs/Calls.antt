@@ -23,7 +23,7 @@ settled_first true tail d = d
 settled_first false tail d = put_down tail (0 ∷ []) d
 
 -- The device calls of a commit: where the tail is not settled, its gate is shut and synced; length, payload and the next
--- gate, shut, are written behind the gate and synced; then the gate is opened and synced.
+-- gate, shut, are written after the gate and synced; then the gate is opened and synced.
 abbrev pub device_after_commit : Bool → ℕ → List ℕ → Device → Device
 device_after_commit settled tail payload d = put_down tail (1 ∷ []) (put_down (tail + 1) (frame_after_gate payload)
     (settled_first settled tail d))

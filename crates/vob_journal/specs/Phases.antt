@@ -22,7 +22,7 @@ FailsToPut place size d e = (e ≡ d) ⊎ (e ≡ with_call Failed d)
     × ((e ≡ with_call (Tore 0 place size left) d) ⊎ (e ≡ with_call (Wrote 0 place size left) d)
     ⊎ (e ≡ with_call Failed (with_call (Wrote 0 place size left) d))))
 
--- a file with this payload whole and synced behind a shut gate
+-- a file with this payload whole and synced after a shut gate
 pub record IsStaged (list : List (List ℕ)) (payload : List ℕ) (tail : ℕ) (file : File) : Type 0 where
   pub synced : file ≡ stable file.bytes
   pub shut : IsShut list tail file
@@ -50,7 +50,8 @@ pub record MayOpen (tail : ℕ) (payload : List ℕ) (d e : Device) : Type 0 whe
   pub ajar : IsAjar (list_at tail d) (payload ∷ []) tail (file_of 0 e)
   pub adds : Adds may_write d e
 
--- Ok after exactly so many device calls; a fault after one call or more, at most so many, one of which failed
+-- After Ok the count of device calls is greater by exactly so many, and that of faults is as it was. After a fault the count of
+-- calls is greater by one or more, unless it stands at its last number, and by at most so many; one fault more is counted.
 abbrev pub Spends : {T E : Type 0} → ℕ → Result T E → DiskState → DiskState → Type 0
 Spends calls result old new = MatchResult result
     (λ _. (new.ticks ≡ old.ticks + calls) × (new.faults ≡ old.faults))

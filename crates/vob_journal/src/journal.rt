@@ -113,9 +113,9 @@ impl<D: Disk> Journal<D> {
         }
     }
 
-    /// The next payload, or None at the end of the list, after which no call is made. Reads in pieces of at least 64 KiB, each
-    /// no earlier than the one before and further, so that all payloads take time linear in the journal. Whatever it answers, both
-    /// files are as they were.
+    /// The next payload, or None at the end of the list, after which no call is made. Reads a piece only where the bytes at
+    /// hand do not say what comes next: 64 KiB, or the whole frame where that is longer. So all payloads take time linear
+    /// in the journal. Whatever it answers, both files are as they were.
     pub fn next(&mut self, alloc: Global) -> Result<Option<Text>, Or<DiskFault>>
         ensures gives { IfOk result
             (λ found.

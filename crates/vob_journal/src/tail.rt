@@ -53,7 +53,7 @@ pub(crate) fn settle_tail<D: Disk>(disk: &mut D, settled: bool, tail: u64) -> Re
     put_down(disk, tail, &SHUT)
 }
 
-/// Writes a frame behind a shut gate, and the next gate, shut.
+/// Writes a frame after a shut gate, and the next gate, shut.
 fn stage<D: Disk>(disk: &mut D, tail: u64, frame: &Frame) -> Result<(), DiskFault>
     requires small { tail ≤ 2 ^ 62 }
     requires shut { IfModeled (D.ghost_state disk.old).modeled (IsTail true tail) }

@@ -20,7 +20,8 @@ loop-done-preserved g c = record {
 
 pub returns-in_err-done-clause-rests : goal.returns-in_err-done-clause-rests
 returns-in_err-done-clause-rests g c =
-    rests_by_one _ (g.K.Sink.ghost_state c.loop-done.sink).ended _ _ _ (λ e. c.loop-done.invariant.goes_on ∙ e) c.write.ensures.ended
+    rests_by_one _ (g.K.Sink.ghost_state c.loop-done.sink).ended _ _ _ (λ e. c.loop-done.invariant.goes_on ∙ e)
+    c.write.ensures.ended
 
 pub returns-clause-rests : goal.returns-clause-rests
 returns-clause-rests g c = rests_as _ _ _ c.loop-done.invariant.goes_on
