@@ -1,7 +1,7 @@
 -- Branches in order of their identities: where one stands, how one is put or changed there.
 use Rattle.std.proofs.Common.{◌≡◌, ℕ, zero, suc, ◌<◌, ◌≤◌, Bool, true, false, cond, eqb, Option, Some, None, List, [], ◌∷◌}
 use Rattle.std.proofs.Common.{length, get_or, set, slice_get, refl, sym, ap, ◌∙◌, subst, arith}
-use Rattle.std.specs.Prelude.{insert, nat_lt, ◌&&◌, Result, Ok, Err, OnOk, OnErr}
+use Rattle.std.specs.Prelude.{insert, nat_le, nat_lt, not, ◌&&◌, Result, Ok, Err, OnOk, OnErr}
 use Rattle.std.specs.Cmp.{IsTotalOrder}
 use Rattle.std.specs.List.Sorted.{IsPartitionedBy, IsPartitionPoint}
 use Rattle.std.specs.Ordering.{nat_cmp, match_ordering, ordering_reverse, ordering_then, is_lt, is_eq, on, then_cmp}
@@ -464,15 +464,20 @@ ok-along (Err e) new one other is same = tt
 version-by : (b : Bool) (version other : VersionMade) (others : List VersionMade)
     → with_version_put version others ≡ insert others (version_place version.number others) version
     → cond b (version ∷ other ∷ others) (other ∷ with_version_put version others)
-    ≡ insert (other ∷ others) (cond b 0 (suc (version_place version.number others))) version
+    ≡ insert (other ∷ others) (cond (not b) (suc (version_place version.number others)) 0) version
 version-by true version other others later = refl
 version-by false version other others later = ap (λ (l : List VersionMade). other ∷ l) later
+
+not-below : (one other : ℕ) → not (nat_lt one other) ≡ nat_le other one
+not-below one other = grind (arith, nat_tests)
 
 with_version_put-at : (version : VersionMade) (versions : List VersionMade)
     → with_version_put version versions ≡ insert versions (version_place version.number versions) version
 with_version_put-at version [] = refl
-with_version_put-at version (other ∷ others) = version-by (nat_lt version.number other.number) version other others
-    (with_version_put-at version others)
+with_version_put-at version (other ∷ others) =
+    version-by (nat_lt version.number other.number) version other others (with_version_put-at version others)
+    ∙ ap (λ (b : Bool). insert (other ∷ others) (cond b (suc (version_place version.number others)) 0) version)
+    (not-below version.number other.number)
 
 -- a version was put in its place
 pub version-put : (versions versions' : List VersionMade) (place : ℕ) (version : VersionMade) (number : ℕ) (made : Operation)

@@ -1,4 +1,5 @@
 pub mod BranchLaws
+pub mod ChainLaws
 pub mod Commuting
 pub mod GrowthLaws
 pub mod HistoryLaws

@@ -2,6 +2,7 @@ pub mod Branches
 pub mod Estimates
 pub mod Laws
 pub mod Logs
+pub mod Masters
 pub mod Needs
 pub mod Reading
 pub mod Replicas

@@ -4,8 +4,8 @@ ghost use Rattle.std.specs.Prelude.{◌≡◌, ◌<◌, ◌≤◌, [], ◌&&◌,
 ghost use Rattle.vob_replica.specs.Branches.{is_branch_before, branch_place_in, is_branch_at, with_master, with_version_by, IsInOrder};
 ghost use Rattle.vob_replica.specs.Trees.{Tree, identity_cmp, is_same_identity, tree_at, named_tree, element_of_branch, with_tree, with_branch_changed, after_operation};
 
-use crate::branch::{Branch, is_same_identity};
-use crate::events::Identity;
+use crate::branch::Branch;
+use crate::events::{Identity, is_same_identity};
 use crate::operations::SiteDeed;
 use crate::shared::Shared;
 use cc_names::memory::NoMemory;

@@ -1,6 +1,7 @@
 //! What happens at sites, as plain data.
 
 ghost use Rattle.std.specs.Prelude.{◌≡◌, IfOk};
+ghost use Rattle.vob_replica.specs.Trees.{is_same_identity};
 
 use cc_names::memory::NoMemory;
 use cc_names::names::Name;
@@ -24,6 +25,13 @@ impl Identity {
         let number = self.number;
         Ok(Identity { site, number })
     }
+}
+
+/// Whether two identities are the same.
+pub(crate) fn is_same_identity(one: &Identity, other: &Identity) -> bool
+    ensures { result ≡ is_same_identity one.now other.now }
+{
+    one.site == other.site && one.number == other.number
 }
 
 /// One line of a text of sites.

@@ -18,6 +18,7 @@ pub mod estimates;
 pub mod events;
 pub mod laws;
 pub mod logs;
+mod masters;
 pub mod needs;
 pub mod operations;
 pub mod packets;

@@ -1,7 +1,7 @@
 use Rattle.std.proofs.Common.{◌≡◌, drop}
 use Rattle.std.specs.Prelude.{find}
 use Rattle.vob_replica.specs.Trees.{needs_all_others}
-use Rattle.vob_replica.proofs.branch.last_of.Given as goal
+use Rattle.vob_replica.proofs.masters.last_out_of_turn.Given as goal
 
 abbrev pub invariant-loop-operation : goal.invariant-loop-operation
 invariant-loop-operation l =
