@@ -8,7 +8,7 @@ use Rattle.view_lookup.specs.Answering.{AnswersAs}
 use Rattle.vob_history.specs.Found.{FindsSelected}
 
 -- the refusal, whatever the query tells
-pub refused : (refusal : Or Refusal) (told : (ℕ → Picked → List ℕ) → Result (List ℕ) Refusal) (text : ℕ → Picked → List ℕ)
-    → FindsSelected (Err refusal) told → AnswersAs (Err refusal) (told text)
-refused NoMemory told text h = tt
-refused (Is refusal) told text h = h text
+pub refused : (refusal : Or Refusal) (answer : (ℕ → Picked → List ℕ) → Result (List ℕ) Refusal) (text : ℕ → Picked → List ℕ)
+    → FindsSelected (Err refusal) answer → AnswersAs (Err refusal) (answer text)
+refused NoMemory answer text h = tt
+refused (Is refusal) answer text h = h text

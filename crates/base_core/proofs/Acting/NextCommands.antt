@@ -140,7 +140,7 @@ answered_so s lane query (Ok text) free e answers =
     let next = next_is s lane (commands.Query query) free e in
     record {
       of_next = record { next = refl; from = within.0; upto = within.1 };
-      made = ap (option_map (decision (scene s))) next ∙ ap (λ told. Some (answered told)) answers;
+      made = ap (option_map (decision (scene s))) next ∙ ap (λ answer. Some (answered answer)) answers;
       reply = ap (λ found. reply_to_answer found text) next;
     }
 answered_so s lane query (Err NoMemory) free e answers = tt
@@ -149,5 +149,5 @@ answered_so s lane query (Err (Is refusal)) free e answers =
     record {
       of_next = record { next = refl; from = within.0; upto = within.1 };
       made = ap (option_map (decision (scene s))) (next_is s lane (commands.Query query) free e)
-          ∙ ap (λ told. Some (answered told)) answers;
+          ∙ ap (λ answer. Some (answered answer)) answers;
     }

@@ -91,7 +91,7 @@ pub answer_is : (P : Decision → Type 0) (tests : List (Option Refusal)) (text 
 answer_is P tests text so d h = subst P (decided_is (first_refusal tests) (Answers text) d h) so
 
 -- what holds of every text that answers holds of what is decided of a query
-pub answered_is : (P : Decision → Type 0) (told : Result (List ℕ) Refusal) → ((text : List ℕ) → P (Answers text))
-    → IfDecided P (answered told)
+pub answered_is : (P : Decision → Type 0) (answer : Result (List ℕ) Refusal) → ((text : List ℕ) → P (Answers text))
+    → IfDecided P (answered answer)
 answered_is P (Ok text) so d h = let is : Answers text ≡ d = cc in subst P is (so text)
 answered_is P (Err refusal) so d h = absurd (cc)

@@ -29,17 +29,17 @@ use Rattle.legal_history.specs.Commands.Tests.{needs_no_directory, needs_element
 use Rattle.base_model.specs.Texts.{text}
 use Rattle.base_model.specs.Views.{spec_text}
 
--- the text that a query tells, unless a test refuses
-abbrev pub tells : List (Option Refusal) → List ℕ → Result (List ℕ) Refusal
-tells tests text = unless_refused (first_refusal tests) text
+-- the text of a query, unless a test refuses
+abbrev pub answers_with : List (Option Refusal) → List ℕ → Result (List ℕ) Refusal
+answers_with tests text = unless_refused (first_refusal tests) text
 
 -- `catcs V`: the view's config spec as it was set; a view that exists has one
 abbrev pub catcs : Base → List ℕ → Result (List ℕ) Refusal
-catcs b v = tells (needs_view b v ∷ []) (unwrap_or (spec_text b v) [])
+catcs b v = answers_with (needs_view b v ∷ []) (unwrap_or (spec_text b v) [])
 
 -- `lsdo V`: the objects that the view holds
 abbrev pub lsdo : Base → List ℕ → Result (List ℕ) Refusal
-lsdo b v = tells (needs_view b v ∷ []) (lsdo_text b v)
+lsdo b v = answers_with (needs_view b v ∷ []) (lsdo_text b v)
 
 -- the tests of `ls V [P]`
 abbrev pub ls_tests : Base → List ℕ → List ℕ → List (Option Refusal)
@@ -48,7 +48,7 @@ ls_tests b v path =
 
 -- `ls V [P]`: the names of a directory, of the root where none is named
 abbrev pub ls : Base → List ℕ → Option (List ℕ) → Result (List ℕ) Refusal
-ls b v path = tells (ls_tests b v (unwrap_or path root)) (ls_text b v (unwrap_or path root))
+ls b v path = answers_with (ls_tests b v (unwrap_or path root)) (ls_text b v (unwrap_or path root))
 
 -- something is selected at the path; or nothing stands there, and the view holds an object
 abbrev pub needs_text : Base → List ℕ → List ℕ → Seen → Option Refusal
@@ -83,13 +83,13 @@ cat_version_tests b v path seen name =
 
 -- `cat V P` and `cat V P@@VERSION`: the text that the view sees there, or that of a version
 abbrev pub cat : Base → List ℕ → List ℕ → Option VersionName → Result (List ℕ) Refusal
-cat b v path None = tells (cat_tests b v path (at b v path)) (made_text_at b path (text_row b v path (at b v path)))
+cat b v path None = answers_with (cat_tests b v path (at b v path)) (made_text_at b path (text_row b v path (at b v path)))
 cat b v path (Some name) =
-    tells (cat_version_tests b v path (at b v path) name) (made_text_at b path (version_seen b (at b v path) name))
+    answers_with (cat_version_tests b v path (at b v path) name) (made_text_at b path (version_seen b (at b v path) name))
 
 -- what is answered of the element that the view selects at a path, and of what it picks of it
 abbrev pub answers_of : Base → List ℕ → List ℕ → (ℕ → Picked → List ℕ) → Result (List ℕ) Refusal
-answers_of b v path text = past (needs_view b v ∷ []) (for_selected path (at b v path) (λ e picked. tells [] (text e picked)))
+answers_of b v path text = past (needs_view b v ∷ []) (for_selected path (at b v path) (λ e picked. answers_with [] (text e picked)))
 
 -- `describe V P`: the element, its kind, what is selected of it, and its labels
 abbrev pub describe : Base → List ℕ → List ℕ → Result (List ℕ) Refusal
@@ -105,7 +105,7 @@ lshistory b v path = answers_of b v path (λ e picked. lshistory_text b e)
 
 -- what is answered of the object that the view holds at a path
 abbrev pub answers_of_object : Base → List ℕ → List ℕ → (ℕ → List ℕ) → Result (List ℕ) Refusal
-answers_of_object b v path text = for_object path (held_at (objects_held b) v path) (λ id. tells [] (text id))
+answers_of_object b v path text = for_object path (held_at (objects_held b) v path) (λ id. answers_with [] (text id))
 
 -- `catcr V P`: the record of the view's object
 abbrev pub catcr : Base → List ℕ → List ℕ → Result (List ℕ) Refusal
@@ -134,7 +134,7 @@ findmerge_tests b v path name seen =
 
 -- `findmerge V P -fversion .../B/LATEST`: what is on the branch and has not reached the selected versions at the path and below
 abbrev pub findmerge : Base → List ℕ → List ℕ → List ℕ → Result (List ℕ) Refusal
-findmerge b v path name = tells (findmerge_tests b v path name (at b v path)) (findmerge_text b v path name)
+findmerge b v path name = answers_with (findmerge_tests b v path name (at b v path)) (findmerge_text b v path name)
 
 -- What answers a query, by the base alone: its first refusal in the order of its tests, else its text.
 abbrev pub query_answer : Base → Query → Result (List ℕ) Refusal

@@ -54,7 +54,7 @@ change_ends sc change = ends_if (change_decision sc change) by
     by (Begins units) is = tt
 
 -- a query makes no row
-query_ends : (told : Result (List ℕ) Refusal) → EndsCommand (Some (answered told))
+query_ends : (answer : Result (List ℕ) Refusal) → EndsCommand (Some (answered answer))
 unfolding EndsCommand
 query_ends (Ok text) = tt
 query_ends (Err refusal) = tt
