@@ -28,7 +28,7 @@ base_cmp = then_cmp (on (λ (i : Identity). i.site) (slice_cmp nat_cmp)) (on (λ
 base : IsTotalOrder base_cmp
 base = then_total (on_total (λ (i : Identity). i.site) nat_list_cmp_total) (on_total (λ (i : Identity). i.number) nat_cmp_total)
 
-then-is : (o p : Ordering) → ordering_then o p ≡ match_ordering o Less p Greater
+pub then-is : (o p : Ordering) → ordering_then o p ≡ match_ordering o Less p Greater
 then-is Less p = refl
 then-is Equal p = refl
 then-is Greater p = refl
@@ -56,7 +56,7 @@ same-by Equal b m n is = same-number m n ∙ ap (λ (c : Bool). c && eqb m n) is
 same-by Greater b m n is = ap (λ (c : Bool). c && eqb m n) is
 
 -- what the order does not tell apart is the same
-same-order : (x y : Identity) → is_same_identity x y ≡ is_eq (identity_cmp x y)
+pub same-order : (x y : Identity) → is_same_identity x y ≡ is_eq (identity_cmp x y)
 same-order x y = sym (same-by (slice_cmp nat_cmp x.site y.site) (bytes_eq x.site y.site) x.number y.number
     (is_eq-slice_cmp x.site y.site))
 
@@ -330,7 +330,7 @@ tree_at-missing branch [] order none = refl
 tree_at-missing branch (tree ∷ trees) order none =
     found-missing (identity_cmp tree.identity branch) branch tree trees refl order none (tree_at-missing branch trees order.1)
 
-is_lt-Less : (o : Ordering) → is_lt o ≡ true → o ≡ Less
+pub is_lt-Less : (o : Ordering) → is_lt o ≡ true → o ≡ Less
 is_lt-Less Less is = refl
 is_lt-Less Equal is = cc is
 is_lt-Less Greater is = cc is

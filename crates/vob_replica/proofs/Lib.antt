@@ -6,6 +6,7 @@ pub mod HistoryLaws
 pub mod HoldLaws
 pub mod ImportLaws
 pub mod KnowLaws
+pub mod LabelLaws
 pub mod LogLaws
 pub mod MakeLaws
 pub mod MasterLaws

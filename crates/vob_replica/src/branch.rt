@@ -1,11 +1,13 @@
 //! One branch as a site knows it.
 
 ghost use Rattle.std.specs.List.{list_any};
-ghost use Rattle.std.specs.Prelude.{◌≡◌, ◌==◌, ◌≤◌, [], length, OnOk, OnErr};
+ghost use Rattle.std.specs.Prelude.{◌≡◌, ◌==◌, ◌≤◌, [], length, IfOk, OnOk, OnErr};
 ghost use Rattle.vob_replica.specs.Branches.{branch_made_by, name_in, word_in, version_by, version_place, is_up_to, is_number_below, count_passing, has_number_at, with_master, with_version_by, AreByNumber};
+ghost use Rattle.vob_replica.specs.Labels.{label_of};
 ghost use Rattle.vob_replica.specs.Trees.{given_to, master_of, next_number, has_version};
 
 use crate::events::Identity;
+use crate::labels::Label;
 use crate::masters::Masters;
 use crate::operations::SiteDeed;
 use crate::shared::Shared;
@@ -15,7 +17,7 @@ use std::alloc::Global;
 use std::marker::Model;
 
 /// The name of the branch that a deed made.
-fn name_in(deed: &SiteDeed) -> &[u8]
+pub(crate) fn name_in(deed: &SiteDeed) -> &[u8]
     ensures { result.now ≡ name_in deed.now }
 {
     match deed {
@@ -206,6 +208,15 @@ impl Branch {
         ensures { result.now ≡ self.now.name }
     {
         name_in(&self.made.operation().deed)
+    }
+
+    /// Its label.
+    pub(crate) fn label(&self, alloc: Global) -> Result<Label, NoMemory>
+        ensures { IfOk result (λ label. label ≡ label_of self.now) }
+    {
+        let made = self.made.copy()?;
+        let element = self.element.copy(alloc)?;
+        Ok(Label::new(made, element))
     }
 
     /// The versions after version 0, by number.

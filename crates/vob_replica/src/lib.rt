@@ -16,6 +16,7 @@ pub mod branches;
 mod changes;
 pub mod estimates;
 pub mod events;
+mod labels;
 pub mod laws;
 pub mod logs;
 mod masters;
