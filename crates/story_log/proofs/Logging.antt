@@ -1,5 +1,6 @@
 -- What a log shows and keeps after each step.
 pub mod Appended
+pub mod Faults
 pub mod LogSteps
 pub mod Logged
 pub mod Logging

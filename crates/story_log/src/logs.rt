@@ -1,6 +1,6 @@
 //! The story of a core, with the rows and the phases that it names, and the journal that keeps the rows.
 
-ghost use Rattle.std.specs.Prelude.{◌≡◌, ◌+◌, ◌<◌, ◌≤◌, ◌^◌, ◌++◌, ◌∷◌, [], length, true, false, IfOk, OnOk, OnErr, option_copied};
+ghost use Rattle.std.specs.Prelude.{◌≡◌, ◌+◌, ◌<◌, ◌≤◌, ◌^◌, ◌++◌, ◌∷◌, [], length, true, false, IfOk, OnOk, OnErr};
 ghost use Rattle.row_form.specs.Spelled.{spelling_of};
 ghost use Rattle.story_log.specs.Logging.Leaving.{LeftSo};
 ghost use Rattle.std.specs.Vec.{vec_len, vec_capacity};
@@ -45,7 +45,8 @@ pub struct Log<D: Disk> {
 
 impl<D: Disk> Model for Log<D> {
     ghost use Rattle.story_log.specs.Story.Handed.{handed_disk};
-    ghost use Rattle.story_log.specs.Logging.Logs.{Logged, KeepsLeft, IsLogged};
+    ghost use Rattle.story_log.specs.Logging.Logs.{Logged, IsLogged};
+    ghost use Rattle.story_log.specs.Stopping.Journals.{journal_state};
     ghost use Rattle.story_log.specs.Story.Telling.{story_of};
     ghost use Rattle.base_rows.specs.Order.{oldest_first};
 
@@ -60,11 +61,8 @@ impl<D: Disk> Model for Log<D> {
     } };
 
     ghost invariant = { λ log.
-        IsLogged (handed_disk log.handed D.tells) log.steps.items log.rows.base log.phases.items
-        (D.ghost_state log.journal.disk) log.journal.list log.journal.leftover log.journal.ended
-        log.journal.left log.journal.settled
-        × KeepsLeft (handed_disk log.handed D.tells) log.steps.items log.rows.base log.phases.items
-        log.left };
+        IsLogged (handed_disk log.handed D.tells) log.steps.items log.rows.base log.phases.items log.left
+        (D.ghost_state log.journal.disk) (journal_state log.journal) };
 }
 
 /// The frame of a row. A row that is spelled in 2^32 bytes or more counts as want of memory.
@@ -118,6 +116,7 @@ impl<D: Disk> Log<D> {
     ghost use Rattle.cc_names.specs.Counts.{rises};
     ghost use Rattle.story_log.specs.Logging.Appending.{Appends, IsQuiet};
     ghost use Rattle.story_log.specs.Stopping.Backed.{IsBacked, IsSettled, IsAccounted, may_be_open};
+    ghost use Rattle.story_log.specs.Stopping.Journals.{journal_state};
     ghost use Rattle.story_log.specs.Story.Handed.{handed_disk};
     ghost use Rattle.story_log.specs.Logging.Logs.{opened_log, with_phase, with_step, with_ghost_state};
     ghost use Rattle.base_rows.specs.Order.{oldest_first};
@@ -134,8 +133,7 @@ impl<D: Disk> Log<D> {
     ) -> Result<Log<D>, Journal<D>>
         requires { IsBacked
             (state_of (story_steps.Opened (oldest_first rows.base) handed D.tells ∷ []))
-            (D.ghost_state journal.disk) journal.list journal.leftover journal.ended journal.left
-            journal.settled }
+            (D.ghost_state journal.disk) (journal_state journal) }
         ensures ok { IfOk result
             (λ log. log
             ≡ opened_log rows.base (handed_disk handed D.tells) (D.ghost_state journal.disk)) }

@@ -118,7 +118,7 @@ pub preserved_next_answer : (log : Logged) (lanes : List LaneState) (now : ℕ) 
     → IsNextAnswer (state_of story) tag text.value reply
     → CoreInvariant (with_step log (steps.Answer tag text)) (with_reply lanes tag.lane reply) now
 preserved_next_answer log lanes now story tag text reply same h next =
-    let here : IsNextAnswer (state_of log.story) tag text.value reply = subst (λ t. IsNextAnswer (state_of t) tag text.value reply)
-    (sym same) next in
+    let here : IsNextAnswer (state_of log.story) tag text.value reply =
+    subst (λ t. IsNextAnswer (state_of t) tag text.value reply) (sym same) next in
     preserved_answer log lanes now tag text reply h here.made here.reply here.of_next.from
     (omega (arith, here.of_next.upto, h.replies.count))

@@ -225,8 +225,8 @@ impl<D: Disk> Core<D> {
     /// Carries out a lane's next command, which builds nothing: its row is committed, it is answered, it is refused, or the
     /// disk fails under it. An `Err` changes nothing. A commit has the disk's ticks as this call ends, and no fault was
     /// counted. A fault has the counts of faults as this call begins and ends, and the ticks as it ends. An answer, a refusal
-    /// and an `Err` make no device call. Takes time linear in the command, in the row or the answer, in the lanes and in the
-    /// steps since the last commit or fault, and what `decide` or `answer` takes of the base.
+    /// and an `Err` make no device call. Takes time linear in the command, in the row or the answer and in the lanes, and
+    /// what `decide` or `answer` takes of the base.
     #[tactic(auto, using(crate::proofs::Acting::Commanded::acts_on_no_build, crate::proofs::Building::UnitCalls::acts_waits))]
     pub fn act(&mut self, alloc: Global, lane: u32) -> Result<Done, NoMemory>
         requires { next_of_lane (state_of self.old.story) lane ≡ nexts.Act }

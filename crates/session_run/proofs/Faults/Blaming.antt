@@ -17,6 +17,7 @@ use Rattle.disk_model.proofs.Recording.{failures_most}
 use Rattle.legal_history.specs.Stories.States.{State, End, start}
 use Rattle.legal_history.specs.Stories.Steps.{after, state_from, state_of}
 use Rattle.vob_journal.specs.Added.{Adds, WritesOn, is_reading_call, may_read, may_write}
+use Rattle.vob_journal.specs.Pieces.{OpensBy, ReadsForth, ReadsOnce, but_failed}
 use Rattle.vob_journal.proofs.Adding.{adds_none, adds_then}
 use Rattle.vob_journal.proofs.Telling.{both_map, both_then}
 use Rattle.story_log.specs.Stopping.Backed.{may_be_open}
@@ -248,6 +249,30 @@ all_read (Tore file place size left ∷ calls) h none = absurd (cc)
 all_read (Synced file ∷ calls) h none = absurd (cc)
 all_read (Failed ∷ calls) h none = absurd (omega (arith, none))
 
+-- what reads a journal once are calls that read
+forth_reads : (from had : ℕ) (calls : List Event) (to has : ℕ) → ReadsForth from had calls to has → list_all may_read calls ≡ true
+forth_reads from had [] to has h = refl
+forth_reads from had (Fetched file place size ∷ calls) to has h =
+    forth_reads from had calls place h.3.0 h.3.2
+forth_reads from had (event ∷ calls) to has h = absurd h
+
+opening_reads : (calls : List Event) → OpensBy calls → list_all may_read calls ≡ true
+opening_reads calls (inl none) = ap (list_all may_read) none
+opening_reads calls (inr read) =
+    ap (list_all may_read) read.3 ∙ list_all-append may_read read.0 (Measured 0 ∷ [])
+    ∙ ap (λ a. a && true) (forth_reads 0 0 read.0 read.1 read.2 read.4)
+
+but_failed_reads : (calls : List Event) → list_all may_read (but_failed calls) ≡ true → list_all may_read calls ≡ true
+but_failed_reads (Failed ∷ calls) h = h
+but_failed_reads calls h = h
+
+once_reads : (d e : Device) → ReadsOnce d e → Adds may_read d e
+once_reads d e h = record {
+  more = h.more;
+  calls = h.calls;
+  kinds = but_failed_reads h.more (opening_reads (but_failed h.more) h.once);
+}
+
 writes_alone : (calls : List Event) → list_all may_write calls ≡ true → reads_first calls ≡ true
 writes_alone [] h = refl
 writes_alone (event ∷ calls) h = by (is_reading_call event) (reads_first calls) (list_all may_write calls) h
@@ -275,10 +300,10 @@ first_opens first rows counts tells is = ap (λ o. elim o [ None ↦ first | Som
 -- *Whose fault*, of a session whose base was opened
 pub blamed : (before opened now : DiskState) (story : List StoryStep) (rows : List Plain) (counts : Counts) (tells : Bool)
     → IsCounted before → IsCounted opened → IsCounted now
-    → opened.faults ≡ before.faults → Both (Adds may_read) before.modeled opened.modeled
+    → opened.faults ≡ before.faults → Both ReadsOnce before.modeled opened.modeled
     → first_step story ≡ Some (story_steps.Opened rows counts tells) → CountsFrom opened now story
     → IfModeled now.modeled (IsBlamed before.ticks story)
-blamed before opened now story rows counts tells was first second sound reads begins from = by now.modeled refl
+blamed before opened now story rows counts tells was first second sound once begins from = by now.modeled refl
   where
     is_first : from.first ≡ story_steps.Opened rows counts tells
     is_first = first_opens from.first rows counts tells (ap first_step (sym from.story_is) ∙ begins)
@@ -289,6 +314,9 @@ blamed before opened now story rows counts tells was first second sound reads be
     settles : SettlesJournal (may_be_open (state_from (after start (story_steps.Opened rows counts tells)) from.steps).ends)
         from.ended now
     settles = subst (λ s. SettlesJournal (may_be_open (state_of s).ends) from.ended now) story_is from.settled
+
+    reads : Both (Adds may_read) before.modeled opened.modeled
+    reads = both_map ReadsOnce (Adds may_read) before.modeled opened.modeled once_reads once
 
     all : Both (Adds may_write) opened.modeled now.modeled
     all = adds_on opened.modeled from.ended.modeled now.modeled (steps_add (after start from.first) from.steps opened from.ended

@@ -300,52 +300,52 @@ run_sink (Ok failed) rose faults wrote = λ other. wrote
 run_sink (Err NoMemory) rose faults wrote = λ other. wrote
 run_sink (Err (Is fault)) rose faults wrote = λ other. absurd (other refl)
 
--- the steps since a base was opened, and the settling of its journal, have the disk's counts
-counts_from : (one ran : Shown) (settled : List StoryStep) (ghost_state : DiskState) → IsJustOpened one.story → KeepsCount one ran
-    → settled ≡ ran.story → SettlesJournal (may_be_open (state_of ran.story).ends) ran.ghost_state ghost_state
-    → CountsFrom one.ghost_state ghost_state settled
-counts_from one ran settled ghost_state just keeps same settles = record {
-  first = story_steps.Opened just.rows just.counts just.tells;
-  steps = keeps.steps;
-  ended = ran.ghost_state;
-  story_is = same ∙ keeps.grows ∙ ap (λ story. story ++ keeps.steps) just.is;
-  counts = subst (λ story. CountsSteps (state_of story) keeps.steps one.ghost_state ran.ghost_state) just.is keeps.counts;
-  settled = subst (λ story. SettlesJournal (may_be_open (state_of story).ends) ran.ghost_state ghost_state) (sym same) settles;
-}
+-- A base was opened, its session was run, and then its journal was settled, which leaves the story.
+module _ (one ran : Shown) (settled : List StoryStep) (ghost_state : DiskState) (kept : settled ≡ ran.story)
+    (settles : SettlesJournal (may_be_open (state_of ran.story).ends) ran.ghost_state ghost_state) where
+  -- the steps since, and the settling, have the disk's counts
+  counts_from : IsJustOpened one.story → KeepsCount one ran → CountsFrom one.ghost_state ghost_state settled
+  counts_from just keeps = record {
+    first = story_steps.Opened just.rows just.counts just.tells;
+    steps = keeps.steps;
+    ended = ran.ghost_state;
+    story_is = kept ∙ keeps.grows ∙ ap (λ story. story ++ keeps.steps) just.is;
+    counts = subst (λ story. CountsSteps (state_of story) keeps.steps one.ghost_state ran.ghost_state) just.is keeps.counts;
+    settled = subst (λ story. SettlesJournal (may_be_open (state_of story).ends) ran.ghost_state ghost_state) (sym kept) settles;
+  }
 
--- a base was opened, and this is what became of it: the story as it was when the journal was settled is the one that was run
-pub runs_opened : (result : Result Bool (Or WriteFault)) (form : Form) (phases : List Phase) (status : Status)
-    (first : Option StoryStep) (one ran : Shown) (settled history : List StoryStep) (before : ℕ) (ghost_state now : DiskState)
-    (outside : Outside) (faults : Change ℕ) → let story = ran.story in IsJustOpened one.story → KeepsCount one ran
-    → SettlesJournal (may_be_open (state_of ran.story).ends) ran.ghost_state ghost_state → settled ≡ story → history ≡ settled
-    → now ≡ ghost_state → status ≡ run_status result (rises before ghost_state.faults) → first_step story ≡ first → Legal settled
-    → IfOk result (HasDone form phases story outside) → IfErr result (λ cut. IsGivenUp form cut phases story outside)
-    → CountsWriteFaults result faults.before faults.after → IsAccounted (state_of settled) ghost_state
-    → IsMended (state_of settled) ghost_state → AllOpenAgain settled → RunsOpened form phases status first history before
-    (record { before = one.ghost_state; after = now }) outside faults
-runs_opened result form phases status first one ran settled history before ghost_state now outside faults just keeps settles kept
-    same seen is begins legal done left wrote accounted mended again =
-    subst (λ s. RunsOpened form phases status first s before (record { before = one.ghost_state; after = now }) outside faults)
-    (sym same)
-    (subst (λ d. RunsOpened form phases status first settled before (record { before = one.ghost_state; after = d }) outside
-    faults) (sym seen)
-    (record {
-      result = result;
-      status_is = is;
-      first_is = ap first_step kept ∙ begins;
-      legal = legal;
-      ran = subst (λ s. HasRunSo form result phases s outside) (sym kept) (ran_so result done left);
-      fault = wrote;
-      accounted = accounted;
-      mended = mended;
-      again = again;
-      counted = counts_from one ran settled ghost_state just keeps kept settles;
-    }))
-  where
-    ran_so : (r : Result Bool (Or WriteFault)) → IfOk r (HasDone form phases ran.story outside)
-        → IfErr r (λ cut. IsGivenUp form cut phases ran.story outside) → HasRunSo form r phases ran.story outside
-    ran_so (Ok failed) one two = one
-    ran_so (Err cut) one two = two
+  -- and this is what became of it
+  pub runs_opened : (result : Result Bool (Or WriteFault)) (form : Form) (phases : List Phase) (status : Status)
+      (first : Option StoryStep) (history : List StoryStep) (before : ℕ) (now : DiskState) (outside : Outside)
+      (faults : Change ℕ) → IsJustOpened one.story → KeepsCount one ran → history ≡ settled → now ≡ ghost_state
+      → status ≡ run_status result (rises before ghost_state.faults) → first_step ran.story ≡ first → Legal settled
+      → IfOk result (HasDone form phases ran.story outside) → IfErr result (λ cut. IsGivenUp form cut phases ran.story outside)
+      → CountsWriteFaults result faults.before faults.after → IsAccounted (state_of settled) ghost_state
+      → IsMended (state_of settled) ghost_state → AllOpenAgain settled → RunsOpened form phases status first history before
+      (record { before = one.ghost_state; after = now }) outside faults
+  runs_opened result form phases status first history before now outside faults just keeps same seen is begins legal done left
+      wrote accounted mended again =
+      subst (λ s. RunsOpened form phases status first s before (record { before = one.ghost_state; after = now }) outside faults)
+      (sym same)
+      (subst (λ d. RunsOpened form phases status first settled before (record { before = one.ghost_state; after = d }) outside
+      faults) (sym seen)
+      (record {
+        result = result;
+        status_is = is;
+        first_is = ap first_step kept ∙ begins;
+        legal = legal;
+        ran = subst (λ s. HasRunSo form result phases s outside) (sym kept) (ran_so result done left);
+        fault = wrote;
+        accounted = accounted;
+        mended = mended;
+        again = again;
+        counted = counts_from just keeps;
+      }))
+    where
+      ran_so : (r : Result Bool (Or WriteFault)) → IfOk r (HasDone form phases ran.story outside)
+          → IfErr r (λ cut. IsGivenUp form cut phases ran.story outside) → HasRunSo form r phases ran.story outside
+      ran_so (Ok failed) one two = one
+      ran_so (Err cut) one two = two
 
 -- the promises of one call
 pub record Promised (status : Status) (story : List StoryStep) (intake : Intake) (outside : Outside) (faults : Change ℕ)
@@ -655,7 +655,7 @@ promised_run form phases status story intake outside faults disk was now gives (
         once = run.once;
         files = run.files;
         counted = ran.counted;
-        calls = blamed disk.before run.opened disk.after story _ _ _ was run.fit now run.faultless run.adds run.begins.first
+        calls = blamed disk.before run.opened disk.after story _ _ _ was run.fit now run.faultless run.once run.begins.first
             ran.counted;
       };
       files = keeps_files disk run.opened story run.files ran.counted;

@@ -6,7 +6,6 @@ use Rattle.cc_names.specs.declared.steps.StoryStep.{StoryStep}
 use Rattle.cc_names.specs.Counts.{rises}
 use Rattle.cc_outside.specs.declared.sinks.WriteFault.{WriteFault}
 use Rattle.disk_model.specs.DiskStates.{DiskState, Both, IsCounted}
-use Rattle.vob_journal.specs.Added.{Adds, may_read}
 use Rattle.vob_journal.specs.Pieces.{ReadsOnce}
 use Rattle.vob_journal.specs.Reads.{SameFiles}
 use Rattle.legal_history.specs.Stories.Steps.{state_of}
@@ -40,7 +39,7 @@ pub record RunsOpened (form : Form) (phases : List Phase) (status : Status) (fir
   pub again : AllOpenAgain story
   pub counted : CountsFrom disk.before disk.after story
 
--- the base that the disk stood for was opened, by calls that read and of which none failed
+-- the base that the disk stood for was opened, by calls of which none failed, and its journal was read once
 pub record RunsOn (form : Form) (phases : List Phase) (status : Status) (story : List StoryStep) (outside : Outside)
     (faults : Change ℕ) (disk : Change DiskState) : Type 0 where
   pub begins : BeginsOn disk.before story
@@ -48,7 +47,6 @@ pub record RunsOn (form : Form) (phases : List Phase) (status : Status) (story :
   pub opened : DiskState
   pub faultless : opened.faults ≡ disk.before.faults
   pub fit : IsCounted opened
-  pub adds : Both (Adds may_read) disk.before.modeled opened.modeled
   pub once : Both ReadsOnce disk.before.modeled opened.modeled
   pub files : Both SameFiles disk.before.modeled opened.modeled
   pub runs : RunsOpened form phases status first story disk.before.faults (record { before = opened; after = disk.after }) outside

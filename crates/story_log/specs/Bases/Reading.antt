@@ -8,7 +8,6 @@ use Rattle.base_model.specs.Rows.{Base, size}
 use Rattle.base_model.specs.Fits.{fits, is_base}
 use Rattle.cc_names.specs.Counts.{rises}
 use Rattle.row_form.specs.Spelled.{spelling_of}
-use Rattle.vob_journal.specs.Added.{Adds, may_read}
 use Rattle.vob_journal.specs.Answered.{GivesNext}
 use Rattle.vob_journal.specs.Frames.{frames}
 use Rattle.vob_journal.specs.Moves.{Moves}
@@ -25,7 +24,6 @@ pub record OnlyReads {D : Type 0} (ghost_state : D → DiskState) (old new : Sho
   pub left : new.left ≡ old.left
   pub ticks : (ghost_state old.disk).ticks ≤ (ghost_state new.disk).ticks
   pub stops : Both (Moves old.list [] old.list []) (ghost_state old.disk).modeled (ghost_state new.disk).modeled
-  pub adds : Both (Adds may_read) (ghost_state old.disk).modeled (ghost_state new.disk).modeled
   pub files : Both SameFiles (ghost_state old.disk).modeled (ghost_state new.disk).modeled
 
 -- the end of a list was read where nothing was found

@@ -9,7 +9,7 @@ use Rattle.story_log.specs.Logging.Logs.{Logged}
 use Rattle.story_log.specs.Story.Handed.{handed_disk}
 use Rattle.story_log.specs.Bases.Opening.{FailsToOpen}
 use Rattle.story_log.specs.declared.opening.OpenCause.TheVariants as causes
-use Rattle.story_log.proofs.Bases.OpenedBases.{new_on, fails_at_once, fails_to_open, keeps_first, read_since, files_first}
+use Rattle.story_log.proofs.Bases.OpenedBases.{new_on, fails_at_once, fails_to_open, keeps_first, files_first}
 use Rattle.story_log.proofs.Bases.OpenedBases.{stops_first, journal_synced, opened_backed, is_opened}
 use Rattle.story_log.proofs.opening.open_log.Goals as goal
 
@@ -38,12 +38,11 @@ returns-in-Err-read_rows-clause-err g c =
     let opened = c.in-Ok.journal in
     let read = c.read_rows.new.journal in
     let begins = c.in-Ok.ensures.begins in
-    let new = new_on ghost_state first opened c.in-Ok.ensures.list begins.4 begins.1 c.in-Ok.ensures.moves c.in-Ok.ensures.modeled
-    c.in-Ok.ensures.files c.in-Ok.ensures.counts in
+    let new = new_on ghost_state first opened c.in-Ok.ensures.list begins.4 begins.1 c.in-Ok.ensures.moves c.in-Ok.ensures.files
+    c.in-Ok.ensures.counts in
     subst (λ disk. FailsToOpen first c.in-Err-read_rows.cause (ghost_state disk)) (sym c.into_disk.ensures)
     (fails_to_open first (ghost_state read.disk) c.in-Err-read_rows.cause (g.met.D.Disk.counted c.args.disk) c.requires
     (keeps_first ghost_state first opened read new c.in-Err-read_rows.ensures.reads)
-    (read_since ghost_state first opened read new c.in-Err-read_rows.ensures.reads)
     (files_first ghost_state first opened read new c.in-Err-read_rows.ensures.reads)
     (stops_first ghost_state first c.in-Err-read_rows.cause opened read new c.in-Err-read_rows.ensures.err))
 
@@ -53,8 +52,8 @@ open-requires-2 g c =
     let first = ghost_state c.args.disk in
     let opened = c.in-Ok.journal in
     let begins = c.in-Ok.ensures.begins in
-    let new = new_on ghost_state first opened c.in-Ok.ensures.list begins.4 begins.1 c.in-Ok.ensures.moves c.in-Ok.ensures.modeled
-    c.in-Ok.ensures.files c.in-Ok.ensures.counts in
+    let new = new_on ghost_state first opened c.in-Ok.ensures.list begins.4 begins.1 c.in-Ok.ensures.moves c.in-Ok.ensures.files
+    c.in-Ok.ensures.counts in
     let rows = c.in-Ok-read_rows.ensures in
     opened_backed ghost_state first (handed_disk c.counts-handed.result g.D.Disk.tells) c.in-Ok-read_rows.rows.base opened
     c.read_rows.new.journal
@@ -67,8 +66,8 @@ returns-in-Ok-open-clause-ok g c =
     let first = ghost_state c.args.disk in
     let opened = c.in-Ok.journal in
     let begins = c.in-Ok.ensures.begins in
-    let new = new_on ghost_state first opened c.in-Ok.ensures.list begins.4 begins.1 c.in-Ok.ensures.moves c.in-Ok.ensures.modeled
-    c.in-Ok.ensures.files c.in-Ok.ensures.counts in
+    let new = new_on ghost_state first opened c.in-Ok.ensures.list begins.4 begins.1 c.in-Ok.ensures.moves c.in-Ok.ensures.files
+    c.in-Ok.ensures.counts in
     let rows = c.in-Ok-read_rows.ensures in
     is_opened ghost_state first (handed_disk c.counts-handed.result g.D.Disk.tells) c.in-Ok-read_rows.rows.base opened
     c.read_rows.new.journal
@@ -84,13 +83,12 @@ returns-in-Err-open-clause-err g c =
     let opened = c.in-Ok.journal in
     let read = c.read_rows.new.journal in
     let begins = c.in-Ok.ensures.begins in
-    let new = new_on ghost_state first opened c.in-Ok.ensures.list begins.4 begins.1 c.in-Ok.ensures.moves c.in-Ok.ensures.modeled
-    c.in-Ok.ensures.files c.in-Ok.ensures.counts in
+    let new = new_on ghost_state first opened c.in-Ok.ensures.list begins.4 begins.1 c.in-Ok.ensures.moves c.in-Ok.ensures.files
+    c.in-Ok.ensures.counts in
     subst (λ disk. FailsToOpen first causes.NoMemory (ghost_state disk)) (sym (c.into_disk-in-Err-open.ensures
     ∙ ap (λ journal. journal.disk) c.in-Err-open.ensures.err))
     (fails_to_open first (ghost_state read.disk) causes.NoMemory (g.met.D.Disk.counted c.args.disk) c.requires
     (keeps_first ghost_state first opened read new c.in-Ok-read_rows.ensures.reads)
-    (read_since ghost_state first opened read new c.in-Ok-read_rows.ensures.reads)
     (files_first ghost_state first opened read new c.in-Ok-read_rows.ensures.reads) (c.in-Ok-read_rows.ensures.faultless
     ∙ new.counts.1))
 

@@ -14,7 +14,7 @@ use Rattle.story_log.specs.Story.Handed.{Handed}
 use Rattle.story_log.specs.Bases.Opening.{IsBaseOn}
 use Rattle.story_log.specs.Story.Formed.{AreFormed, TellsOnly}
 use Rattle.story_log.specs.Stored.Damaged.{IsUndamaged}
-use Rattle.story_log.specs.Stored.Founds.{Found, Represents}
+use Rattle.story_log.specs.Stored.Founds.{FoundFiles, Represents}
 use Rattle.story_log.specs.Stored.Opened.{IsOpenedAs}
 use Rattle.story_log.specs.Stored.Payloads.{payloads}
 use Rattle.story_log.specs.Stored.Stops.{found_on}
@@ -22,7 +22,7 @@ use Rattle.story_log.specs.Stopping.Standing.{MayBeFound}
 
 -- What was found represents a base, each of whose rows fits those before it; it is sound where the base was sound that had been
 -- opened.
-pub record SpellsBase (opened : Base) (found : Found) : Type 0 where
+pub record SpellsBase (opened : Base) (found : FoundFiles) : Type 0 where
   pub base : Base
   pub good : is_base base ≡ true
   pub is : Represents found base
@@ -31,7 +31,7 @@ pub record SpellsBase (opened : Base) (found : Found) : Type 0 where
 -- What was found opens again: it spells formed rows that may follow one another, so none of its frames is damaged; it spells no
 -- other formed rows, and the base that they open to is one of formed rows, each of which fits those before it. That base is sound
 -- where the one was that had been opened.
-pub record OpensAgain (opened : Base) (found : Found) : Type 0 where
+pub record OpensAgain (opened : Base) (found : FoundFiles) : Type 0 where
   pub base : Base
   pub good : is_base base ≡ true
   pub formed : AreFormed base
@@ -43,13 +43,13 @@ pub record OpensAgain (opened : Base) (found : Found) : Type 0 where
 -- Whatever a stop may find of a legal story represents a base: that of the commits so far, or that and a row which a command
 -- would have committed there.
 abbrev pub StopLeavesABase : Type 0
-StopLeavesABase = (story : List StoryStep) (opening : Opening) (k : ℕ) (found : Found)
+StopLeavesABase = (story : List StoryStep) (opening : Opening) (k : ℕ) (found : FoundFiles)
     → Legal story → (state_of story).opened ≡ Some opening
     → MayBeFound opening (state_of story).ends k found → SpellsBase opening.base found
 
 -- Where the story names only formed rows, whatever a stop may find opens again.
 abbrev pub StopOpensAgain : Type 0
-StopOpensAgain = (story : List StoryStep) (opening : Opening) (k : ℕ) (found : Found)
+StopOpensAgain = (story : List StoryStep) (opening : Opening) (k : ℕ) (found : FoundFiles)
     → Legal story → TellsOnly IsFormed story → (state_of story).opened ≡ Some opening
     → MayBeFound opening (state_of story).ends k found → OpensAgain opening.base found
 
