@@ -20,4 +20,5 @@ pub mod StepLaws
 pub mod TableLaws
 pub mod VersionLaws
 pub mod WholeLaws
+pub mod WorkedBranches
 pub mod WorkedReplicas

@@ -168,8 +168,8 @@ fn put_on_branch(
     Ok(())
 }
 
-/// The same. Takes constant time where the branch is at the place `near` and the version is its last one. Where it is elsewhere
-/// `near` becomes its place, in time logarithmic in the branches.
+/// Puts a version on a branch, where that is there. Takes constant time where the branch is at the place `near` and the version
+/// is its last one, else also time logarithmic in the branches. `near` is changed to what may be the place of the next branch.
 fn put_version_near(
     trees: &mut Vec<Branch>,
     near: &mut usize,

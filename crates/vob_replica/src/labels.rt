@@ -112,7 +112,8 @@ fn find_label<'a>(labels: &'a [Label], element: &Identity, name: &[u8]) -> Optio
 /// Puts a label among others, unless one of its element and name is there. Answers whether it did.
 fn put_label(labels: &mut Vec<Label>, label: Label) -> Result<bool, NoMemory>
     requires { AreInOrder labels.old.items }
-    ensures put { IfOk result (λ new. new ≡ true → IsPutIn label labels.old.items labels.new.items) }
+    ensures put { IfOk result
+        (λ new. new ≡ true → IsPutIn label labels.old.items labels.new.items) }
     ensures order { AreInOrder labels.new.items }
 {
     let place = label_place(labels, label.element(), label.name());

@@ -1,4 +1,4 @@
-use Rattle.std.proofs.Common.{◌≡◌, ℕ, ap, ◌∙◌}
+use Rattle.std.proofs.Common.{ℕ, ap, ◌∙◌}
 use Rattle.vob_replica.specs.Branches.{has_number_at}
 use Rattle.vob_replica.proofs.VersionLaws.{number-at}
 use Rattle.vob_replica.proofs.branch.has_version_number.Goals as goal
