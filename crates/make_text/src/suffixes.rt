@@ -1,7 +1,8 @@
 //! The suffixes of a makefile.
 
-ghost use Rattle.std.specs.Prelude.{◌≡◌, ◌≤◌, ◌&&◌, true, take, drop, length, fold, IfOk, OnOk};
-ghost use Rattle.std.specs.List.{list_all};
+ghost use Rattle.std.specs.Prelude.{◌≡◌, ◌≤◌, ◌&&◌, true, take, drop, length, fold, position, IfOk, OnOk};
+ghost use Rattle.std.specs.List.{IsDistinct, list_all};
+ghost use Rattle.std.specs.Str.{bytes_eq};
 ghost use Rattle.make_grammar.specs.Contents.{is_pair_of};
 ghost use Rattle.make_grammar.specs.Grammar.{first_suffixes};
 ghost use Rattle.make_grammar.specs.Macros.{is_among};
@@ -50,7 +51,7 @@ fn before_period(bytes: &[u8]) -> usize
 }
 
 /// Bytes cut before the first `.` after their first byte.
-fn cut(bytes: &[u8]) -> (&[u8], &[u8])
+pub(crate) fn cut(bytes: &[u8]) -> (&[u8], &[u8])
     ensures first { result.0.now ≡ take (first_length bytes.now) bytes.now }
     ensures second { result.1.now ≡ drop (first_length bytes.now) bytes.now }
 {
@@ -106,11 +107,21 @@ impl Suffixes {
         self.put_all(alloc, suffixes)
     }
 
-    /// The suffixes, in order.
-    pub(crate) fn as_slice(&self) -> &[Text]
-        ensures { result.now ≡ self.now }
+    /// How many there are, in constant time.
+    pub(crate) fn len(&self) -> usize
+        ensures count { result ≡ length self.now }
+        ensures apart { IsDistinct bytes_eq self.now }
+        ensures suffixes { list_all is_suffix self.now ≡ true }
     {
-        self.texts.as_slice()
+        self.texts.len()
+    }
+
+    /// The place of bytes among the suffixes, if they are one. Takes time linear in them.
+    pub(crate) fn place(&self, alloc: Global, bytes: &[u8]) -> Result<Option<usize>, NoMemory>
+        ensures { IfOk result (λ place. place ≡ position (bytes_eq bytes.now) self.now) }
+    {
+        let text = Text::from_bytes(alloc, bytes)?;
+        Ok(self.texts.get_index_of(&text))
     }
 
     /// Whether bytes are a suffix. Takes time linear in them.
