@@ -5,8 +5,8 @@ use Rattle.disk_model.specs.Devices.{Device, Event, Failed, Fetched, Idles, Meas
 use Rattle.disk_model.specs.DiskStates.{IfModeled, Both}
 use Rattle.vob_journal.specs.Foreign.{behind}
 use Rattle.vob_journal.specs.Frames.{head, place_after}
-use Rattle.vob_journal.specs.Pieces.{IsReadForth, LooksBehind, ReadsAt, ReadsForth, ReadsFrame, ReadsOn}
-use Rattle.vob_journal.specs.Pieces.{ReadsOnUntil, ReadsOnceTo, ReadsPiece, ReadsTo, ReadsUntil, piece}
+use Rattle.vob_journal.specs.Pieces.{IsReadForth, LooksBehind, ReadsAt, ReadsForth, ReadsFrame, ReadsFromStart}
+use Rattle.vob_journal.specs.Pieces.{ReadsFromStartUntil, ReadsOnceTo, ReadsPiece, ReadsTo, ReadsUntil, piece}
 use Rattle.vob_journal.specs.declared.reading.Found.TheVariants.{Payload, End}
 use Rattle.vob_journal.specs.declared.window.Window.{Window}
 use Rattle.vob_journal.proofs.Pieces.{forth_then, forth_until, lower_forth, lower_until, once_then, place_next, until_of}
@@ -60,12 +60,12 @@ modeled_to_next tail had shown payload first old new found to at =
 
 -- the end was read, or a call failed
 pub modeled_to_end : (tail had : ℕ) (settled : Bool) (first old new : Option Device) → Both (ReadsTo tail had) first old
-    → Both (ReadsFrame tail had (End settled)) old new → Both ReadsOn first new
+    → Both (ReadsFrame tail had (End settled)) old new → Both ReadsFromStart first new
 modeled_to_end tail had settled first old new to at =
-    both_then (ReadsTo tail had) (ReadsFrame tail had (End settled)) ReadsOn first old new
+    both_then (ReadsTo tail had) (ReadsFrame tail had (End settled)) ReadsFromStart first old new
     (λ d e f t end. (t.number + 1, end.0, to_forth tail had end.0 d e f t end.1)) to at
 
-to_fault : (tail had : ℕ) (d e f : Device) → ReadsTo tail had d e → ReadsUntil tail had e f → ReadsOnUntil d f
+to_fault : (tail had : ℕ) (d e f : Device) → ReadsTo tail had d e → ReadsUntil tail had e f → ReadsFromStartUntil d f
 to_fault tail had d e f to at = (
   to.number + 1,
   forth_until 0 0 to.number had (to.number + 1) d e f to.forth
@@ -74,9 +74,9 @@ to_fault tail had d e f to at = (
 )
 
 pub modeled_to_fault : (tail had : ℕ) (first old new : Option Device) → Both (ReadsTo tail had) first old
-    → Both (ReadsUntil tail had) old new → Both ReadsOnUntil first new
+    → Both (ReadsUntil tail had) old new → Both ReadsFromStartUntil first new
 modeled_to_fault tail had first old new to at =
-    both_then (ReadsTo tail had) (ReadsUntil tail had) ReadsOnUntil first old new (to_fault tail had) to at
+    both_then (ReadsTo tail had) (ReadsUntil tail had) ReadsFromStartUntil first old new (to_fault tail had) to at
 
 -- all calls since the length was asked
 all_calls : (d e f : Device) (more : List Event) → Measures 0 d e → f.calls ≡ more ++ e.calls
@@ -93,7 +93,7 @@ looks_none d e (inr missed) = subst (LooksBehind d) (sym missed)
 looks_once : (to : ℕ) (d e : Device) → ReadsOnceTo to d e → LooksBehind d e
 looks_once to d e once = record { more = once.more; calls = once.calls; looks = inl (to, once.once) }
 
-looks_until : (d e f : Device) → Measures 0 d e → ReadsOnUntil e f → LooksBehind d f
+looks_until : (d e f : Device) → Measures 0 d e → ReadsFromStartUntil e f → LooksBehind d f
 looks_until d e f made until = looks_once until.0 d f (once_then until.0 d e f made until.1)
 
 -- what is known of the place after the last whole frame
@@ -101,7 +101,7 @@ record IsAfterAll (tail : ℕ) (d : Device) : Type 0 where
   within : tail ≤ length (bytes_now 0 d)
   rest : behind (bytes_now 0 d) ≡ drop tail (bytes_now 0 d)
 
-looks_on : (tail : ℕ) (d e f g : Device) → Measures 0 d e → IsAfterAll tail e × ReadsOn e f → ReadsPiece tail 0 f g
+looks_on : (tail : ℕ) (d e f g : Device) → Measures 0 d e → IsAfterAll tail e × ReadsFromStart e f → ReadsPiece tail 0 f g
     → LooksBehind d g
 looks_on tail d e f g made on (inl same) =
     subst (LooksBehind d) (sym same) (looks_until d e f made (on.1.0, until_of 0 0 on.1.0 on.1.1 e f on.1.2))
@@ -162,10 +162,10 @@ looks_on tail d e f g made on (inr (inr fetched)) =
 pub modeled_looks_none : (old new : Option Device) → Both Idles old new → Both LooksBehind old new
 modeled_looks_none old new idles = both_map Idles LooksBehind old new looks_none idles
 
-pub modeled_looks_until : (one two three : Option Device) → Both (Measures 0) one two → Both ReadsOnUntil two three
+pub modeled_looks_until : (one two three : Option Device) → Both (Measures 0) one two → Both ReadsFromStartUntil two three
     → Both LooksBehind one three
 modeled_looks_until one two three made until =
-    both_then (Measures 0) ReadsOnUntil LooksBehind one two three looks_until made until
+    both_then (Measures 0) ReadsFromStartUntil LooksBehind one two three looks_until made until
 
 after_all : (tail size : ℕ) (modeled : Option Device) → tail ≤ size → IfModeled modeled (λ d. size ≡ length (bytes_now 0 d))
     → IfModeled modeled (λ d. behind (bytes_now 0 d) ≡ drop tail (bytes_now 0 d)) → IfModeled modeled (IsAfterAll tail)
@@ -175,13 +175,13 @@ after_all tail size (Some d) within all rest = record { within = omega (arith, w
 pub modeled_looks_on : (tail size : ℕ) (one two three four : Option Device) → tail ≤ size
     → IfModeled one (λ d. size ≡ length (bytes_now 0 d))
     → IfModeled two (λ d. behind (bytes_now 0 d) ≡ drop tail (bytes_now 0 d))
-    → Both (Measures 0) one two → Both ReadsOn two three → Both (ReadsPiece tail 0) three four → Both LooksBehind one four
+    → Both (Measures 0) one two → Both ReadsFromStart two three → Both (ReadsPiece tail 0) three four → Both LooksBehind one four
 modeled_looks_on tail size one two three four within all rest made on piece_of =
     let still = modeled_from (Measures 0) (λ d. size ≡ length (bytes_now 0 d)) (λ d. size ≡ length (bytes_now 0 d)) one two
     (λ d e is m. is ∙ ap (λ (e : Device). length (bytes_now 0 e)) (sym m)) all made in
-    both_three (Measures 0) (λ d e. IsAfterAll tail d × ReadsOn d e) (ReadsPiece tail 0) LooksBehind one two three four
+    both_three (Measures 0) (λ d e. IsAfterAll tail d × ReadsFromStart d e) (ReadsPiece tail 0) LooksBehind one two three four
     (looks_on tail) made
-    (both_from (IsAfterAll tail) ReadsOn (λ d e. IsAfterAll tail d × ReadsOn d e) two three (λ d e is h. (is, h))
+    (both_from (IsAfterAll tail) ReadsFromStart (λ d e. IsAfterAll tail d × ReadsFromStart d e) two three (λ d e is h. (is, h))
     (after_all tail size two within still rest) on) piece_of
 
 -- the piece that is read for the first five bytes

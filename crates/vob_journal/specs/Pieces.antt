@@ -91,12 +91,12 @@ pub record ReadsTo (place has : ℕ) (d e : Device) : Type 0 where
   pub forth : IsReadForth 0 0 number has d e
 
 -- so it was read from its start on
-abbrev pub ReadsOn : Device → Device → Type 0
-ReadsOn d e = (to : ℕ) × (has : ℕ) × IsReadForth 0 0 to has d e
+abbrev pub ReadsFromStart : Device → Device → Type 0
+ReadsFromStart d e = (to : ℕ) × (has : ℕ) × IsReadForth 0 0 to has d e
 
 -- so it was read from its start on, until a call failed or memory ran out
-abbrev pub ReadsOnUntil : Device → Device → Type 0
-ReadsOnUntil d e = (to : ℕ) × IsReadUntil 0 0 to d e
+abbrev pub ReadsFromStartUntil : Device → Device → Type 0
+ReadsFromStartUntil d e = (to : ℕ) × IsReadUntil 0 0 to d e
 
 -- so the next frame of a journal was read: where there is one, the journal can be read on after it; else nothing after it was
 abbrev pub ReadsNext : {A D E : Type 0} → Result (Option A) E → (D → DiskState) → Shown D → Shown D → Type 0

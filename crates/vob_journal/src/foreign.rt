@@ -4,7 +4,7 @@ ghost use Rattle.std.specs.Prelude.{◌≡◌, ◌≤◌, ◌^◌, List, ℕ, mi
 ghost use Rattle.disk_model.specs.Devices.{bytes_now};
 ghost use Rattle.disk_model.specs.DiskStates.{IfModeled, Both};
 ghost use Rattle.vob_journal.specs.Foreign.{behind, foreign, foreign_of, may_be_cut};
-ghost use Rattle.vob_journal.specs.Pieces.{LooksBehind, ReadsOn, ReadsOnUntil, ReadsPiece};
+ghost use Rattle.vob_journal.specs.Pieces.{LooksBehind, ReadsFromStart, ReadsFromStartUntil, ReadsPiece};
 ghost use Rattle.vob_journal.specs.Reads.{SameFiles, Rests, CountsOn};
 
 use crate::reading::{Found, read_frame};
@@ -48,9 +48,9 @@ fn tail_of<D: Disk>(alloc: Global, disk: &mut D, size: u64) -> Result<u64, Or<Di
         (λ d. behind (bytes_now 0 d) ≡ drop tail (bytes_now 0 d))) }
     ensures rests { Both Rests (D.ghost_state disk.old).modeled (D.ghost_state disk.new).modeled }
     ensures forth { IfOk result
-        (λ _. Both ReadsOn (D.ghost_state disk.old).modeled (D.ghost_state disk.new).modeled) }
+        (λ _. Both ReadsFromStart (D.ghost_state disk.old).modeled (D.ghost_state disk.new).modeled) }
     ensures until { OnErr result
-        (Both ReadsOnUntil (D.ghost_state disk.old).modeled (D.ghost_state disk.new).modeled) }
+        (Both ReadsFromStartUntil (D.ghost_state disk.old).modeled (D.ghost_state disk.new).modeled) }
     ensures counts { CountsOn result (D.ghost_state disk.old) (D.ghost_state disk.new) }
 {
     let mut tail = 0;

@@ -25,6 +25,6 @@ returns-clause-modeled g c =
     → Settles b tail d e) (sym c.if-settled.false) (settles_put tail d e) in
     let stays = λ (d e : Device). subst (λ b. IsTail false tail d → FailsToPut tail (0 ∷ []) d e
     → LeavesLeftover b tail d e) (sym c.if-settled.false) (settling_failed tail d e) in
-    answer_from c.put_down.result (IsTail false tail) (PutsDown tail (0 ∷ [])) (Settles c.args.settled tail) (FailsToPut tail (0 ∷ []))
-    (LeavesLeftover c.args.settled tail) _ _
+    answer_from c.put_down.result (IsTail false tail) (PutsDown tail (0 ∷ [])) (Settles c.args.settled tail)
+    (FailsToPut tail (0 ∷ [])) (LeavesLeftover c.args.settled tail) _ _
     settles stays leftover c.put_down.ensures.modeled
