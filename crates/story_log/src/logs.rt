@@ -114,7 +114,7 @@ impl<D: Disk> Log<D> {
     ghost use Rattle.legal_history.specs.Stories.States.{faults_of};
     ghost use Rattle.legal_history.specs.Stories.Steps.{state_of};
     ghost use Rattle.cc_names.specs.Counts.{rises};
-    ghost use Rattle.story_log.specs.Logging.Appending.{Appends, IsQuiet};
+    ghost use Rattle.story_log.specs.Logging.Appending.{Appends, IsQuiet, SettlesTail};
     ghost use Rattle.story_log.specs.Stopping.Backed.{IsBacked, IsSettled, IsAccounted, may_be_open};
     ghost use Rattle.story_log.specs.Stopping.Journals.{journal_state};
     ghost use Rattle.story_log.specs.Story.Handed.{handed_disk};
@@ -239,6 +239,8 @@ impl<D: Disk> Log<D> {
         ensures few { self.new.ghost_state.ticks ≤ self.old.ghost_state.ticks + 2 }
         ensures writes { Both WritesOn self.old.ghost_state.modeled self.new.ghost_state.modeled }
         ensures rests { may_be_open (state_of self.old.story).ends ≡ false → self.new ≡ self.old }
+        ensures calls { Both (SettlesTail (state_of self.old.story).ends)
+            self.old.ghost_state.modeled self.new.ghost_state.modeled }
     {
         match self.journal.left_by_last_call() {
             Left::Nothing => Ok(()),

@@ -14,7 +14,9 @@ use Rattle.cc_names.proofs.Common.{and_false}
 use Rattle.cc_outside.specs.Feeds.{AppendsPrefix}
 use Rattle.cc_outside.specs.declared.sinks.WriteFault.{WriteFault}
 use Rattle.disk_model.specs.DiskStates.{DiskState, Both, IsCounted}
-use Rattle.vob_journal.specs.Pieces.{ReadsOnce}
+use Rattle.story_log.specs.Bases.Reading.{ReadsOnceBy}
+use Rattle.story_log.specs.Logging.Appending.{SettlesTail}
+use Rattle.story_log.proofs.Bases.ReadFrames.{once_of}
 use Rattle.vob_journal.specs.Reads.{SameFiles}
 use Rattle.vob_journal.proofs.Staying.{modeled_stay}
 use Rattle.story_log.specs.Stopping.Backed.{IsAccounted, may_be_open}
@@ -302,7 +304,8 @@ run_sink (Err (Is fault)) rose faults wrote = λ other. absurd (other refl)
 
 -- A base was opened, its session was run, and then its journal was settled, which leaves the story.
 module _ (one ran : Shown) (settled : List StoryStep) (ghost_state : DiskState) (kept : settled ≡ ran.story)
-    (settles : SettlesJournal (may_be_open (state_of ran.story).ends) ran.ghost_state ghost_state) where
+    (settles : SettlesJournal (may_be_open (state_of ran.story).ends) ran.ghost_state ghost_state)
+    (calls : Both (SettlesTail (state_of ran.story).ends) ran.ghost_state.modeled ghost_state.modeled) where
   -- the steps since, and the settling, have the disk's counts
   counts_from : IsJustOpened one.story → KeepsCount one ran → CountsFrom one.ghost_state ghost_state settled
   counts_from just keeps = record {
@@ -312,6 +315,8 @@ module _ (one ran : Shown) (settled : List StoryStep) (ghost_state : DiskState) 
     story_is = kept ∙ keeps.grows ∙ ap (λ story. story ++ keeps.steps) just.is;
     counts = subst (λ story. CountsSteps (state_of story) keeps.steps one.ghost_state ran.ghost_state) just.is keeps.counts;
     settled = subst (λ story. SettlesJournal (may_be_open (state_of story).ends) ran.ghost_state ghost_state) (sym kept) settles;
+    calls = subst (λ story. Both (SettlesTail (state_of story).ends) ran.ghost_state.modeled ghost_state.modeled) (sym kept)
+        calls;
   }
 
   -- and this is what became of it
@@ -471,21 +476,24 @@ promised_unstarted unstarted status intake outside faults disk unread counted ha
 -- why a base is not opened is the cause of the status
 open_cause : (because : OpenCause) (rose : Bool) (intake : Intake) (faults : Change ℕ) (disk : Change DiskState)
     → disk_rose disk ≡ rose → IsAsked intake → StopsBy disk.before.modeled found_on because
-    disk.before.faults disk.after.faults → HasCause (unstarted_status (of_unopened because rose)) intake faults disk []
-open_cause opens.NoMemory rose intake faults disk by asked is = λ closed. is
-open_cause (opens.Damaged row) true intake faults disk by asked is = (asked, by, λ opened. absurd (cc))
-open_cause (opens.Damaged row) false intake faults disk by asked is = (asked, is.1, by, refl)
-open_cause opens.DiskFault rose intake faults disk by asked is = (asked, is, λ opened. absurd (cc))
+    disk.before.faults disk.after.faults → Both (ReadsOnceBy because) disk.before.modeled disk.after.modeled
+    → HasCause (unstarted_status (of_unopened because rose)) intake faults disk []
+open_cause opens.NoMemory rose intake faults disk by asked is once = λ closed. is
+open_cause (opens.Damaged row) true intake faults disk by asked is once = (asked, by, λ opened. absurd (cc))
+open_cause (opens.Damaged row) false intake faults disk by asked is once = (asked, is.1, by, refl, once)
+open_cause opens.DiskFault rose intake faults disk by asked is once = (asked, is, λ opened. absurd (cc))
 
 promised_closed : (because : OpenCause) (status : Status) (intake : Intake) (outside : Outside) (faults : Change ℕ)
     (disk : Change DiskState) → outside.reading ≡ outside.first → IsAsked intake → FailsToOpen disk.before because disk.after
-    → Both ReadsOnce disk.before.modeled disk.after.modeled → WritesUnstarted (of_unopened because (disk_rose disk)) status
+    → Both (ReadsOnceBy because) disk.before.modeled disk.after.modeled
+    → WritesUnstarted (of_unopened because (disk_rose disk)) status
     outside.held outside.holds faults
     → Promised status [] intake outside faults disk
 promised_closed because status intake outside faults disk unread asked fails once wrote =
     unstarted_so (of_unopened because (disk_rose disk)) status intake outside faults disk fails.files unread
-    (open_cause because (disk_rose disk) intake faults disk refl asked fails.because) wrote
-    (stays_closed disk.before disk.after [] refl fails.tells fails.unchanged once fails.files)
+    (open_cause because (disk_rose disk) intake faults disk refl asked fails.because once) wrote
+    (stays_closed disk.before disk.after [] refl fails.tells fails.unchanged
+    (once_of because disk.before.modeled disk.after.modeled once) fails.files)
 
 -- a text of sites comes to a status that is not cut, and what is written is its text
 sites_uncut : (run : Result Replies SiteError) → is_cut (status_of_sites run) ≡ false

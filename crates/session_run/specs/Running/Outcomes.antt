@@ -12,6 +12,7 @@ use Rattle.legal_history.specs.Stories.Steps.{state_of}
 use Rattle.legal_history.specs.Stories.Lawful.{Legal}
 use Rattle.story_log.specs.Stopping.Backed.{IsAccounted}
 use Rattle.story_log.specs.Bases.Opening.{FailsToOpen}
+use Rattle.story_log.specs.Bases.Reading.{ReadsOnceBy}
 use Rattle.story_log.specs.declared.opening.OpenCause.{OpenCause}
 use Rattle.session_run.specs.Calls.Causes.{Change, disk_rose}
 use Rattle.session_run.specs.Faults.Accounted.{CountsFrom}
@@ -57,7 +58,7 @@ pub record StaysClosed (status : Status) (story : List StoryStep) (outside : Out
     (disk : Change DiskState) : Type 0 where
   pub because : OpenCause
   pub fails : FailsToOpen disk.before because disk.after
-  pub once : Both ReadsOnce disk.before.modeled disk.after.modeled
+  pub once : Both (ReadsOnceBy because) disk.before.modeled disk.after.modeled
   pub empty : story ≡ []
   pub unread : outside.reading ≡ outside.first
   pub wrote : WritesUnstarted (of_unopened because (disk_rose disk)) status outside.held outside.holds faults

@@ -2,7 +2,7 @@
 use Rattle.std.proofs.Common.{◌≡◌, ℕ, ◌+◌, ◌≤◌, inl, inr, Bool, true, false, Option, Some, None, List, [], ◌∷◌, ◌++◌, refl, ap}
 use Rattle.std.proofs.Common.{sym, subst, ◌∙◌, arith, append_assoc}
 use Rattle.std.specs.Option.{option_to_list}
-use Rattle.std.specs.Prelude.{IfSome, Result, Ok, Err, is_some, if◌then◌else◌}
+use Rattle.std.specs.Prelude.{IfSome, MatchResult, Result, Ok, Err, is_some, if◌then◌else◌}
 use Rattle.cc_names.specs.Formed.{Plain, IsFormed}
 use Rattle.cc_names.specs.declared.commands.Phase.{Phase}
 use Rattle.cc_names.specs.declared.rows.Tag.{Tag}
@@ -19,17 +19,19 @@ use Rattle.row_form.specs.Spelled.{spelling_of}
 use Rattle.vob_journal.specs.Lefts.{FailsInPhase}
 use Rattle.vob_journal.specs.Phases.{Spends, calls_of}
 use Rattle.vob_journal.specs.Added.{WritesOn, may_write}
-use Rattle.vob_journal.specs.Calls.{device_after_commit}
+use Rattle.vob_journal.specs.Answered.{MakesNoCall}
+use Rattle.vob_journal.specs.Calls.{FailsToPut, device_after_commit, settled_first}
 use Rattle.vob_journal.specs.declared.left.Left.{Left}
 use Rattle.vob_journal.specs.declared.left.Left.TheVariants as lefts
 use Rattle.story_log.specs.Logging.Appending.{CommitsRow, StandsSettled, IsQuiet, MayLeaveRow, IsCommitted, IsFaulted}
-use Rattle.story_log.specs.Logging.Appending.{with_ending}
+use Rattle.story_log.specs.Logging.Appending.{SettlesTail, with_ending}
 use Rattle.story_log.specs.Logging.Leaving.{LeftSo}
 use Rattle.story_log.specs.Logging.Logs.{IsLogged, logged_state, with_step_on}
 use Rattle.story_log.specs.Stopping.Journals.{JournalState}
 use Rattle.story_log.specs.Story.Telling.{shown_as, stands_alone}
 use Rattle.story_log.specs.Story.Handed.{Handed}
 use Rattle.vob_journal.proofs.Adding.{adds_none}
+use Rattle.vob_journal.proofs.Telling.{both_map}
 use Rattle.story_log.proofs.Logging.Faults.{FaultKept, fault_step, fault_told}
 use Rattle.story_log.proofs.Logging.Logged.{logged_fault, logged_step, quiet_shown}
 use Rattle.story_log.proofs.Logging.Logging.{MissesRow}
@@ -175,3 +177,22 @@ few_calls false (Err fault) old new h = omega (arith, h.1)
 pub writes_none : (modeled : Option Device) → Both WritesOn modeled modeled
 writes_none None = tt
 writes_none (Some d) = record { adds = adds_none may_write d; objects = refl }
+
+-- a journal that was settled, or was to be
+settles_none_at : (ends : List End) (d : Device) → SettlesTail ends d d
+settles_none_at ends d = (true, 0, λ shut row. refl, inl refl)
+
+pub settles_no_tail : (ends : List End) (modeled : Option Device) → Both (SettlesTail ends) modeled modeled
+settles_no_tail ends None = tt
+settles_no_tail ends (Some d) = settles_none_at ends d
+
+pub settles_tail : {T E D : Type 0} (r : Result T E) (ends : List End) (settled : Bool) (tail : ℕ) (before after : D)
+    (old new : Option Device)
+    → StandsSettled ends settled → (settled ≡ true → MakesNoCall r before after)
+    → MatchResult r (λ _. Both (λ d e. e ≡ settled_first settled tail d) old new) (λ _. Both (FailsToPut tail (0 ∷ [])) old new)
+    → Both (SettlesTail ends) old new
+settles_tail (Ok x) ends settled tail before after old new stands rests calls =
+    both_map (λ d e. e ≡ settled_first settled tail d) (SettlesTail ends) old new (λ d e is. (settled, tail, stands, inl is)) calls
+settles_tail (Err fault) ends true tail before after old new stands rests calls = let none = (rests refl).0 in absurd (cc none)
+settles_tail (Err fault) ends false tail before after old new stands rests calls =
+    both_map (FailsToPut tail (0 ∷ [])) (SettlesTail ends) old new (λ d e is. (false, tail, stands, inr (refl, is))) calls

@@ -3,11 +3,12 @@ use Rattle.std.proofs.Common.{◌≤◌, ◌+◌, ◌∙◌, sym, subst}
 use Rattle.disk_model.specs.DiskStates.{Both}
 use Rattle.vob_journal.specs.Added.{WritesOn}
 use Rattle.legal_history.specs.Stories.Steps.{state_of}
+use Rattle.story_log.specs.Logging.Appending.{SettlesTail}
 use Rattle.story_log.specs.Logging.Logs.{IsLogged, logged_state}
 use Rattle.story_log.specs.Stopping.Backed.{IsSettled}
 use Rattle.story_log.specs.Stopping.Journals.{journal_state}
 use Rattle.story_log.specs.Story.Handed.{handed_disk}
-use Rattle.story_log.proofs.Logging.Appended.{few_calls, writes_none}
+use Rattle.story_log.proofs.Logging.Appended.{few_calls, settles_no_tail, settles_tail, writes_none}
 use Rattle.story_log.proofs.Stopping.Settled.{logged_settled, settled_before, settled_so}
 use Rattle.story_log.proofs.logs.Log.settle.Goals as goal
 
@@ -52,3 +53,15 @@ returns-in_default-clause-ok g c =
     (g.D.Disk.ghost_state c.settle.new.self.disk) (journal_state c.settle.new.self) = invariant_of-self g c in
     settled_so (logged_state on log.steps.items log.rows.base log.phases.items) (g.D.Disk.ghost_state c.settle.new.self.disk)
     log.journal.leftover (journal_state c.settle.new.self) c.settle.result logged.backed c.settle.ensures.leftover
+
+pub returns-in-Nothing-clause-calls : goal.returns-in-Nothing-clause-calls
+returns-in-Nothing-clause-calls g c =
+    subst (λ log. Both (SettlesTail (state_of log.story).ends) log.ghost_state.modeled log.ghost_state.modeled) c.self.view_is
+    (settles_no_tail _ (g.D.Disk.ghost_state c.self.inside.journal.disk).modeled)
+
+pub returns-in_default-clause-calls : goal.returns-in_default-clause-calls
+returns-in_default-clause-calls g c =
+    subst (λ log. Both (SettlesTail (state_of log.story).ends) log.ghost_state.modeled
+    (g.D.Disk.ghost_state c.settle.new.self.disk).modeled) c.self.view_is
+    (settles_tail c.settle.result _ c.self.inside.journal.settled c.self.inside.journal.tail _ _ _ _
+    c.self.invariant.backed.shut c.settle.ensures.rests c.settle.ensures.calls)
