@@ -5,3 +5,4 @@ pub mod LogSteps
 pub mod Logged
 pub mod Logging
 pub mod Rising
+mod WorkedSettling

@@ -192,7 +192,8 @@ pub settles_tail : {T E D : Type 0} (r : Result T E) (ends : List End) (settled 
     → MatchResult r (λ _. Both (λ d e. e ≡ settled_first settled tail d) old new) (λ _. Both (FailsToPut tail (0 ∷ [])) old new)
     → Both (SettlesTail ends) old new
 settles_tail (Ok x) ends settled tail before after old new stands rests calls =
-    both_map (λ d e. e ≡ settled_first settled tail d) (SettlesTail ends) old new (λ d e is. (settled, tail, stands, inl is)) calls
+    both_map (λ d e. e ≡ settled_first settled tail d) (SettlesTail ends) old new
+    (λ d e is. (settled, tail, stands, inl is)) calls
 settles_tail (Err fault) ends true tail before after old new stands rests calls = let none = (rests refl).0 in absurd (cc none)
 settles_tail (Err fault) ends false tail before after old new stands rests calls =
     both_map (FailsToPut tail (0 ∷ [])) (SettlesTail ends) old new (λ d e is. (false, tail, stands, inr (refl, is))) calls
