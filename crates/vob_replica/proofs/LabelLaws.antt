@@ -1,10 +1,10 @@
 -- Branches by element and name: where a label stands, how one is put, and which branch it tells.
 use Rattle.std.proofs.Common.{◌≡◌, ℕ, zero, suc, ◌<◌, ◌≤◌, Bool, true, false, cond, Option, Some, None, List, [], ◌∷◌}
 use Rattle.std.proofs.Common.{length, map, get_or, slice_get, refl, sym, ap, ◌∙◌, subst, arith}
-use Rattle.std.specs.Prelude.{insert, find, ◌&&◌, Result, Ok, Err, IfSome, OnOk, OnErr}
+use Rattle.std.specs.Prelude.{insert, find, ◌&&◌, Result, Ok, Err, IfSome, OnOk, OnErr, not, is_none}
 use Rattle.std.specs.Cmp.{IsTotalOrder}
 use Rattle.std.specs.List.Sorted.{IsPartitionedBy, IsPartitionPoint}
-use Rattle.std.specs.Option.{option_map}
+use Rattle.std.specs.Option.{option_map, option_map_or}
 use Rattle.std.specs.Ordering.{nat_cmp, match_ordering, ordering_reverse, is_lt, is_eq, on, then_cmp}
 use Rattle.std.specs.declared.cmp.Ordering.{Ordering}
 use Rattle.std.specs.declared.cmp.Ordering.TheVariants.{Less, Equal, Greater}
@@ -160,6 +160,29 @@ found-none element name labels place are at none =
     sym (ap (λ (b : Bool). cond b (slice_get labels (label_place element name labels)) None)
     (subst (λ (p : ℕ). is_label_at labels p element name ≡ false) at none))
     ∙ sym (found element name labels are)
+
+-- whether one is there, where it would stand
+pub is-there : (element : Identity) (name : List ℕ) (labels : List Label) (place : ℕ) (b : Bool) → AreInOrder labels
+    → place ≡ label_place element name labels → is_label_at labels place element name ≡ b
+    → not b ≡ is_none (label_in labels element name)
+is-there element name labels place b are at is =
+    by b (slice_get labels (label_place element name labels)) refl
+    (subst (λ (p : ℕ). is_label_at labels p element name ≡ b) at is)
+    (found element name labels are)
+  where
+    by : (b : Bool) (one : Option Label) → slice_get labels (label_place element name labels) ≡ one
+        → is_label_at labels (label_place element name labels) element name ≡ b
+        → label_in labels element name ≡ cond (is_label_at labels (label_place element name labels) element name)
+        (slice_get labels (label_place element name labels)) None
+        → not b ≡ is_none (label_in labels element name)
+    by false one one-is is all =
+        sym (ap is_none (all ∙ ap (λ (b : Bool). cond b (slice_get labels (label_place element name labels)) None) is))
+    by true (Some label) one-is is all =
+        sym (ap is_none (all ∙ ap (λ (b : Bool). cond b (slice_get labels (label_place element name labels)) None) is ∙ one-is))
+    by true None one-is is all =
+        let none : is_label_at labels (label_place element name labels) element name ≡ false =
+        ap (λ (o : Option Label). option_map_or (is_label_of element name) o false) one-is in
+        absurd (cc (none, is))
 
 -- what is found where one more was put among others
 find-insert : {X : Type 0} (test : X → Bool) (xs : List X) (place : ℕ) (x : X) → place ≤ length xs

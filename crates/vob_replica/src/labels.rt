@@ -112,6 +112,8 @@ fn find_label<'a>(labels: &'a [Label], element: &Identity, name: &[u8]) -> Optio
 /// Puts a label among others, unless one of its element and name is there. Answers whether it did.
 fn put_label(labels: &mut Vec<Label>, label: Label) -> Result<bool, NoMemory>
     requires { AreInOrder labels.old.items }
+    ensures new { IfOk result
+        (λ new. new ≡ is_none (label_in labels.old.items label.element label.name)) }
     ensures put { IfOk result
         (λ new. new ≡ true → IsPutIn label labels.old.items labels.new.items) }
     ensures order { AreInOrder labels.new.items }
@@ -165,7 +167,9 @@ impl Labels {
     /// Puts a label among others, unless one of its element and name is there. Answers whether it did. Takes time logarithmic in
     /// the labels, and a move of those behind it.
     pub(crate) fn put(&mut self, label: Label) -> Result<bool, NoMemory>
-        ensures { IfOk result (λ new. new ≡ true → IsPutIn label self.old self.new) }
+        ensures new { IfOk result
+            (λ new. new ≡ is_none (label_in self.old label.element label.name)) }
+        ensures put { IfOk result (λ new. new ≡ true → IsPutIn label self.old self.new) }
     {
         put_label(&mut self.labels, label)
     }
