@@ -2,7 +2,6 @@
 
 ghost use Rattle.std.specs.Prelude.{◌≡◌, ◌+◌, ◌<◌, ◌≤◌, ◌^◌, ◌++◌, ◌∷◌, [], length, true, false, IfOk, OnOk, OnErr};
 ghost use Rattle.row_form.specs.Spelled.{spelling_of};
-ghost use Rattle.story_log.specs.Logging.Leaving.{LeftSo};
 ghost use Rattle.std.specs.Vec.{vec_len, vec_capacity};
 ghost use Rattle.std.specs.Option.{option_to_list};
 
@@ -74,17 +73,6 @@ fn frame_of(alloc: Global, row: &Row) -> Result<Frame, NoMemory>
         return Err(NoMemory);
     }
     Frame::of(alloc, payload.as_bytes())
-}
-
-/// The row that may be found after those of the base once an append failed, by what the journal left.
-fn left_after(how: Left, earlier: Option<Row>, row: Row) -> Option<Row>
-    ensures { LeftSo earlier row how result }
-{
-    match how {
-        Left::Nothing => None,
-        Left::Earlier => earlier,
-        Left::InFlight => Some(row),
-    }
 }
 
 /// A step and the one that it brings with it, for which there is room.
@@ -203,7 +191,13 @@ impl<D: Disk> Log<D> {
             return Ok(Appended::Committed);
         }
         let counts = self.journal.counts();
-        self.left = left_after(self.journal.left_by_last_call(), self.left.take(), row);
+        let earlier = self.left.take();
+        let left = match self.journal.left_by_last_call() {
+            Left::Nothing => None,
+            Left::Earlier => earlier,
+            Left::InFlight => Some(row),
+        };
+        self.left = left;
         let fault = Step::Fault {
             tag,
             left: Snapshot::of(&self.left),

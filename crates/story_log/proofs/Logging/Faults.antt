@@ -1,5 +1,5 @@
 -- A fault of the disk, as a log keeps it and as its story tells it.
-use Rattle.core.specs.declared.snapshot.Snapshot.{Snapshot}
+use Rattle.std.specs.declared.snapshot.Snapshot.{Snapshot}
 use Rattle.std.proofs.Common.{ℕ, Option}
 use Rattle.cc_names.specs.Formed.{Plain}
 use Rattle.cc_names.specs.declared.rows.Tag.{Tag}

@@ -120,7 +120,7 @@ module _ (on : Handed) (kept : List Step) (base : Base) (phases : List Phase) (l
       is : shown_as step ≡ Some x
       is = (quiet_shown (shown_as step) quiet).1
 
-      same : KeepsBase s x
+      same : KeepsBase s (after s x)
       same = quiet_keeps s x (quiet_shown (shown_as step) quiet).2
 
       state : logged_state on more base phases ≡ after s x

@@ -1,5 +1,5 @@
 -- A row that fits a base names no extent, so its frame spells it as it is.
-use Rattle.std.proofs.Common.{◌≡◌, refl, ap, sym, ◌∙◌, ℕ, Bool, true, false, ltb, List, [], ◌∷◌, map}
+use Rattle.std.proofs.Common.{◌≡◌, refl, ap, sym, ◌∙◌, ℕ, Bool, true, false, ltb, List, [], ◌∷◌, map, arith}
 use Rattle.std.specs.Prelude.{◌&&◌}
 use Rattle.std.proofs.lemmas.Bool.{and_parts, and_from}
 use Rattle.cc_names.specs.Formed.{Plain}
@@ -36,7 +36,7 @@ no_extents b deed fit = refl
 
 pub is_not_at_extents : (b : Base) (deed : Deed) → fits b deed ≡ true → code_of deed ≡ 23 → ⊥
 is_not_at_extents b (deeds.PublishAt view targets script entries outputs) fit code = absurd (never (ltb (size b) row_limit) fit)
-is_not_at_extents b deed fit code = cc
+is_not_at_extents b deed fit code = omega (arith, code)
 
 pub fits_free : (n : ℕ) (b : Base) (deed : Deed) (held : List ObjectExtent) → fits b deed ≡ true
     → may_take n (map extent_of_owned held) (extents_of deed) ≡ true

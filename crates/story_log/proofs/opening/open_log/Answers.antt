@@ -12,7 +12,7 @@ use Rattle.story_log.specs.Bases.Reading.{IsReadBy, IsReadOn, ReadsOnceBy}
 use Rattle.story_log.specs.declared.opening.OpenCause.{OpenCause}
 use Rattle.story_log.specs.declared.opening.OpenCause.TheVariants as causes
 use Rattle.story_log.proofs.Bases.ReadFrames.{once_by, once_on}
-use Rattle.story_log.proofs.Bases.OpenedBases.{new_on, fails_at_once, fails_to_open, keeps_first, read_since, files_first}
+use Rattle.story_log.proofs.Bases.OpenedBases.{new_on, fails_at_once, fails_to_open, keeps_first, files_first}
 use Rattle.story_log.proofs.Bases.OpenedBases.{stops_first, journal_synced, opened_backed, is_opened}
 use Rattle.story_log.proofs.opening.open_log.Goals as goal
 

@@ -6,6 +6,7 @@ use Rattle.disk_model.specs.DiskStates.{IfModeled}
 use Rattle.base_model.specs.Fits.{fits}
 use Rattle.vob_journal.specs.Lefts.{leftover_after}
 use Rattle.story_log.specs.Logging.Appending.{IsCommitted, IsFaulted}
+use Rattle.story_log.specs.Logging.Leaving.{LeftSo}
 use Rattle.story_log.specs.Logging.Logs.{IsLogged, logged_state}
 use Rattle.story_log.specs.Stopping.Journals.{journal_state}
 use Rattle.story_log.specs.Story.Handed.{handed_disk}
@@ -15,6 +16,7 @@ use Rattle.story_log.proofs.Logging.Logged.{logged_row}
 use Rattle.story_log.proofs.Logging.Logging.{MissesRow, TakesRow}
 use Rattle.story_log.proofs.Logging.LogSteps.{shown}
 use Rattle.story_log.proofs.logs.Log.append.Goals as goal
+use Rattle.story_log.proofs.logs.Log.append.Goals.{in-Nothing, in-Earlier, in-InFlight}
 
 pub invariant_of-self-in-Ok : goal.invariant_of-self-in-Ok
 invariant_of-self-in-Ok g c =
@@ -90,6 +92,15 @@ invariant_of-self-2 g c =
     } in
     let kept : c.push_both.new.steps.items ≡ log.steps.items ++ fault_step fault ∷ option_to_list c.args.ending =
     c.push_both.ensures ∙ ap (λ xs. xs ++ fault_step fault ∷ option_to_list c.args.ending) c.reserve-2.ensures.items in
+    let left : LeftSo log.left c.args.row c.append.new.self.left c.match-left_by_last_call.left =
+    elim c.match-left_by_last_call.branch [
+      | in-Nothing w ↦ subst (λ l. LeftSo log.left c.args.row l c.match-left_by_last_call.left)
+          (sym w.in-Nothing.is ∙ c.left_by_last_call.ensures) w.left-is
+      | in-Earlier w ↦ subst (λ l. LeftSo log.left c.args.row l c.match-left_by_last_call.left)
+          (sym w.in-Earlier.is ∙ c.left_by_last_call.ensures) (w.left-is ∙ c.take-earlier.ensures.value)
+      | in-InFlight w ↦ subst (λ l. LeftSo log.left c.args.row l c.match-left_by_last_call.left)
+          (sym w.in-InFlight.is ∙ c.left_by_last_call.ensures) w.left-is
+    ] in
     let missed : MissesRow c.args.row (ghost_state log.journal.disk) (ghost_state c.append.new.self.disk)
     (journal_state log.journal) (journal_state c.append.new.self) = record {
       moves = c.in_default.ensures.moves;
@@ -102,14 +113,15 @@ invariant_of-self-2 g c =
       settled = c.in_default.ensures.settled;
       ajar = earlier_unsettled log.journal.settled c.append.new.self.left _ _ c.in_default.ensures.fails;
     } in
-    subst (λ rows. IsLogged on c.push_both.new.steps.items rows log.phases.items c.left_after.result
+    subst (λ rows. IsLogged on c.push_both.new.steps.items rows log.phases.items c.match-left_by_last_call.left
     (ghost_state c.append.new.self.disk) (journal_state c.append.new.self)) (sym c.reserve.ensures.same)
     (subst (λ left. IsLogged on c.push_both.new.steps.items log.rows.base log.phases.items left
     (ghost_state c.append.new.self.disk) (journal_state c.append.new.self)) c.of.ensures
     (logged_faulted on log.steps.items log.rows.base log.phases.items log.left (ghost_state log.journal.disk)
     (ghost_state c.append.new.self.disk) (journal_state log.journal) c.self.invariant c.push_both.new.steps.items c.args.row fault
     c.args.ending (journal_state c.append.new.self) c.requires.ending kept missed
-    ? c.counts-counts.ensures.ticks c.counts-counts.ensures.faults
+    (subst (LeftSo log.left c.args.row c.append.new.self.left) (sym c.of.ensures) left)
+    c.counts-counts.ensures.ticks c.counts-counts.ensures.faults
     (subst (λ b. fits b c.args.row.deed ≡ true) (ap (λ l. l.base) (sym c.self.view_is)) c.requires.fits)
     c.deed.ensures.formed))
 
@@ -127,6 +139,15 @@ returns-clause-ok g c =
     } in
     let kept : c.push_both.new.steps.items ≡ log.steps.items ++ fault_step fault ∷ option_to_list c.args.ending =
     c.push_both.ensures ∙ ap (λ xs. xs ++ fault_step fault ∷ option_to_list c.args.ending) c.reserve-2.ensures.items in
+    let left : LeftSo log.left c.args.row c.append.new.self.left c.match-left_by_last_call.left =
+    elim c.match-left_by_last_call.branch [
+      | in-Nothing w ↦ subst (λ l. LeftSo log.left c.args.row l c.match-left_by_last_call.left)
+          (sym w.in-Nothing.is ∙ c.left_by_last_call.ensures) w.left-is
+      | in-Earlier w ↦ subst (λ l. LeftSo log.left c.args.row l c.match-left_by_last_call.left)
+          (sym w.in-Earlier.is ∙ c.left_by_last_call.ensures) (w.left-is ∙ c.take-earlier.ensures.value)
+      | in-InFlight w ↦ subst (λ l. LeftSo log.left c.args.row l c.match-left_by_last_call.left)
+          (sym w.in-InFlight.is ∙ c.left_by_last_call.ensures) w.left-is
+    ] in
     subst (λ old. IsFaulted old (shown on c.push_both.new.steps.items c.reserve.new.self.base log.phases.items
     (ghost_state c.append.new.self.disk)) c.args.row c.args.ending) c.self.view_is
     (subst (λ rows. IsFaulted (shown on log.steps.items log.rows.base log.phases.items (ghost_state log.journal.disk))
@@ -135,7 +156,8 @@ returns-clause-ok g c =
     (is_faulted on log.steps.items log.rows.base log.phases.items log.left (ghost_state log.journal.disk)
     (ghost_state c.append.new.self.disk) (journal_state log.journal) c.self.invariant c.push_both.new.steps.items c.args.row fault
     c.args.ending c.append.new.self.left c.tag-tag.ensures c.requires.ending kept
-    ? c.counts-counts.ensures.ticks c.counts-counts.ensures.faults c.counts-before.ensures.faults c.in_default.ensures.costs.0
+    (subst (LeftSo log.left c.args.row c.append.new.self.left) (sym c.of.ensures) left)
+    c.counts-counts.ensures.ticks c.counts-counts.ensures.faults c.counts-before.ensures.faults c.in_default.ensures.costs.0
     c.in_default.ensures.costs.2 (g.met.D.Disk.counted log.journal.disk) (g.met.D.Disk.counted c.append.new.self.disk)
     c.deed.ensures.formed c.in_default.ensures.writes c.in_default.ensures.fails))
 
