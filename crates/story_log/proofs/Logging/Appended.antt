@@ -2,7 +2,7 @@
 use Rattle.std.proofs.Common.{◌≡◌, ℕ, ◌+◌, ◌≤◌, inl, inr, Bool, true, false, Option, Some, None, List, [], ◌∷◌, ◌++◌, refl, ap}
 use Rattle.std.proofs.Common.{sym, subst, ◌∙◌, arith, append_assoc}
 use Rattle.std.specs.Option.{option_to_list}
-use Rattle.std.specs.Prelude.{IfSome, MatchResult, Result, Ok, Err, is_some, if◌then◌else◌}
+use Rattle.std.specs.Prelude.{IfSome, MatchResult, Result, Ok, Err, is_some, if◌then◌else◌, is_ok}
 use Rattle.cc_names.specs.Formed.{Plain, IsFormed}
 use Rattle.cc_names.specs.declared.commands.Phase.{Phase}
 use Rattle.cc_names.specs.declared.rows.Tag.{Tag}
@@ -19,7 +19,6 @@ use Rattle.row_form.specs.Spelled.{spelling_of}
 use Rattle.vob_journal.specs.Lefts.{FailsInPhase}
 use Rattle.vob_journal.specs.Phases.{Spends, calls_of}
 use Rattle.vob_journal.specs.Added.{WritesOn, may_write}
-use Rattle.vob_journal.specs.Answered.{MakesNoCall}
 use Rattle.vob_journal.specs.Calls.{FailsToPut, device_after_commit, settled_first}
 use Rattle.vob_journal.specs.declared.left.Left.{Left}
 use Rattle.vob_journal.specs.declared.left.Left.TheVariants as lefts
@@ -186,14 +185,13 @@ pub settles_no_tail : (ends : List End) (modeled : Option Device) → Both (Sett
 settles_no_tail ends None = tt
 settles_no_tail ends (Some d) = settles_none_at ends d
 
-pub settles_tail : {T E D : Type 0} (r : Result T E) (ends : List End) (settled : Bool) (tail : ℕ) (before after : D)
-    (old new : Option Device)
-    → StandsSettled ends settled → (settled ≡ true → MakesNoCall r before after)
+pub settles_tail : {T E : Type 0} (r : Result T E) (ends : List End) (settled : Bool) (tail : ℕ) (old new : Option Device)
+    → StandsSettled ends settled → (settled ≡ true → is_ok r ≡ true)
     → MatchResult r (λ _. Both (λ d e. e ≡ settled_first settled tail d) old new) (λ _. Both (FailsToPut tail (0 ∷ [])) old new)
     → Both (SettlesTail ends) old new
-settles_tail (Ok x) ends settled tail before after old new stands rests calls =
+settles_tail (Ok x) ends settled tail old new stands rests calls =
     both_map (λ d e. e ≡ settled_first settled tail d) (SettlesTail ends) old new
     (λ d e is. (settled, tail, stands, inl is)) calls
-settles_tail (Err fault) ends true tail before after old new stands rests calls = let none = (rests refl).0 in absurd (cc none)
-settles_tail (Err fault) ends false tail before after old new stands rests calls =
+settles_tail (Err fault) ends true tail old new stands rests calls = let none = rests refl in absurd (cc none)
+settles_tail (Err fault) ends false tail old new stands rests calls =
     both_map (FailsToPut tail (0 ∷ [])) (SettlesTail ends) old new (λ d e is. (false, tail, stands, inr (refl, is))) calls

@@ -43,7 +43,7 @@ they_are_told : story_of (handed_disk counts true) kept rows (phase ∷ []) ≡ 
 they_are_told = refl
 
 they_are_named : AreNamedBySteps 1 0 kept rows (phase ∷ [])
-they_are_named = (omega arith, omega arith, refl, refl, refl, tt)
+they_are_named = (omega arith, omega arith, (refl, (refl, refl, tt)))
 
 its_rows : rows_named story ≡ rows
 its_rows = refl

@@ -56,12 +56,17 @@ returns-in_default-clause-ok g c =
 
 pub returns-in-Nothing-clause-calls : goal.returns-in-Nothing-clause-calls
 returns-in-Nothing-clause-calls g c =
-    subst (λ log. Both (SettlesTail (state_of log.story).ends) log.ghost_state.modeled log.ghost_state.modeled) c.self.view_is
-    (settles_no_tail _ (g.D.Disk.ghost_state c.self.inside.journal.disk).modeled)
+    let log = c.self.inside in
+    subst (λ l. Both (SettlesTail (state_of l.story).ends) l.ghost_state.modeled l.ghost_state.modeled) c.self.view_is
+    (settles_no_tail (logged_state (handed_disk log.handed g.D.Disk.tells) log.steps.items log.rows.base log.phases.items).ends
+    (g.D.Disk.ghost_state log.journal.disk).modeled)
 
 pub returns-in_default-clause-calls : goal.returns-in_default-clause-calls
 returns-in_default-clause-calls g c =
-    subst (λ log. Both (SettlesTail (state_of log.story).ends) log.ghost_state.modeled
+    let log = c.self.inside in
+    subst (λ l. Both (SettlesTail (state_of l.story).ends) l.ghost_state.modeled
     (g.D.Disk.ghost_state c.settle.new.self.disk).modeled) c.self.view_is
-    (settles_tail c.settle.result _ c.self.inside.journal.settled c.self.inside.journal.tail _ _ _ _
-    c.self.invariant.backed.shut c.settle.ensures.rests c.settle.ensures.calls)
+    (settles_tail c.settle.result
+    (logged_state (handed_disk log.handed g.D.Disk.tells) log.steps.items log.rows.base log.phases.items).ends
+    log.journal.settled log.journal.tail _ _ c.self.invariant.backed.shut (λ is. (c.settle.ensures.rests is).0)
+    c.settle.ensures.calls)
