@@ -11,7 +11,7 @@ use Rattle.cc_names.specs.declared.steps.Counts.{Counts}
 use Rattle.cc_names.specs.declared.steps.StoryStep.{StoryStep}
 use Rattle.cc_names.specs.declared.steps.StoryStep.TheVariants as story_steps
 use Rattle.disk_model.specs.Counting.{next_count}
-use Rattle.disk_model.specs.Devices.{Device, Event, Measured, Fetched, Wrote, Tore, Synced, Failed, failures}
+use Rattle.disk_model.specs.Devices.{Device, Event, Measured, Fetched, Wrote, Tore, Synced, Failed, bytes_now, failures}
 use Rattle.disk_model.specs.DiskStates.{DiskState, IfModeled, Both, IsCounted, CountsFailures}
 use Rattle.disk_model.proofs.Recording.{failures_most}
 use Rattle.legal_history.specs.Stories.States.{State, End, start}
@@ -250,17 +250,18 @@ all_read (Synced file ∷ calls) h none = absurd (cc)
 all_read (Failed ∷ calls) h none = absurd (omega (arith, none))
 
 -- what reads a journal once are calls that read
-forth_reads : (from had : ℕ) (calls : List Event) (to has : ℕ) → ReadsForth from had calls to has → list_all may_read calls ≡ true
-forth_reads from had [] to has h = refl
-forth_reads from had (Fetched file place size ∷ calls) to has h =
-    forth_reads from had calls place h.3.0 h.3.2
-forth_reads from had (event ∷ calls) to has h = absurd h
+forth_reads : (bytes : List ℕ) (from had : ℕ) (calls : List Event) (to has : ℕ) → ReadsForth bytes from had calls to has
+    → list_all may_read calls ≡ true
+forth_reads bytes from had [] to has h = refl
+forth_reads bytes from had (Fetched file place size ∷ calls) to has h =
+    forth_reads bytes from had calls (h.2.0 + 1) h.2.3.0 h.2.3.2
+forth_reads bytes from had (event ∷ calls) to has h = absurd h
 
-opening_reads : (calls : List Event) → OpensBy calls → list_all may_read calls ≡ true
-opening_reads calls (inl none) = ap (list_all may_read) none
-opening_reads calls (inr read) =
-    ap (list_all may_read) read.3 ∙ list_all-append may_read read.0 (Measured 0 ∷ [])
-    ∙ ap (λ a. a && true) (forth_reads 0 0 read.0 read.1 read.2 read.4)
+opening_reads : (bytes : List ℕ) (calls : List Event) (to : ℕ) → OpensBy bytes calls to → list_all may_read calls ≡ true
+opening_reads bytes calls to (inl none) = ap (list_all may_read) none
+opening_reads bytes calls to (inr read) =
+    ap (list_all may_read) read.2 ∙ list_all-append may_read read.0 (Measured 0 ∷ [])
+    ∙ ap (λ a. a && true) (forth_reads bytes 0 0 read.0 to read.1 read.3)
 
 but_failed_reads : (calls : List Event) → list_all may_read (but_failed calls) ≡ true → list_all may_read calls ≡ true
 but_failed_reads (Failed ∷ calls) h = h
@@ -268,9 +269,9 @@ but_failed_reads calls h = h
 
 once_reads : (d e : Device) → ReadsOnce d e → Adds may_read d e
 once_reads d e h = record {
-  more = h.more;
-  calls = h.calls;
-  kinds = but_failed_reads h.more (opening_reads (but_failed h.more) h.once);
+  more = h.1.more;
+  calls = h.1.calls;
+  kinds = but_failed_reads h.1.more (opening_reads (bytes_now 0 d) (but_failed h.1.more) h.0 h.1.once);
 }
 
 writes_alone : (calls : List Event) → list_all may_write calls ≡ true → reads_first calls ≡ true
