@@ -328,6 +328,12 @@ def commands():
     return [command for group in GROUPS for command in group.commands]
 
 
+# The words of the commands that only read.
+QUERIES = {command.name for command in commands() if command.reads}
+# The words of the commands whose line names no view but, of `mkview`, the one that it makes.
+WITHOUT_VIEW = {command.name for command in commands() if "V" not in command.form.split() or command.name == "mkview"}
+
+
 def options_by_name():
     """The words that begin with `-` in the forms of each command, by its first word, each once."""
     found = {}

@@ -26,7 +26,7 @@ import sys
 
 import vob
 from answers import STATUSES, plain
-from command_table import commands
+from command_table import QUERIES, WITHOUT_VIEW
 from ct_commands import COMMANDS, NAMES, Call, Wrong, call_of, path, session_of
 from ct_explain import Explainer
 from look import checkouts as checkout_lines
@@ -152,11 +152,6 @@ LOCAL = {"ls": ls, "lscheckout": lscheckout, "lsview": lsview, "lstype": lstype,
 
 
 # What the program answers
-
-
-QUERIES = {command.name for command in commands() if command.reads}
-# The commands whose line names no view but, of `mkview`, the one that it makes.
-WITHOUT_VIEW = {command.name for command in commands() if "V" not in command.form.split() or command.name == "mkview"}
 
 
 def words_of(line):

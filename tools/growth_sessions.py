@@ -260,6 +260,13 @@ def suffix_prefixes(n):
     return make_session(lines + rules([f"{fronts[-1]}{behind[number % len(behind)]}.c{number}" for number in range(n)], "echo > $@"))
 
 
+def suffix_pairs(n):
+    """A suffix rule for each of the suffixes, which no path needs."""
+    fronts = numbered(".s", n)
+    lines = [whole([]), ".SUFFIXES: .z " + " ".join(fronts)]
+    return make_session(lines + rules([f"{front}.z" for front in fronts], "echo > $@"))
+
+
 def suffix_rules(n):
     """Paths that none of many suffix rules for their suffix serves."""
     fronts, paths = numbered(".s", n), [f"f{number}.z" for number in range(n)]
@@ -369,6 +376,7 @@ ROWS = {
     "macro-chain": Row("n rules that each use a chain of n macros", "an expansion is kept while no macro changed", 300, macro_chain),
     "empty-references": Row("n rules that each use a macro of 10n references to nothing", "an expansion is kept while no macro changed", 300, empty_references),
     "suffix-prefixes": Row("n suffix rules that n/5 of n suffixes begin", "suffixes in a map", 150, suffix_prefixes),
+    "suffix-pairs": Row("n suffix rules of n suffixes", "linear in n", 800, suffix_pairs),
     "suffix-rules": Row("n paths that none of n suffix rules for their suffix serves", "suffix rules in a map", 200, suffix_rules),
     "prerequisites": Row("n targets of one rule with n prerequisites", "prerequisites are shared", 250, prerequisites),
     "targets-of-group": Row("ten builds of n targets without a script that an older build made together", "targets of a large group in a set", 1000, targets_of_group),

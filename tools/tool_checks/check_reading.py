@@ -5,9 +5,9 @@ import random
 import re
 from concurrent.futures import ThreadPoolExecutor
 
+import command_table
 import vob
 import vob_rows as rows
-from command_table import commands
 from vob_rows import join, parent
 from vob_specs import date_text, lines_of
 
@@ -297,14 +297,10 @@ def check_rows(base, replies):
                           for r in base.rows[1:] if (r.phase, r.command) == key)  # fmt: skip
             same(f"the targets that the build {key} made", targets, wanted)
         else:
-            makes_row = reply.startswith("ok") and reply != "ok 0" and not is_query(word)
+            makes_row = reply.startswith("ok") and reply != "ok 0" and word not in command_table.QUERIES
             same(f"the number of rows of {key} {word} {reply}", len(made), int(makes_row))
         holds(f"the deed of {word}: {made}", all(deed in MADE.get(word, (word,)) for deed in made))
     same("rows of no command", of_command, {})
-
-
-def is_query(word):
-    return any(command.name == word and command.reads for command in commands())
 
 
 def check_ends(base, replies, phase):

@@ -1,6 +1,6 @@
 //! The answer to a query.
 
-ghost use Rattle.legal_history.specs.Commands.Lines.{query_decision};
+ghost use Rattle.legal_history.specs.Queries.QueryLines.{query_answer};
 ghost use Rattle.view_lookup.specs.Answering.{AnswersAs};
 
 use cc_names::commands::Query;
@@ -18,7 +18,7 @@ pub(crate) fn answer(
     rows: &FirstRows<'_>,
     query: &Query,
 ) -> Result<Text, Or<Refusal>>
-    ensures { AnswersAs result (query_decision rows.now query.now) }
+    ensures { AnswersAs result (query_answer rows.now query.now) }
 {
     match query {
         Query::Catcs { view } => catcs(alloc, rows, view),

@@ -53,6 +53,8 @@ impl<D: Disk> Core<D> {
     ghost use Rattle.story_log.specs.Stopping.Backed.{IsSettled, IsAccounted, may_be_open};
     ghost use Rattle.base_core.specs.Story.Counted.{KeepsCount};
     ghost use Rattle.story_log.specs.Bases.Opening.{AreSynced, OpensCore, FailsToOpen};
+    ghost use Rattle.story_log.specs.Bases.Reading.{ReadsOnceBy};
+    ghost use Rattle.story_log.specs.Logging.Appending.{SettlesTail};
     ghost use Rattle.story_log.specs.Story.Formed.{TellsOnly};
     ghost use Rattle.cc_names.specs.Formed.{IsFormed};
     ghost use Rattle.disk_model.specs.Counting.{next_count};
@@ -70,7 +72,7 @@ impl<D: Disk> Core<D> {
             (λ fault. FailsToOpen (D.ghost_state disk) fault.cause (D.ghost_state fault.disk)) }
         ensures once { MatchResult result
             (λ core. Both ReadsOnce (D.ghost_state disk).modeled core.ghost_state.modeled)
-            (λ fault. Both ReadsOnce (D.ghost_state disk).modeled
+            (λ fault. Both (ReadsOnceBy fault.cause) (D.ghost_state disk).modeled
             (D.ghost_state fault.disk).modeled) }
     {
         match open_log(alloc, hashing, disk) {
@@ -156,6 +158,8 @@ impl<D: Disk> Core<D> {
         ensures few { self.new.ghost_state.ticks ≤ self.old.ghost_state.ticks + 2 }
         ensures writes { Both WritesOn self.old.ghost_state.modeled self.new.ghost_state.modeled }
         ensures rests { may_be_open (state_of self.old.story).ends ≡ false → self.new ≡ self.old }
+        ensures calls { Both (SettlesTail (state_of self.old.story).ends)
+            self.old.ghost_state.modeled self.new.ghost_state.modeled }
     {
         self.log.settle()
     }

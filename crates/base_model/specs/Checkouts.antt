@@ -1,4 +1,4 @@
--- All checkouts that stand in a base, and who holds a branch.
+-- All checkouts of a base, and the views that have a branch reserved.
 use Rattle.std.specs.Prelude.{ℕ, Bool, not, ◌&&◌, Option, Some, None, List, [], ◌∷◌, find, option_map, option_and_then, bytes_eq}
 use Rattle.std.specs.Option.{option_or}
 use Rattle.cc_names.specs.Branches.{branch_of_version}

@@ -1,4 +1,4 @@
--- What stands at a path in a view.
+-- What a view has at a path.
 use Rattle.std.specs.Prelude.{ℕ, Bool, true, false, nat_le, Option, Some, None, Result, Ok, Err, List, [], ◌∷◌, length, reverse}
 use Rattle.std.specs.Prelude.{if◌then◌else◌}
 use Rattle.cc_names.specs.Paths.{names_of, path_of_names}

@@ -1,9 +1,8 @@
 -- How include lines are looked for and how `pp` goes on.
-use Rattle.std.proofs.Common.{◌≡◌, ℕ, zero, suc, ◌+◌, ◌-◌, ◌<◌, ◌≤◌, Option, Some, None, Bool, true, false, Result, Ok, Err}
-use Rattle.std.proofs.Common.{List, [], ◌∷◌, ◌++◌, length, map, drop, reverse, refl, ap, sym, ◌∙◌, subst, arith, length-append}
-use Rattle.std.specs.Prelude.{nat_lt}
+use Rattle.std.proofs.Common.{◌≡◌, ℕ, zero, suc, ◌+◌, ◌-◌, ◌<◌, Some, None, false, Result, Ok, Err}
+use Rattle.std.proofs.Common.{List, [], ◌∷◌, ◌++◌, length, map, drop, reverse, refl, ap, sym, ◌∙◌, arith, length-append}
 use Rattle.std.proofs.lemmas.List.{map-append, reverse-append, length-reverse, length-map}
-use borrow.Author.Tests.{ltb-true, ltb-false}
+use Rattle.std.proofs.lemmas.Bool.{lt-ltb}
 use Rattle.cc_names.specs.declared.refusals.ScriptFault.{ScriptFault}
 use Rattle.script_grammar.specs.Forms.{lines_in}
 use Rattle.cc_names.specs.Paths.{is_root}
@@ -11,26 +10,15 @@ use Rattle.script_grammar.specs.Includes.{include_of, under}
 use Rattle.script_grammar.specs.Lines.{path_in}
 use Rattle.build_script.specs.Making.{includes, resumed_making}
 use Rattle.build_script.specs.OpenTexts.{rest_of, rests_of}
-use Rattle.script_grammar.specs.Parts.{Performed, PartGave, Halted}
-use Rattle.script_grammar.specs.Run.{Asking, Done, Asks, and_then, unless_fault, Made, Output, Preprocessing, preprocessed_text}
-use Rattle.script_grammar.specs.Run.{lines_expanded, line_expanded, included_text, with_output, depth_limit, trace_of}
-use Rattle.script_grammar.specs.Standings.{Standing, texts}
-use Rattle.script_grammar.specs.declared.halts.Halt.{Halt}
-use Rattle.script_grammar.specs.declared.halts.Halt.TheVariants.{Fault, GivenUp, NoMemory}
+use Rattle.script_grammar.specs.Run.{Asking, Done, and_then, unless_fault, Made, Preprocessing, preprocessed_text}
+use Rattle.script_grammar.specs.Run.{lines_expanded, with_output, depth_limit}
 use Rattle.build_script.specs.declared.open_texts.OpenText.{OpenText}
-use Rattle.script_grammar.proofs.CarriedLemmas.{carried_lifted, and_then-assoc, and_then-done}
-
-pub lt_true : (m n : ℕ) → m < n → nat_lt m n ≡ true
-lt_true m n h = by (nat_lt m n) refl
-  where
-    by : (t : Bool) → nat_lt m n ≡ t → t ≡ true
-    by true e = refl
-    by false e = absurd (omega (arith, ltb-false _ _ e))
+use Rattle.script_grammar.proofs.CarriedLemmas.{and_then-assoc}
 
 -- too many bytes are no path
 too_long : (bytes : List ℕ) → 1024 < length bytes → path_in bytes ≡ None
 too_long [] h = absurd (omega arith)
-too_long (b ∷ bytes) h = rw (lt_true 1024 (length (b ∷ bytes)) h) refl
+too_long (b ∷ bytes) h = rw (lt-ltb 1024 (length (b ∷ bytes)) h) refl
 
 -- and so there is no such path under a directory
 pub under_too_long : (path directory : List ℕ) → is_root directory ≡ false → 1024 < length directory + 1 + length path
@@ -38,52 +26,11 @@ pub under_too_long : (path directory : List ℕ) → is_root directory ≡ false
 under_too_long path directory below h =
     rw below (too_long (directory ++ 47 ∷ path) (omega (arith, length-append directory (47 ∷ path))))
 
--- nothing is after all items
-pub all_dropped : {X : Type 0} (items : List X) (n : ℕ) → length items ≤ n → drop n items ≡ []
-all_dropped [] zero low = refl
-all_dropped [] (suc n) low = refl
-all_dropped (x ∷ items) zero low = absurd (omega arith)
-all_dropped (x ∷ items) (suc n) low = all_dropped items n (omega arith)
-
--- a part, and then what is made of what it comes to
-pub carried_shown : {F X A B : Type 0} {stands : F → List ℕ → Option Standing} {broken : F → ℕ} {follows : List (List ℕ) → F → F
-    → Type 0}
-    {before after : List (List ℕ)} {first : Asking (Result A ScriptFault)} {next : X
-    → Asking (Result A ScriptFault)} {result : Result X Halt} {old new : F}
-    (more : A → Asking (Result B ScriptFault)) →
-    Performed stands broken follows before first next result after old new →
-    Performed stands broken follows before (and_then first (unless_fault more)) (λ x. and_then (next x) (unless_fault more))
-    result after old new
-carried_shown {stands = stands} {broken = broken} {follows = follows} {before = before} {after = after} {first = first}
-    {next = next} {result = result} {old = old} {new = new} more one =
-    carried_lifted stands broken follows before after first next more result old new one
-
 -- `pp` at so many levels, by what an include line comes to there
 pub preprocessed_text-lines : (levels : ℕ) (pp : Preprocessing) (text : List ℕ)
     → preprocessed_text levels pp text ≡ lines_expanded (includes levels pp) pp.output (lines_in text)
 preprocessed_text-lines zero pp text = refl
 preprocessed_text-lines (suc levels) pp text = refl
-
--- a part that ended early, wherever it would have gone on
-pub carried_ended : {F X Y A : Type 0} {stands : F → List ℕ → Option Standing} {broken : F → ℕ} {follows : List (List ℕ) → F → F
-    → Type 0}
-    {before after : List (List ℕ)} {asking : Asking (Result A ScriptFault)} {next : X
-    → Asking (Result A ScriptFault)} {halt : Halt} {old new : F}
-    (then : Y → Asking (Result A ScriptFault)) →
-    Performed stands broken follows before asking next (Err halt) after old new
-    → Performed stands broken follows before asking then (Err halt) after old new
-carried_ended then one = record { stays = one.stays; asked = one.asked; went = one.went }
-
--- a part that passed, by another name for where it goes on
-pub carried_passed : {F X Y A : Type 0} {stands : F → List ℕ → Option Standing} {broken : F → ℕ} {follows : List (List ℕ) → F → F
-    → Type 0}
-    {before after : List (List ℕ)} {asking : Asking (Result A ScriptFault)} {next : X
-    → Asking (Result A ScriptFault)} {x : X} {old new : F}
-    (then : Y → Asking (Result A ScriptFault)) (y : Y) → next x ≡ then y →
-    Performed stands broken follows before asking next (Ok x) after old new
-    → Performed stands broken follows before asking then (Ok y) after old new
-carried_passed {stands = stands} {after = after} {old = old} then y e one =
-    record { stays = one.stays; asked = one.asked; went = one.went ∙ ap (trace_of (texts (stands old)) after) e }
 
 -- what is said or included after a stack of texts
 resumed_making-lines : (pp : Preprocessing) (rest : List ℕ) (below : List (List ℕ)) (made : Made) →
@@ -137,24 +84,3 @@ rests_pushed opens opened = ap reverse (map-append rest_of opens (opened ∷ [])
 
 pub rests_length : (opens : List OpenText) → length (rests_of opens) ≡ length opens
 rests_length opens = length-reverse (map rest_of opens) ∙ length-map opens rest_of
-
--- a part that asks for nothing and ended early, wherever a value goes that was a fault
-pub carried_unsaid : {F X Y A B : Type 0} {stands : F → List ℕ → Option Standing} {broken : F → ℕ} {follows : List (List ℕ) → F
-    → F → Type 0}
-    {asking : Asking (Result A ScriptFault)} {value : Result B ScriptFault} {halt : Halt} {reads : List (List ℕ)} {files : F}
-    (reflexive : (paths : List (List ℕ)) (files : F) → follows paths files files) (shown : Y → B) (then : X
-    → Asking (Result A ScriptFault)) →
-    ((fault : ScriptFault) → value ≡ Err fault → asking ≡ Done (Err fault)) → PartGave value shown (Err halt) →
-    Performed stands broken follows reads asking then (Err halt) reads files files
-carried_unsaid {stands = stands} {broken = broken} {asking = asking} {value = value} {halt = halt} {reads = reads} {files = files}
-    reflexive shown then faults gave = record {
-      stays = record { meaning = refl; count = omega arith };
-      asked = λ paths among. reflexive paths files;
-      went = by halt gave;
-    }
-  where
-    by : (halt : Halt) → PartGave value shown (Err halt) → Halted (texts (stands files)) reads asking halt reads (broken files)
-        (broken files)
-    by (Fault fault) gave = ap (trace_of (texts (stands files)) reads) (faults fault gave)
-    by (GivenUp cause) gave = absurd gave
-    by NoMemory gave = tt

@@ -53,7 +53,7 @@ branch_from changes e b (name ∷ names) =
     option_and_then (λ next. branch_from changes e next names) (option_and_then (if_above changes b)
     (branch_named changes e name))
 
--- the element's branch whose names behind `main` are these; no names lead to `main` itself
+-- the element's branch whose names after `main` are these; no names lead to `main` itself
 abbrev pub branch_behind : List TreeChange → ℕ → List (List ℕ) → Option ℕ
 branch_behind changes e names = branch_from changes e e names
 
@@ -63,7 +63,7 @@ branch_names_by names older (BranchMade row moment element origin name) =
     option_map_or names (branch_of_version older origin) [] ++ name ∷ []
 branch_names_by names older _ = []
 
--- the names behind `main` that lead to a branch
+-- the names after `main` that lead to a branch
 abbrev pub names_of_branch : List TreeChange → ℕ → List (List ℕ)
 names_of_branch [] b = []
 names_of_branch (change ∷ older) b = elim (row_of_change change == b) [

@@ -1,6 +1,5 @@
 pub mod Answers
 pub mod Branches
-pub mod CommandWords
 pub mod Commands
 pub mod Counts
 pub mod Cuts

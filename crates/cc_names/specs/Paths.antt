@@ -10,7 +10,7 @@ use Rattle.cc_names.specs.declared.names.NameFault.TheVariants.{Empty, TooLong}
 abbrev pub is_slash : ℕ → Bool
 is_slash b = b == 47
 
--- the `@` that may stand behind a path, and before what else is told
+-- the `@` that may stand after a path, and before what else is told
 abbrev pub is_at : ℕ → Bool
 is_at b = b == 64
 

@@ -5,10 +5,10 @@ use crate::names::Name;
 use crate::paths::Path;
 use crate::texts::Text;
 
-/// A version by its place in its element's tree: the branches behind `main`, and the number on the last of them.
+/// A version by its place in its element's tree: the branches after `main`, and the number on the last of them.
 #[derive(Drop)]
 pub struct VersionName {
-    /// The branches behind `main`, from the root of the tree on.
+    /// The branches after `main`, from the root of the tree on.
     pub branches: List<Name>,
     /// The number of the version on the last of them, from 0.
     pub number: u64,

@@ -8,7 +8,7 @@ use crate::memory::NoMemory;
 use crate::names::Name;
 use crate::paths::Path;
 use crate::refusals::{ScriptFault, UnitFault};
-use crate::rows::{Placed, ReadOf, Row, Stored};
+use crate::rows::ReadOf;
 use crate::steps::UnitEnd;
 use crate::texts::Text;
 use crate::units::{Unit, UnitScript};
@@ -63,33 +63,12 @@ impl<X: Copied> Copied for List<X> {
     }
 }
 
-impl Copied for Placed {
-    fn copy(&self, _alloc: Global) -> Result<Placed, NoMemory> {
-        Ok(*self)
-    }
-}
-
 impl Copied for ReadOf {
     fn copy(&self, alloc: Global) -> Result<ReadOf, NoMemory> {
         Ok(ReadOf {
             path: self.path.copy(alloc)?,
             row: self.row,
         })
-    }
-}
-
-impl Copied for Stored {
-    fn copy(&self, alloc: Global) -> Result<Stored, NoMemory> {
-        match self {
-            Stored::Here(text) => Ok(Stored::Here(text.copy(alloc)?)),
-            Stored::There(extent) => Ok(Stored::There(*extent)),
-        }
-    }
-}
-
-impl Copied for Row {
-    fn copy(&self, alloc: Global) -> Result<Row, NoMemory> {
-        Ok(Row::of(self.tag(), self.moment(), self.deed().copy(alloc)?))
     }
 }
 

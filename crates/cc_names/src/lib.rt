@@ -19,7 +19,6 @@ pub mod commands;
 mod comparisons;
 pub mod copies;
 pub mod cuts;
-mod deed_copies;
 pub mod keys;
 pub mod lists;
 pub mod memory;

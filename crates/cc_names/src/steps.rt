@@ -6,6 +6,7 @@ use crate::paths::Path;
 use crate::refusals::{Refusal, UnitFault};
 use crate::rows::{Row, Tag};
 use crate::texts::Text;
+use std::snapshot::Snapshot;
 
 /// The outcome of a unit that commits no row.
 #[derive(Drop)]
@@ -29,7 +30,8 @@ pub struct Counts {
     pub faults: u64,
 }
 
-/// One step as the program keeps it: rows and phases are given by their numbers.
+/// One step as the program keeps it: rows and phases are given by their numbers. What the program never reads again is there
+/// for contracts alone, and takes no memory.
 #[derive(Drop)]
 pub enum Step {
     /// The base was opened with this many rows, row 0 included.
@@ -55,7 +57,7 @@ pub enum Step {
     /// A query was answered, or there was nothing to scrub or to label.
     Answer {
         tag: Tag,
-        text: Text,
+        text: Snapshot<Text>,
     },
     /// A build began, with its reference rows and its number of units.
     Begin {
@@ -81,7 +83,7 @@ pub enum Step {
     /// The disk failed under a command: the row that may be found all the same, and its counts of faults before and after.
     Fault {
         tag: Tag,
-        left: Option<Row>,
+        left: Snapshot<Option<Row>>,
         before: u64,
         after: u64,
         tick: u64,

@@ -1,5 +1,5 @@
 -- What is known of sources, sinks and clocks: their bytes or moments, where contracts know these, and their counts.
-use Rattle.std.specs.Prelude.{◌≡◌, ℕ, Bool, true, false, not, ◌&&◌, ◌==◌, Option, Some, None, Result, Ok, Err, List, IfSome}
+use Rattle.std.specs.Prelude.{◌≡◌, ℕ, Bool, true, false, ◌==◌, Option, Some, None, Result, Ok, Err, List, IfSome}
 use Rattle.std.specs.Io.KnownBytes.{Consumes}
 use Rattle.cc_names.specs.Counts.{raised_count, RoseAbove}
 use Rattle.cc_outside.specs.Moments.{moment_at}
@@ -13,10 +13,13 @@ pub record SourceState : Type 0 where
   pub faults : ℕ
   pub ended : Option ℕ
 
--- a sink: the bytes that it holds, where contracts know them, and how many calls failed
+-- a sink: the bytes that it holds, where contracts know them; how many calls were made and how many of these failed; and the
+-- number of the call at which it ended, where it has: the first that failed
 pub record SinkState : Type 0 where
   pub held : Option (List ℕ)
+  pub calls : ℕ
   pub faults : ℕ
+  pub ended : Option ℕ
 
 -- a clock: the moments that its readings tell, the last of them again and again, where contracts know them; and how many
 -- readings were made
@@ -24,18 +27,18 @@ pub record ClockState : Type 0 where
   pub modeled : Option (List ℕ)
   pub readings : ℕ
 
--- whether a read with so much room tells that a source has ended: it gave nothing where there was room, or it failed
-abbrev pub is_end : {E : Type 0} → Result ℕ E → ℕ → Bool
-is_end (Ok count) room = (count == 0) && not (room == 0)
-is_end (Err fault) room = true
+-- whether a read ends a source: it gave nothing, or it failed
+abbrev pub is_end : {E : Type 0} → Result ℕ E → Bool
+is_end (Ok count) = count == 0
+is_end (Err fault) = true
 
--- the number of the call at which a source ended, after one more call: the first that told so
+-- the number of the call at which a source or a sink ended, after this call: the first that ends it
 abbrev pub ended_at : Option ℕ → ℕ → Bool → Option ℕ
-ended_at (Some first) call told = Some first
+ended_at (Some first) call ends = Some first
 ended_at None call true = Some call
 ended_at None call false = None
 
--- No call was made of a source after the one at which it ended, by when it had ended before and has by now, and by its calls now.
+-- A source or a sink that had not ended before has not ended by now either, or the call that ended it is the last of its calls.
 abbrev pub RestsOnceEnded : Option ℕ → Option ℕ → ℕ → Type 0
 RestsOnceEnded before now calls = before ≡ None → IfSome now (λ call. calls ≡ call)
 

@@ -1,10 +1,12 @@
 //! A sink in memory, whose calls fail by plan.
 
-ghost use Rattle.std.specs.Prelude.{◌≡◌, ◌≤◌, ◌<◌, IfOk, OnErr, IsErr, length, Some, true};
+ghost use Rattle.std.specs.Prelude.{◌≡◌, ◌≤◌, ◌<◌, IfOk, OnErr, IsErr, is_err, length, Some, true};
 ghost use Rattle.cc_names.specs.Counts.{raised_count, Rose};
 ghost use Rattle.cc_outside.specs.Feeds.{WriteTakes, is_to_fail, fresh_basin, basin_after};
+ghost use Rattle.cc_outside.specs.GhostStates.{ended_at};
 
 use crate::sinks::{Sink, WriteFault};
+use crate::sources::ended_at;
 use cc_names::memory::NoMemory;
 use std::alloc::Global;
 use std::marker::Model;
@@ -16,6 +18,7 @@ pub struct MemorySink {
     held: Vec<u8>,
     calls: u64,
     faults: u64,
+    ended: Option<u64>,
     fail: Vec<u64>,
 }
 
@@ -25,7 +28,13 @@ impl Model for MemorySink {
     ghost Value = { Basin };
 
     ghost view = { λ s.
-        record { held = s.held.items; calls = s.calls; faults = s.faults; fail = s.fail.items } };
+        record {
+          held = s.held.items;
+          calls = s.calls;
+          faults = s.faults;
+          ended = s.ended;
+          fail = s.fail.items;
+        } };
 }
 
 impl MemorySink {
@@ -37,6 +46,7 @@ impl MemorySink {
             held: Vec::new(alloc),
             calls: 0,
             faults: 0,
+            ended: None,
             fail: Vec::from_slice(alloc, fail)?,
         })
     }
@@ -50,7 +60,8 @@ impl MemorySink {
 }
 
 impl Sink for MemorySink {
-    ghost ghost_state = { λ s. record { held = Some s.held; faults = s.faults } };
+    ghost ghost_state = { λ s.
+        record { held = Some s.held; calls = s.calls; faults = s.faults; ended = s.ended } };
 
     fn write(&mut self, piece: &[u8]) -> Result<usize, WriteFault>
         requires { 0 < length piece.now }
@@ -60,6 +71,9 @@ impl Sink for MemorySink {
         ensures kept { self.old.faults ≤ self.new.faults }
         ensures faultless { IfOk result (λ count. self.new.faults ≡ self.old.faults) }
         ensures fault { OnErr result (Rose self.old.faults self.new.faults) }
+        ensures called { self.new.calls ≡ raised_count self.old.calls 1 }
+        ensures ended { self.new.ended
+            ≡ ended_at self.old.ended self.new.calls (is_err result) }
         ensures planned { is_to_fail self.old.fail (raised_count self.old.calls 1) ≡ true
             → IsErr result }
         ensures whole { IfOk result (λ count. count ≡ length piece.now) }
@@ -68,6 +82,7 @@ impl Sink for MemorySink {
         self.calls = self.calls.saturating_add(1);
         if self.fail.contains(&self.calls) || self.held.extend_from_slice(piece).is_err() {
             self.faults = self.faults.saturating_add(1);
+            self.ended = ended_at(self.ended, self.calls, true);
             return Err(WriteFault);
         }
         Ok(piece.len())

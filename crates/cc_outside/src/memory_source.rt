@@ -1,6 +1,6 @@
 //! A source in memory, whose calls fail by plan.
 
-ghost use Rattle.std.specs.Prelude.{◌≡◌, ◌≤◌, IfOk, OnErr, length, Some};
+ghost use Rattle.std.specs.Prelude.{◌≡◌, ◌≤◌, ◌<◌, IfOk, OnErr, length, Some};
 ghost use Rattle.std.specs.Io.KnownBytes.{ReadConsumes};
 ghost use Rattle.cc_names.specs.Counts.{raised_count, Rose};
 ghost use Rattle.cc_outside.specs.Feeds.{fresh_feed, feed_answer, feed_after};
@@ -69,6 +69,7 @@ impl Source for MemorySource {
         } };
 
     fn read(&mut self, into: &mut [u8]) -> Result<usize, ReadFault>
+        requires { 0 < length into.old }
         ensures within { IfOk result (λ count. count ≤ length into.new) }
         ensures bytes { ReadConsumes (Some self.old.left) (Some self.new.left) result into.new }
         ensures counted { IfOk result
@@ -79,9 +80,9 @@ impl Source for MemorySource {
         ensures fault { OnErr result (Rose self.old.faults self.new.faults) }
         ensures called { self.new.calls ≡ raised_count self.old.calls 1 }
         ensures ended { self.new.ended
-            ≡ ended_at self.old.ended self.new.calls (is_end result (length into.new)) }
+            ≡ ended_at self.old.ended self.new.calls (is_end result) }
         ensures answer { result ≡ feed_answer self.old (length into.old) }
-        ensures after { self.new ≡ feed_after self.old (length into.new) result }
+        ensures after { self.new ≡ feed_after self.old result }
     {
         self.calls = self.calls.saturating_add(1);
         if self.fail.contains(&self.calls) {
@@ -93,7 +94,7 @@ impl Source for MemorySource {
         let count = left.len().min(into.len());
         into[..count].copy_from_slice(&left[..count]);
         self.place += count;
-        self.ended = ended_at(self.ended, self.calls, count == 0 && !into.is_empty());
+        self.ended = ended_at(self.ended, self.calls, count == 0);
         Ok(count)
     }
 }

@@ -1,10 +1,10 @@
 //! Where bytes go.
 
-ghost use Rattle.std.specs.Prelude.{◌≡◌, ◌≤◌, ◌<◌, length, IfOk, OnOk, OnErr};
+ghost use Rattle.std.specs.Prelude.{◌≡◌, ◌≤◌, ◌<◌, length, is_err, IfOk, OnOk, OnErr};
 ghost use Rattle.std.specs.Io.KnownBytes.{Appends};
-ghost use Rattle.cc_names.specs.Counts.{Rose};
+ghost use Rattle.cc_names.specs.Counts.{raised_count, Rose};
 ghost use Rattle.cc_outside.specs.Feeds.{WriteTakes, AppendsPrefix};
-ghost use Rattle.cc_outside.specs.GhostStates.{SinkState};
+ghost use Rattle.cc_outside.specs.GhostStates.{SinkState, RestsOnceEnded, ended_at};
 
 use std::fmt;
 
@@ -22,10 +22,11 @@ impl std::error::Error for WriteFault {}
 
 /// Where bytes go.
 pub trait Sink {
-    // The bytes that it holds, where contracts know them, and how many calls failed so far.
+    // The bytes that it holds, where contracts know them; how many calls were made and failed so far, and at which it ended.
     ghost ghost_state: { Self → SinkState };
 
-    /// Takes bytes from the start of a piece, which has some, and answers how many: at least one.
+    /// Takes bytes from the start of a piece, which has some, and answers how many: at least one. A sink has ended at the
+    /// first call that fails.
     fn write(&mut self, piece: &[u8]) -> Result<usize, WriteFault>
         requires { 0 < length piece.now }
         ensures within { IfOk result (λ count. count ≤ length piece.now) }
@@ -36,10 +37,15 @@ pub trait Sink {
         ensures faultless { IfOk result
             (λ count. (ghost_state self.new).faults ≡ (ghost_state self.old).faults) }
         ensures fault { OnErr result
-            (Rose (ghost_state self.old).faults (ghost_state self.new).faults) };
+            (Rose (ghost_state self.old).faults (ghost_state self.new).faults) }
+        ensures called { (ghost_state self.new).calls
+            ≡ raised_count (ghost_state self.old).calls 1 }
+        ensures ended { (ghost_state self.new).ended
+            ≡ ended_at (ghost_state self.old).ended (ghost_state self.new).calls (is_err result) };
 }
 
-/// Writes a whole text. Takes time linear in it where the sink takes each piece at once.
+/// Writes a whole text. No call is made once the sink has ended. Takes time linear in the text where the sink takes each piece
+/// at once.
 pub fn write_whole<K: Sink>(sink: &mut K, text: &[u8]) -> Result<(), WriteFault>
     ensures written { OnOk result
         (Appends (K.ghost_state sink.old).held (K.ghost_state sink.new).held text.now) }
@@ -50,6 +56,10 @@ pub fn write_whole<K: Sink>(sink: &mut K, text: &[u8]) -> Result<(), WriteFault>
         (Rose (K.ghost_state sink.old).faults (K.ghost_state sink.new).faults) }
     ensures prefix { OnErr result
         (AppendsPrefix (K.ghost_state sink.old).held (K.ghost_state sink.new).held text.now) }
+    ensures goes_on { OnOk result
+        ((K.ghost_state sink.new).ended ≡ (K.ghost_state sink.old).ended) }
+    ensures rests { RestsOnceEnded (K.ghost_state sink.old).ended
+        (K.ghost_state sink.new).ended (K.ghost_state sink.new).calls }
 {
     let mut done = 0;
     while done < text.len() {

@@ -29,9 +29,10 @@ pub trait Source {
     // far, and at which it ended.
     ghost ghost_state: { Self → SourceState };
 
-    /// Gives the next bytes, at most as many as there is room for, and answers how many. No bytes, where there is
-    /// room, are the end. A source has ended at the first call that gives its end or fails.
+    /// Gives the next bytes, at most as many as there is room for, which is some, and answers how many. No bytes are the
+    /// end. A source has ended at the first call that gives its end or fails.
     fn read(&mut self, into: &mut [u8]) -> Result<usize, ReadFault>
+        requires { 0 < length into.old }
         ensures within { IfOk result (λ count. count ≤ length into.new) }
         ensures bytes { ReadConsumes (ghost_state self.old).left
             (ghost_state self.new).left result into.new }
@@ -47,17 +48,16 @@ pub trait Source {
         ensures called { (ghost_state self.new).calls
             ≡ raised_count (ghost_state self.old).calls 1 }
         ensures ended { (ghost_state self.new).ended
-            ≡ ended_at (ghost_state self.old).ended (ghost_state self.new).calls
-            (is_end result (length into.new)) };
+            ≡ ended_at (ghost_state self.old).ended (ghost_state self.new).calls (is_end result) };
 }
 
-/// The call at which a source has ended, after this call, which may have told so.
-pub(crate) fn ended_at(ended: Option<u64>, call: u64, told: bool) -> Option<u64>
-    ensures { result ≡ ended_at ended call told }
+/// The call at which a source or a sink has ended, after this call.
+pub(crate) fn ended_at(ended: Option<u64>, call: u64, ends: bool) -> Option<u64>
+    ensures { result ≡ ended_at ended call ends }
 {
     match ended {
         Some(first) => Some(first),
-        None if told => Some(call),
+        None if ends => Some(call),
         None => None,
     }
 }
@@ -74,8 +74,8 @@ pub enum Unread {
 // The most bytes that are asked for at once.
 const PIECE: usize = 65_536;
 
-/// Reads a source to its end, or until it gave one byte more than the limit, and takes no byte past that one. Reads no more once
-/// the source has ended. Takes time linear in the bytes read.
+/// Reads a source to its end, or until it gave one byte more than the limit, and takes no byte past that one. Each call but the
+/// last gives some bytes, and none is made once the source has ended. Takes time linear in the bytes read.
 pub fn read_whole<S: Source>(
     alloc: Global,
     source: &mut S,

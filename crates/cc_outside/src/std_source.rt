@@ -55,7 +55,7 @@ impl<I: Read> Source for StdSource<I> {
         match self.inner.read(into) {
             Ok(count) => {
                 self.given = self.given.saturating_add(count as u64);
-                self.ended = ended_at(self.ended, self.calls, count == 0 && !into.is_empty());
+                self.ended = ended_at(self.ended, self.calls, count == 0);
                 Ok(count)
             }
             Err(_) => {

@@ -36,7 +36,7 @@ const VERSION: &str = "ccbase 0.1.0\n";
 const USAGE: &str =
     "usage: ccbase FILE run | ccbase FILE verify | ccbase FILE big SEED SIZE | ccbase FILE sites";
 
-/// The words behind the name of the program. The error is of the kind `InvalidData` where one of them is not UTF-8.
+/// The words after the name of the program. The error is of the kind `InvalidData` where one of them is not UTF-8.
 fn words_given(rt: &HostRuntime) -> io::Result<Vec<String>> {
     let mut words = Vec::new(rt.alloc());
     for word in env::args(rt)?.skip(1) {

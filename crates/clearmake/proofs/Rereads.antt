@@ -78,20 +78,19 @@ pub broken_past : (got : Got) (standing : Option Standing) (story : List StorySt
 broken_past got standing story tag is h = subst (λ g. ReadsStanding g standing story tag) is h
 
 -- the files of a run as it begins
-pub reading_begins : (lock : LockId) (pass : PassState StoryStep) (tag : Tag) (count : ℕ) (state : BuilderState)
-    (start : List StoryStep) (unit : ℕ) (script : List Line) (targets : List (List ℕ)) → pass.lock ≡ lock
-    → (let of : BuilderState = record { pass = pass; tag = tag; count = count } in of) ≡ state →
+pub reading_begins : (lock : LockId) (of state : BuilderState) (start : List StoryStep) (unit : ℕ) (script : List Line)
+    (targets : List (List ℕ)) → of.pass.lock ≡ lock → of ≡ state →
     IsPrefix start state.pass.seen → Builds start state.tag state.count
     → IsStarted (state_of start) state.tag.lane unit script targets →
-    IsReading lock (Some pass) (record {
-      pass = pass;
+    IsReading lock (Some of.pass) (record {
+      pass = of.pass;
       start = start;
-      tag = tag;
-      count = count;
+      tag = of.tag;
+      count = of.count;
       unit = unit;
       broken = 0;
     })
-reading_begins lock pass tag count state start unit script targets own is p builds started =
+reading_begins lock of state start unit script targets own is p builds started =
     let had = subst (λ (s : BuilderState). IsStarted (state_of start) s.tag.lane unit script targets) (sym is) started in
     record {
       there = refl;

@@ -2,8 +2,10 @@
 //! lanes. Others would gain nothing, since one thread at a time has the service, and what a turn looks up would mostly have been
 //! written last on another processor.
 
-ghost use Rattle.std.specs.Prelude.{◌≡◌, ◌≤◌};
+ghost use Rattle.std.specs.Prelude.{◌≡◌, ◌≤◌, ◌↔◌, IsTrue};
 ghost use Rattle.std.specs.Bool.{OnTrue};
+ghost use Rattle.legal_history.specs.Stories.Steps.{state_of};
+ghost use Rattle.clearmake.specs.Nexts.{AnyBuilds};
 ghost use mathlib.Core.List.{IsPrefix};
 ghost use Rattle.clearmake.specs.Passes.{AreLanesDone};
 
@@ -32,6 +34,7 @@ enum Round {
 /// Whether a lane that is not set aside has a command next that builds.
 fn any_builds<T: PhaseService>(service: &T, lanes: u32, aside: &[bool; LANES]) -> bool
     requires { lanes ≤ 64 }
+    ensures { IsTrue result ↔ AnyBuilds (state_of (T.story service.now)) lanes aside.now }
 {
     for index in 0..lanes {
         if !aside[index as usize] {
@@ -59,7 +62,7 @@ fn are_done<T: PhaseService>(service: &T, lanes: u32) -> bool
 }
 
 /// A round: each lane that is not set aside takes its turn, until one comes to a build. A lane is set aside that has nothing
-/// left to do, since to look after its last command again and again may take long, and one for which memory ran out.
+/// left to do, since it may take long to look past its last command again and again, and one for which memory ran out.
 fn take_turns<T: PhaseService>(
     service: &mut T,
     alloc: Global,

@@ -16,9 +16,8 @@ use Rattle.base_model.specs.Changes.{objects_held, tree}
 use Rattle.base_model.specs.Closures.{is_path_among}
 use Rattle.base_model.specs.Rows.{Base}
 use Rattle.base_model.specs.Seen.{at}
-use Rattle.legal_history.specs.Commands.Decisions.{Answers, answers}
 use Rattle.legal_history.specs.Queries.DirectoryTexts.{name_line, held_object_line}
-use Rattle.legal_history.specs.Queries.QueryLines.{ls_tests}
+use Rattle.legal_history.specs.Queries.QueryLines.{ls_tests, answers_with}
 use Rattle.legal_history.specs.Queries.VersionNames.{line}
 use Rattle.view_lookup.specs.GivenNames.{is_name, was_named}
 use Rattle.cleartool.specs.Owned.{was_given}
@@ -60,9 +59,9 @@ pub record HasNames (b : Base) (v directory : List ℕ) (e : ℕ) (names : List 
   pub below : (path : List ℕ) → was_given b v path b ≡ true → IsBelowRoot path
 
 -- the directory that was found is one that the view sees, and its names are answered, whatever they are; where there is none the
--- refusal was decided
+-- refusal answers
 abbrev pub FindsDirectory : Base → List ℕ → List ℕ → Result ℕ (Or Refusal) → Type 0
 FindsDirectory b v path (Ok e) = SeesDirectory b v path e × ((text : List ℕ)
-    → answers (ls_tests b v path) text ≡ Ok (Answers text))
-FindsDirectory b v path (Err (Is refusal)) = (text : List ℕ) → answers (ls_tests b v path) text ≡ Err refusal
+    → answers_with (ls_tests b v path) text ≡ Ok text)
+FindsDirectory b v path (Err (Is refusal)) = (text : List ℕ) → answers_with (ls_tests b v path) text ≡ Err refusal
 FindsDirectory b v path (Err NoMemory) = Unit {0}

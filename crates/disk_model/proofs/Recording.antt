@@ -8,8 +8,12 @@ use Rattle.disk_model.specs.Devices.{Device, Event, Tore, Failed, new_device, wi
 use Rattle.disk_model.specs.Files.{overwritten}
 use Rattle.disk_model.specs.Records.{failing, with_traced_calls, device_of, with_traced_call}
 use Rattle.disk_model.specs.DiskStates.{CountsFailures}
+use Rattle.disk_model.specs.MemoryDisks.{modeled_device}
+use Rattle.disk_model.specs.Overwriting.{AreOverwritten}
 use Rattle.disk_model.specs.declared.calls.Call.TheVariants as calls
 use Rattle.disk_model.specs.declared.calls.TracedCall.{TracedCall}
+use Rattle.disk_model.specs.declared.memory.Contents.{Contents}
+use Rattle.disk_model.specs.declared.memory.MemoryDisk.{MemoryDisk}
 
 at_most_one : (failed : Bool) → (if failed then 1 else 0) ≤ 1
 at_most_one true = omega arith
@@ -50,23 +54,23 @@ recorded_more journal objects trace more failed traced is before =
     (traced ∷ [])
     ∙ ap (λ n. with_traced_call traced.call (failing n (fold with_traced_calls (new_device journal objects) trace))) before
 
--- a call more failed and changed nothing
-pub missed_replayed : (journal objects : List ℕ) (trace : List TracedCall) (failed : ℕ) (now_journal now_objects : List ℕ)
-    (ticks faults faults' : ℕ)
-    → IsReplayed (device_of journal objects trace failed) now_journal now_objects ticks faults → faults' ≡ next_count faults
-    → ticks < 2 ^ 64 - 1
-    → IsReplayed (device_of journal objects trace (failed + 1)) now_journal now_objects (ticks + 1) faults'
-missed_replayed journal objects trace failed now_journal now_objects ticks faults faults' was rose more =
-    let d = device_of journal objects trace failed in
-    let number : failed + 1 ≡ suc failed = omega arith in
-    let one : device_of journal objects trace (failed + 1) ≡ with_call Failed d = ap (device_of journal objects trace) number in
-    subst (λ e. IsReplayed e now_journal now_objects (ticks + 1) faults') (sym one)
+-- a call more of a disk in memory failed and changed nothing
+pub missed_replayed : (disk : MemoryDisk) (faults' : ℕ) → faults' ≡ next_count disk.faults → disk.ticks < 2 ^ 64 - 1
+    → IsReplayed (device_of disk.first.journal.items disk.first.objects.items disk.trace.items (disk.failed + 1))
+    disk.current.journal.items disk.current.objects.items (disk.ticks + 1) faults'
+missed_replayed disk faults' rose more =
+    let d = modeled_device disk in
+    let number : disk.failed + 1 ≡ suc disk.failed = omega arith in
+    let one : device_of disk.first.journal.items disk.first.objects.items disk.trace.items (disk.failed + 1)
+    ≡ with_call Failed d = ap (device_of disk.first.journal.items disk.first.objects.items disk.trace.items) number in
+    let was = disk.replayed in
+    subst (λ e. IsReplayed e disk.current.journal.items disk.current.objects.items (disk.ticks + 1) faults') (sym one)
     (record {
       journal_reads = was.journal_reads;
       objects_read = was.objects_read;
       a_tick_each = omega (arith, was.a_tick_each);
-      a_fault_each = subst (λ n. CountsFailures (ticks + 1) n (with_call Failed d)) (sym rose)
-          (failed_counts ticks faults Failed d refl was.a_fault_each was.a_tick_each more);
+      a_fault_each = subst (λ n. CountsFailures (disk.ticks + 1) n (with_call Failed d)) (sym rose)
+          (failed_counts disk.ticks disk.faults Failed d refl was.a_fault_each was.a_tick_each more);
       ticks_fit = omega (arith, more);
       faults_fit = omega (arith, rose);
     })
@@ -84,32 +88,30 @@ torn_files (suc zero) place size landed now_journal now_objects d within journal
     (journal, ap (overwritten place landed) objects)
 torn_files (suc (suc n)) place size landed now_journal now_objects d within journal objects = absurd (omega (arith, within))
 
--- a write failed
-pub torn_replayed : (journal objects : List ℕ) (trace more : List TracedCall) (traced : TracedCall) (failed : ℕ)
-    (now_journal now_objects now_journal' now_objects' : List ℕ) (file place lost : ℕ) (landed : List ℕ)
-    (ticks faults faults' : ℕ)
-    → IsReplayed (device_of journal objects trace failed) now_journal now_objects ticks faults → more ≡ trace ++ traced ∷ []
-    → traced.failed_before ≡ failed
-    → traced.call ≡ calls.Tear file place landed lost → file ≤ 1
-    → now_journal' ≡ (if file == 0 then overwritten place landed now_journal else now_journal)
-    → now_objects' ≡ (if file == 0 then now_objects else overwritten place landed now_objects)
-    → faults' ≡ next_count faults → ticks < 2 ^ 64 - 1
-    → IsReplayed (device_of journal objects more 0) now_journal' now_objects' (ticks + 1) faults'
-torn_replayed journal objects trace more traced failed now_journal now_objects now_journal' now_objects' file place lost landed
-    ticks faults faults' was is before call within wrote other rose room =
-    let d = device_of journal objects trace failed in
+-- a write of a disk in memory failed, and a prefix of its piece landed
+pub torn_replayed : (disk : MemoryDisk) (more : List TracedCall) (traced : TracedCall) (now : Contents) (file place lost : ℕ)
+    (landed : List ℕ) (faults' : ℕ)
+    → more ≡ disk.trace.items ++ traced ∷ [] → traced.failed_before ≡ disk.failed
+    → traced.call ≡ calls.Tear file place landed lost → file ≤ 1 → AreOverwritten file place landed disk.current now
+    → faults' ≡ next_count disk.faults → disk.ticks < 2 ^ 64 - 1
+    → IsReplayed (device_of disk.first.journal.items disk.first.objects.items more 0) now.journal.items now.objects.items
+    (disk.ticks + 1) faults'
+torn_replayed disk more traced now file place lost landed faults' is before call within wrote rose room =
+    let d = modeled_device disk in
     let event = Tore file place (length landed + lost) (overwritten place landed (bytes_now file d)) in
-    let files = torn_files file place (length landed + lost) landed now_journal now_objects d within was.journal_reads
-    was.objects_read in
-    let made : device_of journal objects more 0 ≡ with_call event d =
-    recorded_more journal objects trace more failed traced is before ∙ ap (λ c. with_traced_call c d) call in
-    subst (λ e. IsReplayed e now_journal' now_objects' (ticks + 1) faults') (sym made)
+    let was = disk.replayed in
+    let files = torn_files file place (length landed + lost) landed disk.current.journal.items disk.current.objects.items d within
+    was.journal_reads was.objects_read in
+    let made : device_of disk.first.journal.items disk.first.objects.items more 0 ≡ with_call event d =
+    recorded_more disk.first.journal.items disk.first.objects.items disk.trace.items more disk.failed traced is before
+    ∙ ap (λ c. with_traced_call c d) call in
+    subst (λ e. IsReplayed e now.journal.items now.objects.items (disk.ticks + 1) faults') (sym made)
     (record {
-      journal_reads = wrote ∙ files.0;
-      objects_read = other ∙ files.1;
+      journal_reads = wrote.journal ∙ files.0;
+      objects_read = wrote.objects ∙ files.1;
       a_tick_each = omega (arith, was.a_tick_each);
-      a_fault_each = subst (λ n. CountsFailures (ticks + 1) n (with_call event d)) (sym rose)
-          (failed_counts ticks faults event d refl was.a_fault_each was.a_tick_each room);
+      a_fault_each = subst (λ n. CountsFailures (disk.ticks + 1) n (with_call event d)) (sym rose)
+          (failed_counts disk.ticks disk.faults event d refl was.a_fault_each was.a_tick_each room);
       ticks_fit = omega (arith, room);
       faults_fit = omega (arith, rose);
     })

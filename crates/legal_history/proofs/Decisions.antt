@@ -11,5 +11,4 @@ pub mod SaveFits
 pub mod FileFits
 pub mod Handed
 pub mod Passed
-pub mod Queried
 pub mod RecordLabels

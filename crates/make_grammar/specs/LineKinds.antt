@@ -15,9 +15,9 @@ pub data Kind : Type 0 where
   Blank : Kind
   -- `include` and what follows it
   Include : List ℕ → Kind
-  -- what stands before the `=` and behind it
+  -- what stands before the `=` and after it
   Assignment : List ℕ → List ℕ → Kind
-  -- what stands before the `:` and behind it
+  -- what stands before the `:` and after it
   Rule : List ℕ → List ℕ → Kind
   -- none of these, and a `$(` or `${` is never closed
   Unclosed : Kind

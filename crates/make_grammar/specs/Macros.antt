@@ -33,7 +33,7 @@ pub data Piece : Type 0 where
   -- any other `$`
   Bad : Piece
 
--- what a `$` and the byte behind it are, where that opens no parenthesis
+-- what a `$` and the byte after it are, where that opens no parenthesis
 abbrev pub single : ℕ → Piece
 single b =
     if b == 36 then Byte b

@@ -161,7 +161,7 @@ suffixes_name = codes ".SUFFIXES"
 abbrev pub is_special : List ℕ → Bool
 is_special word = is_among (phony_name ∷ suffixes_name ∷ codes ".POSIX" ∷ []) word
 
--- a byte of a suffix behind its `.`
+-- a byte of a suffix after its `.`
 abbrev pub is_suffix_byte : ℕ → Bool
 is_suffix_byte b = is_name_byte b && not (b == 46)
 
@@ -234,7 +234,7 @@ rule_words macros before behind =
       prerequisites = words_of (expanded_by macros behind).bytes;
     })
 
--- the suffixes behind `.SUFFIXES`: added, or where there are none the list is cleared
+-- the suffixes after `.SUFFIXES`: added, or where there are none the list is cleared
 abbrev pub with_suffixes : List (List ℕ) → List (List ℕ) → List (List ℕ)
 with_suffixes suffixes [] = []
 with_suffixes suffixes (word ∷ words) = fold with_path_once suffixes (word ∷ words)
@@ -313,7 +313,7 @@ abbrev pub include_paths : (Reading → List ℕ → Result Reading MakeError) �
 include_paths include [] reading = reading
 include_paths include (path ∷ paths) reading = include_paths include paths (if_no_fault reading (λ read. include read path))
 
--- the fault of the words behind `include`: none, or a bad path
+-- the fault of the words after `include`: none, or a bad path
 abbrev pub include_words_fault : List (List ℕ) → Option MakeCause
 include_words_fault words = cause_or (cause_where (length words == 0) BadLine)
     (cause_where (not (list_all is_path words)) BadPath)
@@ -324,7 +324,7 @@ include_fault macros behind =
     cause_or (cause_where (has_bad_dollar behind) BadMacro)
     (cause_or (expansion_fault (expanded_by macros behind)) (include_words_fault (words_of (expanded_by macros behind).bytes)))
 
--- the paths behind `include`, or the cause to refuse the line
+-- the paths after `include`, or the cause to refuse the line
 abbrev pub include_words : List Macro → List ℕ → Result (List (List ℕ)) MakeCause
 include_words macros behind = or_cause (include_fault macros behind) (words_of (expanded_by macros behind).bytes)
 

@@ -5,7 +5,7 @@
 pub enum Position {
     /// Outside them.
     Outside,
-    /// Directly behind a `$`.
+    /// Directly after a `$`.
     Dollar,
     /// Before this byte, which closes one.
     Within(u8),

@@ -16,7 +16,7 @@ use Rattle.make_graph.specs.Suffixes.{last_dotted, suffix_of, is_dotted, are_dot
 
 -- ---- the suffix of bytes
 
--- behind a `.`, it does not matter what came before
+-- after a `.`, it does not matter what came before
 dotted_alike : (a b : List ℕ) (bytes : List ℕ) → is_dotted bytes ≡ true → last_dotted a bytes ≡ last_dotted b bytes
 dotted_alike a b [] h = absurd (cc)
 dotted_alike a b (c ∷ bytes) h = by (c == 46) h (dotted_alike a b bytes)

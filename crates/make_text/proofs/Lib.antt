@@ -11,7 +11,9 @@ pub mod SideLemmas
 pub mod ReaderLemmas
 pub mod CheckLemmas
 pub mod EndingLemmas
-pub mod SuffixLemmas
+pub mod GroupLemmas
+pub mod OrderLemmas
+mod WorkedOrder
 pub mod OnceLemmas
 pub mod NumberLemmas
 pub mod JoinLemmas

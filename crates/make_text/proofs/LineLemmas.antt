@@ -115,38 +115,40 @@ first_last n text part h some = ap (lines_from false n) h ∙ last_whole n part 
 
 -- ---- the steps of the code, by what its calls gave
 
-pub joined_step : (text rest bytes : List ℕ) (m : ℕ) {line part prefix extended pushed : List ℕ} {next : ℕ}
-    → slice_split is_newline text ≡ line ∷ slice_split is_newline rest → part ≡ past_blanks line → is_joined part ≡ true
-    → prefix ≡ without_last_byte part → extended ≡ bytes ++ prefix → pushed ≡ extended ++ (32 ∷ []) → next ≡ next_number m
-    → (n : ℕ) → joined_onto n pushed (lines_from true next (slice_split is_newline rest))
-    ≡ joined_onto n bytes (lines_from true m (slice_split is_newline text))
-joined_step text rest bytes m {line} {part} {prefix} {extended} {pushed} {next} cut stripped joined back ext push number n =
-    let fits : is_joined (past_blanks line) ≡ true = ap is_joined (sym stripped) ∙ joined in
-    let whole : pushed ≡ (bytes ++ without_last_byte (past_blanks line)) ++ (32 ∷ []) = push
-    ∙ ap (λ v. v ++ (32 ∷ [])) (ext ∙ ap (λ v. bytes ++ v) (back ∙ ap without_last_byte stripped)) in
-    ap (λ v. joined_onto n v (lines_from true next (slice_split is_newline rest))) whole
-    ∙ ap (λ v. joined_onto n ((bytes ++ without_last_byte (past_blanks line)) ++ (32 ∷ []))
-    (lines_from true v (slice_split is_newline rest))) number
-    ∙ sym (onto_joined n m text line rest bytes cut fits)
+-- The bytes of a logical line that is joined so far, and the text after them, from line number m on.
+module _ (text bytes : List ℕ) (m : ℕ) where
+  pub joined_step : (rest : List ℕ) {line part prefix extended pushed : List ℕ} {next : ℕ}
+      → slice_split is_newline text ≡ line ∷ slice_split is_newline rest → part ≡ past_blanks line → is_joined part ≡ true
+      → prefix ≡ without_last_byte part → extended ≡ bytes ++ prefix → pushed ≡ extended ++ (32 ∷ []) → next ≡ next_number m
+      → (n : ℕ) → joined_onto n pushed (lines_from true next (slice_split is_newline rest))
+      ≡ joined_onto n bytes (lines_from true m (slice_split is_newline text))
+  joined_step rest {line} {part} {prefix} {extended} {pushed} {next} cut stripped joined back ext push number n =
+      let fits : is_joined (past_blanks line) ≡ true = ap is_joined (sym stripped) ∙ joined in
+      let whole : pushed ≡ (bytes ++ without_last_byte (past_blanks line)) ++ (32 ∷ []) = push
+      ∙ ap (λ v. v ++ (32 ∷ [])) (ext ∙ ap (λ v. bytes ++ v) (back ∙ ap without_last_byte stripped)) in
+      ap (λ v. joined_onto n v (lines_from true next (slice_split is_newline rest))) whole
+      ∙ ap (λ v. joined_onto n ((bytes ++ without_last_byte (past_blanks line)) ++ (32 ∷ []))
+      (lines_from true v (slice_split is_newline rest))) number
+      ∙ sym (onto_joined n m text line rest bytes cut fits)
 
-pub apart_step : (text rest bytes : List ℕ) (m : ℕ) {line part extended : List ℕ} {next : ℕ}
-    → slice_split is_newline text ≡ line ∷ slice_split is_newline rest → part ≡ past_blanks line → is_joined part ≡ false
-    → extended ≡ bytes ++ part → next ≡ next_number m → (n : ℕ) → joined_onto n bytes
-    (lines_from true m (slice_split is_newline text)) ≡ record { number = n; bytes = extended }
-    ∷ lines_from false next (slice_split is_newline rest)
-apart_step text rest bytes m {line} {part} {extended} {next} cut stripped apart ext number n =
-    let fits : is_joined (past_blanks line) ≡ false = ap is_joined (sym stripped) ∙ apart in
-    let whole : extended ≡ bytes ++ past_blanks line = ext ∙ ap (λ v. bytes ++ v) stripped in
-    onto_apart n m text line rest bytes cut fits
-    ∙ ap (λ v. record { number = n; bytes = v } ∷ lines_from false (next_number m) (slice_split is_newline rest)) (sym whole)
-    ∙ ap (λ v. record { number = n; bytes = extended } ∷ lines_from false v (slice_split is_newline rest)) (sym number)
+  pub apart_step : (rest : List ℕ) {line part extended : List ℕ} {next : ℕ}
+      → slice_split is_newline text ≡ line ∷ slice_split is_newline rest → part ≡ past_blanks line → is_joined part ≡ false
+      → extended ≡ bytes ++ part → next ≡ next_number m → (n : ℕ) → joined_onto n bytes
+      (lines_from true m (slice_split is_newline text)) ≡ record { number = n; bytes = extended }
+      ∷ lines_from false next (slice_split is_newline rest)
+  apart_step rest {line} {part} {extended} {next} cut stripped apart ext number n =
+      let fits : is_joined (past_blanks line) ≡ false = ap is_joined (sym stripped) ∙ apart in
+      let whole : extended ≡ bytes ++ past_blanks line = ext ∙ ap (λ v. bytes ++ v) stripped in
+      onto_apart n m text line rest bytes cut fits
+      ∙ ap (λ v. record { number = n; bytes = v } ∷ lines_from false (next_number m) (slice_split is_newline rest)) (sym whole)
+      ∙ ap (λ v. record { number = n; bytes = extended } ∷ lines_from false v (slice_split is_newline rest)) (sym number)
 
-pub end_step : (text bytes : List ℕ) (m : ℕ) {line part extended : List ℕ} → slice_split is_newline text ≡ line ∷ []
-    → part ≡ past_blanks line → extended ≡ bytes ++ part → (n : ℕ) → joined_onto n bytes
-    (lines_from true m (slice_split is_newline text)) ≡ record { number = n; bytes = extended } ∷ []
-end_step text bytes m {line} {part} {extended} cut stripped ext n =
-    onto_end n m text line bytes cut
-    ∙ ap (λ v. record { number = n; bytes = v } ∷ []) (ap (λ v. bytes ++ v) (sym stripped) ∙ sym ext)
+  pub end_step : {line part extended : List ℕ} → slice_split is_newline text ≡ line ∷ []
+      → part ≡ past_blanks line → extended ≡ bytes ++ part → (n : ℕ) → joined_onto n bytes
+      (lines_from true m (slice_split is_newline text)) ≡ record { number = n; bytes = extended } ∷ []
+  end_step {line} {part} {extended} cut stripped ext n =
+      onto_end n m text line bytes cut
+      ∙ ap (λ v. record { number = n; bytes = v } ∷ []) (ap (λ v. bytes ++ v) (sym stripped) ∙ sym ext)
 
 pub first_joined_step : (text rest : List ℕ) (n : ℕ) {line prefix bytes pushed : List ℕ} {next : ℕ} {whole : List LogicalLine}
     → slice_split is_newline text ≡ line ∷ slice_split is_newline rest → is_joined line ≡ true → prefix ≡ without_last_byte line

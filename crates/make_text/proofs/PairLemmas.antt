@@ -1,6 +1,6 @@
 -- Bytes that are two suffixes put together.
-use Rattle.std.proofs.Common.{◌≡◌, refl, sym, ap, ◌∙◌, ℕ, suc, Bool, true, false, ◌||◌, ◌&&◌, not, Some, Result, Ok, Err, IfOk}
-use Rattle.std.proofs.Common.{List, [], ◌∷◌, ◌++◌, length, take, drop, slice_get, if◌then◌else◌}
+use Rattle.std.proofs.Common.{◌≡◌, refl, sym, ap, ◌∙◌, ℕ, zero, suc, ◌<◌, Bool, true, false, ◌||◌, ◌&&◌, not, Some, Result, Ok, Err, IfOk}
+use Rattle.std.proofs.Common.{List, [], ◌∷◌, ◌++◌, length, get_or, take, drop, slice_get, if◌then◌else◌, arith}
 use Rattle.std.specs.Prelude.{◌==◌, nat_lt}
 use Rattle.std.proofs.Math.Seq.{take-append_seam, drop-append_seam}
 use Rattle.std.proofs.lemmas.Bool.{and_from, and_parts, or_left, or_right}
@@ -57,10 +57,18 @@ suffix_parts b rest h =
     let parts = and_parts (is_byte 46 (Some b) && nat_lt 1 (length (b ∷ rest))) (list_all is_suffix_byte rest) h in
     ((and_parts (is_byte 46 (Some b)) (nat_lt 1 (length (b ∷ rest))) parts.0).0, parts.1)
 
-first_is : (from to : List ℕ) → is_suffix from ≡ true → is_suffix to ≡ true → first_length (from ++ to) ≡ length from
+pub first_is : (from to : List ℕ) → is_suffix from ≡ true → is_suffix to ≡ true → first_length (from ++ to) ≡ length from
 first_is [] to one two = absurd (cc)
 first_is (b ∷ from) [] one two = absurd (cc)
 first_is (b ∷ from) (c ∷ to) one two = ap suc (before_is from (c ∷ to) (suffix_parts b from one).1 (suffix_parts c to two).0)
+
+-- the suffix at a place
+pub suffix_at : (suffixes : List (List ℕ)) (i : ℕ) → list_all is_suffix suffixes ≡ true → i < length suffixes →
+    is_suffix (get_or suffixes i []) ≡ true
+suffix_at [] i all within = absurd (omega (arith, within))
+suffix_at (suffix ∷ suffixes) zero all within = (and_parts (is_suffix suffix) (list_all is_suffix suffixes) all).0
+suffix_at (suffix ∷ suffixes) (suc i) all within =
+    suffix_at suffixes i (and_parts (is_suffix suffix) (list_all is_suffix suffixes) all).1 (omega (arith, within))
 
 -- one of the suffixes that the test holds of
 record Found (suffixes : List (List ℕ)) (test : List ℕ → Bool) : Type 0 where
@@ -125,7 +133,7 @@ from_pair suffixes bytes all h =
     and_from (is_among suffixes (take (first_length bytes) bytes)) (is_among suffixes (drop (first_length bytes) bytes))
     (ap (is_among suffixes) first ∙ f.among) (ap (is_among suffixes) rest ∙ t.among)
 
--- bytes are two suffixes put together where they are so cut before the first `.` behind their first byte
+-- bytes are two suffixes put together where they are so cut before the first `.` after their first byte
 pub pair_cut : (suffixes : List (List ℕ)) (bytes : List ℕ) → list_all is_suffix suffixes ≡ true →
     (is_among suffixes (take (first_length bytes) bytes) && is_among suffixes (drop (first_length bytes) bytes))
     ≡ is_pair_of suffixes bytes

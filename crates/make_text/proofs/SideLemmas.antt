@@ -131,7 +131,7 @@ line_words macros before behind first second none h =
     ∙ ap (λ (p : Option MakeCause). or_cause (cause_or p words) made) fine.0
     ∙ ap (λ (x : List ℕ × List ℕ). rule_of_sides (is_grouped before) x.0 x.1) (sym fine.1)
 
--- ---- what is said behind `.SUFFIXES`
+-- ---- what is said after `.SUFFIXES`
 
 first_none : (one other : Option MakeCause) → cause_or one other ≡ None → (one ≡ None) × (other ≡ None)
 first_none None other h = (refl, h)
@@ -146,7 +146,7 @@ implied a true h is = refl
 implied true false h is = absurd (cc)
 implied false false h is = absurd (cc)
 
--- the words of a rule line that was read are suffixes behind `.SUFFIXES`
+-- the words of a rule line that was read are suffixes after `.SUFFIXES`
 pub words_said : (macros : List Macro) (before behind : List ℕ) (words : RuleWords) →
     rule_words macros before behind ≡ Ok words → AreSaid words
 words_said macros before behind words h =

@@ -7,6 +7,7 @@ pub mod Runs
 pub mod Steps
 pub mod MacroChecks
 pub mod SuffixRules
+pub mod SuffixOrder
 pub mod MacroEntries
 pub mod RuleLines
 pub mod ReadingSteps

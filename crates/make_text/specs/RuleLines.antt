@@ -36,6 +36,6 @@ expanded_sides macros before behind =
     or_cause (expansion_fault (rule_expansion macros before behind))
     ((expanded_by macros (before_mark before)).bytes, (expanded_by macros behind).bytes)
 
--- the words of a rule line are suffixes behind `.SUFFIXES`
+-- the words of a rule line are suffixes after `.SUFFIXES`
 abbrev pub AreSaid : RuleWords → Type 0
 AreSaid words = is_among words.targets suffixes_name ≡ true → list_all is_suffix words.prerequisites ≡ true

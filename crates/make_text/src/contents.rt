@@ -72,9 +72,8 @@ impl Model for Makefile {
 impl Makefile {
     /// Reads the makefile at a path, with the macros of the command line and the files that it includes, or answers the first
     /// line that fails and why. Takes time linear in the texts that are read, in the values of the macros that each line
-    /// is the first to reach since one was last defined, and in what lines and macros expand to; and where there are suffix
-    /// rules, in these times the square of the suffixes. Takes memory linear in what is read and in what lines and macros
-    /// expand to: rules share what their lines say.
+    /// is the first to reach since one was last defined, and in what lines and macros expand to. Takes memory linear in what is
+    /// read and in what lines and macros expand to: rules share what their lines say.
     pub fn read<X: Texts>(
         alloc: Global,
         hashing: RandomState,

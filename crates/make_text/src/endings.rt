@@ -145,7 +145,7 @@ fn contents_of(alloc: Global, hashing: RandomState, reading: Reading) -> Result<
         rules,
         suffix_rules: parts,
     } = parted;
-    let suffix_rules = suffix_rules(alloc, suffixes.as_slice(), parts.as_slice())?;
+    let suffix_rules = suffix_rules(alloc, hashing, &suffixes, parts.as_slice())?;
     Ok(Makefile::of_parts(rules, prerequisites, suffix_rules, phony, macros))
 }
 

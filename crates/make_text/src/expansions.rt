@@ -67,7 +67,7 @@ pub(crate) struct Expanding<'a> {
 }
 
 impl<'a> Automatic<'a> {
-    /// The value behind `$` and this byte.
+    /// The value after `$` and this byte.
     fn value(&self, byte: u8) -> &'a [u8]
         ensures { result.now ≡ automatic_of self.now byte }
     {

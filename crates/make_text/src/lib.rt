@@ -30,6 +30,7 @@ mod rule_lines;
 pub mod rules;
 mod special_targets;
 mod states;
+mod suffix_order;
 mod suffix_rules;
 mod suffixes;
 pub mod word_paths;

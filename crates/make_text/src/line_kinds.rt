@@ -18,9 +18,9 @@ pub(crate) enum Kind<'a> {
     Blank,
     /// `include`, and what follows it.
     Include(&'a [u8]),
-    /// What stands before a `=` and behind it.
+    /// What stands before a `=` and after it.
     Assignment(&'a [u8], &'a [u8]),
-    /// What stands before a `:` and behind it.
+    /// What stands before a `:` and after it.
     Rule(&'a [u8], &'a [u8]),
     /// None of these, and a `$(` or `${` is never closed.
     Unclosed,

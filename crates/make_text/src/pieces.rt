@@ -86,7 +86,7 @@ fn cut_name(text: &[u8], close: u8) -> (Part<'_>, &[u8])
     }
 }
 
-/// What a `$` and the byte behind it are, by what begins with that byte, where it opens no parenthesis.
+/// What a `$` and the byte after it are, by what begins with that byte, where it opens no parenthesis.
 fn single(behind: &[u8]) -> Part<'_>
     requires { 0 < length behind.now }
     ensures { pieces_in result ≡ single (slice_index behind.now 0) ∷ [] }
@@ -103,7 +103,7 @@ fn single(behind: &[u8]) -> Part<'_>
     }
 }
 
-/// The reference that goes on here behind its `$`, with what follows it.
+/// The reference that goes on here after its `$`, with what follows it.
 fn cut_reference(behind: &[u8]) -> (Part<'_>, &[u8])
     ensures { CutsFrom Dollar behind.now result.0 result.1.now }
 {

@@ -146,7 +146,7 @@ impl Reading {
         self.macros.table()
     }
 
-    /// The words of a rule line, by what stands before its `:` and behind it; or why it is refused.
+    /// The words of a rule line, by what stands before its `:` and after it; or why it is refused.
     pub(crate) fn rule_words(
         &mut self,
         alloc: Global,
@@ -160,7 +160,7 @@ impl Reading {
         read_rule_line(alloc, &mut self.macros, before, behind)
     }
 
-    /// The paths behind `include`, or why the line is refused.
+    /// The paths after `include`, or why the line is refused.
     pub(crate) fn include_words(
         &mut self,
         alloc: Global,

@@ -313,7 +313,7 @@ fn expand_sides(
     }
 }
 
-/// The words of a rule line, by what stands before its `:` and behind it; or why it is refused. Takes time linear in the
+/// The words of a rule line, by what stands before its `:` and after it; or why it is refused. Takes time linear in the
 /// line, in the values of the macros that it is the first to reach since one was last defined, and in what it expands to.
 pub(crate) fn read_rule_line(
     alloc: Global,
@@ -340,7 +340,7 @@ pub(crate) fn read_rule_line(
     }
 }
 
-/// The paths behind `include`, or why the line is refused. Takes time as `read_rule_line`.
+/// The paths after `include`, or why the line is refused. Takes time as `read_rule_line`.
 pub(crate) fn read_include_line(
     alloc: Global,
     macros: &mut ExpandedMacros,
@@ -356,7 +356,7 @@ pub(crate) fn read_include_line(
     include_of_text(alloc, expanded.as_bytes())
 }
 
-/// The paths behind `include` by what it expands to.
+/// The paths after `include` by what it expands to.
 fn include_of_text(alloc: Global, text: &[u8]) -> Result<List<Path>, Or<MakeCause>>
     ensures { Gives result
         (or_cause (include_words_fault (words_of text.now)) (words_of text.now)) }

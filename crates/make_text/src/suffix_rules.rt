@@ -1,44 +1,26 @@
 //! The suffix rules among the rules of a makefile.
 
-ghost use Rattle.std.specs.Prelude.{◌≡◌, ◌++◌, [], IfOk, OnOk, filter, flat_map, map, option_copied, unwrap_or};
+ghost use Rattle.std.specs.Prelude.{◌≡◌, ◌++◌, [], IfOk, OnOk, flat_map, unwrap_or};
 ghost use Rattle.std.specs.List.{list_any};
-ghost use Rattle.std.specs.Str.{bytes_eq};
-ghost use Rattle.make_grammar.specs.Contents.{groups_of, is_suffix_rule, suffix_rule_of, suffix_rules_of};
+ghost use Rattle.make_grammar.specs.Contents.{groups_of, is_suffix_rule, suffix_rules_of};
 ghost use Rattle.make_text.specs.Joining.{KnowsGroups};
-ghost use Rattle.make_text.specs.SuffixRules.{is_in_group, is_suffix_target, behind_prefix, begins_from, begins_with, suffix_rules_from};
-ghost use Rattle.make_grammar.specs.Macros.{is_among};
+ghost use Rattle.make_text.specs.SuffixOrder.{placed_by, placed_rules, placed_target};
+ghost use Rattle.make_text.specs.SuffixRules.{is_in_group, is_suffix_target};
 
 use crate::joining::group;
 use crate::line_cache::RuleLine;
 use crate::numbers::Numbers;
 use crate::rules::{MakeRule, SuffixRule};
-use crate::suffixes::Suffixes;
+use crate::special_targets::put_paths;
+use crate::suffix_order::{PlacedRule, Side, in_order, without_places};
+use crate::suffixes::{Suffixes, cut};
 use cc_names::memory::NoMemory;
 use cc_names::paths::Path;
 use cc_names::texts::Text;
+use indexmap::IndexSet;
 use std::alloc::Global;
+use std::hash::RandomState;
 use std::rc::Rc;
-
-/// What follows a prefix, where bytes begin with it.
-fn cut_prefix<'a>(bytes: &'a [u8], prefix: &[u8]) -> Option<&'a [u8]>
-    ensures { option_copied result ≡ behind_prefix bytes.now prefix.now }
-{
-    if bytes.len() < prefix.len() {
-        return None;
-    }
-    let (start, rest) = bytes.split_at(prefix.len());
-    if start == prefix { Some(rest) } else { None }
-}
-
-/// Whether bytes are two others put together.
-fn is_pair(bytes: &[u8], from: &[u8], to: &[u8]) -> bool
-    ensures { result ≡ bytes_eq bytes.now (from.now ++ to.now) }
-{
-    match cut_prefix(bytes, from) {
-        Some(rest) => rest == to,
-        None => false,
-    }
-}
 
 /// Whether a target is of a group that has a script, in constant time.
 fn is_in_group(lines: &[RuleLine], groups: &Numbers, target: &Path) -> bool
@@ -105,30 +87,11 @@ pub(crate) fn is_suffix_rule(
     Ok(rule.has_only_script() && has_suffix_target(alloc, suffixes, lines, groups, rule.targets())?)
 }
 
-/// Whether two suffixes put together are this target.
-fn are_target(target: &Path, from: &Text, to: &Text) -> bool
-    ensures { result ≡ bytes_eq (from.now ++ to.now) target.now }
-{
-    is_pair(target.as_bytes(), from.as_bytes(), to.as_bytes())
-}
-
-/// Whether a rule makes two suffixes put together.
-fn makes_pair(rule: &MakeRule, from: &Text, to: &Text) -> bool
-    ensures { result ≡ is_among rule.now.targets (from.now ++ to.now) }
-{
-    for target in rule.targets() {
-        if are_target(target, from, to) {
-            return true;
-        }
-    }
-    false
-}
-
 /// The suffix rule that makes one suffix from another, by the rule that it is.
 fn suffix_rule(
     alloc: Global,
-    from: &Text,
-    to: &Text,
+    from: &[u8],
+    to: &[u8],
     rule: &MakeRule,
 ) -> Result<SuffixRule, NoMemory>
     ensures { IfOk result
@@ -140,124 +103,115 @@ fn suffix_rule(
         Some(script) => script,
         None => Rc::new(alloc, Vec::new(alloc))?,
     };
-    Ok(SuffixRule::of(from.copy(alloc)?, to.copy(alloc)?, script))
+    let from = Text::from_bytes(alloc, from)?;
+    let to = Text::from_bytes(alloc, to)?;
+    Ok(SuffixRule::of(from, to, script))
 }
 
-/// Puts the suffix rules that make one suffix from another after others.
-fn put_pair_rules(
+/// Puts the suffix rule that makes one of these from another after others, if both are suffixes.
+fn put_pair(
     alloc: Global,
-    made: &mut Vec<SuffixRule>,
-    from: &Text,
-    to: &Text,
-    rules: &[&MakeRule],
+    suffixes: &Suffixes,
+    placed: &mut Vec<PlacedRule>,
+    rule: &MakeRule,
+    first: &[u8],
+    second: &[u8],
 ) -> Result<(), NoMemory>
     ensures { OnOk result
-        (made.new.items
-        ≡ made.old.items
-        ++ flat_map (suffix_rule_of from.now to.now) (map (λ rule. rule.now) rules.now)) }
+        (placed.new.items
+        ≡ placed.old.items
+        ++ placed_by suffixes.now first.now second.now (unwrap_or rule.now.script [])) }
 {
-    for rule in rules {
-        if makes_pair(rule, from, to) {
-            made.push(suffix_rule(alloc, from, to, rule)?)?;
-        }
-    }
-    Ok(())
-}
-
-/// Whether a target begins with a suffix.
-fn begins_with(target: &Path, from: &Text) -> bool
-    ensures { result ≡ begins_with target.now from.now }
-{
-    match cut_prefix(target.as_bytes(), from.as_bytes()) {
-        Some(_) => true,
-        None => false,
-    }
-}
-
-/// Whether a target of a rule begins with a suffix.
-fn begins_from(from: &Text, rule: &MakeRule) -> bool
-    ensures { result ≡ begins_from from.now rule.now }
-{
-    for target in rule.targets() {
-        if begins_with(target, from) {
-            return true;
-        }
-    }
-    false
-}
-
-/// The rules of which a target begins with a suffix.
-fn rules_from<'a>(
-    alloc: Global,
-    from: &Text,
-    rules: &'a [MakeRule],
-) -> Result<Vec<&'a MakeRule>, NoMemory>
-    ensures { IfOk result
-        (λ begun. map (λ rule. rule.now) begun.items ≡ filter (begins_from from.now) rules.now) }
-{
-    let mut begun = Vec::new(alloc);
-    for rule in rules {
-        if begins_from(from, rule) {
-            begun.push(rule)?;
-        }
-    }
-    Ok(begun)
-}
-
-/// Puts the suffix rules that make any suffix from one after others. Takes time linear in the suffixes for each rule.
-fn put_pairs(
-    alloc: Global,
-    made: &mut Vec<SuffixRule>,
-    suffixes: &[Text],
-    from: &Text,
-    rules: &[&MakeRule],
-) -> Result<(), NoMemory>
-    ensures { OnOk result
-        (made.new.items
-        ≡ made.old.items
-        ++ suffix_rules_from suffixes.now (map (λ rule. rule.now) rules.now) from.now) }
-{
-    for to in suffixes {
-        put_pair_rules(alloc, made, from, to, rules)?;
-    }
-    Ok(())
-}
-
-/// Puts the suffix rules that begin from a suffix after others. Takes time linear in the rules, and in the suffixes for
-/// each rule of which a target begins with that suffix.
-fn put_from(
-    alloc: Global,
-    made: &mut Vec<SuffixRule>,
-    suffixes: &[Text],
-    from: &Text,
-    rules: &[MakeRule],
-) -> Result<(), NoMemory>
-    ensures { OnOk result
-        (made.new.items
-        ≡ made.old.items ++ suffix_rules_from suffixes.now rules.now from.now) }
-{
-    let begun = rules_from(alloc, from, rules)?;
-    if begun.is_empty() {
+    let Some(from) = suffixes.place(alloc, first)? else {
         return Ok(());
-    }
-    put_pairs(alloc, made, suffixes, from, begun.as_slice())
+    };
+    let Some(to) = suffixes.place(alloc, second)? else {
+        return Ok(());
+    };
+    let rule = suffix_rule(alloc, first, second, rule)?;
+    placed.push(PlacedRule { from, to, rule })?;
+    Ok(())
 }
 
-/// The suffix rules, in the order in which they are tried, by the rules that they are. Takes time linear in the rules for
-/// each suffix, and in the suffixes for each suffix and each of the rules that begin with it.
+/// Puts the suffix rule that a target of a rule is after others, if it is one. Takes time linear in the target.
+fn put_target(
+    alloc: Global,
+    suffixes: &Suffixes,
+    placed: &mut Vec<PlacedRule>,
+    rule: &MakeRule,
+    target: &Path,
+) -> Result<(), NoMemory>
+    ensures { OnOk result
+        (placed.new.items ≡ placed.old.items ++ placed_target suffixes.now rule.now target.now) }
+{
+    let (first, second) = cut(target.as_bytes());
+    put_pair(alloc, suffixes, placed, rule, first, second)
+}
+
+/// Puts the suffix rules that these targets of a rule are after others.
+fn put_targets(
+    alloc: Global,
+    suffixes: &Suffixes,
+    placed: &mut Vec<PlacedRule>,
+    rule: &MakeRule,
+    targets: &[Path],
+) -> Result<(), NoMemory>
+    ensures { OnOk result
+        (placed.new.items
+        ≡ placed.old.items ++ flat_map (placed_target suffixes.now rule.now) targets.now) }
+{
+    for target in targets {
+        put_target(alloc, suffixes, placed, rule, target)?;
+    }
+    Ok(())
+}
+
+/// Puts the suffix rules that a rule is after others.
+fn put_rule(
+    alloc: Global,
+    hashing: RandomState,
+    suffixes: &Suffixes,
+    placed: &mut Vec<PlacedRule>,
+    rule: &MakeRule,
+) -> Result<(), NoMemory>
+    ensures { OnOk result
+        (placed.new.items ≡ placed.old.items ++ placed_rules suffixes.now rule.now) }
+{
+    let mut targets = IndexSet::with_hasher(alloc, hashing);
+    put_paths(alloc, &mut targets, rule.targets())?;
+    put_targets(alloc, suffixes, placed, rule, targets.as_slice())
+}
+
+/// The suffix rules that rules are, rule by rule.
+fn placed_rules(
+    alloc: Global,
+    hashing: RandomState,
+    suffixes: &Suffixes,
+    rules: &[MakeRule],
+) -> Result<Vec<PlacedRule>, NoMemory>
+    ensures { IfOk result
+        (λ placed. placed.items ≡ flat_map (placed_rules suffixes.now) rules.now) }
+{
+    let mut placed = Vec::new(alloc);
+    for rule in rules {
+        put_rule(alloc, hashing, suffixes, &mut placed, rule)?;
+    }
+    Ok(placed)
+}
+
+/// The suffix rules, in the order in which they are tried, by the rules that they are. Takes time linear in the targets of the
+/// rules and in the suffixes.
 pub(crate) fn suffix_rules(
     alloc: Global,
-    suffixes: &[Text],
+    hashing: RandomState,
+    suffixes: &Suffixes,
     rules: &[MakeRule],
 ) -> Result<Vec<SuffixRule>, NoMemory>
     ensures { IfOk result (λ made. made.items ≡ suffix_rules_of suffixes.now rules.now) }
 {
-    let mut made = Vec::new(alloc);
-    if rules.is_empty() {
-        return Ok(made);
-    }
-    for from in suffixes {
-        put_from(alloc, &mut made, suffixes, from, rules)?;
-    }
-    Ok(made)
+    let count = suffixes.len();
+    let placed = placed_rules(alloc, hashing, suffixes, rules)?;
+    let by_second = in_order(alloc, count, Side::To, placed)?;
+    let ordered = in_order(alloc, count, Side::From, by_second)?;
+    without_places(alloc, ordered)
 }

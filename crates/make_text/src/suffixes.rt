@@ -1,7 +1,8 @@
 //! The suffixes of a makefile.
 
-ghost use Rattle.std.specs.Prelude.{◌≡◌, ◌≤◌, ◌&&◌, true, take, drop, length, fold, IfOk, OnOk};
-ghost use Rattle.std.specs.List.{list_all};
+ghost use Rattle.std.specs.Prelude.{◌≡◌, ◌≤◌, ◌&&◌, true, take, drop, length, fold, position, IfOk, OnOk};
+ghost use Rattle.std.specs.List.{IsDistinct, list_all};
+ghost use Rattle.std.specs.Str.{bytes_eq};
 ghost use Rattle.make_grammar.specs.Contents.{is_pair_of};
 ghost use Rattle.make_grammar.specs.Grammar.{first_suffixes};
 ghost use Rattle.make_grammar.specs.Macros.{is_among};
@@ -49,8 +50,8 @@ fn before_period(bytes: &[u8]) -> usize
     bytes.len()
 }
 
-/// Bytes cut before the first `.` behind their first byte.
-fn cut(bytes: &[u8]) -> (&[u8], &[u8])
+/// Bytes cut before the first `.` after their first byte.
+pub(crate) fn cut(bytes: &[u8]) -> (&[u8], &[u8])
     ensures first { result.0.now ≡ take (first_length bytes.now) bytes.now }
     ensures second { result.1.now ≡ drop (first_length bytes.now) bytes.now }
 {
@@ -93,7 +94,7 @@ impl Suffixes {
         Ok(())
     }
 
-    /// Puts the suffixes behind `.SUFFIXES` behind the others, or leaves none where there are none of these. Takes time linear in
+    /// Puts the suffixes after `.SUFFIXES` after the others, or leaves none where there are none of these. Takes time linear in
     /// them.
     pub(crate) fn take(&mut self, alloc: Global, suffixes: &[Path]) -> Result<(), NoMemory>
         requires { list_all is_suffix suffixes.now ≡ true }
@@ -106,11 +107,21 @@ impl Suffixes {
         self.put_all(alloc, suffixes)
     }
 
-    /// The suffixes, in order.
-    pub(crate) fn as_slice(&self) -> &[Text]
-        ensures { result.now ≡ self.now }
+    /// How many there are, in constant time.
+    pub(crate) fn len(&self) -> usize
+        ensures count { result ≡ length self.now }
+        ensures apart { IsDistinct bytes_eq self.now }
+        ensures suffixes { list_all is_suffix self.now ≡ true }
     {
-        self.texts.as_slice()
+        self.texts.len()
+    }
+
+    /// The place of bytes among the suffixes, if they are one. Takes time linear in them.
+    pub(crate) fn place(&self, alloc: Global, bytes: &[u8]) -> Result<Option<usize>, NoMemory>
+        ensures { IfOk result (λ place. place ≡ position (bytes_eq bytes.now) self.now) }
+    {
+        let text = Text::from_bytes(alloc, bytes)?;
+        Ok(self.texts.get_index_of(&text))
     }
 
     /// Whether bytes are a suffix. Takes time linear in them.
@@ -130,7 +141,7 @@ impl Suffixes {
     }
 
     /// Whether bytes are two suffixes put together. Takes time linear in them: only the first byte of a suffix is a `.`, so the
-    /// second begins at the first `.` behind their first byte.
+    /// second begins at the first `.` after their first byte.
     pub(crate) fn has_pair(&self, alloc: Global, bytes: &[u8]) -> Result<bool, NoMemory>
         ensures { IfOk result (λ is_pair. is_pair ≡ is_pair_of self.now bytes.now) }
     {

@@ -2,10 +2,8 @@
 use Rattle.std.specs.Prelude.{ℕ, ◌+◌, Bool, true, false, Option, Some, None, List, [], ◌∷◌, ◌++◌, codes, if◌then◌else◌}
 use Rattle.std.specs.List.{flat_map, list_all}
 use Rattle.std.specs.Fmt.{decimal}
-use Rattle.cc_names.specs.CommandWords.{words_of_command}
 use Rattle.hex.specs.Hex.{encode_lower}
 use Rattle.cc_names.specs.declared.commands.LaneWords.{LaneWords}
-use Rattle.cc_names.specs.declared.commands.Phase.{Phase}
 use Rattle.cc_names.specs.declared.commands.PhaseWords.{PhaseWords}
 use Rattle.cc_names.specs.declared.replies.Digest.{Digest}
 use Rattle.cc_names.specs.declared.replies.UnitWord.{UnitWord}
@@ -83,7 +81,3 @@ lane_lines phase (Some lane) answers =
 -- The lines of a lane, by its number from 1, with the replies to its commands.
 abbrev pub render_words : PhaseWords → ℕ → List Reply → List ℕ
 render_words phase number answers = lane_lines phase (lane_words_at phase number) answers
-
--- The lines of a lane of a phase, where each command is given by its word.
-abbrev pub render : Phase → ℕ → List Reply → List ℕ
-render phase number answers = render_words (words_of_command phase) number answers

@@ -17,7 +17,7 @@ spaced_words words = flat_map spaced_word words
 abbrev pub shown_line : List ℕ → List ℕ
 shown_line line = 124 ∷ line ++ 10 ∷ []
 
--- a text that is shown: each of its lines with `|` before it and a newline behind it
+-- a text that is shown: each of its lines with `|` before it and a newline after it
 abbrev pub marked_text : List ℕ → List ℕ
 marked_text text = flat_map shown_line (lines_of text)
 

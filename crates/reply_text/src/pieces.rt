@@ -46,7 +46,7 @@ pub(crate) fn push_number_word(
     push_number(alloc, text, number)
 }
 
-/// Writes a text that is shown: each of its lines with `|` before it and a newline behind it.
+/// Writes a text that is shown: each of its lines with `|` before it and a newline after it.
 pub(crate) fn push_shown(text: &mut Vec<u8>, shown_text: &[u8]) -> Result<(), NoMemory>
     ensures { OnOk result (text.new.items ≡ text.old.items ++ marked_text shown_text.now) }
 {

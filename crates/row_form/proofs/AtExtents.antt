@@ -1,8 +1,8 @@
 -- Rows whose outputs are in the file of objects.
 use Rattle.std.proofs.Common.{◌≡◌, ℕ, ◌<◌, ◌≤◌, ◌+◌, ◌^◌, suc, List, [], ◌∷◌, ◌++◌, length, map, get_or, drop, refl, sym, ◌∙◌}
-use Rattle.std.proofs.Common.{ap, subst, drop-cons, add-one, arith}
+use Rattle.std.proofs.Common.{ap, subst, arith}
 use Rattle.std.specs.List.{flat_map, AllByRecursion}
-use Rattle.std.proofs.lemmas.List.{append_assoc, append-nil, drop_all, length-map}
+use Rattle.std.proofs.lemmas.List.{append_assoc, append-nil, drop_all, drop_more, length-map}
 use Rattle.cc_names.specs.Formed.{Plain, IsText, IsStored, IsDeedFormed, IsTag, IsFormed}
 use Rattle.cc_names.specs.declared.rows.Tag.{Tag}
 use Rattle.cc_names.specs.declared.rows.ReadOf.{ReadOf}
@@ -31,8 +31,7 @@ pub one_less : (outputs : List (List ℕ)) (index : ℕ) (output : List ℕ) →
     → output ≡ get_or outputs index output
     → drop index outputs ≡ output ∷ drop (index + 1) outputs
 one_less outputs index output h e =
-    drop-cons outputs index output h ∙ ap (λ t. t ∷ drop (suc index) outputs) (sym e)
-    ∙ ap (λ n. output ∷ drop n outputs) (sym (add-one index))
+    drop_more outputs index output h ∙ ap (λ t. t ∷ drop (index + 1) outputs) (sym e)
 
 pub one_written : (before after whole output : List ℕ) (rest others : List (List ℕ)) (extents left : List Extent)
     → before ++ bytes_at rest extents ≡ whole → rest ≡ output ∷ others

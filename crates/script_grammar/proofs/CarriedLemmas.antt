@@ -1,7 +1,6 @@
 -- How parts of a run that were carried out follow each other.
-use Rattle.std.proofs.Common.{◌≡◌, true, ℕ, Option, Some, None, Bool, Result, Ok, Err, List, [], refl, ap, sym, ◌∙◌}
+use Rattle.std.proofs.Common.{◌≡◌, ℕ, Option, Some, None, Result, Ok, Err, List, refl, ap, sym, ◌∙◌}
 use Rattle.std.proofs.Common.{◌≤◌, subst, arith}
-use Rattle.std.specs.List.{AllByRecursion}
 use Rattle.cc_names.specs.Counts.{Rose}
 use Rattle.cc_names.specs.Files.{Files}
 use Rattle.cc_names.specs.declared.refusals.ScriptFault.{ScriptFault}
@@ -20,40 +19,25 @@ pub trace_of-and_then : {A B : Type 0} (files : Files) (reads : List (List ℕ))
 trace_of-and_then files reads (Done a) next = refl
 trace_of-and_then files reads (Asks path more) next = trace_of-and_then files (with_read reads path) (more (files path)) next
 
--- answers that were `Broken` behind a count were so behind a lower one
+-- answers that were `Broken` after a count were so after a lower one
 broken_from : (lower old new : ℕ) → lower ≤ old → Rose old new → Rose lower new
 broken_from lower old new h rose = λ below. omega (arith, h, rose below)
 
--- what ended early did so from where it is traced the same, and from a lower count
-halted_along : {A : Type 0} (files : Files) (before middle after : List (List ℕ)) (whole rest : Asking (Result A ScriptFault))
-    (halt : Halt) (lower old new : ℕ) →
-    trace_of files before whole ≡ trace_of files middle rest → lower ≤ old → Halted files middle rest halt after old new
-    → Halted files before whole halt after lower new
-halted_along files before middle after whole rest (Fault fault) lower old new e low h = e ∙ h
-halted_along files before middle after whole rest (GivenUp Broken) lower old new e low h = broken_from lower old new low h
-halted_along files before middle after whole rest NoMemory lower old new e low h = tt
+-- A whole that is traced as its rest is from the middle on, and a count that was no higher before it than before the rest.
+module _ {A : Type 0} (files : Files) (before middle after : List (List ℕ)) (whole rest : Asking (Result A ScriptFault))
+    (lower old new : ℕ) where
+  -- what ended early in the rest did so in the whole
+  halted_along : (halt : Halt) → trace_of files before whole ≡ trace_of files middle rest → lower ≤ old
+      → Halted files middle rest halt after old new → Halted files before whole halt after lower new
+  halted_along (Fault fault) e low h = e ∙ h
+  halted_along (GivenUp Broken) e low h = broken_from lower old new low h
+  halted_along NoMemory e low h = tt
 
-went_along : {X A : Type 0} (files : Files) (before middle after : List (List ℕ)) (whole rest : Asking (Result A ScriptFault))
-    (next : X → Asking (Result A ScriptFault)) (result : Result X Halt) (lower old new : ℕ) →
-    trace_of files before whole ≡ trace_of files middle rest → lower ≤ old → PartWent files middle rest next result after old new
-    → PartWent files before whole next result after lower new
-went_along files before middle after whole rest next (Ok x) lower old new e low h = e ∙ h
-went_along files before middle after whole rest next (Err halt) lower old new e low h =
-    halted_along files before middle after whole rest halt lower old new e low h
-
-went_lifted : {X A B : Type 0} (files : Files) (before after : List (List ℕ)) (first : Asking (Result A ScriptFault)) (next : X
-    → Asking (Result A ScriptFault)) (more : A → Asking (Result B ScriptFault)) (result : Result X Halt) (old new : ℕ) →
-    PartWent files before first next result after old new → PartWent files before (and_then first (unless_fault more))
-    (λ x. and_then (next x) (unless_fault more)) result after old new
-went_lifted {A = A} files before after first next more (Ok x) old new h =
-    trace_of-and_then files before first (unless_fault more) ∙ ap (λ (t : Traced (Result A ScriptFault)). trace_of files t.reads
-    (unless_fault more t.value)) h
-    ∙ sym (trace_of-and_then files after (next x) (unless_fault more))
-went_lifted {A = A} files before after first next more (Err (Fault fault)) old new h =
-    trace_of-and_then files before first (unless_fault more) ∙ ap (λ (t : Traced (Result A ScriptFault)). trace_of files t.reads
-    (unless_fault more t.value)) h
-went_lifted files before after first next more (Err (GivenUp cause)) old new h = h
-went_lifted files before after first next more (Err NoMemory) old new h = tt
+  went_along : {X : Type 0} (next : X → Asking (Result A ScriptFault)) (result : Result X Halt)
+      → trace_of files before whole ≡ trace_of files middle rest → lower ≤ old
+      → PartWent files middle rest next result after old new → PartWent files before whole next result after lower new
+  went_along next (Ok x) e low h = e ∙ h
+  went_along next (Err halt) e low h = halted_along halt e low h
 
 -- the reads of a first part are among those of the whole
 first_among : {A B : Type 0} (files : Files) (before paths : List (List ℕ)) (first : Asking A) (next : A → Asking B) →
@@ -62,85 +46,9 @@ first_among {B = B} files before paths first next h =
     before_traced (λ p. IsAmong p paths) files (trace_of files before first).reads (next (trace_of files before first).value)
     (subst (λ (t : Traced B). AreAmong t.reads paths) (trace_of-and_then files before first next) h)
 
-module _ {F : Type 0} (stands : F → List ℕ → Option Standing) (broken : F → ℕ) (follows : List (List ℕ) → F → F → Type 0) where
-  -- nothing done yet
-  pub carried_here : {X A : Type 0} (reflexive : (paths : List (List ℕ)) (files : F)
-      → follows paths files files) (reads : List (List ℕ)) (asking : X → Asking (Result A ScriptFault)) (x : X) (files : F) →
-      Performed stands broken follows reads (asking x) asking (Ok x) reads files files
-  carried_here reflexive reads asking x files = record {
-    stays = record { meaning = refl; count = omega arith };
-    asked = λ paths among. reflexive paths files;
-    went = refl;
-  }
-
-  -- one part after another
-  pub carried_on : {X Y A : Type 0} (transitive : (paths : List (List ℕ)) (one two three : F) → follows paths one two
-      → follows paths two three → follows paths one three)
-      (before middle after : List (List ℕ)) (asking : Asking (Result A ScriptFault)) (next : X
-      → Asking (Result A ScriptFault)) (x : X) (then : Y → Asking (Result A ScriptFault)) (result : Result Y Halt)
-      (old mid new : F) →
-      Performed stands broken follows before asking next (Ok x) middle old mid
-      → Performed stands broken follows middle (next x) then result after mid new →
-      Performed stands broken follows before asking then result after old new
-  carried_on transitive before middle after asking next x then result old mid new one two = record {
-    stays = record { meaning = two.stays.meaning ∙ one.stays.meaning; count = omega (arith, one.stays.count, two.stays.count) };
-    asked = λ paths among. transitive paths old mid new (one.asked paths among)
-        (two.asked paths (rw two_here (rw (← one.went) among)));
-    went = went_along (texts (stands old)) before middle after asking (next x) then result (broken old) (broken mid) (broken new)
-        one.went one.stays.count (rw one.stays.meaning at two.went);
-  }
-    where
-      two_here : texts (stands mid) ≡ texts (stands old)
-      two_here = ap texts one.stays.meaning
-
-  -- a part as the first of two
-  pub carried_lifted : {X A B : Type 0} (before after : List (List ℕ)) (first : Asking (Result A ScriptFault)) (next : X
-      → Asking (Result A ScriptFault)) (more : A → Asking (Result B ScriptFault)) (result : Result X Halt) (old new : F) →
-      Performed stands broken follows before first next result after old new →
-      Performed stands broken follows before (and_then first (unless_fault more)) (λ x. and_then (next x) (unless_fault more))
-      result after old new
-  carried_lifted before after first next more result old new one = record {
-    stays = one.stays;
-    asked = λ paths among. one.asked paths (first_among (texts (stands old)) before paths first (unless_fault more) among);
-    went = went_lifted (texts (stands old)) before after first next more result (broken old) (broken new) one.went;
-  }
-
-  -- a part that asks for nothing
-  pub carried_pure : {X A : Type 0} (reflexive : (paths : List (List ℕ)) (files : F)
-      → follows paths files files) (reads : List (List ℕ)) (value : Result A ScriptFault) (shown : X
-      → A) (result : Result X Halt) (files : F) →
-      PartGave value shown result → Performed stands broken follows reads (Done value) (gives shown) result reads files files
-  carried_pure {X = X} {A = A} reflexive reads value shown result files gave = record {
-    stays = record { meaning = refl; count = omega arith };
-    asked = λ paths among. reflexive paths files;
-    went = by result gave;
-  }
-    where
-      by : (result : Result X Halt) → PartGave value shown result → PartWent (texts (stands files)) reads (Done value)
-          (gives shown) result reads (broken files) (broken files)
-      by (Ok x) gave = ap (λ (v : Result A ScriptFault). trace_of (texts (stands files)) reads (Done v)) gave
-      by (Err (Fault fault)) gave = ap (λ (v : Result A ScriptFault). trace_of (texts (stands files)) reads (Done v)) gave
-      by (Err (GivenUp cause)) gave = absurd gave
-      by (Err NoMemory) gave = tt
-
-  -- a part that is given up for want of memory before it asks
-  pub carried_given_up : {X A : Type 0} (reflexive : (paths : List (List ℕ)) (files : F)
-      → follows paths files files) (reads : List (List ℕ)) (asking : Asking (Result A ScriptFault)) (next : X
-      → Asking (Result A ScriptFault)) (files : F) →
-      Performed stands broken follows reads asking next (Err NoMemory) reads files files
-  carried_given_up reflexive reads asking next files = record {
-    stays = record { meaning = refl; count = omega arith };
-    asked = λ paths among. reflexive paths files;
-    went = tt;
-  }
-
-  -- a part that ended early, wherever it would have gone on
-  pub carried_early : {X Y A : Type 0} (before after : List (List ℕ)) (asking : Asking (Result A ScriptFault)) (next : X
-      → Asking (Result A ScriptFault)) (then : Y → Asking (Result A ScriptFault)) (halt : Halt) (old new : F) →
-      Performed stands broken follows before asking next (Err halt) after old new
-      → Performed stands broken follows before asking then (Err halt) after old new
-  carried_early before after asking next then halt old new one = record { stays = one.stays; asked = one.asked; went = one.went }
-
+-- Parts of a run over files: how these answer, how often they broke, and how they follow each other.
+module _ {F : Type 0} {stands : F → List ℕ → Option Standing} {broken : F → ℕ} {follows : List (List ℕ) → F → F
+    → Type 0} where
   -- one path that is asked for
   pub carried_ask : {A : Type 0} (reads : List (List ℕ)) (path : List ℕ) (next : Option (List ℕ)
       → Asking (Result A ScriptFault)) {X : Type 0} (then : X → Asking (Result A ScriptFault)) (result : Result X Halt)
@@ -156,114 +64,171 @@ module _ {F : Type 0} (stands : F → List ℕ → Option Standing) (broken : F 
     went = went;
   }
 
--- a part that passed, and then another
-pub carried_then : {F X Y A B : Type 0} {stands : F → List ℕ → Option Standing} {broken : F → ℕ} {follows : List (List ℕ) → F → F
-    → Type 0}
-    {before middle after : List (List ℕ)} {first : Asking (Result A ScriptFault)} {next : X
-    → Asking (Result A ScriptFault)} {x : X} {then : Y → Asking (Result B ScriptFault)} {result : Result Y Halt}
-    {old mid new : F}
-    (transitive : (paths : List (List ℕ)) (one two three : F) → follows paths one two → follows paths two three
-    → follows paths one three)
-    (more : A → Asking (Result B ScriptFault)) →
-    Performed stands broken follows before first next (Ok x) middle old mid
-    → Performed stands broken follows middle (and_then (next x) (unless_fault more)) then result after mid new →
-    Performed stands broken follows before (and_then first (unless_fault more)) then result after old new
-carried_then {stands = stands} {broken = broken} {follows = follows} {before = before} {middle = middle} {after = after}
-    {first = first} {next = next} {x = x} {then = then} {result = result} {old = old} {mid = mid} {new = new} transitive more one
-    two =
-    carried_on stands broken follows transitive before middle after (and_then first (unless_fault more))
-    (λ x. and_then (next x) (unless_fault more)) x then result old mid new
-    (carried_lifted stands broken follows before middle first next more (Ok x) old mid one) two
+  -- Parts that leave the files, and what was read, as they are.
+  module _ (reflexive : (paths : List (List ℕ)) (files : F) → follows paths files files) {reads : List (List ℕ)} {files : F} where
+    -- nothing done yet
+    pub carried_here : {X A : Type 0} (asking : X → Asking (Result A ScriptFault)) (x : X)
+        → Performed stands broken follows reads (asking x) asking (Ok x) reads files files
+    carried_here asking x = record {
+      stays = record { meaning = refl; count = omega arith };
+      asked = λ paths among. reflexive paths files;
+      went = refl;
+    }
 
--- a part that ended early, as the first of two
-pub carried_failed : {F X Y A B : Type 0} {stands : F → List ℕ → Option Standing} {broken : F → ℕ} {follows : List (List ℕ) → F
-    → F → Type 0}
-    {before after : List (List ℕ)} {first : Asking (Result A ScriptFault)} {next : X
-    → Asking (Result A ScriptFault)} {halt : Halt} {old new : F}
-    (more : A → Asking (Result B ScriptFault)) (then : Y → Asking (Result B ScriptFault)) →
-    Performed stands broken follows before first next (Err halt) after old new →
-    Performed stands broken follows before (and_then first (unless_fault more)) then (Err halt) after old new
-carried_failed {stands = stands} {broken = broken} {follows = follows} {before = before} {after = after} {first = first}
-    {next = next} {halt = halt} {old = old} {new = new} more then one =
-    carried_early stands broken follows before after (and_then first (unless_fault more))
-    (λ x. and_then (next x) (unless_fault more)) then halt old new
-    (carried_lifted stands broken follows before after first next more (Err halt) old new one)
+    -- a part that asks for nothing
+    pub carried_pure : {X A : Type 0} {value : Result A ScriptFault} {shown : X → A} {result : Result X Halt}
+        → PartGave value shown result
+        → Performed stands broken follows reads (Done value) (gives shown) result reads files files
+    carried_pure {X = X} {A = A} {value = value} {shown = shown} {result = result} gave = record {
+      stays = record { meaning = refl; count = omega arith };
+      asked = λ paths among. reflexive paths files;
+      went = by result gave;
+    }
+      where
+        by : (result : Result X Halt) → PartGave value shown result → PartWent (texts (stands files)) reads (Done value)
+            (gives shown) result reads (broken files) (broken files)
+        by (Ok x) gave = ap (λ (v : Result A ScriptFault). trace_of (texts (stands files)) reads (Done v)) gave
+        by (Err (Fault fault)) gave = ap (λ (v : Result A ScriptFault). trace_of (texts (stands files)) reads (Done v)) gave
+        by (Err (GivenUp cause)) gave = absurd gave
+        by (Err NoMemory) gave = tt
 
--- the same by another name
-pub carried_as : {F X A : Type 0} {stands : F → List ℕ → Option Standing} {broken : F → ℕ} {follows : List (List ℕ) → F → F
-    → Type 0}
-    {before after : List (List ℕ)} {one other : Asking (Result A ScriptFault)} {next : X
-    → Asking (Result A ScriptFault)} {result : Result X Halt} {old new : F} →
-    one ≡ other → Performed stands broken follows before one next result after old new
-    → Performed stands broken follows before other next result after old new
-carried_as {stands = stands} {broken = broken} {follows = follows} {before = before} {after = after} {next = next}
-    {result = result} {old = old} {new = new} e carried =
-    subst (λ asking. Performed stands broken follows before asking next result after old new) e carried
+    -- a part that asks for nothing and ended early, wherever a value goes that was a fault
+    pub carried_unsaid : {X Y A B : Type 0} {asking : Asking (Result A ScriptFault)} {value : Result B ScriptFault} {halt : Halt}
+        (shown : Y → B) (then : X → Asking (Result A ScriptFault))
+        → ((fault : ScriptFault) → value ≡ Err fault → asking ≡ Done (Err fault)) → PartGave value shown (Err halt)
+        → Performed stands broken follows reads asking then (Err halt) reads files files
+    carried_unsaid {asking = asking} {value = value} {halt = halt} shown then faults gave = record {
+      stays = record { meaning = refl; count = omega arith };
+      asked = λ paths among. reflexive paths files;
+      went = by halt gave;
+    }
+      where
+        by : (halt : Halt) → PartGave value shown (Err halt) → Halted (texts (stands files)) reads asking halt reads
+            (broken files) (broken files)
+        by (Fault fault) gave = ap (trace_of (texts (stands files)) reads) (faults fault gave)
+        by (GivenUp cause) gave = absurd gave
+        by NoMemory gave = tt
+
+    -- a part that is given up for want of memory before it asks
+    pub carried_given_up : {X A : Type 0} {asking : Asking (Result A ScriptFault)} {next : X → Asking (Result A ScriptFault)}
+        → Performed stands broken follows reads asking next (Err NoMemory) reads files files
+    carried_given_up = record {
+      stays = record { meaning = refl; count = omega arith };
+      asked = λ paths among. reflexive paths files;
+      went = tt;
+    }
+
+  -- One part, from these reads and files to those.
+  module _ {X A : Type 0} {before after : List (List ℕ)} {first : Asking (Result A ScriptFault)} {next : X
+      → Asking (Result A ScriptFault)} {old new : F} where
+    -- the same by another name
+    pub carried_as : {other : Asking (Result A ScriptFault)} {result : Result X Halt} → first ≡ other
+        → Performed stands broken follows before first next result after old new
+        → Performed stands broken follows before other next result after old new
+    carried_as {result = result} e carried =
+        subst (λ asking. Performed stands broken follows before asking next result after old new) e carried
+
+    -- as the first of two, and so also what is made of what it comes to
+    pub carried_lifted : {B : Type 0} {result : Result X Halt} (more : A → Asking (Result B ScriptFault))
+        → Performed stands broken follows before first next result after old new
+        → Performed stands broken follows before (and_then first (unless_fault more))
+        (λ x. and_then (next x) (unless_fault more)) result after old new
+    carried_lifted {B = B} {result = result} more one = record {
+      stays = one.stays;
+      asked = λ paths among. one.asked paths (first_among (texts (stands old)) before paths first (unless_fault more) among);
+      went = by result one.went;
+    }
+      where
+        then_more : {t : Traced (Result A ScriptFault)} → trace_of (texts (stands old)) before first ≡ t
+            → trace_of (texts (stands old)) before (and_then first (unless_fault more))
+            ≡ trace_of (texts (stands old)) t.reads (unless_fault more t.value)
+        then_more h = trace_of-and_then (texts (stands old)) before first (unless_fault more)
+            ∙ ap (λ (t : Traced (Result A ScriptFault)). trace_of (texts (stands old)) t.reads (unless_fault more t.value)) h
+
+        by : (result : Result X Halt) → PartWent (texts (stands old)) before first next result after (broken old) (broken new)
+            → PartWent (texts (stands old)) before (and_then first (unless_fault more))
+            (λ x. and_then (next x) (unless_fault more)) result after (broken old) (broken new)
+        by (Ok x) h = then_more h ∙ sym (trace_of-and_then (texts (stands old)) after (next x) (unless_fault more))
+        by (Err (Fault fault)) h = then_more h
+        by (Err (GivenUp cause)) h = h
+        by (Err NoMemory) h = tt
+
+    -- where it passed, by another name for where it goes on
+    pub carried_passed : {Y : Type 0} {x : X} (then : Y → Asking (Result A ScriptFault)) (y : Y) → next x ≡ then y
+        → Performed stands broken follows before first next (Ok x) after old new
+        → Performed stands broken follows before first then (Ok y) after old new
+    carried_passed then y e one =
+        record { stays = one.stays; asked = one.asked; went = one.went ∙ ap (trace_of (texts (stands old)) after) e }
+
+    -- where it ended early, wherever it would have gone on
+    pub carried_ended : {Y : Type 0} {halt : Halt} (then : Y → Asking (Result A ScriptFault))
+        → Performed stands broken follows before first next (Err halt) after old new
+        → Performed stands broken follows before first then (Err halt) after old new
+    carried_ended then one = record { stays = one.stays; asked = one.asked; went = one.went }
+
+    -- where it ended early, as the first of two
+    pub carried_failed : {Y B : Type 0} {halt : Halt} (more : A → Asking (Result B ScriptFault)) (then : Y
+        → Asking (Result B ScriptFault))
+        → Performed stands broken follows before first next (Err halt) after old new
+        → Performed stands broken follows before (and_then first (unless_fault more)) then (Err halt) after old new
+    carried_failed more then one =
+        let lifted = carried_lifted more one in
+        record { stays = lifted.stays; asked = lifted.asked; went = lifted.went }
+
+  -- Two parts, the other from where the one passed: the reads and the files before, between and after them.
+  module _ (transitive : (paths : List (List ℕ)) (one two three : F) → follows paths one two → follows paths two three
+      → follows paths one three) {A : Type 0} {before middle after : List (List ℕ)} {old mid new : F} where
+    -- one part after another
+    pub carried_on : {X Y : Type 0} {asking : Asking (Result A ScriptFault)} {next : X → Asking (Result A ScriptFault)} {x : X}
+        {then : Y → Asking (Result A ScriptFault)} {result : Result Y Halt}
+        → Performed stands broken follows before asking next (Ok x) middle old mid
+        → Performed stands broken follows middle (next x) then result after mid new
+        → Performed stands broken follows before asking then result after old new
+    carried_on {asking = asking} {next = next} {x = x} {then = then} {result = result} one two = record {
+      stays = record { meaning = two.stays.meaning ∙ one.stays.meaning; count = omega (arith, one.stays.count, two.stays.count) };
+      asked = λ paths among. transitive paths old mid new (one.asked paths among)
+          (two.asked paths (rw two_here (rw (← one.went) among)));
+      went = went_along (texts (stands old)) before middle after asking (next x) (broken old) (broken mid) (broken new) then
+          result one.went one.stays.count (rw one.stays.meaning at two.went);
+    }
+      where
+        two_here : texts (stands mid) ≡ texts (stands old)
+        two_here = ap texts one.stays.meaning
+
+    -- a part that passed, and then what is made of what it comes to
+    pub carried_then : {X Y B : Type 0} {first : Asking (Result B ScriptFault)} {next : X → Asking (Result B ScriptFault)} {x : X}
+        {then : Y → Asking (Result A ScriptFault)} {result : Result Y Halt} (more : B → Asking (Result A ScriptFault))
+        → Performed stands broken follows before first next (Ok x) middle old mid
+        → Performed stands broken follows middle (and_then (next x) (unless_fault more)) then result after mid new
+        → Performed stands broken follows before (and_then first (unless_fault more)) then result after old new
+    carried_then more one two = carried_on (carried_lifted more one) two
+
+    -- one item after those before it, of a whole that goes on with the item and then with more
+    module _ {X Y B : Type 0} {whole : Asking (Result A ScriptFault)} {goes_on : Y → Asking (Result A ScriptFault)} {y : Y}
+        {first : Asking (Result B ScriptFault)} {next : X → Asking (Result B ScriptFault)}
+        (more : B → Asking (Result A ScriptFault)) where
+      pub carried_step : {x : X} → Performed stands broken follows before whole goes_on (Ok y) middle old mid
+          → goes_on y ≡ and_then first (unless_fault more)
+          → Performed stands broken follows middle first next (Ok x) after mid new
+          → Performed stands broken follows before whole (λ (u : Unit {0}). and_then (next x) (unless_fault more)) (Ok tt) after
+          old new
+      carried_step {x = x} one e two =
+          carried_on one (carried_as (sym e) (carried_passed (λ (u : Unit {0}). and_then (next x) (unless_fault more)) tt refl
+          (carried_lifted more two)))
+
+      -- the same where the item ended early
+      pub carried_halt : {Z : Type 0} {halt : Halt} (then : Z → Asking (Result A ScriptFault))
+          → Performed stands broken follows before whole goes_on (Ok y) middle old mid
+          → goes_on y ≡ and_then first (unless_fault more)
+          → Performed stands broken follows middle first next (Err halt) after mid new
+          → Performed stands broken follows before whole then (Err halt) after old new
+      carried_halt then one e two = carried_on one (carried_as (sym e) (carried_failed more then two))
 
 -- a text that is seen and then made something of
 pub seen_then : {A : Type 0} (own : Option (List ℕ)) (path : List ℕ) (more : Option (List ℕ) → Asking (Result A ScriptFault)) →
     and_then (and_then (see own path) (λ found. Done (Ok found))) (unless_fault more) ≡ and_then (see own path) more
 seen_then (Some text) path more = refl
 seen_then None path more = refl
-
--- one item after those before it
-pub carried_step : {F X Y A B : Type 0} {stands : F → List ℕ → Option Standing} {broken : F → ℕ} {follows : List (List ℕ) → F → F
-    → Type 0}
-    {before middle after : List (List ℕ)} {whole : Asking (Result B ScriptFault)} {goes_on : Y
-    → Asking (Result B ScriptFault)} {y : Y} {first : Asking (Result A ScriptFault)} {next : X
-    → Asking (Result A ScriptFault)} {x : X} {old mid new : F}
-    (transitive : (paths : List (List ℕ)) (one two three : F) → follows paths one two → follows paths two three
-    → follows paths one three)
-    (more : A → Asking (Result B ScriptFault)) →
-    Performed stands broken follows before whole goes_on (Ok y) middle old mid → goes_on y ≡ and_then first (unless_fault more)
-    → Performed stands broken follows middle first next (Ok x) after mid new →
-    Performed stands broken follows before whole (λ (u : Unit {0}). and_then (next x) (unless_fault more)) (Ok tt) after old new
-carried_step {stands = stands} {broken = broken} {follows = follows} {before = before} {middle = middle} {after = after}
-    {whole = whole} {goes_on = goes_on} {y = y} {first = first} {next = next} {x = x} {old = old} {mid = mid} {new = new}
-    transitive more one e two =
-    carried_on stands broken follows transitive before middle after whole goes_on y
-    (λ (u : Unit {0}). and_then (next x) (unless_fault more)) (Ok tt) old mid new one
-    (carried_as (sym e) (passes (carried_lifted stands broken follows middle after first next more (Ok x) mid new two)))
-  where
-    passes : Performed stands broken follows middle (and_then first (unless_fault more))
-        (λ z. and_then (next z) (unless_fault more)) (Ok x) after mid new →
-        Performed stands broken follows middle (and_then first (unless_fault more))
-        (λ (u : Unit {0}). and_then (next x) (unless_fault more)) (Ok tt) after mid new
-    passes c = record { stays = c.stays; asked = c.asked; went = c.went }
-
--- one item that ended early, after those before it
-pub carried_halt : {F X Y Z A B : Type 0} {stands : F → List ℕ → Option Standing} {broken : F → ℕ} {follows : List (List ℕ) → F
-    → F → Type 0}
-    {before middle after : List (List ℕ)} {whole : Asking (Result B ScriptFault)} {goes_on : Y
-    → Asking (Result B ScriptFault)} {y : Y} {first : Asking (Result A ScriptFault)} {next : X
-    → Asking (Result A ScriptFault)} {halt : Halt} {old mid new : F}
-    (transitive : (paths : List (List ℕ)) (one two three : F) → follows paths one two → follows paths two three
-    → follows paths one three)
-    (more : A → Asking (Result B ScriptFault)) (then : Z → Asking (Result B ScriptFault)) →
-    Performed stands broken follows before whole goes_on (Ok y) middle old mid → goes_on y ≡ and_then first (unless_fault more)
-    → Performed stands broken follows middle first next (Err halt) after mid new →
-    Performed stands broken follows before whole then (Err halt) after old new
-carried_halt {stands = stands} {broken = broken} {follows = follows} {before = before} {middle = middle} {after = after}
-    {whole = whole} {goes_on = goes_on} {y = y} {first = first} {next = next} {halt = halt} {old = old} {mid = mid} {new = new}
-    transitive more then one e two =
-    carried_on stands broken follows transitive before middle after whole goes_on y then (Err halt) old mid new one
-    (carried_as (sym e) (carried_failed more then two))
-
--- a part that ended early in a part that it is the rest of
-pub carried_over : {F X Y A : Type 0} {stands : F → List ℕ → Option Standing} {broken : F → ℕ} {follows : List (List ℕ) → F → F
-    → Type 0}
-    {before middle after : List (List ℕ)} {asking : Asking (Result A ScriptFault)} {next : X
-    → Asking (Result A ScriptFault)} {x : X} {then : Y → Asking (Result A ScriptFault)} {result : Result Y Halt}
-    {old mid new : F}
-    (transitive : (paths : List (List ℕ)) (one two three : F) → follows paths one two → follows paths two three
-    → follows paths one three) →
-    Performed stands broken follows before asking next (Ok x) middle old mid
-    → Performed stands broken follows middle (next x) then result after mid new →
-    Performed stands broken follows before asking then result after old new
-carried_over {stands = stands} {broken = broken} {follows = follows} {before = before} {middle = middle} {after = after}
-    {asking = asking} {next = next} {x = x} {then = then} {result = result} {old = old} {mid = mid} {new = new} transitive one
-    two =
-    carried_on stands broken follows transitive before middle after asking next x then result old mid new one two
 
 -- nothing more to do is nothing more
 pub and_then-done : {A : Type 0} (asking : Asking (Result A ScriptFault))

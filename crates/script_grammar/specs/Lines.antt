@@ -54,7 +54,7 @@ abbrev pub preprocess_of : Option (List (List ℕ)) → Option (List ℕ) → Op
 preprocess_of (Some directories) (Some path) = Some (Preprocess directories path)
 preprocess_of _ _ = None
 
--- the same by the words behind `pp`, the last word first
+-- the same by the words after `pp`, the last word first
 abbrev pub preprocess_of_reversed : List (List ℕ) → Option Work
 preprocess_of_reversed [] = None
 preprocess_of_reversed (path ∷ before) = preprocess_of (directories_of (reverse before)) (path_in path)

@@ -1,4 +1,4 @@
--- What the parts of the code that carry out a run come to.
+-- The results of the parts of the code that carry out a run.
 use Rattle.std.specs.Prelude.{◌≡◌, ℕ, Option, Result, Ok, Err, List, Vec, option_map}
 use Rattle.std.specs.Str.{bytes_eq}
 use Rattle.std.specs.HashMap.{HashMap, get}

@@ -19,7 +19,7 @@ pub enum Work {
     Head { lines: u64, path: Path },
     /// `sha P`: the SHA-256.
     Digest(Path),
-    /// `link P ..`: each text behind a line that says its path and length.
+    /// `link P ..`: each text after a line that says its path and length.
     Link(List<Path>),
 }
 
@@ -28,7 +28,7 @@ pub enum Work {
 pub enum Line {
     /// A line without a word.
     Empty,
-    /// A line whose work goes to the output: behind what it has, for `>>`, or in its place, for `>`.
+    /// A line whose work goes to the output: after what it has, for `>>`, or in its place, for `>`.
     Makes {
         work: Work,
         appends: bool,

@@ -4,9 +4,10 @@ ghost use Rattle.std.specs.Prelude.{◌≡◌, ◌≢◌, [], true};
 ghost use Rattle.legal_history.specs.Builds.Values.{IsSound};
 ghost use Rattle.legal_history.specs.Stories.Steps.{state_of};
 ghost use Rattle.story_log.specs.Bases.Opening.{AreSynced};
+ghost use Rattle.story_log.specs.Logging.Appending.{SettlesTail};
 ghost use Rattle.story_log.specs.Stopping.Backed.{may_be_open};
 ghost use Rattle.cc_names.specs.Counts.{rises};
-ghost use Rattle.disk_model.specs.DiskStates.{IfModeled, IsCounted};
+ghost use Rattle.disk_model.specs.DiskStates.{IfModeled, Both, IsCounted};
 ghost use Rattle.session_run.specs.Calls.Asked.{form_of};
 ghost use Rattle.session_run.specs.Calls.Causes.{disk_ghost_states, intake_of, sink_faults, FindsDamage, HasCause, KeepsSink, LeavesAlone, TakesNoMore};
 ghost use Rattle.session_run.specs.Faults.Accounted.{IsAccountedFor, KeepsFiles, SettlesJournal};
@@ -91,6 +92,8 @@ fn settle<D: Disk>(core: &mut Core<D>)
     ensures settles { SettlesJournal
         (may_be_open (state_of core.old.story).ends) core.old.ghost_state
         core.new.ghost_state }
+    ensures calls { Both (SettlesTail (state_of core.old.story).ends)
+        core.old.ghost_state.modeled core.new.ghost_state.modeled }
 {
     let _ = core.finish();
 }

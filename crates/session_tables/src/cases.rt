@@ -20,7 +20,7 @@ struct Part<'a> {
 fn read_part(text: &str) -> Result<Part<'_>> {
     let (asked, wanted) = text
         .split_once("----\n")
-        .context("a session has no line `----` behind it")?;
+        .context("a session has no line `----` after it")?;
     for wanted in wanted.split("----\n") {
         check_wanted(wanted)?;
     }

@@ -1,19 +1,17 @@
 -- What the next of some commands asks for is given by the word of its line.
-use Rattle.std.proofs.Common.{◌≡◌, ℕ, Bool, true, false, cond, Some, List, [], ◌∷◌, refl, sym, subst}
+use Rattle.std.proofs.Common.{◌≡◌, ℕ, Bool, true, false, cond, Some, List, [], ◌∷◌, ◌++◌, refl, sym, subst}
 use Rattle.std.specs.Prelude.{Ok, Err, IfOk, codes, map, not}
-use Rattle.std.specs.List.{list_all}
-use Rattle.std.specs.List.{AllByRecursion}
+use Rattle.std.specs.List.{AllByRecursion, list_all}
 use Rattle.std.specs.Str.{bytes_eq}
 use Rattle.std.proofs.lemmas.Slice.Eq.{bytes_eq-Decides}
 use Rattle.cc_names.proofs.Common.{and_first, and_second}
-use Rattle.cc_names.specs.declared.commands.Change.{Change}
 use Rattle.cc_names.specs.declared.commands.Command.{Command}
 use Rattle.cc_names.specs.declared.commands.Command.TheVariants as commands
-use Rattle.cc_names.specs.declared.commands.Query.{Query}
 use Rattle.session_text.specs.declared.lanes.Ahead.{Ahead}
 use Rattle.session_text.specs.declared.lanes.Ahead.TheVariants.{Act, Build}
 use Rattle.session_text.specs.Ahead.{ahead_of, ahead_by}
-use Rattle.session_text.specs.Commands.{Line, QueryLine, query, query_table, query_lines, types_on, table, said_in, command_of}
+use Rattle.session_text.specs.Commands.{Line, Reader, view_table, type_table, query_table, plain, build_on, types_on, table}
+use Rattle.session_text.specs.Commands.{said_in, command_of}
 use Rattle.session_text.specs.Words.{Said, says}
 
 -- the command of these words, where they say one, asks for this
@@ -29,13 +27,10 @@ made ahead make (Err cause) f = tt
 TellsAhead : Line → Type 0
 TellsAhead line = (words : List (List ℕ)) (text : List ℕ) → Asks (ahead_by line.word) (line.says words text)
 
-changes : (said : Said Change) → Asks Act (says commands.Change said)
-changes said = made Act commands.Change said (λ change. refl)
+-- all words but one tell a command that acts
+abbrev is_no_build : {X : Type 0} → Reader X → Bool
+is_no_build it = not (bytes_eq it.word (codes "clearmake"))
 
-query_asks : (said : Said Query) → Asks Act (says commands.Query said)
-query_asks said = made Act commands.Query said (λ query. refl)
-
--- no query builds
 acts : (word : List ℕ) → not (bytes_eq word (codes "clearmake")) ≡ true → ahead_by word ≡ Act
 acts word h = by (bytes_eq word (codes "clearmake")) h
   where
@@ -43,77 +38,28 @@ acts word h = by (bytes_eq word (codes "clearmake")) h
     by true h = absurd (cc)
     by false h = refl
 
-queries_ask_by : (queries : List QueryLine) → list_all (λ it. not (bytes_eq it.word (codes "clearmake"))) queries ≡ true
-    → AllByRecursion TellsAhead (map query queries)
+plain_asks : {X : Type 0} (make : X → Command) (rows : List (Reader X)) (lines : List Line)
+    → ((x : X) → ahead_of (Some (make x)) ≡ Act) → list_all is_no_build rows ≡ true → AllByRecursion TellsAhead lines
+    → AllByRecursion TellsAhead (map (plain make) rows ++ lines)
 unfolding TellsAhead
-queries_ask_by [] h = tt
-queries_ask_by (it ∷ queries) h = (
-  (λ ws t. subst (λ ahead. Asks ahead (says commands.Query (it.reads ws))) (sym (acts it.word (and_first _ _ h))) (query_asks _)),
-  queries_ask_by queries (and_second _ _ h),
-)
-
-queries_ask : AllByRecursion TellsAhead query_lines
-queries_ask = queries_ask_by query_table refl
-
-types_ask : AllByRecursion TellsAhead types_on
-unfolding TellsAhead
-types_ask = (
-  (λ ws t. changes _),
-  (
-    (λ ws t. changes _),
-    (
-      (λ ws t. changes _),
-      (
-        (λ ws t. changes _),
-        (
-          (λ ws t. changes _),
-          (
-            (λ ws t. changes _),
-            (
-              (λ ws t. changes _),
-              ((λ ws t. made Build commands.Build _ (λ asked. refl)), queries_ask),
-            ),
-          ),
-        ),
-      ),
-    ),
-  ),
+plain_asks make [] lines so h later = later
+plain_asks make (it ∷ rows) lines so h later = (
+  (λ ws t. subst (λ ahead. Asks ahead (says make (it.reads ws))) (sym (acts it.word (and_first _ _ h)))
+      (made Act make (it.reads ws) so)),
+  plain_asks make rows lines so (and_second _ _ h) later,
 )
 
 table_asks : AllByRecursion TellsAhead table
 unfolding TellsAhead
 table_asks = (
-  (λ ws t. changes _),
+  (λ ws t. made Act commands.Change _ (λ change. refl)),
   (
-    (λ ws t. changes _),
-    (
-      (λ ws t. changes _),
-      (
-        (λ ws t. changes _),
-        (
-          (λ ws t. changes _),
-          (
-            (λ ws t. changes _),
-            (
-              (λ ws t. changes _),
-              (
-                (λ ws t. changes _),
-                (
-                  (λ ws t. changes _),
-                  (
-                    (λ ws t. changes _),
-                    (
-                      (λ ws t. changes _),
-                      ((λ ws t. changes _), ((λ ws t. changes _), types_ask)),
-                    ),
-                  ),
-                ),
-              ),
-            ),
-          ),
-        ),
-      ),
-    ),
+    (λ ws t. made Act commands.Change _ (λ change. refl)),
+    plain_asks commands.Change view_table types_on (λ change. refl) refl
+        (plain_asks commands.Change type_table build_on (λ change. refl) refl (
+          (λ ws t. made Build commands.Build _ (λ asked. refl)),
+          plain_asks commands.Query query_table [] (λ query. refl) refl tt,
+        )),
   ),
 )
 

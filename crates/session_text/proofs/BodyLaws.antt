@@ -1,12 +1,13 @@
 -- Whether a line says a command, and whether that takes a body, does not depend on the body.
-use Rattle.std.proofs.Common.{◌≡◌, ℕ, Bool, true, false, cond, List, [], ◌∷◌, refl}
+use Rattle.std.proofs.Common.{◌≡◌, ℕ, Bool, true, false, cond, List, [], ◌∷◌, ◌++◌, refl}
 use Rattle.std.specs.Prelude.{Ok, Err, map}
 use Rattle.std.specs.List.{AllByRecursion}
 use Rattle.std.specs.Str.{bytes_eq}
 use Rattle.cc_names.specs.declared.commands.Change.{Change}
 use Rattle.cc_names.specs.declared.commands.Command.{Command}
 use Rattle.cc_names.specs.declared.commands.Command.TheVariants as commands
-use Rattle.session_text.specs.Commands.{Line, QueryLine, query, query_table, types_on, table, said_in, command_of, takes_body}
+use Rattle.session_text.specs.Commands.{Line, Reader, view_table, type_table, query_table, plain, build_on, types_on, table}
+use Rattle.session_text.specs.Commands.{said_in, command_of, takes_body}
 use Rattle.session_text.specs.Sessions.{cause_in, body_follows}
 use Rattle.session_text.specs.Words.{Said, says}
 
@@ -24,71 +25,21 @@ alike : {X : Type 0} (make also : X → Change) (said : Said X) → ((x : X)
 alike make also (Ok x) f = (refl, f x)
 alike make also (Err cause) f = (refl, refl)
 
--- a query never looks at the body
-queries_alike : (queries : List QueryLine) → AllByRecursion IsAlike (map query queries)
+-- a command that takes no body never looks at it
+plain_alike : {X : Type 0} (make : X → Command) (rows : List (Reader X)) (lines : List Line) → AllByRecursion IsAlike lines
+    → AllByRecursion IsAlike (map (plain make) rows ++ lines)
 unfolding IsAlike
-queries_alike [] = tt
-queries_alike (it ∷ queries) = ((λ ws t u. (refl, refl)), queries_alike queries)
-
-types_alike : AllByRecursion IsAlike types_on
-unfolding IsAlike
-types_alike = (
-  (λ ws t u. (refl, refl)),
-  (
-    (λ ws t u. (refl, refl)),
-    (
-      (λ ws t u. (refl, refl)),
-      (
-        (λ ws t u. (refl, refl)),
-        (
-          (λ ws t u. (refl, refl)),
-          (
-            (λ ws t u. (refl, refl)),
-            ((λ ws t u. (refl, refl)), ((λ ws t u. (refl, refl)), queries_alike query_table)),
-          ),
-        ),
-      ),
-    ),
-  ),
-)
+plain_alike make [] lines later = later
+plain_alike make (it ∷ rows) lines later = ((λ ws t u. (refl, refl)), plain_alike make rows lines later)
 
 table_alike : AllByRecursion IsAlike table
 unfolding IsAlike
 table_alike = (
-  (λ ws t u. (refl, refl)),
+  (λ ws t u. alike _ _ _ (λ x. refl)),
   (
-    (λ ws t u. (refl, refl)),
-    (
-      (λ ws t u. alike _ _ _ (λ x. refl)),
-      (
-        (λ ws t u. (refl, refl)),
-        (
-          (λ ws t u. (refl, refl)),
-          (
-            (λ ws t u. (refl, refl)),
-            (
-              (λ ws t u. (refl, refl)),
-              (
-                (λ ws t u. alike _ _ _ (λ x. refl)),
-                (
-                  (λ ws t u. (refl, refl)),
-                  (
-                    (λ ws t u. (refl, refl)),
-                    (
-                      (λ ws t u. (refl, refl)),
-                      (
-                        (λ ws t u. (refl, refl)),
-                        ((λ ws t u. (refl, refl)), types_alike),
-                      ),
-                    ),
-                  ),
-                ),
-              ),
-            ),
-          ),
-        ),
-      ),
-    ),
+    (λ ws t u. alike _ _ _ (λ x. refl)),
+    plain_alike commands.Change view_table types_on
+        (plain_alike commands.Change type_table build_on ((λ ws t u. (refl, refl)), plain_alike commands.Query query_table [] tt)),
   ),
 )
 

@@ -11,8 +11,8 @@ use Rattle.cc_names.specs.declared.commands.Macro.{Macro}
 use Rattle.cc_names.specs.declared.refusals.SessionCause.TheVariants.{BadWord}
 use Rattle.session_text.specs.Clearmake.{is_equals, with_macro, Asked, nothing_asked, with_goal, with_asked_macro, with_word}
 use Rattle.session_text.specs.Clearmake.{with_one, with_jobs, with_file, asked_behind, is_option, with_option, asked_by}
-use Rattle.session_text.specs.Clearmake.{build_of, clearmake}
-use Rattle.session_text.specs.Formed.{IsClearmake, IsMacro, is_macro_byte, is_word_byte, macro_name}
+use Rattle.session_text.specs.Clearmake.{build_of, clearmake, is_macro_byte, is_word_byte}
+use Rattle.session_text.specs.Formed.{IsClearmake, IsMacro, macro_name}
 use Rattle.session_text.specs.Shapes.{read_first_name, behind_first}
 use Rattle.session_text.specs.Words.{Said, path_word, jobs_word, both, says}
 use Rattle.session_text.proofs.FormedWords.{both_is, says_is, path_word_is, jobs_word_is, first_name_is}

@@ -17,7 +17,8 @@ use Rattle.cc_names.specs.Formed.{IsTypeName, IsBelowRoot, begins_with_letter}
 use Rattle.cc_names.specs.Names.{IsName, name_fault, unless_fault}
 use Rattle.cc_names.specs.Numbers.{number_of, below_limit, begins_no_number}
 use Rattle.cc_names.specs.Paths.{IsPath, path_fault, is_root, is_slash, join_of, is_at}
-use Rattle.session_text.specs.Formed.{IsVersionName, MakesPath}
+use Rattle.session_text.specs.Formed.{MakesPath}
+use Rattle.session_text.specs.Words.{IsVersionName}
 use Rattle.session_text.specs.Shapes.{read_first_name, view, only_type, view_path, view_below, maybe_path, type_path, path_type}
 use Rattle.session_text.specs.Shapes.{flag_path, flag_below, has_flag, without_flag}
 use Rattle.session_text.specs.Words.{Said, or_bad, where_so, name_word, path_word, below_root, type_word, within_limits}

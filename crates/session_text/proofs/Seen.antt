@@ -58,18 +58,17 @@ says-at place old new word words left seen right =
     right-command word words (kinds_of new.bytes) (right-from place old new (kinds.Command word words) left seen right)
 
 -- a lane before those that are left
-pub lane-step : (place other first last : Place) (old new : Rest) (left : ℕ) (words : List (List ℕ)) (name : List ℕ)
+pub lane-step : (place first last : Place) (old new : Rest) (left : ℕ) (words : List (List ℕ)) (name : List ℕ)
     (now : List Lane) (lane : Lane)
     → IsSeen place old (kinds.Lane words) new left → lanes_of (kinds_of old.bytes)
     ≡ lanes_of (kinds.Lane words ∷ kinds_of new.bytes)
-    → now ≡ lanes_of (lines_at place) → view words ≡ Ok name → other ≡ place → first ≡ behind other left
-    → last ≡ behind place left
+    → now ≡ lanes_of (lines_at place) → view words ≡ Ok name → first ≡ behind place left → last ≡ behind place left
     → lane ≡ record { name = name; commands = commands_of (lines_at first) } → now ≡ lane ∷ lanes_of (lines_at last)
-lane-step place other first last old new left words name now lane seen same is named o f l made =
+lane-step place first last old new left words name now lane seen same is named f l made =
     let bytes : old.bytes ≡ drop place.from place.text = ap (λ (v : Rest). v.bytes) seen.rest in
     let lines : kinds_of (drop (length place.text - left) place.text) ≡ kinds_of new.bytes =
     ap kinds_of (bytes_behind place old new (kinds.Lane words) left seen) in
-    let at_first : lines_at first ≡ kinds_of new.bytes = ap lines_at f ∙ ap (λ v. lines_at (behind v left)) o ∙ lines in
+    let at_first : lines_at first ≡ kinds_of new.bytes = ap lines_at f ∙ lines in
     let at_last : lines_at last ≡ kinds_of new.bytes = ap lines_at l ∙ lines in
     is ∙ ap (λ v. lanes_of (kinds_of v)) (sym bytes) ∙ same
     ∙ ap (λ v. before_lanes v (commands_of (kinds_of new.bytes)) (lanes_of (kinds_of new.bytes))) named

@@ -9,6 +9,7 @@ use Rattle.cc_names.specs.declared.commands.Session.{Session}
 use Rattle.cc_names.specs.declared.refusals.SessionCause.{SessionCause}
 use Rattle.cc_names.specs.declared.refusals.SessionCause.TheVariants as causes
 use Rattle.cc_names.specs.declared.refusals.SessionError.{SessionError}
+use Rattle.session_text.specs.CommandWords.{words_of_command}
 use Rattle.session_text.specs.Commands.{table, said_in}
 use Rattle.session_text.specs.Sessions.{session_of}
 use Rattle.session_text.specs.Words.{Said}
@@ -272,3 +273,30 @@ two_lanes = refl
 blanks_alone : session_of (codes "phase\nlane a\n \t\n") ≡ wrong 3 causes.UnknownCommand
 unfolding wrong
 blanks_alone = refl
+
+-- the words of a phase are those of its lanes' commands, in order
+phase_words : words_of_command (record {
+  lanes = record {
+    name = codes "a";
+    commands =
+        commands.Change (changes.Mkview (codes "v"))
+        ∷ commands.Change (changes.Save (codes "v") (codes "in") (codes "hi\n"))
+        ∷ commands.Build (record {
+          view = codes "v";
+          file = None;
+          own_only = false;
+          rebuild = false;
+          jobs = 1;
+          macros = [];
+          goals = codes "out" ∷ [];
+        })
+        ∷ [];
+  } ∷ [];
+})
+    ≡ record {
+      lanes = record {
+        name = codes "a";
+        words = codes "mkview" ∷ codes "save" ∷ codes "clearmake" ∷ [];
+      } ∷ [];
+    }
+phase_words = refl

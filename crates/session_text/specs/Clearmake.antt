@@ -1,14 +1,22 @@
 -- What the words of `clearmake V ..` say, in any order.
-use Rattle.std.specs.Prelude.{ℕ, ◌+◌, Bool, true, false, ◌||◌, ◌&&◌, ◌==◌, not, Option, Some, None, is_none, Ok, Err, List, []}
+use Rattle.std.specs.Prelude.{ℕ, ◌+◌, Bool, true, false, ◌||◌, ◌&&◌, ◌==◌, nat_le, not, Option, Some, None, is_none, Ok, Err, List, []}
 use Rattle.std.specs.Prelude.{◌∷◌, ◌++◌, codes, take, drop, length, unwrap_or, if◌then◌else◌}
 use Rattle.std.specs.List.{list_all, position}
 use Rattle.std.specs.Str.{bytes_eq}
 use Rattle.cc_names.specs.declared.commands.Clearmake.{Clearmake}
 use Rattle.cc_names.specs.declared.commands.Macro.{Macro}
 use Rattle.cc_names.specs.declared.refusals.SessionCause.TheVariants.{BadWord}
-use Rattle.session_text.specs.Formed.{is_macro_byte, is_word_byte}
 use Rattle.session_text.specs.Shapes.{read_first_name, behind_first}
 use Rattle.session_text.specs.Words.{Said, path_word, jobs_word, both, says}
+
+-- a byte of a macro's name: a letter, a digit, `_` or `.`
+abbrev pub is_macro_byte : ℕ → Bool
+is_macro_byte b =
+    (nat_le 97 b && nat_le b 122) || (nat_le 65 b && nat_le b 90) || (nat_le 48 b && nat_le b 57) || (b == 95) || (b == 46)
+
+-- a byte of a word
+abbrev pub is_word_byte : ℕ → Bool
+is_word_byte b = nat_le 33 b && nat_le b 126
 
 -- a `=`
 abbrev pub is_equals : ℕ → Bool

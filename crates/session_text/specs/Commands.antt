@@ -1,20 +1,22 @@
 -- The commands: the word of each, the words after it, and what they say. Where a command comes, it gets a definition and
 -- a line of the table or of a part of it here.
-use Rattle.std.specs.Prelude.{ℕ, Bool, true, false, Result, Ok, Err, List, [], ◌∷◌, codes, map, if◌then◌else◌}
+use Rattle.std.specs.Prelude.{ℕ, Bool, true, false, Result, Ok, Err, List, [], ◌∷◌, ◌++◌, codes, map, if◌then◌else◌, IfSome}
 use Rattle.std.specs.Str.{bytes_eq}
 use Rattle.cc_names.specs.declared.commands.Change.{Change}
 use Rattle.cc_names.specs.declared.commands.Change.TheVariants as changes
-use Rattle.cc_names.specs.declared.commands.Clearmake.{Clearmake}
 use Rattle.cc_names.specs.declared.commands.Command.{Command}
 use Rattle.cc_names.specs.declared.commands.Command.TheVariants as commands
 use Rattle.cc_names.specs.declared.commands.Query.{Query}
 use Rattle.cc_names.specs.declared.commands.Query.TheVariants as queries
 use Rattle.cc_names.specs.Answers.{Gives}
+use Rattle.cc_names.specs.Formed.{IsBelowRoot, IsTypeName}
+use Rattle.cc_names.specs.Names.{IsName}
+use Rattle.cc_names.specs.Paths.{IsPath}
 use Rattle.cc_names.specs.declared.memory.Or.{Or}
 use Rattle.cc_names.specs.declared.refusals.SessionCause.{SessionCause}
 use Rattle.cc_names.specs.declared.refusals.SessionCause.TheVariants.{UnknownCommand, BadWord}
 use Rattle.session_text.specs.Words.{Said, where_so, name_word, age_word, version_word, cat_word, latest_word, both, says}
-use Rattle.session_text.specs.Words.{and_says}
+use Rattle.session_text.specs.Words.{IsVersionName, and_says}
 use Rattle.session_text.specs.Shapes.{has_flag, without_flag, view, only_type, view_path, view_below, type_path, path_type}
 use Rattle.session_text.specs.Shapes.{maybe_path, read_first_name, behind_first, flag_path, flag_below, fits_beside}
 use Rattle.session_text.specs.Clearmake.{clearmake}
@@ -91,7 +93,7 @@ read_mkbrtype words = says changes.Mkbrtype (only_type words)
 abbrev pub by_record : List ℕ → Bool → List (List ℕ) → Said Change
 by_record v replace words = says (λ at. changes.MklabelConfig v replace at.0 at.1) (path_type words)
 
--- `mklabel V [-replace] L P`, and with `-config`, by the words behind the flag
+-- `mklabel V [-replace] L P`, and with `-config`, by the words after the flag
 abbrev pub read_labels : Bool → List (List ℕ) → List ℕ → Said Change
 read_labels replace words v =
     if has_flag (codes "-config") words then by_record v replace (without_flag (codes "-config") words)
@@ -175,6 +177,34 @@ read_findmerge (v ∷ p ∷ flag ∷ latest ∷ []) =
     (says (λ at. queries.Findmerge at.0.0 at.0.1 at.1) (both (view_path (v ∷ p ∷ [])) (latest_word latest)))
 read_findmerge _ = Err BadWord
 
+-- the word of a query
+abbrev pub query_word : Query → List ℕ
+query_word (queries.Catcs view) = codes "catcs"
+query_word (queries.Lsdo view) = codes "lsdo"
+query_word (queries.Ls view path) = codes "ls"
+query_word (queries.Cat view path version) = codes "cat"
+query_word (queries.Describe view path) = codes "describe"
+query_word (queries.Lsvtree view path) = codes "lsvtree"
+query_word (queries.Lshistory view path) = codes "lshistory"
+query_word (queries.Catcr view path) = codes "catcr"
+query_word (queries.Diffcr view path other second) = codes "diffcr"
+query_word (queries.Covers seer view path) = codes "covers"
+query_word (queries.Findmerge view path branch) = codes "findmerge"
+
+-- the form of a query
+abbrev pub IsQuery : Query → Type 0
+IsQuery (queries.Catcs view) = IsName view
+IsQuery (queries.Lsdo view) = IsName view
+IsQuery (queries.Ls view path) = IsName view × IfSome path IsPath
+IsQuery (queries.Cat view path version) = IsName view × IsPath path × IfSome version IsVersionName
+IsQuery (queries.Describe view path) = IsName view × IsPath path
+IsQuery (queries.Lsvtree view path) = IsName view × IsPath path
+IsQuery (queries.Lshistory view path) = IsName view × IsPath path
+IsQuery (queries.Catcr view path) = IsName view × IsBelowRoot path
+IsQuery (queries.Diffcr view path other second) = IsName view × IsBelowRoot path × IsName other × IsBelowRoot second
+IsQuery (queries.Covers seer view path) = IsName seer × IsName view × IsPath path
+IsQuery (queries.Findmerge view path branch) = IsName view × IsPath path × IsTypeName branch
+
 -- what a reader of one kind of command answered is answered as a command, whatever was read
 abbrev pub GivesAs : {X : Type 0} → (X → Command) → Result X (Or SessionCause) → Result Command (Or SessionCause) → Type 0
 GivesAs {X} make said result = (read : Said X) → Gives said read → Gives result (says make read)
@@ -184,81 +214,85 @@ pub record Line : Type 0 where
   pub word : List ℕ
   pub says : List (List ℕ) → List ℕ → Said Command
 
--- the line of a change that takes no body
-abbrev pub change : List ℕ → (List (List ℕ) → Said Change) → Line
-change word said = record { word = word; says = λ words text. says commands.Change (said words) }
-
--- the line of a change that takes a body
-abbrev pub change_with_body : List ℕ → (List (List ℕ) → List ℕ → Said Change) → Line
-change_with_body word said = record { word = word; says = λ words text. says commands.Change (said words text) }
-
--- the line of a build
-abbrev pub build : List ℕ → (List (List ℕ) → Said Clearmake) → Line
-build word said = record { word = word; says = λ words text. says commands.Build (said words) }
-
--- a query's word, and what the words after it say
-pub record QueryLine : Type 0 where
+-- the word of a command that takes no body, and what the words after it say
+pub record Reader (X : Type 0) : Type 0 where
   pub word : List ℕ
-  pub reads : List (List ℕ) → Said Query
+  pub reads : List (List ℕ) → Said X
 
--- the query of this word
-abbrev pub asks : List ℕ → (List (List ℕ) → Said Query) → QueryLine
-asks word reads = record { word = word; reads = reads }
+-- this word, and what is read after it
+abbrev pub after : {X : Type 0} → List ℕ → (List (List ℕ) → Said X) → Reader X
+after word reads = record { word = word; reads = reads }
 
--- the queries
-abbrev pub query_table : List QueryLine
-query_table =
-    asks (codes "catcs") read_catcs
-    ∷ asks (codes "lsdo") read_lsdo
-    ∷ asks (codes "ls") read_ls
-    ∷ asks (codes "cat") read_cat
-    ∷ asks (codes "describe") read_describe
-    ∷ asks (codes "lsvtree") read_lsvtree
-    ∷ asks (codes "lshistory") read_lshistory
-    ∷ asks (codes "catcr") read_catcr
-    ∷ asks (codes "diffcr") read_diffcr
-    ∷ asks (codes "covers") read_covers
-    ∷ asks (codes "findmerge") read_findmerge
+-- the changes of views and elements that take no body
+abbrev pub view_table : List (Reader Change)
+view_table =
+    after (codes "mkview") read_mkview
+    ∷ after (codes "rmview") read_rmview
+    ∷ after (codes "mkelem") read_mkelem
+    ∷ after (codes "mkdir") read_mkdir
+    ∷ after (codes "checkout") read_checkout
+    ∷ after (codes "mkbranch") read_mkbranch
+    ∷ after (codes "rm") read_rm
+    ∷ after (codes "checkin") read_checkin
+    ∷ after (codes "uncheckout") read_uncheckout
+    ∷ after (codes "rmname") read_rmname
+    ∷ after (codes "mv") read_mv
     ∷ []
 
--- the line of a query
-abbrev pub query : QueryLine → Line
-query it = record { word = it.word; says = λ words text. says commands.Query (it.reads words) }
+-- the changes of types, labels, arrows and objects
+abbrev pub type_table : List (Reader Change)
+type_table =
+    after (codes "mklbtype") read_mklbtype
+    ∷ after (codes "mkbrtype") read_mkbrtype
+    ∷ after (codes "mklabel") read_mklabel
+    ∷ after (codes "rmlabel") read_rmlabel
+    ∷ after (codes "mkarrow") read_mkarrow
+    ∷ after (codes "rmdo") read_rmdo
+    ∷ after (codes "scrub") read_scrub
+    ∷ []
+
+-- the queries
+abbrev pub query_table : List (Reader Query)
+query_table =
+    after (codes "catcs") read_catcs
+    ∷ after (codes "lsdo") read_lsdo
+    ∷ after (codes "ls") read_ls
+    ∷ after (codes "cat") read_cat
+    ∷ after (codes "describe") read_describe
+    ∷ after (codes "lsvtree") read_lsvtree
+    ∷ after (codes "lshistory") read_lshistory
+    ∷ after (codes "catcr") read_catcr
+    ∷ after (codes "diffcr") read_diffcr
+    ∷ after (codes "covers") read_covers
+    ∷ after (codes "findmerge") read_findmerge
+    ∷ []
+
+-- the line of a command that takes no body
+abbrev pub plain : {X : Type 0} → (X → Command) → Reader X → Line
+plain make it = record { word = it.word; says = λ words text. says make (it.reads words) }
+
+-- the line of a change that takes a body
+abbrev pub with_body : List ℕ → (List (List ℕ) → List ℕ → Said Change) → Line
+with_body word said = record { word = word; says = λ words text. says commands.Change (said words text) }
 
 -- the lines of the queries
 abbrev pub query_lines : List Line
-query_lines = map query query_table
+query_lines = map (plain commands.Query) query_table
 
--- the changes of types, labels, arrows and objects, the build, and the queries
+-- the lines of the build and of the queries
+abbrev pub build_on : List Line
+build_on = plain commands.Build (after (codes "clearmake") clearmake) ∷ query_lines
+
+-- the lines of the changes of types, labels, arrows and objects, and of all that is no change
 abbrev pub types_on : List Line
-types_on =
-    change (codes "mklbtype") read_mklbtype
-    ∷ change (codes "mkbrtype") read_mkbrtype
-    ∷ change (codes "mklabel") read_mklabel
-    ∷ change (codes "rmlabel") read_rmlabel
-    ∷ change (codes "mkarrow") read_mkarrow
-    ∷ change (codes "rmdo") read_rmdo
-    ∷ change (codes "scrub") read_scrub
-    ∷ build (codes "clearmake") clearmake
-    ∷ query_lines
+types_on = map (plain commands.Change) type_table ++ build_on
 
--- the commands: the changes of views and elements, and all others
+-- the commands: the changes that take a body, those of views and elements, and all others
 abbrev pub table : List Line
 table =
-    change (codes "mkview") read_mkview
-    ∷ change (codes "rmview") read_rmview
-    ∷ change_with_body (codes "setcs") read_setcs
-    ∷ change (codes "mkelem") read_mkelem
-    ∷ change (codes "mkdir") read_mkdir
-    ∷ change (codes "checkout") read_checkout
-    ∷ change (codes "mkbranch") read_mkbranch
-    ∷ change_with_body (codes "save") read_save
-    ∷ change (codes "rm") read_rm
-    ∷ change (codes "checkin") read_checkin
-    ∷ change (codes "uncheckout") read_uncheckout
-    ∷ change (codes "rmname") read_rmname
-    ∷ change (codes "mv") read_mv
-    ∷ types_on
+    with_body (codes "setcs") read_setcs
+    ∷ with_body (codes "save") read_save
+    ∷ map (plain commands.Change) view_table ++ types_on
 
 -- what the line of this word says, of these lines
 abbrev pub said_in : List Line → List ℕ → List (List ℕ) → List ℕ → Said Command

@@ -1,36 +1,23 @@
 -- The form of a session: what its names, paths, numbers and lists keep. What is read has it.
-use Rattle.std.specs.Prelude.{◌≡◌, ◌≢◌, ℕ, ◌<◌, ◌≤◌, ◌^◌, ◌||◌, ◌&&◌, ◌==◌, nat_le, Bool, true, List, [], map, length, IfSome}
+use Rattle.std.specs.Prelude.{◌≡◌, ◌≢◌, ℕ, ◌<◌, ◌≤◌, ◌^◌, true, List, [], map, length, IfSome}
 use Rattle.std.specs.Prelude.{IsOk}
 use Rattle.std.specs.List.{AllByRecursion, IsDistinct, list_all}
 use Rattle.std.specs.Str.{bytes_eq}
 use Rattle.cc_names.specs.Names.{IsName}
 use Rattle.cc_names.specs.Paths.{IsPath, parent_of, join_of}
 use Rattle.cc_names.specs.Formed.{IsTypeName, IsBelowRoot}
-use Rattle.cc_names.specs.declared.commands.VersionName.{VersionName}
 use Rattle.cc_names.specs.declared.commands.Macro.{Macro}
 use Rattle.cc_names.specs.declared.commands.Change.{Change}
 use Rattle.cc_names.specs.declared.commands.Change.TheVariants as changes
 use Rattle.cc_names.specs.declared.commands.Clearmake.{Clearmake}
 use Rattle.cc_names.specs.declared.commands.Command.{Command}
 use Rattle.cc_names.specs.declared.commands.Command.TheVariants as commands
-use Rattle.cc_names.specs.declared.commands.Query.{Query}
-use Rattle.cc_names.specs.declared.commands.Query.TheVariants as queries
 use Rattle.cc_names.specs.declared.commands.Lane.{Lane}
 use Rattle.cc_names.specs.declared.commands.Phase.{Phase}
 use Rattle.cc_names.specs.declared.commands.Session.{Session}
-
--- a version's name: the type names of its branches behind `main`, and a number of eight bytes
-abbrev pub IsVersionName : VersionName → Type 0
-IsVersionName version = AllByRecursion IsTypeName version.branches × (version.number < 2 ^ 64)
-
--- a byte of a macro's name: a letter, a digit, `_` or `.`
-abbrev pub is_macro_byte : ℕ → Bool
-is_macro_byte b =
-    (nat_le 97 b && nat_le b 122) || (nat_le 65 b && nat_le b 90) || (nat_le 48 b && nat_le b 57) || (b == 95) || (b == 46)
-
--- a byte of a word
-abbrev pub is_word_byte : ℕ → Bool
-is_word_byte b = nat_le 33 b && nat_le b 126
+use Rattle.session_text.specs.Clearmake.{is_macro_byte, is_word_byte}
+use Rattle.session_text.specs.Commands.{IsQuery}
+use Rattle.session_text.specs.Words.{IsVersionName}
 
 -- a macro of a command line, whose text is of a word
 abbrev pub IsMacro : ℕ → Macro → Type 0
@@ -81,20 +68,6 @@ IsChange limit (changes.Rmlabel view label path) = IsName view × IsTypeName lab
 IsChange limit (changes.Mkarrow view path version) = IsName view × IsBelowRoot path × IsVersionName version
 IsChange limit (changes.Rmdo view path) = IsName view × IsBelowRoot path
 IsChange limit (changes.Scrub age) = age < 2 ^ 63
-
--- the form of a query
-abbrev pub IsQuery : Query → Type 0
-IsQuery (queries.Catcs view) = IsName view
-IsQuery (queries.Lsdo view) = IsName view
-IsQuery (queries.Ls view path) = IsName view × IfSome path IsPath
-IsQuery (queries.Cat view path version) = IsName view × IsPath path × IfSome version IsVersionName
-IsQuery (queries.Describe view path) = IsName view × IsPath path
-IsQuery (queries.Lsvtree view path) = IsName view × IsPath path
-IsQuery (queries.Lshistory view path) = IsName view × IsPath path
-IsQuery (queries.Catcr view path) = IsName view × IsBelowRoot path
-IsQuery (queries.Diffcr view path other second) = IsName view × IsBelowRoot path × IsName other × IsBelowRoot second
-IsQuery (queries.Covers seer view path) = IsName seer × IsName view × IsPath path
-IsQuery (queries.Findmerge view path branch) = IsName view × IsPath path × IsTypeName branch
 
 -- the form of a build, with a limit on the bytes of its macros and the members of its lists
 abbrev pub IsClearmake : ℕ → Clearmake → Type 0

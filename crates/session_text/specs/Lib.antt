@@ -1,5 +1,6 @@
 pub mod Ahead
 pub mod Clearmake
+pub mod CommandWords
 pub mod Commands
 pub mod Formed
 pub mod Kinds

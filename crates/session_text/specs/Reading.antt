@@ -71,12 +71,12 @@ pub record PassesLines {X : Type 0} (of : List Kind → X) (old rest : Rest) : T
   pub right : IsRight (kinds_of old.bytes) → IsRight (kinds_of rest.bytes)
   pub same : of (kinds_of old.bytes) ≡ of (kinds_of rest.bytes)
 
--- the next phase was found, whose line says these words behind `phase`
+-- the next phase was found, whose line says these words after `phase`
 pub record FindsPhase (old : Rest) (words : List (List ℕ)) (new : Rest) : Type 0 where
   pub found : FindsKind old (kinds.Phase words) new
   pub same : phases_of (kinds_of old.bytes) ≡ phases_of (kinds.Phase words ∷ kinds_of new.bytes)
 
--- the next lane was found, whose line says these words behind `lane`
+-- the next lane was found, whose line says these words after `lane`
 pub record FindsLane (old : Rest) (words : List (List ℕ)) (new : Rest) : Type 0 where
   pub found : FindsKind old (kinds.Lane words) new
   pub same : lanes_of (kinds_of old.bytes) ≡ lanes_of (kinds.Lane words ∷ kinds_of new.bytes)

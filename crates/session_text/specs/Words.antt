@@ -1,9 +1,10 @@
 -- What single words say.
-use Rattle.std.specs.Prelude.{ℕ, ◌-◌, Bool, true, false, ◌&&◌, nat_le, Option, Some, None, Result, Ok, Err, List, [], ◌∷◌, ◌++◌}
+use Rattle.std.specs.Prelude.{ℕ, ◌-◌, ◌<◌, ◌^◌, Bool, true, false, ◌&&◌, nat_le, Option, Some, None, Result, Ok, Err, List, [], ◌∷◌, ◌++◌}
 use Rattle.std.specs.Prelude.{codes, take, drop, length, if◌then◌else◌}
-use Rattle.std.specs.List.{position, slice_split}
+use Rattle.std.specs.List.{AllByRecursion, position, slice_split}
 use Rattle.std.specs.Result.{result_ok}
 use Rattle.std.specs.Str.{bytes_eq}
+use Rattle.cc_names.specs.Formed.{IsTypeName}
 use Rattle.cc_names.specs.Names.{name_of}
 use Rattle.cc_names.specs.Numbers.{number_of}
 use Rattle.cc_names.specs.Paths.{path_of, is_root, is_slash, is_at}
@@ -11,6 +12,10 @@ use Rattle.cc_names.specs.TypeNames.{type_name_of}
 use Rattle.cc_names.specs.declared.commands.VersionName.{VersionName}
 use Rattle.cc_names.specs.declared.refusals.SessionCause.{SessionCause}
 use Rattle.cc_names.specs.declared.refusals.SessionCause.TheVariants.{BadWord}
+
+-- a version's name: the type names of its branches after `main`, and a number of eight bytes
+abbrev pub IsVersionName : VersionName → Type 0
+IsVersionName version = AllByRecursion IsTypeName version.branches × (version.number < 2 ^ 64)
 
 -- what words say, or the cause where they say nothing
 abbrev pub Said : Type 0 → Type 0
@@ -55,7 +60,7 @@ age_word word = within_limits 0 9223372036854775807 (number_of word)
 abbrev pub jobs_word : List ℕ → Said ℕ
 jobs_word word = within_limits 1 64 (number_of word)
 
--- a version of these branches behind `main`, where there is a number
+-- a version of these branches after `main`, where there is a number
 abbrev pub version_of_parts : List (List ℕ) → Option ℕ → Said VersionName
 version_of_parts branches (Some n) = Ok (record { branches = branches; number = n })
 version_of_parts branches None = Err BadWord
@@ -93,7 +98,7 @@ abbrev pub and_says : {X Y : Type 0} → (X → Said Y) → Said X → Said Y
 and_says more (Ok x) = more x
 and_says more (Err cause) = Err cause
 
--- a path and, behind `@@`, a version of the element there, by the place of the first `@`
+-- a path and, after `@@`, a version of the element there, by the place of the first `@`
 abbrev pub cat_by : List ℕ → Option ℕ → Said (List ℕ × Option VersionName)
 cat_by word None = says (λ path. (path, None)) (path_word word)
 cat_by word (Some place) =

@@ -3,8 +3,7 @@
 ghost use Rattle.std.specs.Prelude.{◌≡◌, ◌<◌, [], OnOk, IfSome, IfOk, None, length};
 ghost use Rattle.std.specs.List.{list_all, position};
 ghost use Rattle.cc_names.specs.Answers.{Gives};
-ghost use Rattle.session_text.specs.Formed.{is_macro_byte, is_word_byte};
-ghost use Rattle.session_text.specs.Clearmake.{is_equals, is_macro_name, with_macro, nothing_asked, with_goal, with_asked_macro, with_word, with_one, with_jobs, with_file, is_option, with_option, asked_by, build_of, clearmake};
+ghost use Rattle.session_text.specs.Clearmake.{is_macro_byte, is_word_byte, is_equals, is_macro_name, with_macro, nothing_asked, with_goal, with_asked_macro, with_word, with_one, with_jobs, with_file, is_option, with_option, asked_by, build_of, clearmake};
 
 use crate::shapes::read_first_name;
 use crate::words::{jobs_word, path_word};

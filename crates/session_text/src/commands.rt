@@ -213,7 +213,7 @@ fn read_mklabel_config(
     })
 }
 
-/// `mklabel V [-replace] L P`, and with `-config`, by the words behind the flag
+/// `mklabel V [-replace] L P`, and with `-config`, by the words after the flag
 fn read_labels(
     alloc: Global,
     view: Name,
@@ -496,14 +496,14 @@ pub(crate) fn command_of(
     ensures { Gives result (command_of word.now words.entry (body_of (kinds_of behind.now.bytes))) }
 {
     match word {
+        _ if is(word, b"setcs") => of_change(read_setcs(alloc, words, behind)),
+        _ if is(word, b"save") => of_change(read_save(alloc, words, behind)),
         _ if is(word, b"mkview") => of_change(read_mkview(alloc, words)),
         _ if is(word, b"rmview") => of_change(read_rmview(alloc, words)),
-        _ if is(word, b"setcs") => of_change(read_setcs(alloc, words, behind)),
         _ if is(word, b"mkelem") => of_change(read_mkelem(alloc, words)),
         _ if is(word, b"mkdir") => of_change(read_mkdir(alloc, words)),
         _ if is(word, b"checkout") => of_change(read_checkout(alloc, words)),
         _ if is(word, b"mkbranch") => of_change(read_mkbranch(alloc, words)),
-        _ if is(word, b"save") => of_change(read_save(alloc, words, behind)),
         _ if is(word, b"rm") => of_change(read_rm(alloc, words)),
         _ if is(word, b"checkin") => of_change(read_checkin(alloc, words)),
         _ if is(word, b"uncheckout") => of_change(read_uncheckout(alloc, words)),

@@ -8,7 +8,7 @@ ghost use Rattle.session_text.specs.Sessions.{commands_of, lanes_of, phases_of};
 use crate::kinds::{Bytes, Kind, Rest};
 use cc_names::cuts::Words;
 
-/// Finds the next phase, and answers the words behind `phase`.
+/// Finds the next phase, and answers the words after `phase`.
 pub(crate) fn find_phase<'a>(rest: &mut Rest<'a>) -> Option<Words<'a>>
     ensures { MatchOption result (phases_of (kinds_of rest.old.bytes) ≡ [])
         (λ words. FindsPhase rest.old words rest.new) }
@@ -25,7 +25,7 @@ pub(crate) fn find_phase<'a>(rest: &mut Rest<'a>) -> Option<Words<'a>>
     None
 }
 
-/// Finds the next lane of a phase, and answers the words behind `lane`.
+/// Finds the next lane of a phase, and answers the words after `lane`.
 pub(crate) fn find_lane<'a>(rest: &mut Rest<'a>) -> Option<Words<'a>>
     ensures { MatchOption result (lanes_of (kinds_of rest.old.bytes) ≡ [])
         (λ words. FindsLane rest.old words rest.new) }

@@ -48,11 +48,11 @@ impl<'a> Bytes<'a> {
 pub enum Kind<'a> {
     /// An empty line, or one that begins with `#`.
     Skipped,
-    /// A line that begins with `|`, with its bytes behind that.
+    /// A line that begins with `|`, with its bytes after that.
     Body(Bytes<'a>),
-    /// A line `phase`, with the words behind that.
+    /// A line `phase`, with the words after that.
     Phase(Words<'a>),
-    /// A line `lane`, with the words behind that.
+    /// A line `lane`, with the words after that.
     Lane(Words<'a>),
     /// Any other line: its first word, and the words after it.
     Command(Bytes<'a>, Words<'a>),

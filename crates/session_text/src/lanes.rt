@@ -38,7 +38,7 @@ impl Model for LaneText {
 
 impl LaneText {
     ghost use Rattle.std.specs.Prelude.{◌≡◌, IfOk};
-    ghost use Rattle.cc_names.specs.CommandWords.{lane_words};
+    ghost use Rattle.session_text.specs.CommandWords.{lane_words};
     ghost use Rattle.session_text.specs.Reading.{lines_at};
     ghost use Rattle.session_text.specs.Sessions.{commands_of};
 
@@ -147,7 +147,7 @@ fn ahead_at(place: &Place) -> Ahead
 
 impl CommandsLeft {
     ghost use Rattle.std.specs.Prelude.{◌≡◌, IfOk, drop, length, map, slice_get};
-    ghost use Rattle.cc_names.specs.CommandWords.{word_of};
+    ghost use Rattle.session_text.specs.CommandWords.{word_of};
     ghost use Rattle.session_text.specs.Ahead.{ahead_of};
     ghost use Rattle.session_text.specs.Reading.{lines_at};
     ghost use Rattle.session_text.specs.Sessions.{commands_of};

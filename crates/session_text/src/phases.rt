@@ -34,7 +34,7 @@ impl Model for PhaseText {
 
 impl PhaseText {
     ghost use Rattle.std.specs.Prelude.{◌≡◌, IfOk};
-    ghost use Rattle.cc_names.specs.CommandWords.{words_of_command};
+    ghost use Rattle.session_text.specs.CommandWords.{words_of_command};
     ghost use Rattle.session_text.specs.Reading.{lines_at};
     ghost use Rattle.session_text.specs.Sessions.{lanes_of};
 
@@ -85,7 +85,7 @@ impl Model for LanesLeft {
     ghost view = { λ s. lanes_of (lines_at s.place) };
 }
 
-/// The name that the words behind `lane` say, where they say one.
+/// The name that the words after `lane` say, where they say one.
 fn name_said(alloc: Global, words: Words<'_>) -> Result<Name, NoMemory>
     requires { LaneNames words }
     ensures { IfOk result (λ name. view words.entry ≡ Ok name) }

@@ -128,7 +128,7 @@ fn first_at(bytes: &[u8]) -> Option<usize>
     bytes.iter().position(|byte| *byte == b'@')
 }
 
-/// A word as a path, or as a path and a version behind `@@`.
+/// A word as a path, or as a path and a version after `@@`.
 pub(crate) fn cat_word(
     alloc: Global,
     word: &[u8],

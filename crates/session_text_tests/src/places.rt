@@ -23,7 +23,7 @@ pub(crate) fn read_bytes(
     read(alloc, hashing, text)
 }
 
-// Lines in which `@` stands for a byte, the last ones of their sessions, without a newline behind them. Before each stands what
+// Lines in which `@` stands for a byte, the last ones of their sessions, without a newline after them. Before each stands what
 // it comes to, byte by byte in the order of `class_of`: `.` where it is read, else the first letter of its cause, `BadWord`,
 // `NoBody` or `UnknownCommand`.
 const PLACES: &str = "\

@@ -10,7 +10,7 @@ use std::test::Fail;
 // A save of a text of 16,515,009 bytes: its line makes 64 bytes with those above it.
 const ABOVE: &[u8] = b"#23456789 123456789 123456789 12\nphase\nlane a\nsave v inputs.txt\n";
 
-// Bytes, and 262,143 lines behind them of 63 bytes and a newline where `bar` is one byte. The bytes between bar and newline are
+// Bytes, and 262,143 lines after them of 63 bytes and a newline where `bar` is one byte. The bytes between bar and newline are
 // all the same, each byte but a newline in its turn.
 fn lines_behind(alloc: Global, above: &[u8], bar: &[u8]) -> Result<Vec<u8>, Fail> {
     let mut text = above.to_vec(alloc)?;

@@ -122,62 +122,59 @@ plain_preserved : {A : Type 0} (wild : Bool) (fits : A → Bool) (behind : List 
 plain_preserved true fits behind left plain h = cc
 plain_preserved false fits behind left plain h = any_fit fits behind left h
 
--- a wild card is met
-pub meets : {P A : Type 0} (wild : P → Bool) (fits : P → A → Bool) (answer : Bool) (all_cards all : ℕ) (cards : List P) (card : P)
-    (behind : List P) (left : List A) (again : Option (List P × List A)) → cards ≡ card ∷ behind → wild card ≡ true
-    → Searches wild fits answer all_cards all cards left again → Searches wild fits answer all_cards all behind left
-    (Some (behind, left))
-meets wild fits answer all_cards all cards card behind left again prefix star known = let h = rw prefix at known in record {
-  same = wild_same (wild card) (fits card) (cards_match wild fits behind) left answer (again_covers wild fits again) star h.same
-      h.kept;
-  kept = λ e. e;
-  cards_fit = omega arith;
-  met_fit = omega arith;
-  left_fit = omega arith;
-  tries_fit = omega arith;
-}
+-- A search for one answer: which cards are wild, what the others fit, and how many cards and members there were at first.
+module _ {P A : Type 0} (wild : P → Bool) (fits : P → A → Bool) (answer : Bool) (all_cards all : ℕ) where
+  -- a wild card is met
+  pub meets : (cards : List P) (card : P) (behind : List P) (left : List A) (again : Option (List P × List A))
+      → cards ≡ card ∷ behind → wild card ≡ true → Searches wild fits answer all_cards all cards left again
+      → Searches wild fits answer all_cards all behind left (Some (behind, left))
+  meets cards card behind left again prefix star known = let h = rw prefix at known in record {
+    same = wild_same (wild card) (fits card) (cards_match wild fits behind) left answer (again_covers wild fits again) star h.same
+        h.kept;
+    kept = λ e. e;
+    cards_fit = omega arith;
+    met_fit = omega arith;
+    left_fit = omega arith;
+    tries_fit = omega arith;
+  }
 
--- a card stands for a member
-pub stands : {P A : Type 0} (wild : P → Bool) (fits : P → A → Bool) (answer : Bool) (all_cards all : ℕ) (cards : List P)
-    (card : P) (behind : List P) (left : List A) (x : A) (rest : List A) (again : Option (List P × List A))
-    → cards ≡ card ∷ behind → left ≡ x ∷ rest → wild card ≡ false → fits card x ≡ true
-    → Searches wild fits answer all_cards all cards left again → Searches wild fits answer all_cards all behind rest again
-stands wild fits answer all_cards all cards card behind left x rest again prefix first plain fit known = let h =
-    rw (prefix, first) at known in record {
-      same = plain_same (wild card) (fits card) (cards_match wild fits behind) x rest answer (again_covers wild fits again) plain
-          fit
-          h.same;
-      kept = λ e. plain_preserved (wild card) (fits card) (cards_match wild fits behind) rest plain (h.kept e);
-      cards_fit = omega arith;
-      met_fit = omega arith;
-      left_fit = omega arith;
-      tries_fit = omega arith;
-    }
+  -- a card stands for a member
+  pub stands : (cards : List P) (card : P) (behind : List P) (left : List A) (x : A) (rest : List A) (again : Option (List P
+      × List A))
+      → cards ≡ card ∷ behind → left ≡ x ∷ rest → wild card ≡ false → fits card x ≡ true
+      → Searches wild fits answer all_cards all cards left again → Searches wild fits answer all_cards all behind rest again
+  stands cards card behind left x rest again prefix first plain fit known = let h = rw (prefix, first) at known in record {
+    same = plain_same (wild card) (fits card) (cards_match wild fits behind) x rest answer (again_covers wild fits again) plain
+        fit h.same;
+    kept = λ e. plain_preserved (wild card) (fits card) (cards_match wild fits behind) rest plain (h.kept e);
+    cards_fit = omega arith;
+    met_fit = omega arith;
+    left_fit = omega arith;
+    tries_fit = omega arith;
+  }
 
--- what is left is not covered, and there is a member more to take: the last wild card is tried again
-pub tries_again : {P A : Type 0} (wild : P → Bool) (fits : P → A → Bool) (answer : Bool) (all_cards all : ℕ) (cards : List P)
-    (left : List A) (behind : List P) (x : A) (rest : List A) → cards_match wild fits cards left ≡ false
-    → Searches wild fits answer all_cards all cards left (Some (behind, x ∷ rest))
-    → Searches wild fits answer all_cards all behind rest (Some (behind, rest))
-tries_again wild fits answer all_cards all cards left behind x rest fails h = record {
-  same = rw fails at h.same ∙ ap (list_any (cards_match wild fits behind)) (list_suffixes-later rest);
-  kept = λ e. e;
-  cards_fit = omega arith;
-  met_fit = omega arith;
-  left_fit = omega arith;
-  tries_fit = omega arith;
-}
+  -- what is left is not covered, and there is a member more to take: the last wild card is tried again
+  pub tries_again : (cards : List P) (left : List A) (behind : List P) (x : A) (rest : List A)
+      → cards_match wild fits cards left ≡ false
+      → Searches wild fits answer all_cards all cards left (Some (behind, x ∷ rest))
+      → Searches wild fits answer all_cards all behind rest (Some (behind, rest))
+  tries_again cards left behind x rest fails h = record {
+    same = rw fails at h.same ∙ ap (list_any (cards_match wild fits behind)) (list_suffixes-later rest);
+    kept = λ e. e;
+    cards_fit = omega arith;
+    met_fit = omega arith;
+    left_fit = omega arith;
+    tries_fit = omega arith;
+  }
 
--- what is left is not covered, and no wild card was met, or it can take no member more
-pub gives_up : {P A : Type 0} (wild : P → Bool) (fits : P → A → Bool) (answer : Bool) (all_cards all : ℕ) (cards : List P)
-    (left : List A) → cards_match wild fits cards left ≡ false → Searches wild fits answer all_cards all cards left None
-    → answer ≡ false
-gives_up wild fits answer all_cards all cards left fails h = rw fails at h.same
+  -- what is left is not covered, and no wild card was met, or it can take no member more
+  pub gives_up : (cards : List P) (left : List A) → cards_match wild fits cards left ≡ false
+      → Searches wild fits answer all_cards all cards left None → answer ≡ false
+  gives_up cards left fails h = rw fails at h.same
 
-pub gives_up_behind : {P A : Type 0} (wild : P → Bool) (fits : P → A → Bool) (answer : Bool) (all_cards all : ℕ) (cards : List P)
-    (left : List A) (behind : List P) → cards_match wild fits cards left ≡ false
-    → Searches wild fits answer all_cards all cards left (Some (behind, [])) → answer ≡ false
-gives_up_behind wild fits answer all_cards all cards left behind fails h = rw fails at h.same
+  pub gives_up_behind : (cards : List P) (left : List A) (behind : List P) → cards_match wild fits cards left ≡ false
+      → Searches wild fits answer all_cards all cards left (Some (behind, [])) → answer ≡ false
+  gives_up_behind cards left behind fails h = rw fails at h.same
 
 -- why what is left is not covered
 pub none_for_card : {P A : Type 0} (wild : P → Bool) (fits : P → A → Bool) (card : P) (behind : List P) → wild card ≡ false

@@ -18,7 +18,7 @@ fn child<S: Selectable>(sources: &S, element: u64, branch: u64, name: &Name) -> 
     }
 }
 
-/// The element's branch whose names behind `main` are these.
+/// The element's branch whose names after `main` are these.
 pub(crate) fn branch_behind<S: Selectable>(sources: &S, element: u64, names: &[Name]) -> Option<u64>
     ensures { result ≡ branch_behind (S.selectables sources.now).tree element names.now }
 {

@@ -77,7 +77,7 @@ fn fits_name(segment: &Segment, name: &[u8]) -> bool
 /// How the first segment and the first name that are left go together.
 #[derive(Clone, Copy)]
 enum Step<'a> {
-    /// The segment is `...`; these are behind it.
+    /// The segment is `...`; these are after it.
     AnyNames(&'a [Segment]),
     /// The segment matches the name; these are after them.
     OneName(&'a [Segment], Option<&'a [u8]>),

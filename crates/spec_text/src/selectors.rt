@@ -119,7 +119,7 @@ fn of_object(alloc: Global, path: &[u8], object: &[u8]) -> Result<Option<Selecto
     }
 }
 
-/// The selector that the word behind `-config` spells.
+/// The selector that the word after `-config` spells.
 fn of_object_word(alloc: Global, word: &[u8]) -> Result<Option<Selector>, NoMemory>
     ensures { IfOk result (λ selector. selector ≡ object_of_parts (slice_split is_at word.now)) }
 {
@@ -138,7 +138,7 @@ fn of_object_word(alloc: Global, word: &[u8]) -> Result<Option<Selector>, NoMemo
     of_object(alloc, path, object)
 }
 
-/// Reads a word as a selector, where it stands behind `-config` and where it does not, in time linear in its bytes.
+/// Reads a word as a selector, where it stands after `-config` and where it does not, in time linear in its bytes.
 pub(crate) fn read_selector(
     alloc: Global,
     behind_config: bool,

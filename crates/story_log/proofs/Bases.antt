@@ -2,6 +2,7 @@
 pub mod Damages
 pub mod OpenedBases
 pub mod OpeningStep
+pub mod ReadFrames
 pub mod ReadRows
 pub mod Unfit
 pub mod WorkedDamages

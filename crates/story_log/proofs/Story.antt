@@ -2,3 +2,4 @@
 pub mod Growing
 pub mod Naming
 pub mod Stories
+pub mod WorkedTelling

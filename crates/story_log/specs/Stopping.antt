@@ -1,4 +1,5 @@
 -- What the disk keeps of a story, and what a stop may find.
 pub mod Backed
-pub mod Founds
+pub mod Journals
 pub mod Standing
+pub mod StopLaws

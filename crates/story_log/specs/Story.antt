@@ -1,5 +1,4 @@
 -- The story: how its steps are told, and what they name.
-pub mod Faults
 pub mod Handed
 pub mod Formed
 pub mod Telling

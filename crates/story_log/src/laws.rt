@@ -2,8 +2,8 @@
 
 ghost use Rattle.story_log.specs.Stored.Damaged.{FoundIsDamagedOnce, FramesAreOfOneList, RepresentedIsUndamaged};
 ghost use Rattle.story_log.specs.Stored.Laws.{KeptBaseIsRepresented, OpenedBaseIsRepresented, OpenedBaseIsSound, RepresentedIsABase, RepresentedIsAlike};
-ghost use Rattle.story_log.specs.Stored.WithoutExtents.{SpelledIsRepresented, WithoutExtentsDamageIsOfFrames, WithoutExtentsNothingChanges};
-ghost use Rattle.story_log.specs.Stopping.Founds.{FoundBaseIsSound, StopLeavesABase, StopOpensAgain};
+ghost use Rattle.story_log.specs.Stored.WithoutExtents.{RepresentedHasNoExtent, SpelledIsRepresented, WithoutExtentsDamageIsOfFrames, WithoutExtentsNothingChanges};
+ghost use Rattle.story_log.specs.Stopping.StopLaws.{FoundBaseIsSound, StopLeavesABase, StopOpensAgain};
 ghost use Rattle.story_log.specs.Story.Formed.{FaultLeavesAFormedRow, StoryKeepsItsBaseFormed};
 
 use legal_history::laws::stops;
@@ -40,12 +40,14 @@ pub fn a_found_base_is_sound()
     ensures { FoundBaseIsSound }
 {}
 
-/// Promises `SpelledIsRepresented`, `WithoutExtentsNothingChanges` and `WithoutExtentsDamageIsOfFrames`: a disk represents
-/// each base of formed rows that its frames spell, and where no frame names an extent, no others. Then a frame is damaged
-/// exactly where it is the first whose row does not fit those before it.
+/// Promises `SpelledIsRepresented`, `WithoutExtentsNothingChanges`, `RepresentedHasNoExtent` and
+/// `WithoutExtentsDamageIsOfFrames`: a disk represents each base of formed rows that its frames spell, and where no frame names
+/// an extent, no others. No frame names one where the disk represents a base. Without extents a frame is damaged exactly where
+/// it is the first whose row does not fit those before it.
 pub fn without_extents_nothing_changes()
     ensures spelled { SpelledIsRepresented }
     ensures represents { WithoutExtentsNothingChanges }
+    ensures none { RepresentedHasNoExtent }
     ensures damage { WithoutExtentsDamageIsOfFrames }
 {}
 

@@ -1,13 +1,11 @@
 //! The story of a core, with the rows and the phases that it names, and the journal that keeps the rows.
 
-ghost use Rattle.std.specs.Prelude.{◌≡◌, ◌+◌, ◌<◌, ◌≤◌, ◌^◌, ◌++◌, ◌∷◌, [], length, true, false, IfOk, OnOk, OnErr, option_copied};
+ghost use Rattle.std.specs.Prelude.{◌≡◌, ◌+◌, ◌<◌, ◌≤◌, ◌^◌, ◌++◌, ◌∷◌, [], length, true, false, IfOk, OnOk, OnErr};
 ghost use Rattle.row_form.specs.Spelled.{spelling_of};
-ghost use Rattle.story_log.specs.Logging.Leaving.{left_in};
 ghost use Rattle.std.specs.Vec.{vec_len, vec_capacity};
 ghost use Rattle.std.specs.Option.{option_to_list};
 
 use crate::history::History;
-use cc_names::copies::Copied;
 use cc_names::memory::NoMemory;
 use cc_names::names::Name;
 use cc_names::paths::Path;
@@ -18,6 +16,7 @@ use row_form::spell;
 use session_text::PhaseText;
 use std::alloc::Global;
 use std::marker::Model;
+use std::snapshot::Snapshot;
 use view_lookup::{FirstRows, Rows, prepare, remember};
 use vob_journal::{Frame, Journal, Left};
 
@@ -36,6 +35,8 @@ pub struct Log<D: Disk> {
     rows: Rows,
     phases: Vec<PhaseText>,
     steps: Vec<Step>,
+    /// The row that the newest fault left, where no row was committed since.
+    left: Option<Row>,
     /// The disk's counts as it was handed in.
     handed: Counts,
     journal: Journal<D>,
@@ -44,6 +45,7 @@ pub struct Log<D: Disk> {
 impl<D: Disk> Model for Log<D> {
     ghost use Rattle.story_log.specs.Story.Handed.{handed_disk};
     ghost use Rattle.story_log.specs.Logging.Logs.{Logged, IsLogged};
+    ghost use Rattle.story_log.specs.Stopping.Journals.{journal_state};
     ghost use Rattle.story_log.specs.Story.Telling.{story_of};
     ghost use Rattle.base_rows.specs.Order.{oldest_first};
 
@@ -58,9 +60,8 @@ impl<D: Disk> Model for Log<D> {
     } };
 
     ghost invariant = { λ log.
-        IsLogged (handed_disk log.handed D.tells) log.steps.items log.rows.base log.phases.items
-        (D.ghost_state log.journal.disk) log.journal.list log.journal.leftover log.journal.ended
-        log.journal.left log.journal.settled };
+        IsLogged (handed_disk log.handed D.tells) log.steps.items log.rows.base log.phases.items log.left
+        (D.ghost_state log.journal.disk) (journal_state log.journal) };
 }
 
 /// The frame of a row. A row that is spelled in 2^32 bytes or more counts as want of memory.
@@ -72,32 +73,6 @@ fn frame_of(alloc: Global, row: &Row) -> Result<Frame, NoMemory>
         return Err(NoMemory);
     }
     Frame::of(alloc, payload.as_bytes())
-}
-
-/// The row that may be found after the rows: what the newest fault left, if no row was committed since. Looks at the steps
-/// since the newest commit or fault.
-fn left_behind(steps: &[Step]) -> Option<&Row>
-    ensures { option_copied result ≡ left_in steps.now }
-{
-    let mut rest = steps;
-    while let Some((step, earlier)) = rest.split_last() {
-        match step {
-            Step::Commit { .. } => return None,
-            Step::Fault { left, .. } => return left.as_ref(),
-            _ => rest = earlier,
-        }
-    }
-    None
-}
-
-/// A copy of that row.
-fn copy_left(alloc: Global, steps: &[Step]) -> Result<Option<Row>, NoMemory>
-    ensures { IfOk result (λ left. left ≡ left_in steps.now) }
-{
-    match left_behind(steps) {
-        None => Ok(None),
-        Some(row) => Ok(Some(row.copy(alloc)?)),
-    }
 }
 
 /// A step and the one that it brings with it, for which there is room.
@@ -127,8 +102,9 @@ impl<D: Disk> Log<D> {
     ghost use Rattle.legal_history.specs.Stories.States.{faults_of};
     ghost use Rattle.legal_history.specs.Stories.Steps.{state_of};
     ghost use Rattle.cc_names.specs.Counts.{rises};
-    ghost use Rattle.story_log.specs.Logging.Appending.{Appends, IsQuiet};
+    ghost use Rattle.story_log.specs.Logging.Appending.{Appends, IsQuiet, SettlesTail};
     ghost use Rattle.story_log.specs.Stopping.Backed.{IsBacked, IsSettled, IsAccounted, may_be_open};
+    ghost use Rattle.story_log.specs.Stopping.Journals.{journal_state};
     ghost use Rattle.story_log.specs.Story.Handed.{handed_disk};
     ghost use Rattle.story_log.specs.Logging.Logs.{opened_log, with_phase, with_step, with_ghost_state};
     ghost use Rattle.base_rows.specs.Order.{oldest_first};
@@ -145,8 +121,7 @@ impl<D: Disk> Log<D> {
     ) -> Result<Log<D>, Journal<D>>
         requires { IsBacked
             (state_of (story_steps.Opened (oldest_first rows.base) handed D.tells ∷ []))
-            (D.ghost_state journal.disk) journal.list journal.leftover journal.ended journal.left
-            journal.settled }
+            (D.ghost_state journal.disk) (journal_state journal) }
         ensures ok { IfOk result
             (λ log. log
             ≡ opened_log rows.base (handed_disk handed D.tells) (D.ghost_state journal.disk)) }
@@ -163,6 +138,7 @@ impl<D: Disk> Log<D> {
             rows,
             phases: Vec::new(alloc),
             steps,
+            left: None,
             handed,
             journal,
         })
@@ -189,7 +165,7 @@ impl<D: Disk> Log<D> {
 
     /// Commits a row: it is appended to the journal and then added to the history; or the disk fault is added, followed
     /// by the step that ends the build, if there is one. Takes all memory first; an `Err` changes nothing. Takes time
-    /// linear in the row, in the steps since the last commit or fault, and in the row that a fault left there.
+    /// linear in the row.
     pub fn append(
         &mut self,
         alloc: Global,
@@ -202,7 +178,6 @@ impl<D: Disk> Log<D> {
         ensures err { OnErr result (self.new ≡ self.old) }
     {
         let frame = frame_of(alloc, &row)?;
-        let earlier = copy_left(alloc, self.steps.as_slice())?;
         let prepared = prepare(alloc, &self.rows, row.deed())?;
         self.rows.reserve(row.deed(), &prepared)?;
         self.steps.reserve(2)?;
@@ -211,18 +186,21 @@ impl<D: Disk> Log<D> {
         let before = self.journal.counts().faults;
         if let Ok(tick) = self.journal.append(&frame) {
             self.steps.push_reserved(Step::Commit { tag, number, tick });
+            self.left = None;
             self.rows.push(row, prepared);
             return Ok(Appended::Committed);
         }
         let counts = self.journal.counts();
+        let earlier = self.left.take();
         let left = match self.journal.left_by_last_call() {
             Left::Nothing => None,
             Left::Earlier => earlier,
             Left::InFlight => Some(row),
         };
+        self.left = left;
         let fault = Step::Fault {
             tag,
-            left,
+            left: Snapshot::of(&self.left),
             before,
             after: counts.faults,
             tick: counts.ticks,
@@ -255,6 +233,8 @@ impl<D: Disk> Log<D> {
         ensures few { self.new.ghost_state.ticks ≤ self.old.ghost_state.ticks + 2 }
         ensures writes { Both WritesOn self.old.ghost_state.modeled self.new.ghost_state.modeled }
         ensures rests { may_be_open (state_of self.old.story).ends ≡ false → self.new ≡ self.old }
+        ensures calls { Both (SettlesTail (state_of self.old.story).ends)
+            self.old.ghost_state.modeled self.new.ghost_state.modeled }
     {
         match self.journal.left_by_last_call() {
             Left::Nothing => Ok(()),
@@ -302,6 +282,7 @@ impl<D: Disk> Log<D> {
             rows,
             phases,
             steps,
+            left: _,
             handed,
             journal,
         } = self;

@@ -3,10 +3,11 @@
 ghost use Rattle.std.specs.Prelude.{◌≡◌, [], ◌∷◌, true, IfSome, IfNone, IfOk, IfErr, OnOk, MatchResult};
 ghost use Rattle.base_model.specs.Fits.{fits};
 ghost use Rattle.disk_model.specs.DiskStates.{Both, IfModeled};
-ghost use Rattle.vob_journal.specs.Pieces.{IsReadUntil, ReadsNext, ReadsOnce};
+ghost use Rattle.vob_journal.specs.Pieces.{ReadsNext, ReadsOnce};
+ghost use Rattle.vob_journal.specs.Shown.{frames_read};
 ghost use Rattle.story_log.specs.Bases.Opening.{AreSynced, StopsBy, IsOpened, FailsToOpen};
 ghost use Rattle.story_log.specs.Stored.Stops.{found_with};
-ghost use Rattle.story_log.specs.Bases.Reading.{OnlyReads, NextIs, IsMisfit, IsMissed, IsNextRow, IsNoRow, IsReadSoFar, ReadsOn, IsReadThrough};
+ghost use Rattle.story_log.specs.Bases.Reading.{OnlyReads, NextIs, IsAfterBase, IsMisfit, IsMissed, IsNextRow, IsNoRow, IsReadBy, IsReadOn, IsReadSoFar, ReadsOn, ReadsOnceBy, IsReadThrough};
 
 use crate::logs::Log;
 use cc_names::memory::{NoMemory, Or};
@@ -103,6 +104,7 @@ fn read_next_row<D: Disk>(
         (λ cause.
         StopsBy (D.ghost_state journal.old.disk).modeled (found_with journal.old.list) cause
         (D.ghost_state journal.old.disk).faults (D.ghost_state journal.new.disk).faults) }
+    ensures next { IfErr result (IsAfterBase rows.now) }
 {
     let payload = match next_payload(alloc, journal) {
         Ok(Some(payload)) => payload,
@@ -135,8 +137,12 @@ fn read_rows<D: Disk>(
     requires { IsReadSoFar D.ghost_state [] journal.old }
     ensures reads { OnlyReads D.ghost_state journal.old journal.new }
     ensures ok { IfOk result (λ rows. IsReadThrough D.ghost_state rows.base journal.new) }
-    ensures until { Both (IsReadUntil journal.old.tail journal.old.reach)
-        (D.ghost_state journal.old.disk).modeled (D.ghost_state journal.new.disk).modeled }
+    ensures forth { OnOk result
+        (Both (IsReadOn (frames_read journal.old) journal.old.reach)
+        (D.ghost_state journal.old.disk).modeled (D.ghost_state journal.new.disk).modeled) }
+    ensures until { IfErr result
+        (λ cause. Both (IsReadBy cause (frames_read journal.old) journal.old.reach)
+        (D.ghost_state journal.old.disk).modeled (D.ghost_state journal.new.disk).modeled) }
     ensures faultless { OnOk result
         ((D.ghost_state journal.new.disk).faults ≡ (D.ghost_state journal.old.disk).faults) }
     ensures err { IfErr result
@@ -160,7 +166,8 @@ fn read_rows<D: Disk>(
     }
 }
 
-/// Opens the log of the base that a disk stands for. Reads the journal once, and writes nothing. Takes time linear in the
+/// Opens the log of the base that a disk stands for. Reads the journal once, of a damaged one nothing after the damaged frame,
+/// and writes nothing. Takes time linear in the
 /// journal's bytes, and for each row that of `fits`.
 pub fn open_log<D: Disk>(
     alloc: Global,
@@ -173,7 +180,7 @@ pub fn open_log<D: Disk>(
         (λ fault. FailsToOpen (D.ghost_state disk) fault.cause (D.ghost_state fault.disk)) }
     ensures once { MatchResult result
         (λ log. Both ReadsOnce (D.ghost_state disk).modeled log.ghost_state.modeled)
-        (λ fault. Both ReadsOnce (D.ghost_state disk).modeled
+        (λ fault. Both (ReadsOnceBy fault.cause) (D.ghost_state disk).modeled
         (D.ghost_state fault.disk).modeled) }
 {
     let handed = disk.counts();

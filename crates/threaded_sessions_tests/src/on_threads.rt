@@ -11,7 +11,7 @@ use cc_outside::Hook;
 use std::alloc::Global;
 use std::test::Fail;
 
-// A session behind a front comes to what its case says, where its runs ask this gate.
+// A session after a front comes to what its case says, where its runs ask this gate.
 fn assert_session_at<G: Hook + Sync>(
     rt: &impl Runtime,
     alloc: Global,

@@ -96,7 +96,7 @@ branch_leaves [] n name h = absurd (none (0 == n) h)
 branch_leaves (row ∷ older) n name h =
     by_row row older n name (adds_row older row.moment row.deed (tree older)) (branch_leaves older n name) h
 
--- a branch without a name of its own has none behind `main`
+-- a branch without a name of its own has none after `main`
 unnamed_by : (row : Plain) (older : Base) (n : ℕ) → Adds (size older) (tree older) (tree (row ∷ older)) →
     (name_of_branch (tree older) n ≡ None → names_of_branch (tree older) n ≡ []) → name_of_branch (tree (row ∷ older)) n ≡ None
     → names_of_branch (tree (row ∷ older)) n ≡ []

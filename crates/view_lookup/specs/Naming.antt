@@ -9,7 +9,7 @@ use Rattle.cc_names.specs.declared.rows.Deed.TheVariants as deeds
 use Rattle.base_model.specs.Rows.{Base}
 use Rattle.legal_history.specs.Queries.VersionNames.{behind_slashes, version_name}
 
--- the names behind `main` that lead to a branch; none where there is no branch
+-- the names after `main` that lead to a branch; none where there is no branch
 abbrev pub names_above : List TreeChange → Option ℕ → List (List ℕ)
 names_above changes branch = option_map_or (names_of_branch changes) branch []
 

@@ -32,7 +32,7 @@ fn branch_from(rows: &FirstRows<'_>, element: u64, branch: u64, name: &Name) -> 
     }
 }
 
-/// The element's branch whose names behind `main` are these.
+/// The element's branch whose names after `main` are these.
 fn branch_behind(rows: &FirstRows<'_>, element: u64, names: &[Name]) -> Option<u64>
     ensures { result ≡ branch_behind (tree rows.now) element names.now }
 {

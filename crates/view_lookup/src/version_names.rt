@@ -49,7 +49,7 @@ fn leaving<'a>(rows: &FirstRows<'a>, branch: u64) -> Option<(&'a [u8], Option<u6
     }
 }
 
-/// The names behind `main` that lead to a branch, the last one first. Takes time linear in them, and for each time logarithmic in
+/// The names after `main` that lead to a branch, the last one first. Takes time linear in them, and for each time logarithmic in
 /// the changes.
 fn names_upwards<'a>(
     alloc: Global,
@@ -78,7 +78,7 @@ fn names_upwards<'a>(
     }
 }
 
-/// Writes names behind a text, each with a `/` before it, the last of them first.
+/// Writes names after a text, each with a `/` before it, the last of them first.
 fn push_names(text: &mut Vec<u8>, names: Vec<&[u8]>) -> Result<(), NoMemory>
     ensures { OnOk result
         (text.new.items

@@ -20,6 +20,7 @@ use Rattle.base_model.specs.Objects.{are_same_paths, record_of, row_in}
 use Rattle.base_model.specs.Rows.{Base}
 use Rattle.legal_history.specs.Queries.RecordTexts.{Paths, diffcr_text, recorded_script, path_lines, with_paths, unless_same}
 use Rattle.vob_history.specs.Differences.{is_path_read, difference_lines}
+use Rattle.vob_history.specs.declared.records.Record.{Record}
 use Rattle.view_lookup.proofs.ByKeys.{by_keys, text_of_key}
 
 -- the row of a path, by the first entry
@@ -136,19 +137,19 @@ paths_found b one two keys ordered among =
     (λ key is. among key ∙ sym (has_path one two key) ∙ is)
 
 -- How two records differ, as it is written.
-pub differences_written : (b : Base) (one two : ℕ) (first_targets second_targets : List (List ℕ))
-    (first_script second_script : List ℕ) (first second : List ReadOf) (same_targets same_script : Bool) (keys : List (List ℕ))
-    (text : List ℕ) →
-    first_targets ≡ targets_of b one → second_targets ≡ targets_of b two → first_script ≡ recorded_script b one
-    → second_script ≡ recorded_script b two → first ≡ record_of b one → second ≡ record_of b two →
-    same_targets ≡ are_same_paths first_targets second_targets → same_script ≡ bytes_eq first_script second_script
+pub differences_written : (b : Base) (one two : ℕ) (first second : Record) (same_targets same_script : Bool)
+    (keys : List (List ℕ)) (text : List ℕ) →
+    first.targets.now ≡ targets_of b one → second.targets.now ≡ targets_of b two → first.script.now ≡ recorded_script b one
+    → second.script.now ≡ recorded_script b two → first.entries.now ≡ record_of b one → second.entries.now ≡ record_of b two →
+    same_targets ≡ are_same_paths first.targets.now second.targets.now
+    → same_script ≡ bytes_eq first.script.now second.script.now
     → IsStrictlySortedBy (slice_cmp nat_cmp) keys → ((path : List ℕ)
-    → is_path_among path keys ≡ (is_path_read path first || is_path_read path second)) →
+    → is_path_among path keys ≡ (is_path_read path first.entries.now || is_path_read path second.entries.now)) →
     text ≡ (unless_same same_targets (codes "targets differ\n") ++ unless_same same_script (codes "script differs\n"))
-    ++ concat (map (path_lines b first second) keys) → text ≡ diffcr_text b one two
-differences_written b one two first_targets second_targets first_script second_script first second same_targets same_script keys
-    text one_targets two_targets one_script two_script one_entries two_entries targets script ordered among is =
-    let listed = concat (map (path_lines b first second) keys) in
+    ++ concat (map (path_lines b first.entries.now second.entries.now) keys) → text ≡ diffcr_text b one two
+differences_written b one two first second same_targets same_script keys text one_targets two_targets one_script two_script
+    one_entries two_entries targets script ordered among is =
+    let listed = concat (map (path_lines b first.entries.now second.entries.now) keys) in
     let targets_line = unless_same (are_same_paths (targets_of b one) (targets_of b two)) (codes "targets differ\n") in
     let script_line = unless_same (bytes_eq (recorded_script b one) (recorded_script b two)) (codes "script differs\n") in
     is
@@ -156,6 +157,6 @@ differences_written b one two first_targets second_targets first_script second_s
     (targets ∙ ap₂ are_same_paths one_targets two_targets)
     ∙ ap (λ t. (targets_line ++ unless_same t (codes "script differs\n")) ++ listed) (script ∙ ap₂ bytes_eq one_script two_script)
     ∙ ap (λ (rest : List ℕ). (targets_line ++ script_line) ++ rest)
-    (paths_found b first second keys ordered among
+    (paths_found b first.entries.now second.entries.now keys ordered among
     ∙ ap₂ (λ (one two : List ReadOf). concat (map (λ path. path_lines b one two path.0) (with_paths one (with_paths two []))))
     one_entries two_entries)

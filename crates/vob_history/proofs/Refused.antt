@@ -1,15 +1,14 @@
--- What was decided of a query about an element where none was found.
+-- What answers a query about an element where none was found.
 use Rattle.std.proofs.Common.{ℕ, List, Result, Err}
 use Rattle.cc_names.specs.declared.memory.Or.{Or}
 use Rattle.cc_names.specs.declared.memory.Or.TheVariants.{NoMemory, Is}
 use Rattle.cc_names.specs.declared.refusals.Refusal.{Refusal}
 use Rattle.cc_names.specs.declared.selection.Picked.{Picked}
-use Rattle.legal_history.specs.Commands.Decisions.{Decision}
 use Rattle.view_lookup.specs.Answering.{AnswersAs}
 use Rattle.vob_history.specs.Found.{FindsSelected}
 
 -- the refusal, whatever the query tells
-pub refused : (refusal : Or Refusal) (decided : (ℕ → Picked → List ℕ) → Result Decision Refusal) (text : ℕ → Picked → List ℕ)
-    → FindsSelected (Err refusal) decided → AnswersAs (Err refusal) (decided text)
-refused NoMemory decided text h = tt
-refused (Is refusal) decided text h = h text
+pub refused : (refusal : Or Refusal) (answer : (ℕ → Picked → List ℕ) → Result (List ℕ) Refusal) (text : ℕ → Picked → List ℕ)
+    → FindsSelected (Err refusal) answer → AnswersAs (Err refusal) (answer text)
+refused NoMemory answer text h = tt
+refused (Is refusal) answer text h = h text

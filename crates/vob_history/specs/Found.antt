@@ -4,21 +4,19 @@ use Rattle.cc_names.specs.declared.memory.Or.{Or}
 use Rattle.cc_names.specs.declared.memory.Or.TheVariants.{NoMemory, Is}
 use Rattle.cc_names.specs.declared.refusals.Refusal.{Refusal}
 use Rattle.cc_names.specs.declared.selection.Picked.{Picked}
-use Rattle.legal_history.specs.Commands.Decisions.{Decision, Answers}
 
 -- the element that was found, and what was picked of it, is that of which a text answers, whatever it tells; where there is none
--- the refusal was decided
-abbrev pub FindsSelected : Result (ℕ × Picked) (Or Refusal) → ((ℕ → Picked → List ℕ) → Result Decision Refusal) → Type 0
-FindsSelected (Ok found) decided = (text : ℕ → Picked → List ℕ) → decided text ≡ Ok (Answers (text found.0 found.1))
-FindsSelected (Err (Is refusal)) decided = (text : ℕ → Picked → List ℕ) → decided text ≡ Err refusal
-FindsSelected (Err NoMemory) decided = Unit {0}
+-- the refusal answers
+abbrev pub FindsSelected : Result (ℕ × Picked) (Or Refusal) → ((ℕ → Picked → List ℕ) → Result (List ℕ) Refusal) → Type 0
+FindsSelected (Ok found) answer = (text : ℕ → Picked → List ℕ) → answer text ≡ Ok (text found.0 found.1)
+FindsSelected (Err (Is refusal)) answer = (text : ℕ → Picked → List ℕ) → answer text ≡ Err refusal
+FindsSelected (Err NoMemory) answer = Unit {0}
 
--- the object that was found is the one of which the rest is decided, whatever the rest is; where there is none the refusal was
--- decided
-abbrev pub FindsObject : Result ℕ (Or Refusal) → ((ℕ → Result Decision Refusal) → Result Decision Refusal) → Type 0
-FindsObject (Ok id) decided = (more : ℕ → Result Decision Refusal) → decided more ≡ more id
-FindsObject (Err (Is refusal)) decided = (more : ℕ → Result Decision Refusal) → decided more ≡ Err refusal
-FindsObject (Err NoMemory) decided = Unit {0}
+-- the object that was found is the one of which the rest is told, whatever the rest is; where there is none the refusal answers
+abbrev pub FindsObject : Result ℕ (Or Refusal) → ((ℕ → Result (List ℕ) Refusal) → Result (List ℕ) Refusal) → Type 0
+FindsObject (Ok id) answer = (more : ℕ → Result (List ℕ) Refusal) → answer more ≡ more id
+FindsObject (Err (Is refusal)) answer = (more : ℕ → Result (List ℕ) Refusal) → answer more ≡ Err refusal
+FindsObject (Err NoMemory) answer = Unit {0}
 
 -- the test is passed, or its refusal is answered, unless memory ran out
 abbrev pub Tests : {A : Type 0} → Result A (Or Refusal) → Option Refusal → Type 0

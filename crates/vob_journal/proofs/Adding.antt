@@ -1,15 +1,14 @@
 -- Which calls are added along calls.
 use Rattle.std.proofs.Common.{◌≡◌, ◌+◌, ℕ, Bool, true, false, ◌&&◌, List, [], ◌∷◌, ◌++◌, refl, sym, ◌∙◌, ap, ap₂, subst, inl}
-use Rattle.std.proofs.Common.{inr, append_assoc}
+use Rattle.std.proofs.Common.{inr, append_assoc, length}
 use Rattle.std.proofs.lemmas.List.Folds.{list_all-append}
 use Rattle.std.specs.List.{list_all}
-use Rattle.disk_model.specs.Devices.{Device, Event, Measured, Wrote, Tore, Synced, Failed, Measures, with_call}
+use Rattle.disk_model.specs.Devices.{Device, Event, Measured, Tore, Synced, Failed, Measures, with_call}
 use Rattle.vob_journal.specs.Added.{Adds, WritesOn, may_read, may_write}
 use Rattle.vob_journal.specs.Calls.{put_down, settled_first, device_after_commit, Settles, LeavesLeftover, CommitsFrame}
-use Rattle.vob_journal.specs.Calls.{FailsToAppend}
+use Rattle.vob_journal.specs.Calls.{FailsToAppend, FailsToPut}
 use Rattle.vob_journal.specs.Frames.{frame_after_gate}
 use Rattle.vob_journal.specs.declared.left.Left.{Left}
-use Rattle.vob_journal.specs.Phases.{FailsToPut}
 
 pub adds_none : (kind : Event → Bool) (d : Device) → Adds kind d d
 adds_none kind d = record { more = []; calls = refl; kinds = refl }
@@ -34,15 +33,15 @@ adds_two kind event next d is = record { more = next ∷ event ∷ []; calls = r
 pub put_adds : (place : ℕ) (piece : List ℕ) (d e : Device) → e ≡ put_down place piece d → Adds may_write d e
 put_adds place piece d e made = subst (Adds may_write d) (sym made) (adds_two may_write _ (Synced 0) d refl)
 
-pub failed_adds : (place size : ℕ) (d e : Device) → FailsToPut place size d e → Adds may_write d e
-failed_adds place size d e (inl same) = subst (Adds may_write d) (sym same) (adds_none may_write d)
-failed_adds place size d e (inr (inl missed)) = subst (Adds may_write d) (sym missed) (adds_one may_write Failed d refl)
-failed_adds place size d e (inr (inr (left, torn, inl tore))) = subst (Adds may_write d) (sym tore)
-    (adds_one may_write (Tore 0 place size left) d refl)
-failed_adds place size d e (inr (inr (left, torn, inr (inl wrote)))) =
-    subst (Adds may_write d) (sym wrote) (adds_one may_write (Wrote 0 place size left) d refl)
-failed_adds place size d e (inr (inr (left, torn, inr (inr missed)))) =
-    subst (Adds may_write d) (sym missed) (adds_two may_write (Wrote 0 place size left) Failed d refl)
+pub failed_adds : (place : ℕ) (piece : List ℕ) (d e : Device) → FailsToPut place piece d e → Adds may_write d e
+failed_adds place piece d e (inl same) = subst (Adds may_write d) (sym same) (adds_none may_write d)
+failed_adds place piece d e (inr (inl missed)) = subst (Adds may_write d) (sym missed) (adds_one may_write Failed d refl)
+failed_adds place piece d e (inr (inr (inl tore))) = subst (Adds may_write d) (sym tore.2)
+    (adds_one may_write (Tore 0 place (length piece) tore.0) d refl)
+failed_adds place piece d e (inr (inr (inr (inl wrote)))) =
+    subst (Adds may_write d) (sym wrote) (adds_one may_write _ d refl)
+failed_adds place piece d e (inr (inr (inr (inr missed)))) =
+    subst (Adds may_write d) (sym missed) (adds_two may_write _ Failed d refl)
 
 -- settling and a commit
 pub settled_adds : (settled : Bool) (tail : ℕ) (d : Device) → Adds may_write d (settled_first settled tail d)

@@ -1,7 +1,7 @@
 -- What a window shows of a journal, and what is found in it.
 use Rattle.std.proofs.Common.{◌≡◌, ◌≤◌, ◌+◌, ◌-◌, ℕ, min, Option, Some, Result, Ok, Err, IfOk, List, length, take, drop, sym}
 use Rattle.std.proofs.Common.{◌∙◌, ap, subst, arith, length-drop}
-use Rattle.std.proofs.lemmas.List.{drop-take, drop-drop, take-take}
+use Rattle.std.proofs.lemmas.List.{drop-take, drop-drop, take-take, length-take-le}
 use Rattle.disk_model.specs.Devices.{Device, bytes_now}
 use Rattle.disk_model.specs.DiskStates.{IfModeled, Both}
 use Rattle.vob_journal.specs.declared.reading.Head.{Head}
@@ -11,9 +11,10 @@ use Rattle.vob_journal.specs.declared.reading.Found.TheVariants.{Payload, End}
 use Rattle.vob_journal.specs.declared.window.Window.{Window}
 use Rattle.vob_journal.specs.Found.{HeadTells, FindsAtHead, IsPayload}
 use Rattle.vob_journal.specs.Frames.{head}
+use Rattle.vob_journal.specs.Pieces.{needed, needed_by}
 use Rattle.vob_journal.specs.Reads.{Rests}
 use Rattle.vob_journal.specs.Windows.{Shows, IfShows}
-use Rattle.vob_journal.proofs.Telling.{modeled_map, modeled_both, modeled_back}
+use Rattle.vob_journal.proofs.Telling.{modeled_map, modeled_both, modeled_back, modeled_from}
 
 -- a part of a piece of a list is a part of the list
 part_of : (start place size n : ℕ) (bytes : List ℕ) → start ≤ place → place + size ≤ start + n
@@ -89,3 +90,19 @@ modeled_frame (Ok found) count tail old new rests tells is =
     (λ d. IsPayload found (take count (drop 5 (drop tail (bytes_now 0 d))))) old new
     (λ d e r p. subst (λ f. IsPayload found (take count (drop 5 (drop tail f.bytes)))) r.same p) rests is)
 modeled_frame (Err fault) count tail old new rests tells is = tt
+
+-- so many bytes are needed for it
+whole_needed : (size : ℕ) (rest : List ℕ) → HeadTells (Whole size) rest → 5 + size ≡ needed rest
+whole_needed size rest tells =
+    let long : length (take size (drop 5 rest)) ≡ size =
+    length-take-le size (drop 5 rest) (omega (arith, tells.1, length-drop 5 rest)) in
+    ap (λ n. 5 + n) (sym long) ∙ ap (λ found. needed_by found rest) (sym tells.0)
+
+pub modeled_needed : (size tail : ℕ) (old new : Option Device) → Both Rests old new
+    → IfModeled old (λ d. HeadTells (Whole size) (drop tail (bytes_now 0 d)))
+    → IfModeled new (λ d. 5 + size ≡ needed (drop tail (bytes_now 0 d)))
+modeled_needed size tail old new rests tells =
+    modeled_from Rests (λ d. HeadTells (Whole size) (drop tail (bytes_now 0 d)))
+    (λ d. 5 + size ≡ needed (drop tail (bytes_now 0 d))) old new
+    (λ d e h r. whole_needed size (drop tail (bytes_now 0 d)) h
+    ∙ ap (λ f. needed (drop tail f.bytes)) (sym r.same)) tells rests

@@ -1,7 +1,7 @@
 -- A journal as it is opened and read.
 use Rattle.std.proofs.Common.{◌≡◌, ◌≢◌, ◌<◌, ◌≤◌, ◌+◌, ◌^◌, ◌==◌, ℕ, Bool, true, false, not, Option, Some, None, List, [], ◌∷◌}
 use Rattle.std.proofs.Common.{◌++◌, length, take, drop, slice_index, get_or, refl, sym, ◌∙◌, ap, subst, inl, inr, arith}
-use Rattle.std.proofs.Common.{length-drop}
+use Rattle.std.proofs.Common.{◌-◌, suc, length-append, length-drop}
 use Rattle.std.proofs.Math.Seq.{take-add}
 use Rattle.std.proofs.lemmas.Grind.{common_steps}
 use Rattle.std.proofs.lemmas.Bool.{cases_lt}
@@ -10,17 +10,20 @@ use Rattle.std.proofs.lemmas.List.{length-take-le}
 use Rattle.disk_model.specs.Files.{stable, is_written, IsImage}
 use Rattle.disk_model.specs.Devices.{Device, Measured, file_of, bytes_now, LeavesNow, Measures}
 use Rattle.disk_model.specs.DiskStates.{IfModeled, Both}
-use Rattle.vob_journal.specs.Frames.{frames, head, is_shut}
+use Rattle.vob_journal.specs.Frames.{frames, head, is_shut, place_after}
 use Rattle.vob_journal.specs.Moves.{Stands, Moves}
+use Rattle.vob_journal.specs.Pieces.{IsReadForth, IsReadUntil, ReadsAt, ReadsFrame, ReadsUntil}
 use Rattle.vob_journal.specs.Reads.{Rests}
-use Rattle.vob_journal.specs.Shown.{modeled_list, modeled_rest, modeled_leftover, JournalInvariant}
+use Rattle.vob_journal.specs.Shown.{modeled_list, modeled_rest, modeled_leftover, rest_at, JournalInvariant}
 use Rattle.vob_journal.specs.Tails.{IsWhole, HoldsPrefix, IsTail, IsStillRead, list_at, leftover_at}
 use Rattle.vob_journal.specs.Windows.{IfShows, StartsBy}
 use Rattle.vob_journal.specs.declared.window.Window.{Window}
+use Rattle.vob_journal.specs.declared.reading.Found.TheVariants.{End}
 use Rattle.vob_journal.specs.Added.{may_read}
 use Rattle.vob_journal.proofs.Adding.{adds_one}
 use Rattle.vob_journal.proofs.Framing.{head_is, head_length, head_take, head_short, frames_some, frames_none, frames_nil}
-use Rattle.vob_journal.proofs.Framing.{whole_nil, whole_more}
+use Rattle.vob_journal.proofs.Framing.{frames_more, whole_nil, whole_more}
+use Rattle.vob_journal.proofs.Pieces.{lower_forth, lower_until, place_next, until_of}
 use Rattle.vob_journal.proofs.Passing.{passes_none, passes_weaker, passes_call}
 use Rattle.vob_journal.proofs.Settling.{shut_image, ajar_image}
 
@@ -61,7 +64,13 @@ opened_reading size None None is all modeled = tt
 opened_reading size None (Some e) is all modeled = absurd modeled
 opened_reading size (Some d) None is all modeled = tt
 opened_reading size (Some d) (Some e) is all modeled = subst (IsStillRead 0 size) (sym modeled)
-    (record { as_opened = is; within = omega arith; all = all; whole = whole_nil })
+    (record {
+      as_opened = is;
+      within = omega arith;
+      all = all;
+      whole = whole_nil;
+      after = ap (λ list. place_after (length list) (bytes_now 0 d)) (sym frames_nil);
+    })
 
 pub opened_list : (old new : Option Device) → Both (Measures 0) old new
     → IfModeled old (λ d. modeled_list new false 0 ≡ frames (bytes_now 0 d))
@@ -149,6 +158,26 @@ still_opened : (tail size : ℕ) (d e : Device) → IsStillRead tail size d → 
 still_opened tail size d e reading rests = rests.same ∙ reading.as_opened ∙ ap (λ f. stable f.bytes) (sym rests.same)
 
 -- a payload was read
+count_more : (tail : ℕ) (bytes payload : List ℕ) → IsWhole (take tail bytes) → head (drop tail bytes) ≡ Some payload
+    → length (frames (take (tail + (5 + length payload)) bytes)) ≡ suc (length (frames (take tail bytes)))
+count_more tail bytes payload whole found =
+    let n = 5 + length payload in
+    let is_head = head_is (drop tail bytes) payload found in
+    let long = head_length (drop tail bytes) payload is_head in
+    let list : frames (take (tail + n) bytes) ≡ frames (take tail bytes) ++ payload ∷ [] = ap frames (take-add tail n bytes)
+    ∙ frames_more (take tail bytes) (take n (drop tail bytes)) payload whole (head_take (drop tail bytes) payload is_head)
+    (length-take-le n (drop tail bytes) long.1) in
+    omega (arith, ap length list, length-append (frames (take tail bytes)) (payload ∷ []))
+
+after_more : (tail : ℕ) (bytes payload : List ℕ) → IsWhole (take tail bytes) → head (drop tail bytes) ≡ Some payload
+    → tail ≡ place_after (length (frames (take tail bytes))) bytes
+    → tail + (5 + length payload) ≡ place_after (length (frames (take (tail + (5 + length payload)) bytes))) bytes
+after_more tail bytes payload whole found after =
+    let n = length (frames (take tail bytes)) in
+    ap (λ k. k + (5 + length payload)) after
+    ∙ sym (place_next n bytes payload (ap (λ k. head (drop k bytes)) (sym after) ∙ found))
+    ∙ ap (λ k. place_after k bytes) (sym (count_more tail bytes payload whole found))
+
 pub reading_more : (tail size : ℕ) (payload : List ℕ) (d e : Device) → IsStillRead tail size d → Rests d e
     → head (drop tail (bytes_now 0 d)) ≡ Some payload
     → tail + (5 + length payload) ≤ size → IsStillRead (tail + (5 + length payload)) size e
@@ -165,6 +194,8 @@ reading_more tail size payload d e reading rests found fits =
       within = omega (arith, ap length same, reading.all);
       all = reading.all ∙ ap length (sym same);
       whole = subst (λ b. IsWhole (take (tail + n) b)) (sym same) (subst IsWhole (sym (take-add tail n bytes)) whole);
+      after = subst (λ b. tail + n ≡ place_after (length (frames (take (tail + n) b))) b) (sym same)
+          (after_more tail bytes payload reading.whole found reading.after);
     }
 
 pub modeled_more : (tail size : ℕ) (payload : List ℕ) (old new : Option Device) → IfModeled old (IsStillRead tail size)
@@ -262,7 +293,7 @@ ended_list settled tail size (Some d) (Some e) reading rests found =
 gate_ajar : (gate : ℕ) → not (gate == 1) ≡ false → gate ≡ 1
 gate_ajar gate e = grind (arith, common_steps)
 
--- behind a gate that is not shut nothing whole is found
+-- after a gate that is not shut nothing whole is found
 cut_leftover : (tail : ℕ) (bytes : List ℕ) → head (drop tail bytes) ≡ None → is_shut (drop tail bytes) ≡ false
     → frames (1 ∷ drop (tail + 1) bytes) ≡ []
 cut_leftover tail bytes none is = elim (cases_lt tail (length bytes)) [
@@ -291,3 +322,54 @@ pub ended_rest : (settled : Bool) (tail : ℕ) (old new : Option Device)
 ended_rest settled tail None new found = tt
 ended_rest settled tail (Some d) None found = (frames_none (drop tail (bytes_now 0 d)) found.0, refl)
 ended_rest settled tail (Some d) (Some e) found = (frames_none (drop tail (bytes_now 0 d)) found.0, refl)
+
+-- how many frames were read
+abbrev pub read_of : Option Device → Bool → ℕ → ℕ
+read_of modeled ended tail = length (modeled_list modeled ended tail) - length (modeled_rest modeled ended tail)
+
+read_is : (tail : ℕ) (d : Device) → read_of (Some d) false tail ≡ length (list_at tail d)
+read_is tail d = omega (arith, length-append (list_at tail d) (rest_at false tail d))
+
+-- a frame was read, the next of those
+pub payload_forth : (tail size had has : ℕ) (payload : List ℕ) (old new : Option Device) → IfModeled old (IsStillRead tail size)
+    → Both Rests old new
+    → IfModeled old (λ d. head (drop tail (bytes_now 0 d)) ≡ Some payload) → tail + (5 + length payload) ≤ size
+    → Both (ReadsAt tail had has) old new
+    → Both (IsReadForth (read_of old false tail) had (read_of new false (tail + (5 + length payload))) has) old new
+payload_forth tail size had has payload None None reading rests found fits h = tt
+payload_forth tail size had has payload None (Some e) reading rests found fits h = absurd rests
+payload_forth tail size had has payload (Some d) None reading rests found fits h = absurd rests
+payload_forth tail size had has payload (Some d) (Some e) reading rests found fits h =
+    let n = length (list_at tail d) in
+    let further = tail + (5 + length payload) in
+    let to : read_of (Some e) false further ≡ n + 1 = omega (
+      arith,
+      read_is further e,
+      ap (λ f. length (frames (take further f.bytes))) rests.same,
+      count_more tail (bytes_now 0 d) payload reading.whole found,
+    ) in
+    subst (λ k. IsReadForth k had (read_of (Some e) false further) has d e) (sym (read_is tail d))
+    (subst (λ k. IsReadForth n had k has d e) (sym to)
+    (lower_forth n (n + 1) had (n + 1) has d e (omega arith) (h n reading.after)))
+
+-- none was, and the reads are those of one place
+pub missed_until : (tail size had : ℕ) (old new : Option Device) → IfModeled old (IsStillRead tail size)
+    → Both (ReadsUntil tail had) old new
+    → Both (IsReadUntil (read_of old false tail) had (read_of old false tail + 1)) old new
+missed_until tail size had None None reading h = tt
+missed_until tail size had None (Some e) reading h = h
+missed_until tail size had (Some d) None reading h = h
+missed_until tail size had (Some d) (Some e) reading h =
+    let n = length (list_at tail d) in
+    subst (λ k. IsReadUntil k had (k + 1) d e) (sym (read_is tail d))
+    (lower_until n (n + 1) had (n + 1) d e (omega arith) (h n reading.after))
+
+pub ended_until : (settled : Bool) (tail size had : ℕ) (old new : Option Device) → IfModeled old (IsStillRead tail size)
+    → Both (ReadsFrame tail had (End settled)) old new
+    → Both (IsReadUntil (read_of old false tail) had (read_of old false tail + 1)) old new
+ended_until settled tail size had None None reading h = tt
+ended_until settled tail size had None (Some e) reading h = h
+ended_until settled tail size had (Some d) None reading h = h
+ended_until settled tail size had (Some d) (Some e) reading h =
+    missed_until tail size had (Some d) (Some e) reading
+    (λ number at. until_of (number + 1) had (number + 1) h.0 d e (h.1 number at))

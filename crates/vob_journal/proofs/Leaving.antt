@@ -46,7 +46,7 @@ behind_next : (bytes payload : List ℕ) (tail : ℕ) → head (drop tail bytes)
 behind_next bytes payload tail e = behind_some (drop tail bytes) payload e ∙ ap behind (drop-drop (5 + length payload) tail bytes)
 
 -- what was found on a device that reads as the first one, said of the first
-found_first : (found : Option (List ℕ)) (tail : ℕ) (first old : Option Device) → Both Rests first old
+pub found_first : (found : Option (List ℕ)) (tail : ℕ) (first old : Option Device) → Both Rests first old
     → IfModeled old (λ d. head (drop tail (bytes_now 0 d)) ≡ found) → IfModeled first
     (λ d. head (drop tail (bytes_now 0 d)) ≡ found)
 found_first found tail first old same is =

@@ -3,6 +3,7 @@ pub mod Finding
 pub mod Framing
 pub mod Journals
 pub mod Leaving
+pub mod Looking
 pub mod Passing
 pub mod Phasing
 pub mod Pieces

@@ -4,10 +4,10 @@ use Rattle.std.proofs.Common.{inl, inr}
 use Rattle.std.proofs.lemmas.List.{append-nil}
 use Rattle.disk_model.specs.Devices.{Device, file_of}
 use Rattle.vob_journal.specs.declared.left.Left.TheVariants.{Nothing, Earlier, InFlight}
-use Rattle.vob_journal.specs.Calls.{put_down, KeepsFrames, Settles, LeavesLeftover, CommitsFrame, FailsToAppend}
+use Rattle.vob_journal.specs.Calls.{FailsToPut, put_down, KeepsFrames, Settles, LeavesLeftover, CommitsFrame, FailsToAppend}
 use Rattle.vob_journal.specs.Frames.{frames, frame_after_gate}
 use Rattle.vob_journal.specs.Moves.{Stands, Between, Passes, Moves}
-use Rattle.vob_journal.specs.Phases.{PutsDown, FailsToPut, IsStaged, IsStagedAt, Stages, OpensGate, MayOpen}
+use Rattle.vob_journal.specs.Phases.{PutsDown, IsStaged, IsStagedAt, Stages, OpensGate, MayOpen}
 use Rattle.vob_journal.specs.Tails.{IsShut, IsAjar, IsTail, list_at, leftover_at}
 use Rattle.vob_journal.specs.Added.{Adds, may_write}
 use Rattle.vob_journal.proofs.Adding.{adds_none, adds_then, put_adds, failed_adds}
@@ -69,15 +69,17 @@ settles_put tail d e ajar did =
     })
 
 -- settling that failed
-pub settling_failed : (tail : ℕ) (d e : Device) → IsTail false tail d → FailsToPut tail 1 d e → LeavesLeftover false tail d e
+pub settling_failed : (tail : ℕ) (d e : Device) → IsTail false tail d → FailsToPut tail (0 ∷ []) d e
+    → LeavesLeftover false tail d e
 settling_failed tail d e ajar did =
     let list = list_at tail d in
     let leftover = leftover_at false tail d in
     let failed = failed_put (IsAjar list leftover tail) (Stands list leftover) tail 1 (ajar_image list leftover tail)
-    (ajar_torn list leftover tail) d e ajar did in
+    (ajar_torn list leftover tail) d e (0 ∷ []) refl ajar did in
     record {
       was_unsettled = refl;
-      keeps = keeps_ajar false tail leftover d e (failed_adds tail 1 d e did)
+      calls = did;
+      keeps = keeps_ajar false tail leftover d e (failed_adds tail (0 ∷ []) d e did)
           (passes_weaker d e (Stands list leftover) (Between list leftover list leftover) (λ image h. inl h) failed.0) failed.1;
       same_leftover = failed.1.behind;
     }
@@ -97,13 +99,14 @@ stages_put tail payload d e shut did =
     })
 
 -- staging that failed
-pub staging_failed : (tail size : ℕ) (d e : Device) → IsTail true tail d → FailsToPut (tail + 1) size d e
+pub staging_failed : (tail : ℕ) (piece : List ℕ) (d e : Device) → IsTail true tail d → FailsToPut (tail + 1) piece d e
     → KeepsFrames true true tail d e
-staging_failed tail size d e shut did =
+staging_failed tail piece d e shut did =
     let list = list_at tail d in
+    let size = length piece in
     let failed = failed_put (IsShut list tail) (λ image. frames image ≡ list) (tail + 1) size (shut_image list tail)
-    (shut_torn list tail size) d e shut did in
-    keeps_shut true tail d e (failed_adds (tail + 1) size d e did) (passes_weaker d e (λ image. frames image ≡ list)
+    (shut_torn list tail size) d e piece refl shut did in
+    keeps_shut true tail d e (failed_adds (tail + 1) piece d e did) (passes_weaker d e (λ image. frames image ≡ list)
     (Stands list []) (λ image h. inl h) failed.0) failed.1
 
 -- a gate that was opened
@@ -123,14 +126,14 @@ opens_put tail payload d e short staged did =
 
 -- a gate that may have been opened
 pub opening_failed : (tail : ℕ) (payload : List ℕ) (d e : Device) → length payload < 2 ^ 32 → IsStagedAt tail payload d
-    → FailsToPut tail 1 d e → MayOpen tail payload d e
+    → FailsToPut tail (1 ∷ []) d e → MayOpen tail payload d e
 opening_failed tail payload d e short staged did =
     let list = list_at tail d in
     let leftover = payload ∷ [] in
     let ajar = staged_ajar list payload tail (file_of 0 d) short staged in
     let failed = failed_put (IsAjar list leftover tail) (Stands list leftover) tail 1 (ajar_image list leftover tail)
-    (ajar_torn list leftover tail) d e ajar did in
-    record { passes = failed.0; ajar = failed.1; adds = failed_adds tail 1 d e did }
+    (ajar_torn list leftover tail) d e (1 ∷ []) refl ajar did in
+    record { passes = failed.0; ajar = failed.1; adds = failed_adds tail (1 ∷ []) d e did }
 
 -- where a phase left the tail settled, the next begins so
 pub settles_ends : (settled : Bool) (tail : ℕ) (d e : Device) → Settles settled tail d e → IsTail true tail e

@@ -60,7 +60,7 @@ prefix_split list tail s image prefix same =
 gate_of : (tail : ℕ) (image : List ℕ) → slice_index (drop tail image) 0 ≡ slice_index image tail
 gate_of tail image = get_or-drop tail image 0 0 ∙ ap (λ n. get_or image n 0) (omega arith)
 
--- a prefix behind which no gate is open
+-- a prefix after which no gate is open
 prefix_alone : (list : List (List ℕ)) (tail : ℕ) (s : File) (image : List ℕ) → HoldsPrefix list tail s
     → take tail image ≡ take tail s.bytes
     → slice_index image tail ≢ 1 → frames image ≡ list
@@ -70,7 +70,7 @@ prefix_alone list tail s image prefix same shut =
     ∙ e))))
     ∙ append-nil list
 
--- an open gate and what is behind it
+-- an open gate and what is after it
 open_at : (tail : ℕ) (image : List ℕ) → slice_index image tail ≡ 1 → (drop tail image ≡ 1 ∷ drop (tail + 1) image)
     × (tail < length image)
 open_at tail image is_open = elim (cases_lt tail (length image)) [
@@ -88,7 +88,7 @@ shut_image list tail s shut image is_image =
     let gate = is_image.kept tail shut.gate_synced (shut.untouched tail (omega arith)) in
     prefix_alone list tail s image shut.prefix same (λ e. shut.gate (sym gate ∙ e))
 
--- the bytes behind the gate are the same in each image of a tail that is not settled
+-- the bytes after the gate are the same in each image of a tail that is not settled
 ajar_back : (list leftover : List (List ℕ)) (tail : ℕ) (s : File) → IsAjar list leftover tail s → (image : List ℕ)
     → IsImage s image
     → drop (tail + 1) image ≡ drop (tail + 1) s.bytes
@@ -127,7 +127,7 @@ uncovered : (place n i : ℕ) (b : Bool) → (i < place) ⊎ (place + n ≤ i) �
 uncovered place n i b (inl below) none = grind (arith, common_steps)
 uncovered place n i b (inr above) none = grind (arith, common_steps)
 
--- a write behind the gate leaves a settled tail settled
+-- a write after the gate leaves a settled tail settled
 pub shut_torn : (list : List (List ℕ)) (tail n : ℕ) (s : File) (left : List ℕ) → IsShut list tail s
     → IsTorn (tail + 1) n s.bytes left
     → IsShut list tail (written_to s (tail + 1) n left)
@@ -143,7 +143,7 @@ shut_torn list tail n s left shut torn = record {
 either_side : (i tail : ℕ) → i ≢ tail → (i < tail) ⊎ (tail + 1 ≤ i)
 either_side i tail ne = grind arith
 
--- a write of the gate alone leaves behind a tail that is not settled what was there
+-- a write of the gate alone leaves after a tail that is not settled what was there
 pub ajar_torn : (list leftover : List (List ℕ)) (tail : ℕ) (s : File) (left : List ℕ) → IsAjar list leftover tail s
     → IsTorn tail 1 s.bytes left
     → IsAjar list leftover tail (written_to s tail 1 left)
@@ -195,7 +195,7 @@ shut_closed list leftover tail s ajar =
       untouched = λ i below. refl;
     }
 
--- a payload that was written and synced behind a shut gate
+-- a payload that was written and synced after a shut gate
 pub staged_put : (list : List (List ℕ)) (payload : List ℕ) (tail : ℕ) (s : File) → IsShut list tail s
     → IsStaged list payload tail (stable (overwritten (tail + 1) (frame_after_gate payload) s.bytes))
 staged_put list payload tail s shut =
@@ -213,7 +213,7 @@ staged_put list payload tail s shut =
       frame = (drop ((tail + 1) + length piece) s.bytes, (split_overwritten (tail + 1) piece s.bytes within).1);
     }
 
--- the frame of a staged payload, its gate open, and the shut gate behind it
+-- the frame of a staged payload, its gate open, and the shut gate after it
 staged_frame : (payload rest : List ℕ) → 1 ∷ (frame_after_gate payload ++ rest)
     ≡ (1 ∷ to_le_bytes w32 (length payload) ++ payload) ++ 0 ∷ rest
 staged_frame payload rest = ap (λ bytes. 1 ∷ bytes) (append_assoc (to_le_bytes w32 (length payload) ++ payload) (0 ∷ []) rest)
@@ -238,7 +238,7 @@ staged_ajar list payload tail s short staged =
           ∙ ap (λ list. payload ∷ list) (shut_alone rest);
     }
 
--- a gate that was opened and synced before a staged payload: the tail is behind it, settled
+-- a gate that was opened and synced before a staged payload: the tail is after it, settled
 pub staged_opened : (list : List (List ℕ)) (payload : List ℕ) (tail : ℕ) (s : File) → length payload < 2 ^ 32
     → IsStaged list payload tail s
     → IsShut (list ++ payload ∷ []) (tail + (5 + length payload)) (stable (overwritten tail (1 ∷ []) s.bytes))

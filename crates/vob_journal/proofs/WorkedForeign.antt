@@ -7,7 +7,7 @@ use Rattle.vob_journal.specs.Foreign.{behind, foreign}
 abbrev frame : List ℕ
 frame = 1 ∷ 2 ∷ 0 ∷ 0 ∷ 0 ∷ codes "ab"
 
--- an empty file, a shut gate, whole frames with a shut gate behind them or without one
+-- an empty file, a shut gate, whole frames with a shut gate after them or without one
 foreign_empty : foreign [] ≡ 0
 unfolding behind
 foreign_empty = refl
@@ -28,7 +28,7 @@ foreign_frame : foreign frame ≡ 0
 unfolding behind
 foreign_frame = refl
 
--- a frame that was cut short: in its length, in its payload, and behind it with the next gate
+-- a frame that was cut short: in its length, in its payload, and after it with the next gate
 foreign_length : foreign (frame ++ 0 ∷ 2 ∷ 0 ∷ []) ≡ 0
 unfolding behind
 foreign_length = refl

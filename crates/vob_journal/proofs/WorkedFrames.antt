@@ -1,9 +1,9 @@
 -- The frames of a journal and the device calls of a commit, to the byte: counted by hand from the format and checked by
 -- computation.
-use Rattle.std.proofs.Common.{◌≡◌, ℕ, true, false, List, [], ◌∷◌, ◌++◌, refl, arith}
+use Rattle.std.proofs.Common.{◌≡◌, ℕ, true, false, List, [], ◌∷◌, ◌++◌, refl, ap, inl, inr, arith}
 use Rattle.std.specs.Prelude.{codes}
-use Rattle.disk_model.specs.Devices.{Synced, Wrote, bytes_now, new_device}
-use Rattle.vob_journal.specs.Calls.{device_after_commit}
+use Rattle.disk_model.specs.Devices.{Device, Failed, Synced, Wrote, bytes_now, new_device, with_call}
+use Rattle.vob_journal.specs.Calls.{FailsToPut, device_after_commit}
 use Rattle.vob_journal.specs.Frames.{frame_after_gate, frames}
 use Rattle.vob_journal.specs.Lefts.{FailsInPhase}
 use Rattle.vob_journal.specs.declared.left.Left.TheVariants.{Nothing, Earlier, InFlight}
@@ -69,7 +69,7 @@ length_past_end : frames (1 ∷ 255 ∷ 0 ∷ 0 ∷ 0 ∷ []) ≡ []
 unfolding frames
 length_past_end = refl
 
--- The first row on an empty disk, whose tail is not settled: a shut gate is written and synced; behind it the length, the payload
+-- The first row on an empty disk, whose tail is not settled: a shut gate is written and synced; after it the length, the payload
 -- and the next gate; and then the gate is opened. The calls are listed newest first.
 six_calls : (device_after_commit false 0 payload (new_device [] [])).calls
     ≡ Synced 0 ∷ Wrote 0 0 1 (1 ∷ behind_gate)
@@ -80,7 +80,7 @@ six_calls = refl
 first_frame : bytes_now 0 (device_after_commit false 0 payload (new_device [] [])) ≡ 1 ∷ behind_gate
 first_frame = refl
 
--- a second one behind a shut gate takes four calls
+-- a second one after a shut gate takes four calls
 four_calls : (device_after_commit true 7 (codes "c") (new_device (1 ∷ 2 ∷ 0 ∷ 0 ∷ 0 ∷ codes "ab" ++ 0 ∷ []) [])).calls
     ≡ Synced 0 ∷ Wrote 0 7 1 (1 ∷ 2 ∷ 0 ∷ 0 ∷ 0 ∷ codes "ab" ++ 1 ∷ 1 ∷ 0 ∷ 0 ∷ 0 ∷ codes "c" ++ 0 ∷ [])
     ∷ Synced 0 ∷ Wrote 0 8 6 (1 ∷ 2 ∷ 0 ∷ 0 ∷ 0 ∷ codes "ab" ++ 0 ∷ 1 ∷ 0 ∷ 0 ∷ 0 ∷ codes "c" ++ 0 ∷ []) ∷ []
@@ -121,3 +121,15 @@ settled_leaves_no_earlier h = absurd (omega (arith, h.1))
 
 commit_has_six_calls : FailsInPhase false InFlight 10 17 → ⊥
 commit_has_six_calls h = absurd (omega (arith, h.1))
+
+-- a tail that was to be settled on an empty disk: the gate was written, and the sync failed
+gate_not_kept : FailsToPut 0 (0 ∷ []) (new_device [] []) (with_call Failed (with_call (Wrote 0 0 1 (0 ∷ [])) (new_device [] [])))
+gate_not_kept = inr (inr (inr (inr refl)))
+
+-- not: a byte 7 was written there
+not_a_seven : FailsToPut 0 (0 ∷ []) (new_device [] []) (with_call (Wrote 0 0 1 (7 ∷ [])) (new_device [] [])) → ⊥
+not_a_seven (inl same) = let calls = ap (λ (d : Device). d.calls) same in absurd (cc calls)
+not_a_seven (inr (inl missed)) = let calls = ap (λ (d : Device). d.calls) missed in absurd (cc calls)
+not_a_seven (inr (inr (inl tore))) = let calls = ap (λ (d : Device). d.calls) tore.2 in absurd (cc calls)
+not_a_seven (inr (inr (inr (inl wrote)))) = let calls = ap (λ (d : Device). d.calls) wrote in absurd (cc calls)
+not_a_seven (inr (inr (inr (inr missed)))) = let calls = ap (λ (d : Device). d.calls) missed in absurd (cc calls)

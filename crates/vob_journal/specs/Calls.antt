@@ -1,7 +1,7 @@
 -- The device calls that write a journal.
-use Rattle.std.specs.Prelude.{◌≡◌, ℕ, ◌+◌, Bool, true, false, List, [], ◌∷◌, ◌++◌, length}
-use Rattle.disk_model.specs.Files.{overwritten}
-use Rattle.disk_model.specs.Devices.{Device, Wrote, Synced, with_call, bytes_now}
+use Rattle.std.specs.Prelude.{◌≡◌, ◌⊎◌, ℕ, ◌+◌, Bool, true, false, List, [], ◌∷◌, ◌++◌, length}
+use Rattle.disk_model.specs.Files.{overwritten, IsTorn}
+use Rattle.disk_model.specs.Devices.{Device, Wrote, Tore, Synced, Failed, with_call, bytes_now}
 use Rattle.vob_journal.specs.Added.{Adds, may_write}
 use Rattle.vob_journal.specs.declared.left.Left.{Left}
 use Rattle.vob_journal.specs.Frames.{frame_after_gate}
@@ -17,13 +17,21 @@ put place piece d = with_call (Wrote 0 place (length piece) (overwritten place p
 abbrev pub put_down : ℕ → List ℕ → Device → Device
 put_down place piece d = with_call (Synced 0) (put place piece d)
 
+-- A piece was not put down: nothing was done, or a write of it failed, which may have torn its range, or it was written and not
+-- synced.
+abbrev pub FailsToPut : ℕ → List ℕ → Device → Device → Type 0
+FailsToPut place piece d e = (e ≡ d) ⊎ (e ≡ with_call Failed d)
+    ⊎ ((left : List ℕ) × IsTorn place (length piece) (bytes_now 0 d) left
+    × (e ≡ with_call (Tore 0 place (length piece) left) d))
+    ⊎ (e ≡ put place piece d) ⊎ (e ≡ with_call Failed (put place piece d))
+
 -- a tail that was not settled was settled: its gate was shut
 abbrev pub settled_first : Bool → ℕ → Device → Device
 settled_first true tail d = d
 settled_first false tail d = put_down tail (0 ∷ []) d
 
 -- The device calls of a commit: where the tail is not settled, its gate is shut and synced; length, payload and the next
--- gate, shut, are written behind the gate and synced; then the gate is opened and synced.
+-- gate, shut, are written after the gate and synced; then the gate is opened and synced.
 abbrev pub device_after_commit : Bool → ℕ → List ℕ → Device → Device
 device_after_commit settled tail payload d = put_down tail (1 ∷ []) (put_down (tail + 1) (frame_after_gate payload)
     (settled_first settled tail d))
@@ -45,6 +53,7 @@ pub record LeavesLeftover (settled : Bool) (tail : ℕ) (d e : Device) : Type 0 
   pub was_unsettled : settled ≡ false
   pub keeps : KeepsFrames false false tail d e
   pub same_leftover : leftover_at false tail e ≡ leftover_at false tail d
+  pub calls : FailsToPut tail (0 ∷ []) d e
 
 -- a payload was committed
 pub record CommitsFrame (settled : Bool) (tail : ℕ) (payload : List ℕ) (d e : Device) : Type 0 where

@@ -1,8 +1,8 @@
 -- The phases of a commit.
-use Rattle.std.specs.Prelude.{◌≡◌, ◌⊎◌, ◌≤◌, ◌+◌, ℕ, Bool, if◌then◌else◌, Result, MatchResult, List, [], ◌∷◌, ◌++◌, length, drop}
+use Rattle.std.specs.Prelude.{◌≡◌, ◌≤◌, ◌+◌, ℕ, Bool, if◌then◌else◌, Result, MatchResult, List, [], ◌∷◌, ◌++◌, length, drop}
 use Rattle.disk_model.specs.Counting.{next_count}
-use Rattle.disk_model.specs.Files.{File, stable, IsTorn}
-use Rattle.disk_model.specs.Devices.{Device, Wrote, Tore, Failed, with_call, file_of, bytes_now}
+use Rattle.disk_model.specs.Files.{File, stable}
+use Rattle.disk_model.specs.Devices.{Device, file_of}
 use Rattle.disk_model.specs.DiskStates.{DiskState}
 use Rattle.vob_journal.specs.Added.{Adds, may_write}
 use Rattle.vob_journal.specs.Calls.{put_down}
@@ -14,15 +14,7 @@ use Rattle.vob_journal.specs.Tails.{IsShut, IsAjar, list_at}
 abbrev pub PutsDown : ℕ → List ℕ → Device → Device → Type 0
 PutsDown place piece d e = e ≡ put_down place piece d
 
--- A piece of so many bytes was not written, or not synced: nothing was done, or the range is torn by a write that failed or
--- was not synced.
-abbrev pub FailsToPut : ℕ → ℕ → Device → Device → Type 0
-FailsToPut place size d e = (e ≡ d) ⊎ (e ≡ with_call Failed d)
-    ⊎ ((left : List ℕ) × IsTorn place size (bytes_now 0 d) left
-    × ((e ≡ with_call (Tore 0 place size left) d) ⊎ (e ≡ with_call (Wrote 0 place size left) d)
-    ⊎ (e ≡ with_call Failed (with_call (Wrote 0 place size left) d))))
-
--- a file with this payload whole and synced behind a shut gate
+-- a file with this payload whole and synced after a shut gate
 pub record IsStaged (list : List (List ℕ)) (payload : List ℕ) (tail : ℕ) (file : File) : Type 0 where
   pub synced : file ≡ stable file.bytes
   pub shut : IsShut list tail file
@@ -50,7 +42,8 @@ pub record MayOpen (tail : ℕ) (payload : List ℕ) (d e : Device) : Type 0 whe
   pub ajar : IsAjar (list_at tail d) (payload ∷ []) tail (file_of 0 e)
   pub adds : Adds may_write d e
 
--- Ok after exactly so many device calls; a fault after one call or more, at most so many, one of which failed
+-- After Ok the count of device calls is greater by exactly so many, and that of faults is as it was. After a fault the count of
+-- calls is greater by one or more, unless it stands at its last number, and by at most so many; one fault more is counted.
 abbrev pub Spends : {T E : Type 0} → ℕ → Result T E → DiskState → DiskState → Type 0
 Spends calls result old new = MatchResult result
     (λ _. (new.ticks ≡ old.ticks + calls) × (new.faults ≡ old.faults))

@@ -1,7 +1,7 @@
 -- The device calls that read a journal.
-use Rattle.std.specs.Prelude.{◌≡◌, ◌⊎◌, ◌≤◌, ◌+◌, ◌-◌, ℕ, min, Result, Ok, Err, length}
+use Rattle.std.specs.Prelude.{◌≡◌, ◌≤◌, ◌+◌, ℕ, Result, Ok, Err}
 use Rattle.disk_model.specs.Counting.{next_count}
-use Rattle.disk_model.specs.Devices.{Device, Fetched, Failed, with_call, file_of, bytes_now, LeavesNow}
+use Rattle.disk_model.specs.Devices.{Device, file_of, LeavesNow}
 use Rattle.disk_model.specs.DiskStates.{DiskState}
 use Rattle.cc_names.specs.declared.memory.Or.{Or}
 use Rattle.cc_names.specs.declared.memory.Or.TheVariants.{NoMemory, Is}
@@ -22,11 +22,6 @@ pub record Rests (d e : Device) : Type 0 where
   pub adds : Adds may_read d e
   pub same : file_of 0 e ≡ file_of 0 d
   pub passes : Passes d e (LeavesNow 0 d)
-
--- No call, one that failed, or one that read the journal from this place on: at least 64 KiB, or all that is there.
-abbrev pub ReadsPiece : ℕ → Device → Device → Type 0
-ReadsPiece place d e = (e ≡ d) ⊎ (e ≡ with_call Failed d)
-    ⊎ ((size : ℕ) × (min 65536 (length (bytes_now 0 d) - place) ≤ size) × (e ≡ with_call (Fetched 0 place size) d))
 
 -- faults rise by one where a read answers a fault, and not else
 abbrev pub FaultsOf : {T E : Type 0} → Result T (Or E) → ℕ → ℕ → Type 0

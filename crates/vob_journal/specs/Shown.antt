@@ -1,5 +1,5 @@
 -- What contracts see of a journal.
-use Rattle.std.specs.Prelude.{◌≤◌, ◌^◌, ℕ, Bool, true, false, Option, Some, None, List, [], ◌++◌, drop}
+use Rattle.std.specs.Prelude.{◌≤◌, ◌-◌, ◌^◌, ℕ, Bool, true, false, Option, Some, None, List, [], ◌++◌, length, drop}
 use Rattle.disk_model.specs.Devices.{Device, bytes_now}
 use Rattle.vob_journal.specs.declared.left.Left.{Left}
 use Rattle.vob_journal.specs.Frames.{frames}
@@ -21,6 +21,10 @@ pub record Shown (D : Type 0) : Type 0 where
   pub settled : Bool
   pub left : Left
   pub reach : ℕ
+
+-- how many frames of the list were read
+abbrev pub frames_read : {D : Type 0} → Shown D → ℕ
+frames_read journal = length journal.list - length journal.rest
 
 -- what is still to be read
 abbrev pub rest_at : Bool → ℕ → Device → List (List ℕ)

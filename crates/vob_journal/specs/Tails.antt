@@ -3,7 +3,7 @@ use Rattle.std.specs.Prelude.{◌≡◌, ◌≢◌, ◌≤◌, ◌<◌, ◌+◌,
 use Rattle.std.specs.Prelude.{slice_index}
 use Rattle.disk_model.specs.Files.{File, is_written, stable}
 use Rattle.disk_model.specs.Devices.{Device, file_of, bytes_now}
-use Rattle.vob_journal.specs.Frames.{frames}
+use Rattle.vob_journal.specs.Frames.{frames, place_after}
 
 -- bytes that end with their last frame: what follows them is read as a journal of its own
 pub record IsWhole (prefix : List ℕ) : Type 0 where
@@ -46,9 +46,10 @@ abbrev pub IsTail : Bool → ℕ → Device → Type 0
 IsTail true tail d = IsShut (list_at tail d) tail (file_of 0 d)
 IsTail false tail d = IsAjar (list_at tail d) (leftover_at false tail d) tail (file_of 0 d)
 
--- while it is still read: the file is as it was handed in, and a frame ends at this place
+-- while it is still read: the file is as it was handed in, and so many frames as were read end at this place
 pub record IsStillRead (place size : ℕ) (d : Device) : Type 0 where
   pub as_opened : file_of 0 d ≡ stable (bytes_now 0 d)
   pub within : place ≤ length (bytes_now 0 d)
   pub all : size ≡ length (bytes_now 0 d)
   pub whole : IsWhole (take place (bytes_now 0 d))
+  pub after : place ≡ place_after (length (frames (take place (bytes_now 0 d)))) (bytes_now 0 d)

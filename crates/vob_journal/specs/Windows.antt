@@ -9,7 +9,7 @@ pub record Shows (window : Window) (d : Device) : Type 0 where
   pub within : window.start + length window.bytes.items ≤ length (bytes_now 0 d)
   pub same : window.bytes.items ≡ take (length window.bytes.items) (drop window.start (bytes_now 0 d))
 
--- how far the journal was read by the window at hand; 0 where there is none
+-- the place where the window at hand ends; 0 where there is none
 abbrev pub reach_of : Option Window → ℕ
 reach_of None = 0
 reach_of (Some window) = window.start + length window.bytes.items

@@ -1,9 +1,10 @@
 //! What follows the frames of a journal, where it can be no frame of it.
 
-ghost use Rattle.std.specs.Prelude.{◌≡◌, ◌≤◌, ◌^◌, List, ℕ, min, length, take, drop, IfOk};
+ghost use Rattle.std.specs.Prelude.{◌≡◌, ◌≤◌, ◌^◌, List, ℕ, min, length, take, drop, IfOk, OnErr};
 ghost use Rattle.disk_model.specs.Devices.{bytes_now};
 ghost use Rattle.disk_model.specs.DiskStates.{IfModeled, Both};
 ghost use Rattle.vob_journal.specs.Foreign.{behind, foreign, foreign_of, may_be_cut};
+ghost use Rattle.vob_journal.specs.Pieces.{LooksBehind, ReadsFromStart, ReadsFromStartUntil, ReadsPiece};
 ghost use Rattle.vob_journal.specs.Reads.{SameFiles, Rests, CountsOn};
 
 use crate::reading::{Found, read_frame};
@@ -13,8 +14,8 @@ use disk_model::{Disk, DiskFault};
 use std::alloc::Global;
 
 /// The number of bytes after the last whole frame of file 0, if they cannot be a torn frame; else 0. The next frame
-/// that is appended overwrites them. Reads in pieces of at least 64 KiB, the last of them twice, in time linear in the
-/// journal. Whatever it answers, both files are as they were.
+/// that is appended overwrites them. Reads the journal once, and then at most one piece of it more, after its last whole frame.
+/// Takes time linear in the journal. Whatever it answers, both files are as they were.
 pub fn foreign_bytes<D: Disk>(alloc: Global, disk: &mut D) -> Result<u64, Or<DiskFault>>
     ensures foreign { IfOk result
         (λ count. IfModeled (D.ghost_state disk.old).modeled
@@ -22,6 +23,8 @@ pub fn foreign_bytes<D: Disk>(alloc: Global, disk: &mut D) -> Result<u64, Or<Dis
     ensures files { Both SameFiles (D.ghost_state disk.old).modeled
         (D.ghost_state disk.new).modeled }
     ensures rests { Both Rests (D.ghost_state disk.old).modeled (D.ghost_state disk.new).modeled }
+    ensures looks { Both LooksBehind (D.ghost_state disk.old).modeled
+        (D.ghost_state disk.new).modeled }
     ensures counts { CountsOn result (D.ghost_state disk.old) (D.ghost_state disk.new) }
 {
     let size = match disk.length(0) {
@@ -44,6 +47,10 @@ fn tail_of<D: Disk>(alloc: Global, disk: &mut D, size: u64) -> Result<u64, Or<Di
         IfModeled (D.ghost_state disk.old).modeled
         (λ d. behind (bytes_now 0 d) ≡ drop tail (bytes_now 0 d))) }
     ensures rests { Both Rests (D.ghost_state disk.old).modeled (D.ghost_state disk.new).modeled }
+    ensures forth { IfOk result
+        (λ _. Both ReadsFromStart (D.ghost_state disk.old).modeled (D.ghost_state disk.new).modeled) }
+    ensures until { OnErr result
+        (Both ReadsFromStartUntil (D.ghost_state disk.old).modeled (D.ghost_state disk.new).modeled) }
     ensures counts { CountsOn result (D.ghost_state disk.old) (D.ghost_state disk.new) }
 {
     let mut tail = 0;
@@ -75,6 +82,8 @@ fn foreign_at<D: Disk>(
         IfModeled (D.ghost_state disk.old).modeled
         (λ d. count ≡ foreign_of (drop tail (bytes_now 0 d)))) }
     ensures rests { Both Rests (D.ghost_state disk.old).modeled (D.ghost_state disk.new).modeled }
+    ensures piece { Both (ReadsPiece tail 0) (D.ghost_state disk.old).modeled
+        (D.ghost_state disk.new).modeled }
     ensures counts { CountsOn result (D.ghost_state disk.old) (D.ghost_state disk.new) }
 {
     let left = size - tail;

@@ -37,7 +37,7 @@ impl Frame {
         Ok(Frame { bytes })
     }
 
-    /// What is written behind the gate byte.
+    /// What is written after the gate byte.
     pub(crate) fn as_bytes(&self) -> &[u8]
         ensures bytes { result.now ≡ frame_after_gate self.now }
         ensures short { length self.now < 2 ^ 32 }

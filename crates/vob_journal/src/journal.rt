@@ -61,7 +61,7 @@ impl<D: Disk> Journal<D> {
     ghost use Rattle.vob_journal.specs.declared.left.Left.TheVariants as lefts;
     ghost use Rattle.vob_journal.specs.Added.{Adds, WritesOn, may_read};
     ghost use Rattle.vob_journal.specs.Answered.{GivesNext, Ends, SettledAtEnd, OneMore, OneFault, MakesNoCall};
-    ghost use Rattle.vob_journal.specs.Calls.{device_after_commit, settled_first};
+    ghost use Rattle.vob_journal.specs.Calls.{FailsToPut, device_after_commit, settled_first};
     ghost use Rattle.vob_journal.specs.Frames.{frames};
     ghost use Rattle.vob_journal.specs.Lefts.{FailsInPhase, leftover_after, settled_after};
     ghost use Rattle.vob_journal.specs.Moves.{Moves, Stands};
@@ -113,9 +113,9 @@ impl<D: Disk> Journal<D> {
         }
     }
 
-    /// The next payload, or None at the end of the list, after which no call is made. Reads in pieces of at least 64 KiB, each
-    /// no earlier than the one before and further, so that all payloads take time linear in the journal. Whatever it answers, both
-    /// files are as they were.
+    /// The next payload, or None at the end of the list, after which no call is made. Reads a piece only where the bytes at
+    /// hand do not say what comes next: 64 KiB, or the whole frame where that is longer. So all payloads take time linear
+    /// in the journal. Whatever it answers, both files are as they were.
     pub fn next(&mut self, alloc: Global) -> Result<Option<Text>, Or<DiskFault>>
         ensures gives { IfOk result
             (λ found.
@@ -209,14 +209,16 @@ impl<D: Disk> Journal<D> {
     }
 
     /// Settles the tail: where it is not settled, one byte 0 is written there and synced; where it is, the disk is as it
-    /// was. Afterwards each stop leaves the list and no more.
+    /// was. Afterwards each stop leaves the list and no more. A fault ends these calls, and no other is made.
     pub fn settle(&mut self) -> Result<(), DiskFault>
         requires { self.old.ended ≡ true }
         ensures moves { Both (Moves self.old.list self.old.leftover self.new.list self.new.leftover)
             (D.ghost_state self.old.disk).modeled (D.ghost_state self.new.disk).modeled }
-        ensures calls { OnOk result
-            (Both (λ d e. e ≡ settled_first self.old.settled self.old.tail d)
-            (D.ghost_state self.old.disk).modeled (D.ghost_state self.new.disk).modeled) }
+        ensures calls { MatchResult result
+            (λ _. Both (λ d e. e ≡ settled_first self.old.settled self.old.tail d)
+            (D.ghost_state self.old.disk).modeled (D.ghost_state self.new.disk).modeled)
+            (λ _. Both (FailsToPut self.old.tail (0 ∷ [])) (D.ghost_state self.old.disk).modeled
+            (D.ghost_state self.new.disk).modeled) }
         ensures list { self.new.list ≡ self.old.list }
         ensures leftover { MatchResult result (λ _. self.new.leftover ≡ [])
             (λ _. self.new.leftover ≡ self.old.leftover) }

@@ -2,7 +2,7 @@
 //! take it back.
 //!
 //! What it is for: `Journal::open` and `next` read the frames that a disk holds, `append` commits one more, `settle` shuts
-//! the gate behind the last. `foreign_bytes` counts what follows the frames and can be none.
+//! the gate after the last. `foreign_bytes` counts what follows the frames and can be none.
 //!
 //! What it promises: after a stop at any device call the frames found are the list so far, or the list and the one row
 //! that was in flight or that an earlier fault left; after `append` answered Ok they are the list with the row.

@@ -3,7 +3,7 @@
 ghost use Rattle.std.specs.Prelude.{◌≡◌, ◌≤◌, ◌<◌, ◌+◌, ◌-◌, ◌^◌, List, ℕ, min, length, take, drop, IfOk, OnErr, Some};
 ghost use Rattle.disk_model.specs.Devices.{bytes_now};
 ghost use Rattle.disk_model.specs.DiskStates.{IfModeled, Both};
-ghost use Rattle.vob_journal.specs.Pieces.{IsReadUntil, ReadsFrame};
+ghost use Rattle.vob_journal.specs.Pieces.{ReadsFrame, ReadsUntil, needed};
 ghost use Rattle.vob_journal.specs.Windows.{IfShows, StartsBy, reach_of};
 ghost use Rattle.vob_journal.specs.Reads.{Rests, CountsReads};
 ghost use Rattle.vob_journal.specs.Found.{BeginsBy, HeadTells, FindsAtHead, IsPayload, IsFrameWithin, ShowsOn, FitsIn};
@@ -82,7 +82,7 @@ pub(crate) fn read_frame<D: Disk>(
         (λ found. Both (ReadsFrame tail (reach_of window) found) (D.ghost_state disk.old).modeled
         (D.ghost_state disk.new).modeled) }
     ensures until { OnErr result
-        (Both (IsReadUntil tail (reach_of window)) (D.ghost_state disk.old).modeled
+        (Both (ReadsUntil tail (reach_of window)) (D.ghost_state disk.old).modeled
         (D.ghost_state disk.new).modeled) }
     ensures counts { CountsReads 2 result (D.ghost_state disk.old) (D.ghost_state disk.new) }
 {
@@ -113,6 +113,8 @@ fn read_payload<D: Disk>(
     requires within { tail + (5 + count) ≤ size }
     requires small { size ≤ 2 ^ 62 }
     requires all { IfModeled (D.ghost_state disk.old).modeled (λ d. size ≡ length (bytes_now 0 d)) }
+    requires whole { IfModeled (D.ghost_state disk.old).modeled
+        (λ d. 5 + count ≡ needed (drop tail (bytes_now 0 d))) }
     requires starts { window.start ≤ tail }
     requires shows { IfShows (Some window) (D.ghost_state disk.old).modeled }
     ensures found { IfOk result
@@ -127,7 +129,7 @@ fn read_payload<D: Disk>(
         (λ found. Both (ReadsFrame tail (reach_of (Some window)) found)
         (D.ghost_state disk.old).modeled (D.ghost_state disk.new).modeled) }
     ensures until { OnErr result
-        (Both (IsReadUntil tail (reach_of (Some window))) (D.ghost_state disk.old).modeled
+        (Both (ReadsUntil tail (reach_of (Some window))) (D.ghost_state disk.old).modeled
         (D.ghost_state disk.new).modeled) }
     ensures counts { CountsReads 1 result (D.ghost_state disk.old) (D.ghost_state disk.new) }
 {

@@ -6,8 +6,8 @@ ghost use Rattle.disk_model.specs.DiskStates.{IfModeled, Both};
 ghost use Rattle.vob_journal.specs.Answered.{MakesNoCall};
 ghost use Rattle.vob_journal.specs.Lefts.{FailsInPhase};
 ghost use Rattle.vob_journal.specs.Tails.{IsTail};
-ghost use Rattle.vob_journal.specs.Calls.{KeepsFrames, Settles, LeavesLeftover, CommitsFrame, FailsToAppend};
-ghost use Rattle.vob_journal.specs.Phases.{PutsDown, FailsToPut, Stages, IsStagedAt, OpensGate, MayOpen, Spends, calls_of};
+ghost use Rattle.vob_journal.specs.Calls.{FailsToPut, KeepsFrames, Settles, LeavesLeftover, CommitsFrame, FailsToAppend};
+ghost use Rattle.vob_journal.specs.Phases.{PutsDown, Stages, IsStagedAt, OpensGate, MayOpen, Spends, calls_of};
 
 use crate::frame::Frame;
 use crate::left::Left;
@@ -25,7 +25,7 @@ fn put_down<D: Disk>(disk: &mut D, place: u64, piece: &[u8]) -> Result<(), DiskF
         (λ _. Both (PutsDown place piece.now) (D.ghost_state disk.old).modeled
         (D.ghost_state disk.new).modeled)
         (λ _.
-        Both (FailsToPut place (length piece.now)) (D.ghost_state disk.old).modeled
+        Both (FailsToPut place piece.now) (D.ghost_state disk.old).modeled
         (D.ghost_state disk.new).modeled) }
     ensures counts { Spends 2 result (D.ghost_state disk.old) (D.ghost_state disk.new) }
 {
@@ -53,7 +53,7 @@ pub(crate) fn settle_tail<D: Disk>(disk: &mut D, settled: bool, tail: u64) -> Re
     put_down(disk, tail, &SHUT)
 }
 
-/// Writes a frame behind a shut gate, and the next gate, shut.
+/// Writes a frame after a shut gate, and the next gate, shut.
 fn stage<D: Disk>(disk: &mut D, tail: u64, frame: &Frame) -> Result<(), DiskFault>
     requires small { tail ≤ 2 ^ 62 }
     requires shut { IfModeled (D.ghost_state disk.old).modeled (IsTail true tail) }

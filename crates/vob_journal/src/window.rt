@@ -1,11 +1,11 @@
 //! The piece of a journal that is held in memory while it is read.
 
-ghost use Rattle.std.specs.Prelude.{◌≡◌, ◌≤◌, ◌<◌, ◌+◌, ◌-◌, ◌^◌, ◌↔◌, Some, length, take, drop, IfOk, IfSome, IfNone, OnErr, IsTrue};
+ghost use Rattle.std.specs.Prelude.{◌≡◌, ◌≤◌, ◌<◌, ◌+◌, ◌-◌, ◌^◌, ◌↔◌, min, max, Some, length, take, drop, IfOk, IfSome, IfNone, OnErr, IsTrue};
 ghost use Rattle.disk_model.specs.DiskStates.{IfModeled, Both};
 ghost use Rattle.disk_model.specs.Devices.{bytes_now, Fetches, Idles};
-ghost use Rattle.vob_journal.specs.Pieces.{IsReadForth, IsReadUntil};
+ghost use Rattle.vob_journal.specs.Pieces.{IsSought, ReadsAt, ReadsPiece, ReadsUntil};
 ghost use Rattle.vob_journal.specs.Windows.{IfShows, StartsBy, reach_of};
-ghost use Rattle.vob_journal.specs.Reads.{Rests, ReadsPiece, CountsReads};
+ghost use Rattle.vob_journal.specs.Reads.{Rests, CountsReads};
 
 use cc_names::memory::Or;
 use disk_model::{Disk, DiskFault};
@@ -73,7 +73,8 @@ fn read_piece<D: Disk>(
     requires small { size ≤ 2 ^ 62 }
     requires all { IfModeled (D.ghost_state disk.old).modeled (λ d. size ≡ length (bytes_now 0 d)) }
     ensures from { IfOk result (λ window. window.start ≡ place) }
-    ensures to { IfOk result (λ window. needed ≤ length window.bytes.items) }
+    ensures sized { IfOk result
+        (λ window. length window.bytes.items ≡ max (min 65536 (size - place)) needed) }
     ensures shows { IfOk result (λ window. IfShows (Some window) (D.ghost_state disk.new).modeled) }
     ensures rests { Both Rests (D.ghost_state disk.old).modeled (D.ghost_state disk.new).modeled }
     ensures fetched { IfOk result
@@ -81,7 +82,7 @@ fn read_piece<D: Disk>(
         (D.ghost_state disk.old).modeled (D.ghost_state disk.new).modeled) }
     ensures idle { OnErr result
         (Both Idles (D.ghost_state disk.old).modeled (D.ghost_state disk.new).modeled) }
-    ensures pieces { Both (ReadsPiece place) (D.ghost_state disk.old).modeled
+    ensures pieces { Both (ReadsPiece place needed) (D.ghost_state disk.old).modeled
         (D.ghost_state disk.new).modeled }
     ensures counts { CountsReads 1 result (D.ghost_state disk.old) (D.ghost_state disk.new) }
 {
@@ -111,6 +112,8 @@ pub(crate) fn look<D: Disk>(
     requires small { size ≤ 2 ^ 62 }
     requires some { 0 < needed }
     requires all { IfModeled (D.ghost_state disk.old).modeled (λ d. size ≡ length (bytes_now 0 d)) }
+    requires sought { IfModeled (D.ghost_state disk.old).modeled
+        (λ d. IsSought needed (drop place (bytes_now 0 d))) }
     requires starts { StartsBy window place }
     requires shows { IfShows window (D.ghost_state disk.old).modeled }
     ensures from { IfOk result (λ window. window.start ≤ place) }
@@ -118,12 +121,12 @@ pub(crate) fn look<D: Disk>(
     ensures shows { IfOk result (λ window. IfShows (Some window) (D.ghost_state disk.new).modeled) }
     ensures rests { Both Rests (D.ghost_state disk.old).modeled (D.ghost_state disk.new).modeled }
     ensures forth { IfOk result
-        (λ found. Both (IsReadForth place (reach_of window) place (reach_of (Some found)))
+        (λ found. Both (ReadsAt place (reach_of window) (reach_of (Some found)))
         (D.ghost_state disk.old).modeled (D.ghost_state disk.new).modeled) }
     ensures until { OnErr result
-        (Both (IsReadUntil place (reach_of window)) (D.ghost_state disk.old).modeled
+        (Both (ReadsUntil place (reach_of window)) (D.ghost_state disk.old).modeled
         (D.ghost_state disk.new).modeled) }
-    ensures pieces { Both (ReadsPiece place) (D.ghost_state disk.old).modeled
+    ensures pieces { Both (ReadsPiece place needed) (D.ghost_state disk.old).modeled
         (D.ghost_state disk.new).modeled }
     ensures counts { CountsReads 1 result (D.ghost_state disk.old) (D.ghost_state disk.new) }
 {

@@ -43,7 +43,7 @@ fn whole_frames_are_found_and_what_can_be_none_is_foreign(rt: HostRuntime) -> Re
     let table: [(&[u8], u64, u64); 17] = [
         (b"", 0, 0),
         (b"\x00", 0, 0),
-        // whole frames, and one with a shut gate behind it
+        // whole frames, and one with a shut gate after it
         (b"\x01\x00\x00\x00\x00", 1, 0),
         (b"\x01\x02\x00\x00\x00ab", 1, 0),
         (b"\x01\x02\x00\x00\x00ab\x00", 1, 0),

@@ -1,7 +1,7 @@
 -- Branches in order of their identities: where one stands, how one is put or changed there.
 use Rattle.std.proofs.Common.{◌≡◌, ℕ, zero, suc, ◌<◌, ◌≤◌, Bool, true, false, cond, eqb, Option, Some, None, List, [], ◌∷◌}
 use Rattle.std.proofs.Common.{length, get_or, set, slice_get, refl, sym, ap, ◌∙◌, subst, arith}
-use Rattle.std.specs.Prelude.{insert, nat_lt, ◌&&◌, Result, Ok, Err, OnOk, OnErr}
+use Rattle.std.specs.Prelude.{insert, nat_le, nat_lt, not, ◌&&◌, Result, Ok, Err, OnOk, OnErr}
 use Rattle.std.specs.Cmp.{IsTotalOrder}
 use Rattle.std.specs.List.Sorted.{IsPartitionedBy, IsPartitionPoint}
 use Rattle.std.specs.Ordering.{nat_cmp, match_ordering, ordering_reverse, ordering_then, is_lt, is_eq, on, then_cmp}
@@ -28,7 +28,7 @@ base_cmp = then_cmp (on (λ (i : Identity). i.site) (slice_cmp nat_cmp)) (on (λ
 base : IsTotalOrder base_cmp
 base = then_total (on_total (λ (i : Identity). i.site) nat_list_cmp_total) (on_total (λ (i : Identity). i.number) nat_cmp_total)
 
-then-is : (o p : Ordering) → ordering_then o p ≡ match_ordering o Less p Greater
+pub then-is : (o p : Ordering) → ordering_then o p ≡ match_ordering o Less p Greater
 then-is Less p = refl
 then-is Equal p = refl
 then-is Greater p = refl
@@ -56,7 +56,7 @@ same-by Equal b m n is = same-number m n ∙ ap (λ (c : Bool). c && eqb m n) is
 same-by Greater b m n is = ap (λ (c : Bool). c && eqb m n) is
 
 -- what the order does not tell apart is the same
-same-order : (x y : Identity) → is_same_identity x y ≡ is_eq (identity_cmp x y)
+pub same-order : (x y : Identity) → is_same_identity x y ≡ is_eq (identity_cmp x y)
 same-order x y = sym (same-by (slice_cmp nat_cmp x.site y.site) (bytes_eq x.site y.site) x.number y.number
     (is_eq-slice_cmp x.site y.site))
 
@@ -330,7 +330,7 @@ tree_at-missing branch [] order none = refl
 tree_at-missing branch (tree ∷ trees) order none =
     found-missing (identity_cmp tree.identity branch) branch tree trees refl order none (tree_at-missing branch trees order.1)
 
-is_lt-Less : (o : Ordering) → is_lt o ≡ true → o ≡ Less
+pub is_lt-Less : (o : Ordering) → is_lt o ≡ true → o ≡ Less
 is_lt-Less Less is = refl
 is_lt-Less Equal is = cc is
 is_lt-Less Greater is = cc is
@@ -464,15 +464,20 @@ ok-along (Err e) new one other is same = tt
 version-by : (b : Bool) (version other : VersionMade) (others : List VersionMade)
     → with_version_put version others ≡ insert others (version_place version.number others) version
     → cond b (version ∷ other ∷ others) (other ∷ with_version_put version others)
-    ≡ insert (other ∷ others) (cond b 0 (suc (version_place version.number others))) version
+    ≡ insert (other ∷ others) (cond (not b) (suc (version_place version.number others)) 0) version
 version-by true version other others later = refl
 version-by false version other others later = ap (λ (l : List VersionMade). other ∷ l) later
+
+not-below : (one other : ℕ) → not (nat_lt one other) ≡ nat_le other one
+not-below one other = grind (arith, nat_tests)
 
 with_version_put-at : (version : VersionMade) (versions : List VersionMade)
     → with_version_put version versions ≡ insert versions (version_place version.number versions) version
 with_version_put-at version [] = refl
-with_version_put-at version (other ∷ others) = version-by (nat_lt version.number other.number) version other others
-    (with_version_put-at version others)
+with_version_put-at version (other ∷ others) =
+    version-by (nat_lt version.number other.number) version other others (with_version_put-at version others)
+    ∙ ap (λ (b : Bool). insert (other ∷ others) (cond b (suc (version_place version.number others)) 0) version)
+    (not-below version.number other.number)
 
 -- a version was put in its place
 pub version-put : (versions versions' : List VersionMade) (place : ℕ) (version : VersionMade) (number : ℕ) (made : Operation)

@@ -1,10 +1,12 @@
 pub mod BranchLaws
+pub mod ChainLaws
 pub mod Commuting
 pub mod GrowthLaws
 pub mod HistoryLaws
 pub mod HoldLaws
 pub mod ImportLaws
 pub mod KnowLaws
+pub mod LabelLaws
 pub mod LogLaws
 pub mod MakeLaws
 pub mod MasterLaws
@@ -18,4 +20,5 @@ pub mod StepLaws
 pub mod TableLaws
 pub mod VersionLaws
 pub mod WholeLaws
+pub mod WorkedBranches
 pub mod WorkedReplicas

@@ -120,7 +120,7 @@ IsWhole-push table (first ∷ known) operation whole enough = (
   IsWhole-push (with_operation table first.identity) known operation whole.1 enough,
 )
 
-HaveNextNumbers-push : (known : List Operation) (operation : Operation) → HaveNextNumbers known → HasNextNumber operation
+pub HaveNextNumbers-push : (known : List Operation) (operation : Operation) → HaveNextNumbers known → HasNextNumber operation
     → HaveNextNumbers (known ++ operation ∷ [])
 HaveNextNumbers-push [] operation have next = (next, tt)
 HaveNextNumbers-push (first ∷ known) operation have next = (have.0, HaveNextNumbers-push known operation have.1 next)

@@ -1,9 +1,8 @@
 -- Sites by their names, and what an event does where its site stands.
 use Rattle.std.proofs.Common.{◌≡◌, ℕ, zero, suc, ◌<◌, ◌≤◌, Bool, true, false, cond, Option, Some, None, List, [], ◌∷◌, ◌++◌}
-use Rattle.std.proofs.Common.{length, get_or, set, refl, sym, ap, ◌∙◌, arith}
+use Rattle.std.proofs.Common.{length, get_or, set, refl, ap, ◌∙◌, arith}
 use Rattle.std.specs.Map.{lookup}
 use Rattle.std.specs.Str.{bytes_eq}
-use Rattle.std.proofs.lemmas.Slice.Eq.{bytes_eq-Decides}
 use Rattle.cc_names.proofs.Common.{bytes_swapped}
 use Rattle.vob_replica.specs.Replicas.{Site, Packet}
 use Rattle.vob_replica.specs.Sites.{sent_as, sents_of, place_in}

@@ -1,5 +1,5 @@
 -- Operations that need nothing that is missing, and the places of a log after which there is news.
-use Rattle.std.proofs.Common.{◌≡◌, ℕ, ◌+◌, ◌≤◌, Bool, true, false, cond, Option, Some, None, Ok, Err, List, []}
+use Rattle.std.proofs.Common.{◌≡◌, ℕ, ◌≤◌, Bool, true, false, cond, Option, Some, None, Ok, Err, List, []}
 use Rattle.std.proofs.Common.{◌∷◌, ◌++◌, take, drop, map, not, refl, sym, ap, ◌∙◌, subst, arith}
 use Rattle.std.specs.Prelude.{is_none, IfOk, Result, Vec}
 use Rattle.std.specs.declared.alloc.Global.{Global}

@@ -1,5 +1,5 @@
 -- Branches as a site keeps them: by identity, each once. A branch and a version are read off the operations that made them.
-use Rattle.std.specs.Prelude.{◌≡◌, ℕ, suc, ◌≤◌, Bool, false, nat_lt, List, [], ◌∷◌, ◌++◌, codes, slice_get, if◌then◌else◌}
+use Rattle.std.specs.Prelude.{◌≡◌, ℕ, suc, ◌≤◌, Bool, false, ◌==◌, nat_le, nat_lt, List, [], ◌∷◌, ◌++◌, codes, slice_get, if◌then◌else◌}
 use Rattle.std.specs.Option.{option_map_or}
 use Rattle.std.specs.Ordering.{is_lt}
 use Rattle.std.specs.declared.cmp.Ordering.TheVariants.{Less}
@@ -37,10 +37,25 @@ with_version_by tree number made = record tree { versions = with_version_put (ve
 abbrev pub with_master : Tree → Operation → Tree
 with_master tree operation = record tree { masters = tree.masters ++ operation ∷ [] }
 
--- how many versions stand before a new one of this number, from the first on
+-- whether the number of a version is at most another, or below it
+abbrev pub is_up_to : ℕ → VersionMade → Bool
+is_up_to number version = nat_le version.number number
+
+abbrev pub is_number_below : ℕ → VersionMade → Bool
+is_number_below number version = nat_lt version.number number
+
+-- how many versions pass a test, from the first on
+abbrev pub count_passing : (VersionMade → Bool) → List VersionMade → ℕ
+count_passing test [] = 0
+count_passing test (version ∷ versions) = if test version then suc (count_passing test versions) else 0
+
+-- how many versions stand before a new one of this number
 abbrev pub version_place : ℕ → List VersionMade → ℕ
-version_place number [] = 0
-version_place number (version ∷ versions) = if nat_lt number version.number then 0 else suc (version_place number versions)
+version_place number versions = count_passing (is_up_to number) versions
+
+-- whether the version at a place has a number
+abbrev pub has_number_at : List VersionMade → ℕ → ℕ → Bool
+has_number_at versions place number = option_map_or (λ version. version.number == number) (slice_get versions place) false
 
 -- a number is at most that of each version
 abbrev pub IsBelowVersions : ℕ → List VersionMade → Type 0

@@ -1,7 +1,9 @@
 pub mod Branches
 pub mod Estimates
+pub mod Labels
 pub mod Laws
 pub mod Logs
+pub mod Masters
 pub mod Needs
 pub mod Reading
 pub mod Replicas

@@ -1,7 +1,9 @@
 -- Sites and packets as they are kept: packets after their names.
-use Rattle.std.specs.Prelude.{ℕ, suc, Result, Ok, Err, List, [], ◌∷◌, map, if◌then◌else◌}
+use Rattle.std.specs.Prelude.{◌≡◌, ℕ, suc, Result, Ok, Err, List, [], ◌∷◌, map, if◌then◌else◌}
 use Rattle.std.specs.Fmt.{decimal}
 use Rattle.std.specs.Str.{bytes_eq}
+use Rattle.cc_names.specs.declared.memory.Or.{Or}
+use Rattle.cc_names.specs.declared.memory.Or.TheVariants.{NoMemory, Is}
 use Rattle.vob_replica.specs.declared.events.Identity.{Identity}
 use Rattle.vob_replica.specs.declared.operations.Answer.{Answer}
 use Rattle.vob_replica.specs.declared.operations.Answer.TheVariants.{Done, Refused}
@@ -31,3 +33,8 @@ identity_answer (Err fault) = Refused fault
 abbrev pub number_answer : Result ℕ SiteFault → Answer
 number_answer (Ok number) = Done (decimal number)
 number_answer (Err fault) = Refused fault
+
+-- an answer is that of a call that was refused
+abbrev pub IsRefusal : Or SiteFault → Answer → Type 0
+IsRefusal NoMemory answer = ⊥
+IsRefusal (Is fault) answer = answer ≡ Refused fault

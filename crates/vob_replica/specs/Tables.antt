@@ -1,7 +1,7 @@
 -- Epoch tables: of each site the highest number of its operations that is known, in byte order of sites, without the sites of
 -- which none is known.
 use Rattle.std.specs.Prelude.{ℕ, suc, ◌+◌, ◌≤◌, max, Bool, false, ◌&&◌, nat_lt, nat_le, Option, Some, None, List, [], ◌∷◌, fold}
-use Rattle.std.specs.Prelude.{map}
+use Rattle.std.specs.Prelude.{map, Result, Ok, Err, ◌<◌, length, true}
 use Rattle.std.specs.Prelude.{find, slice_get, ◌≡◌, if◌then◌else◌}
 use Rattle.std.specs.Option.{option_map_or}
 use Rattle.std.specs.Str.{bytes_eq}
@@ -77,3 +77,9 @@ IsBeforeSites site (entry ∷ others) = (slice_cmp nat_cmp site entry.site ≡ L
 abbrev pub Ascends : List Identity → Type 0
 Ascends [] = Unit {0}
 Ascends (entry ∷ others) = IsBeforeSites entry.site others × Ascends others
+
+-- the entry of a site stands at a place; or, as an `Err`, it would stand there
+abbrev pub FindsEntry : Result ℕ ℕ → List Identity → List ℕ → Type 0
+FindsEntry (Ok place) table site = (place < length table) × (is_entry_at table place site ≡ true)
+FindsEntry (Err place) table site =
+    (place ≡ entry_place_in site table) × (is_entry_at table place site ≡ false) × (place ≤ length table)

@@ -1,28 +1,23 @@
 //! One branch as a site knows it.
 
 ghost use Rattle.std.specs.List.{list_any};
-ghost use Rattle.std.specs.Prelude.{◌≡◌, ◌==◌, ◌≤◌, ◌||◌, [], find, length, option_copied, OnOk, OnErr};
-ghost use Rattle.vob_replica.specs.Branches.{branch_made_by, name_in, word_in, version_by, version_place, with_master, with_version_by, AreByNumber};
-ghost use Rattle.vob_replica.specs.Tables.{holds};
-ghost use Rattle.vob_replica.specs.Trees.{is_same_identity, needs_all_others, given_to, master_of, next_number, has_version};
+ghost use Rattle.std.specs.Prelude.{◌≡◌, ◌==◌, ◌≤◌, [], length, IfOk, OnOk, OnErr};
+ghost use Rattle.vob_replica.specs.Branches.{branch_made_by, name_in, word_in, version_by, version_place, is_up_to, is_number_below, count_passing, has_number_at, with_master, with_version_by, AreByNumber};
+ghost use Rattle.vob_replica.specs.Labels.{label_of};
+ghost use Rattle.vob_replica.specs.Trees.{given_to, master_of, next_number, has_version};
 
 use crate::events::Identity;
-use crate::operations::{Operation, SiteDeed};
+use crate::labels::Label;
+use crate::masters::Masters;
+use crate::operations::SiteDeed;
 use crate::shared::Shared;
 use cc_names::memory::NoMemory;
 use cc_names::names::Name;
 use std::alloc::Global;
 use std::marker::Model;
 
-/// Whether two identities are the same.
-pub(crate) fn is_same_identity(one: &Identity, other: &Identity) -> bool
-    ensures { result ≡ is_same_identity one.now other.now }
-{
-    one.site == other.site && one.number == other.number
-}
-
 /// The name of the branch that a deed made.
-fn name_in(deed: &SiteDeed) -> &[u8]
+pub(crate) fn name_in(deed: &SiteDeed) -> &[u8]
     ensures { result.now ≡ name_in deed.now }
 {
     match deed {
@@ -88,23 +83,23 @@ impl Version {
     }
 }
 
-/// How many versions stand before the first one of a greater number.
+fn is_up_to(version: &Version, number: u64) -> bool
+    ensures { result ≡ is_up_to number version.now }
+{
+    version.number() <= number
+}
+
+/// How many versions stand before the first one of a greater number. Takes time logarithmic in them.
 fn first_above(versions: &[Version], number: u64) -> usize
+    requires { AreByNumber versions.now }
     ensures place { result ≡ version_place number versions.now }
     ensures within { result ≤ length versions.now }
 {
-    let mut place = 0;
-    for version in versions {
-        if number < version.number() {
-            break;
-        }
-        place += 1;
-    }
-    place
+    versions.partition_point(|version| is_up_to(version, number))
 }
 
-/// How many versions stand before a new one of this number. Takes constant time where it is the greatest, else time linear in
-/// the versions.
+/// How many versions stand before a new one of this number. Takes constant time where it is the greatest, else time logarithmic
+/// in the versions.
 fn version_place(versions: &[Version], number: u64) -> usize
     requires { AreByNumber versions.now }
     ensures place { result ≡ version_place number versions.now }
@@ -116,54 +111,37 @@ fn version_place(versions: &[Version], number: u64) -> usize
     }
 }
 
-/// Whether one of some versions has a number.
+fn is_number_below(version: &Version, number: u64) -> bool
+    ensures { result ≡ is_number_below number version.now }
+{
+    version.number() < number
+}
+
+/// How many versions have a lower number: these are the first ones. Takes time logarithmic in the versions.
+fn number_place(versions: &[Version], number: u64) -> usize
+    requires { AreByNumber versions.now }
+    ensures { result ≡ count_passing (is_number_below number) versions.now }
+{
+    versions.partition_point(|version| is_number_below(version, number))
+}
+
+/// Whether the version at a place has a number.
+fn has_number_at(versions: &[Version], place: usize, number: u64) -> bool
+    ensures { result ≡ has_number_at versions.now place number }
+{
+    match versions.get(place) {
+        Some(version) => version.number() == number,
+        None => false,
+    }
+}
+
+/// Whether one of some versions has a number. Takes time logarithmic in them.
 fn has_version_number(versions: &[Version], number: u64) -> bool
+    requires { AreByNumber versions.now }
     ensures { result ≡ list_any (λ version. version.number == number) versions.now }
 {
-    for version in versions {
-        if version.number() == number {
-            return true;
-        }
-    }
-    false
-}
-
-/// Whether an operation is another or needs it.
-fn is_or_needs(operation: &Operation, other: &Operation) -> bool
-    ensures { result
-        ≡ (is_same_identity other.now.identity operation.now.identity
-        || holds operation.now.needs other.now.identity) }
-{
-    is_same_identity(&other.identity, &operation.identity) || operation.needs.holds(&other.identity)
-}
-
-/// Whether an operation needs all others of some. The last one is looked at first, since most operations lack it.
-fn needs_all_others(operations: &[Shared], operation: &Operation) -> bool
-    ensures { result ≡ needs_all_others operations.now operation.now }
-{
-    if let Some(last) = operations.last()
-        && !is_or_needs(operation, last.operation())
-    {
-        return false;
-    }
-    for other in operations {
-        if !is_or_needs(operation, other.operation()) {
-            return false;
-        }
-    }
-    true
-}
-
-/// The operation that needs all others of some.
-fn last_of(operations: &[Shared]) -> Option<&Operation>
-    ensures { option_copied result ≡ find (needs_all_others operations.now) operations.now }
-{
-    for operation in operations {
-        if needs_all_others(operations, operation.operation()) {
-            return Some(operation.operation());
-        }
-    }
-    None
+    let place = number_place(versions, number);
+    has_number_at(versions, place, number)
 }
 
 /// The site that a deed gives the mastership to, where it gives it away.
@@ -182,7 +160,7 @@ fn given_to<'a>(deed: &'a SiteDeed, maker: &'a Name) -> &'a Name
 pub struct Branch {
     made: Shared,
     element: Identity,
-    masters: Vec<Shared>,
+    masters: Masters,
     versions: Vec<Version>,
 }
 
@@ -192,7 +170,7 @@ impl Model for Branch {
 
     ghost Value = { Tree };
 
-    ghost view = { λ branch. branch_made_by branch.made branch.element branch.masters.items
+    ghost view = { λ branch. branch_made_by branch.made branch.element branch.masters
         branch.versions.items };
 
     ghost invariant = { λ branch. AreByNumber branch.versions.items };
@@ -206,7 +184,7 @@ impl Branch {
         Branch {
             made,
             element,
-            masters: Vec::new(alloc),
+            masters: Masters::new(alloc),
             versions: Vec::new(alloc),
         }
     }
@@ -232,6 +210,15 @@ impl Branch {
         name_in(&self.made.operation().deed)
     }
 
+    /// Its label.
+    pub(crate) fn label(&self, alloc: Global) -> Result<Label, NoMemory>
+        ensures { IfOk result (λ label. label ≡ label_of self.now) }
+    {
+        let made = self.made.copy()?;
+        let element = self.element.copy(alloc)?;
+        Ok(Label::new(made, element))
+    }
+
     /// The versions after version 0, by number.
     pub fn versions(&self) -> &[Version]
         ensures { result.now ≡ self.now.versions }
@@ -239,12 +226,12 @@ impl Branch {
         self.versions.as_slice()
     }
 
-    /// The site that has the mastership. Takes time quadratic in the operations that gave it away, and in the sites for each two.
+    /// The site that has the mastership. Takes the time of `Masters::last`: constant at all sites of a world.
     pub fn master(&self) -> &Name
         ensures { result.now ≡ master_of self.now }
     {
         let maker = &self.identity().site;
-        match last_of(&self.masters) {
+        match self.masters.last() {
             Some(last) => given_to(&last.deed, maker),
             None => maker,
         }
@@ -257,23 +244,23 @@ impl Branch {
         self.versions.len() as u64 + 1
     }
 
-    /// Whether it has a version of this number. Takes time linear in the versions.
+    /// Whether it has a version of this number. Takes time logarithmic in the versions.
     pub fn has_version(&self, number: u64) -> bool
         ensures { result ≡ has_version self.now number }
     {
         number == 0 || has_version_number(&self.versions, number)
     }
 
-    /// Puts one operation more after those that gave the mastership away.
+    /// Puts one operation more after those that gave the mastership away. Takes time linear in the sites.
     pub(crate) fn push_master(&mut self, operation: Shared) -> Result<(), NoMemory>
         ensures ok { OnOk result (self.new ≡ with_master self.old operation) }
         ensures err { OnErr result (self.new ≡ self.old) }
     {
-        self.masters.push(operation)?;
-        Ok(())
+        self.masters.push(operation)
     }
 
-    /// Puts the version of a number that an operation made among its versions. Takes constant time where it is the greatest.
+    /// Puts the version of a number that an operation made among its versions. Takes constant time where it is the greatest, else
+    /// time logarithmic in the versions and a move of those after it.
     pub(crate) fn put_version(&mut self, number: u64, made: Shared) -> Result<(), NoMemory>
         ensures ok { OnOk result (self.new ≡ with_version_by self.old number made) }
         ensures err { OnErr result (self.new ≡ self.old) }

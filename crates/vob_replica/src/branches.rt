@@ -1,46 +1,44 @@
 //! The branches that a site knows.
 
-ghost use Rattle.std.specs.Prelude.{◌≡◌, ◌<◌, ◌≤◌, [], ◌&&◌, bytes_eq, length, vec_len, option_copied, slice_index_or, slice_set, IsTrue, IfOk, OnOk, OnErr};
+ghost use Rattle.std.specs.Prelude.{◌≡◌, ◌<◌, ◌≤◌, [], ◌&&◌, bytes_eq, length, vec_len, option_copied, slice_index_or, slice_set, IsTrue, IfOk, IfSome, OnOk, OnErr};
 ghost use Rattle.vob_replica.specs.Branches.{is_branch_before, branch_place_in, is_branch_at, with_master, with_version_by, IsInOrder};
-ghost use Rattle.vob_replica.specs.Trees.{Tree, identity_cmp, is_same_identity, tree_at, named_tree, element_of_branch, with_tree, with_branch_changed, after_operation};
+ghost use Rattle.vob_replica.specs.Labels.{AreLabelsOf, IsPut};
+ghost use Rattle.vob_replica.specs.Trees.{Tree, is_same_identity, tree_at, named_tree, element_of_branch, with_tree, with_branch_changed, after_operation};
 
-use crate::branch::{Branch, is_same_identity};
-use crate::events::Identity;
+use crate::branch::Branch;
+use crate::events::{Identity, identity_cmp, is_same_identity};
+use crate::labels::{Label, Labels};
 use crate::operations::SiteDeed;
 use crate::shared::Shared;
 use cc_names::memory::NoMemory;
 use cc_names::names::Name;
 use std::alloc::Global;
-use std::cmp::Ordering;
 use std::marker::Model;
 
 /// The branches that a site knows. Contracts see them by identity, each once.
 #[derive(Drop)]
 pub struct Branches {
     trees: Vec<Branch>,
+    /// The branches by element and name. There are none where a branch took the place of another, or has the name of another of
+    /// its element, as at no site of a world; or where memory ran out.
+    labels: Option<Labels>,
     /// The place of the branch that was changed last: the next one is often the same.
     near: usize,
 }
 
 impl Model for Branches {
-    ghost use Rattle.std.specs.Prelude.{List};
+    ghost use Rattle.std.specs.Prelude.{List, IfSome};
     ghost use Rattle.vob_replica.specs.Branches.{IsInOrder};
+    ghost use Rattle.vob_replica.specs.Labels.{AreLabelsOf};
     ghost use Rattle.vob_replica.specs.Trees.{Tree};
 
     ghost Value = { List Tree };
 
     ghost view = { λ branches. branches.trees.items };
 
-    ghost invariant = { λ branches. IsInOrder branches.trees.items };
-}
-
-/// How identities stand to each other: by site in byte order, then by number.
-fn identity_cmp(one: &Identity, other: &Identity) -> Ordering
-    ensures { result ≡ identity_cmp one.now other.now }
-{
-    one.site
-        .cmp(&other.site)
-        .then(one.number.cmp(&other.number))
+    ghost invariant = { λ branches.
+        IsInOrder branches.trees.items
+        × IfSome branches.labels (λ labels. AreLabelsOf labels branches.trees.items) };
 }
 
 fn is_branch_before(tree: &Branch, identity: &Identity) -> bool
@@ -81,18 +79,41 @@ fn find_in<'a>(trees: &'a [Branch], identity: &Identity) -> Option<&'a Branch>
     None
 }
 
+/// Puts a label among others, where labels are kept and no label of its element and name is there; else none are kept on.
+fn put_label(labels: &mut Option<Labels>, label: Label)
+    ensures { IsPut label labels.old labels.new }
+{
+    let Some(kept) = labels else {
+        return;
+    };
+    match kept.put(label) {
+        Ok(true) => {}
+        _ => *labels = None,
+    }
+}
+
 /// Puts a branch among others, by identity.
-fn put_branch(trees: &mut Vec<Branch>, tree: Branch) -> Result<(), NoMemory>
-    requires { IsInOrder trees.old.items }
+fn put_branch(
+    alloc: Global,
+    trees: &mut Vec<Branch>,
+    labels: &mut Option<Labels>,
+    tree: Branch,
+) -> Result<(), NoMemory>
+    requires order { IsInOrder trees.old.items }
+    requires labels { IfSome labels.old (λ labels. AreLabelsOf labels trees.old.items) }
     ensures ok { OnOk result (trees.new.items ≡ with_tree tree trees.old.items) }
     ensures err { OnErr result (trees.new.items ≡ trees.old.items) }
+    ensures labels { IfSome labels.new (λ labels. AreLabelsOf labels trees.new.items) }
 {
     let place = branch_place(trees, tree.identity());
     if is_branch_at(trees, place, tree.identity()) {
         trees[place] = tree;
+        *labels = None;
         return Ok(());
     }
+    let label = tree.label(alloc)?;
     trees.insert(place, tree)?;
+    put_label(labels, label);
     Ok(())
 }
 
@@ -147,8 +168,8 @@ fn put_on_branch(
     Ok(())
 }
 
-/// The same. Takes constant time where the branch is at the place `near` and the version is its last one. Where it is elsewhere
-/// `near` becomes its place, in time logarithmic in the branches.
+/// Puts a version on a branch, where that is there. Takes constant time where the branch is at the place `near` and the version
+/// is its last one, else also time logarithmic in the branches. `near` is changed to what may be the place of the next branch.
 fn put_version_near(
     trees: &mut Vec<Branch>,
     near: &mut usize,
@@ -209,22 +230,25 @@ fn element_of_branch(
 fn take_operation(
     alloc: Global,
     trees: &mut Vec<Branch>,
+    labels: &mut Option<Labels>,
     near: &mut usize,
     operation: &Shared,
 ) -> Result<(), NoMemory>
-    requires { IsInOrder trees.old.items }
+    requires order { IsInOrder trees.old.items }
+    requires labels { IfSome labels.old (λ labels. AreLabelsOf labels trees.old.items) }
     ensures ok { OnOk result (trees.new.items ≡ after_operation trees.old.items operation.now) }
     ensures err { OnErr result (trees.new.items ≡ trees.old.items) }
+    ensures labels { IfSome labels.new (λ labels. AreLabelsOf labels trees.new.items) }
 {
     let made = operation.copy()?;
     match &operation.operation().deed {
         SiteDeed::Element => {
             let element = operation.operation().identity.copy(alloc)?;
-            put_branch(trees, Branch::new(alloc, made, element))
+            put_branch(alloc, trees, labels, Branch::new(alloc, made, element))
         }
         SiteDeed::Branch(branch, _, _) => {
             let element = element_of_branch(alloc, trees, branch)?;
-            put_branch(trees, Branch::new(alloc, made, element))
+            put_branch(alloc, trees, labels, Branch::new(alloc, made, element))
         }
         SiteDeed::Version(branch, number, _) => {
             put_version_near(trees, near, branch, *number, made)
@@ -253,6 +277,23 @@ fn branch_named<'a>(trees: &'a [Branch], element: &Identity, name: &Name) -> Opt
     None
 }
 
+/// The same, by the labels of the branches. Takes time logarithmic in them.
+fn branch_labelled<'a>(
+    trees: &'a [Branch],
+    labels: &Labels,
+    element: &Identity,
+    name: &Name,
+) -> Option<&'a Branch>
+    requires order { IsInOrder trees.now }
+    requires labels { AreLabelsOf labels.now trees.now }
+    ensures { option_copied result ≡ named_tree trees.now element.now name.now }
+{
+    match labels.find(element, name.as_bytes()) {
+        Some(branch) => find_in(trees, branch),
+        None => None,
+    }
+}
+
 impl Branches {
     /// No branches. Takes no memory.
     pub fn new(alloc: Global) -> Branches
@@ -260,6 +301,7 @@ impl Branches {
     {
         Branches {
             trees: Vec::new(alloc),
+            labels: Some(Labels::new(alloc)),
             near: 0,
         }
     }
@@ -278,11 +320,15 @@ impl Branches {
         find_in(&self.trees, identity)
     }
 
-    /// The branch of an element that has a name. Takes time linear in the branches.
+    /// The branch of an element that has a name. Takes time logarithmic in the branches at all sites of a world, else linear in
+    /// them.
     pub fn named(&self, element: &Identity, name: &Name) -> Option<&Branch>
         ensures { option_copied result ≡ named_tree self.now element.now name.now }
     {
-        branch_named(&self.trees, element, name)
+        match &self.labels {
+            Some(labels) => branch_labelled(&self.trees, labels, element, name),
+            None => branch_named(&self.trees, element, name),
+        }
     }
 
     /// Takes one operation more in. An `Err` changes nothing.
@@ -294,6 +340,12 @@ impl Branches {
         ensures ok { OnOk result (self.new ≡ after_operation self.old operation.now) }
         ensures err { OnErr result (self.new ≡ self.old) }
     {
-        take_operation(alloc, &mut self.trees, &mut self.near, operation)
+        take_operation(
+            alloc,
+            &mut self.trees,
+            &mut self.labels,
+            &mut self.near,
+            operation,
+        )
     }
 }

@@ -88,7 +88,7 @@ fn new_branch_fault(
 }
 
 /// Why a site may not make a change, where it may not. Takes time logarithmic in the branches that it knows, and for a new branch
-/// linear in them.
+/// also in the versions of the one that it leaves.
 pub(crate) fn change_fault(
     alloc: Global,
     site: &Name,

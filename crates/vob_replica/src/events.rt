@@ -1,11 +1,13 @@
 //! What happens at sites, as plain data.
 
 ghost use Rattle.std.specs.Prelude.{◌≡◌, IfOk};
+ghost use Rattle.vob_replica.specs.Trees.{identity_cmp, is_same_identity};
 
 use cc_names::memory::NoMemory;
 use cc_names::names::Name;
 use cc_names::texts::Text;
 use std::alloc::Global;
+use std::cmp::Ordering;
 
 /// What an operation is known by everywhere: the site that made it, and its number among that site's operations, from 1 on. An
 /// element and its branch `main` are named by the operation that made the element, any other branch by its own.
@@ -24,6 +26,22 @@ impl Identity {
         let number = self.number;
         Ok(Identity { site, number })
     }
+}
+
+/// Whether two identities are the same.
+pub(crate) fn is_same_identity(one: &Identity, other: &Identity) -> bool
+    ensures { result ≡ is_same_identity one.now other.now }
+{
+    one.site == other.site && one.number == other.number
+}
+
+/// How identities stand to each other: by site in byte order, then by number.
+pub(crate) fn identity_cmp(one: &Identity, other: &Identity) -> Ordering
+    ensures { result ≡ identity_cmp one.now other.now }
+{
+    one.site
+        .cmp(&other.site)
+        .then(one.number.cmp(&other.number))
 }
 
 /// One line of a text of sites.

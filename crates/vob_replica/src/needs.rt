@@ -1,8 +1,8 @@
 //! What operations need.
 
-ghost use Rattle.std.specs.Prelude.{◌≡◌, IfOk};
+ghost use Rattle.std.specs.Prelude.{◌≡◌, is_none, IfOk};
 ghost use Rattle.vob_replica.specs.Needs.{needs_of};
-ghost use Rattle.vob_replica.specs.Tables.{holds, number_in, with_operation};
+ghost use Rattle.vob_replica.specs.Tables.{first_gap, holds, number_in, with_operation};
 
 use crate::events::Identity;
 use crate::tables::Table;
@@ -75,6 +75,39 @@ impl Needs {
         ensures { result ≡ holds self.now identity.now }
     {
         identity.number > 0 && identity.number <= self.number(&identity.site)
+    }
+
+    /// Whether all operations of a table are needed.
+    fn covers_all(&self, entries: &[Identity]) -> bool
+        ensures { result ≡ is_none (first_gap entries.now self.now) }
+    {
+        for entry in entries {
+            if self.number(&entry.site) < entry.number {
+                return false;
+            }
+        }
+        true
+    }
+
+    /// Whether all operations of a table that an operation is taken into are needed.
+    fn covers_with(&self, table: &Table, own: &Identity) -> bool
+        ensures { result ≡ is_none (first_gap (with_operation table.now own.now) self.now) }
+    {
+        let needed = self.number(&own.site);
+        if needed < own.number {
+            return false;
+        }
+        self.covers_all(table.entries())
+    }
+
+    /// Whether all is needed that others need. Takes time linear in the sites, and logarithmic for each.
+    pub(crate) fn covers(&self, others: &Needs) -> bool
+        ensures { result ≡ is_none (first_gap others.now self.now) }
+    {
+        match &others.own {
+            None => self.covers_all(others.shared.entries()),
+            Some(own) => self.covers_with(&others.shared, own),
+        }
     }
 
     /// A table of its own. Takes time and memory linear in the sites.

@@ -4,7 +4,7 @@ ghost use Rattle.std.specs.Prelude.{◌≡◌, ◌≤◌, ◌<◌, ◌++◌, ◌
 ghost use Rattle.std.specs.Fmt.{decimal};
 ghost use Rattle.vob_replica.specs.Replicas.{Site, Packet, made, imported, packet_for, thinking};
 ghost use Rattle.vob_replica.specs.Showing.{show_text};
-ghost use Rattle.vob_replica.specs.Sites.{place_in, sents_of, identity_answer, number_answer};
+ghost use Rattle.vob_replica.specs.Sites.{place_in, sents_of, identity_answer, number_answer, IsRefusal};
 ghost use Rattle.vob_replica.specs.Tables.{table_of};
 ghost use Rattle.vob_replica.specs.World.{no_sites, site_in, packet_in, makes, site_step, export_step, import_step, recover_step, show_step, chmaster_step, step};
 ghost use Rattle.vob_replica.specs.declared.operations.Answer.TheVariants as answers;
@@ -98,6 +98,16 @@ fn add_packet(packets: &mut Packets, name: Name, packet: Packet) -> Result<(), N
     Ok(())
 }
 
+/// The answer of a call that was refused.
+fn refused(fault: Or<SiteFault>) -> Result<Answer, NoMemory>
+    ensures { IfOk result (IsRefusal fault) }
+{
+    match fault {
+        Or::Is(fault) => Ok(Answer::Refused(fault)),
+        Or::NoMemory => Err(NoMemory),
+    }
+}
+
 /// The site at a place makes a change.
 fn make_at(
     alloc: Global,
@@ -116,8 +126,7 @@ fn make_at(
 {
     match sites[place].make(alloc, change) {
         Ok(identity) => Ok(Answer::Done(identity_text(alloc, &identity)?)),
-        Err(Or::Is(fault)) => Ok(Answer::Refused(fault)),
-        Err(Or::NoMemory) => Err(NoMemory),
+        Err(fault) => refused(fault),
     }
 }
 
@@ -139,8 +148,7 @@ fn import_at(
 {
     match sites[place].import(alloc, packet) {
         Ok(count) => Ok(Answer::Done(number_text(alloc, count)?)),
-        Err(Or::Is(fault)) => Ok(Answer::Refused(fault)),
-        Err(Or::NoMemory) => Err(NoMemory),
+        Err(fault) => refused(fault),
     }
 }
 

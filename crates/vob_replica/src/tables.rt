@@ -2,7 +2,7 @@
 
 ghost use Rattle.std.specs.Prelude.{◌≡◌, [], ◌<◌, ◌≤◌, true, not, if◌then◌else◌, length, vec_len, insert, slice_index_or, slice_set, is_none, IsTrue, IfOk, OnOk, OnErr};
 ghost use Rattle.vob_replica.specs.declared.events.Identity.{Identity};
-ghost use Rattle.vob_replica.specs.Tables.{is_below, is_entry_at, higher_entry, entry_place_in, number_in, holds, with_operation, raised_by, first_gap, Ascends, IsWithin};
+ghost use Rattle.vob_replica.specs.Tables.{is_below, is_entry_at, higher_entry, entry_place_in, number_in, holds, with_operation, raised_by, first_gap, Ascends, FindsEntry, IsWithin};
 
 use crate::events::Identity;
 use cc_names::memory::NoMemory;
@@ -57,33 +57,36 @@ fn is_entry_at(entries: &[Identity], place: usize, site: &Name) -> bool
     }
 }
 
-/// The place of a site. Takes constant time where its entry is at the place `near` or the next one, else time logarithmic in the
-/// entries.
+/// Where the entry of a site stands; or, as an `Err`, where it would. Takes constant time where it is at the place `near` or the
+/// next one, else time logarithmic in the entries.
+fn find_near(entries: &[Identity], near: usize, site: &Name) -> Result<usize, usize>
+    requires { Ascends entries.now }
+    ensures { FindsEntry result entries.now site.now }
+{
+    if is_entry_at(entries, near, site) {
+        return Ok(near);
+    }
+    let next = near.saturating_add(1);
+    if is_entry_at(entries, next, site) {
+        return Ok(next);
+    }
+    let place = entry_place(entries, site);
+    if is_entry_at(entries, place, site) {
+        return Ok(place);
+    }
+    Err(place)
+}
+
+/// The place of a site. Takes the time of `find_near`.
 fn place_near(entries: &[Identity], near: usize, site: &Name) -> usize
     requires { Ascends entries.now }
     ensures place { result ≡ entry_place_in site.now entries.now }
     ensures within { result ≤ length entries.now }
 {
-    if is_entry_at(entries, near, site) {
-        return near;
+    match find_near(entries, near, site) {
+        Ok(place) => place,
+        Err(place) => place,
     }
-    let next = near.saturating_add(1);
-    if is_entry_at(entries, next, site) {
-        return next;
-    }
-    entry_place(entries, site)
-}
-
-/// The number of a site whose entry, where it has one, is at a place.
-fn number_at(entries: &[Identity], place: usize, site: &Name) -> u64
-    requires order { Ascends entries.now }
-    requires place { place ≡ entry_place_in site.now entries.now }
-    ensures { result ≡ number_in entries.now site.now }
-{
-    if is_entry_at(entries, place, site) {
-        return entries[place].number;
-    }
-    0
 }
 
 /// The number of a site that has the entry at a place.
@@ -96,23 +99,22 @@ fn number_there(entries: &[Identity], place: usize, site: &Name) -> u64
     entries[place].number
 }
 
-/// The number of a site. Takes constant time where its entry is at the place `near` or the next one, else time logarithmic in the
-/// entries. `near` becomes its place.
+/// The number of a site. Takes the time of `find_near`. `near` becomes its place.
 fn number_near(entries: &[Identity], near: &mut usize, site: &Name) -> u64
     requires { Ascends entries.now }
-    ensures { result ≡ number_in entries.now site.now }
+    ensures number { result ≡ number_in entries.now site.now }
+    ensures place { near.new ≡ entry_place_in site.now entries.now }
 {
-    if is_entry_at(entries, *near, site) {
-        return number_there(entries, *near, site);
+    match find_near(entries, *near, site) {
+        Ok(place) => {
+            *near = place;
+            number_there(entries, place, site)
+        }
+        Err(place) => {
+            *near = place;
+            0
+        }
     }
-    let next = near.saturating_add(1);
-    if is_entry_at(entries, next, site) {
-        *near = next;
-        return number_there(entries, next, site);
-    }
-    let place = entry_place(entries, site);
-    *near = place;
-    number_at(entries, place, site)
 }
 
 /// Raises the number of the entry at a place, where it is lower.
@@ -221,14 +223,15 @@ impl Table {
     pub fn number(&self, site: &Name) -> u64
         ensures { result ≡ number_in self.now site.now }
     {
-        let place = place_near(&self.entries, self.near, site);
-        number_at(&self.entries, place, site)
+        let mut near = self.near;
+        number_near(&self.entries, &mut near, site)
     }
 
-    /// Whether an operation is among those of the table. `near` is where its site may stand, and is then where it stands: there
-    /// it is found in constant time, else in time logarithmic in the sites.
+    /// Whether an operation is among those of the table. Takes constant time where its site is at the place `near` or the next
+    /// one, else time logarithmic in the sites. `near` becomes the place of its site.
     pub(crate) fn holds_near(&self, near: &mut usize, identity: &Identity) -> bool
-        ensures { result ≡ holds self.now identity.now }
+        ensures held { result ≡ holds self.now identity.now }
+        ensures place { near.new ≡ entry_place_in identity.now.site self.now }
     {
         let known = number_near(&self.entries, near, &identity.site);
         identity.number > 0 && identity.number <= known

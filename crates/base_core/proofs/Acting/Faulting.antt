@@ -1,25 +1,22 @@
 -- What a core keeps after a fault of the disk under a command that builds nothing.
-use Rattle.std.proofs.Common.{◌≡◌, ℕ, ◌≤◌, inl, inr, true, Option, Some, None, Ok, List, [], ◌∷◌, ◌++◌, length, refl, ap, sym}
+use Rattle.std.proofs.Common.{◌≡◌, ℕ, ◌≤◌, inl, inr, Option, Some, None, Ok, List, [], ◌∷◌, ◌++◌, length, refl, ap, sym}
 use Rattle.std.proofs.Common.{subst, ◌∙◌, arith}
 use Rattle.std.specs.Prelude.{option_and_then}
 use Rattle.cc_names.specs.Formed.{Plain, IsFormed}
 use Rattle.cc_names.specs.declared.replies.Reply.TheVariants as replies
-use Rattle.cc_names.specs.declared.steps.Step.TheVariants as steps
 use Rattle.cc_names.specs.declared.steps.StoryStep.{StoryStep}
 use Rattle.cc_names.specs.declared.steps.StoryStep.TheVariants as story_steps
-use Rattle.disk_model.specs.DiskStates.{DiskState}
 use Rattle.legal_history.specs.Builds.Active.{build_of}
 use Rattle.legal_history.specs.Commands.Decisions.{Makes}
-use Rattle.legal_history.specs.Stories.States.{State, decision_for, build_if, build_by, ticks_of, faults_of}
+use Rattle.legal_history.specs.Stories.States.{State, decision_for, build_if, build_by}
 use Rattle.legal_history.specs.Stories.Steps.{after, state_of, done_by_fault, faulted_in}
 use Rattle.legal_history.specs.Stories.Committing.{LeavesRow, MayCommit}
-use Rattle.cc_names.specs.Counts.{rises}
 use Rattle.cc_names.specs.declared.occasions.Done.TheVariants.{Faulted}
 use Rattle.base_core.specs.Calls.Acting.{Acts, IsRowToCommit, FinishesCommand}
-use Rattle.story_log.specs.Logging.Appending.{MayLeaveRow}
+use Rattle.story_log.specs.Logging.Appending.{MayLeaveRow, IsFaulted}
 use Rattle.base_core.specs.Keeping.CoreInvariants.{CoreInvariant}
 use Rattle.base_core.specs.Keeping.Lanes.{LaneState, with_reply}
-use Rattle.story_log.specs.Logging.Logs.{Logged, with_step_on}
+use Rattle.story_log.specs.Logging.Logs.{Logged}
 use Rattle.base_core.specs.Story.Replying.{in_lane, reply_to_fault, replies_of}
 use Rattle.base_core.proofs.Keeping.Idle.{decided_is_free}
 use Rattle.base_core.proofs.Keeping.PreservedBuilds.{same_rows}
@@ -34,26 +31,22 @@ leaves_so s row (Some left) may (inl e) = inl (ap (λ r. r.tag) e, subst (MayCom
 leaves_so s row (Some left) may (inr e) = inr e
 
 -- what is kept then
-preserved_fault : (log : Logged) (lanes : List LaneState) (now : ℕ) (row : Plain) (left : Option Plain) (before faults tick : ℕ)
-    (ghost_state : DiskState) → rises before faults ≡ true → faults_of (state_of log.story).opened (state_of log.story).ends
-    ≤ before → MayLeaveRow (state_of log.story) row left
-    → rises (ticks_of (state_of log.story).opened (state_of log.story).ends) tick ≡ true → CoreInvariant log lanes now
-    → FinishesCommand row.deed → row.moment ≡ now → decision_for (state_of log.story) row.tag ≡ Some (Ok (Makes row.deed))
-    → 1 ≤ row.tag.lane → row.tag.lane ≤ length lanes → IsFormed row
-    → CoreInvariant (with_step_on log (steps.Fault row.tag left before faults tick) ghost_state)
-    (with_reply lanes row.tag.lane replies.DiskFault) now
-preserved_fault log lanes now row left before faults tick ghost_state rose later leaves ticked h finishes in_time made low high
-    formed =
-    preserved_finished log lanes now x log.base ghost_state row.tag replies.DiskFault h low high
+preserved_fault : (log new : Logged) (lanes : List LaneState) (now : ℕ) (row : Plain) → IsFaulted log new row None
+    → CoreInvariant log lanes now → FinishesCommand row.deed → row.moment ≡ now
+    → decision_for (state_of log.story) row.tag ≡ Some (Ok (Makes row.deed)) → 1 ≤ row.tag.lane → row.tag.lane ≤ length lanes
+    → CoreInvariant new (with_reply lanes row.tag.lane replies.DiskFault) now
+preserved_fault log new lanes now row done h finishes in_time made low high =
+    subst (λ l. CoreInvariant l (with_reply lanes row.tag.lane replies.DiskFault) now) (sym done.grows)
+    (preserved_finished log lanes now x log.base done.ghost_state row.tag replies.DiskFault h low high
     (record {
       lawful = record {
         wanted = record { row = row; of_tag = refl; may = may };
-        rose = rose;
-        later = later;
-        leaves = leaves_so s row left may leaves;
-        ticked = ticked;
+        rose = done.rose;
+        later = done.later;
+        leaves = leaves_so s row done.left may done.leaves;
+        ticked = done.ticked;
       };
-      names = left_named IsFormed log.story row left leaves formed h.story.formed;
+      names = left_named IsFormed log.story row done.left done.leaves done.formed h.story.formed;
       leads = h.story.base;
     })
     (record {
@@ -63,13 +56,13 @@ preserved_fault log lanes now row left before faults tick ghost_state rose later
       active = ap (faulted_in s.active row.tag.lane) no_build;
       done = ap (done_by_fault s.done row.tag.lane) no_build;
       said = λ l. ap (λ o. replies_of log.story l ++ in_lane l row.tag (reply_to_fault o)) no_build;
-    })
+    }))
   where
     s : State
     s = state_of log.story
 
     x : StoryStep
-    x = story_steps.Fault row.tag left before faults tick
+    x = story_steps.Fault row.tag done.left done.before done.faults done.tick
 
     may : MayCommit s row
     may = record { moment = in_time ∙ sym h.phase.moment; made = finishes.made s row made }
@@ -81,21 +74,14 @@ preserved_fault log lanes now row left before faults tick ghost_state rose later
     no_build = ap (option_and_then (build_if row.tag)) free
 
 -- what is kept after a fault under a lane's next command
-pub preserved_next_fault : (log : Logged) (lanes : List LaneState) (now : ℕ) (story : List StoryStep) (row : Plain) (lane : ℕ)
-    (left : Option Plain) (before faults tick : ℕ) (ghost_state : DiskState) → rises before faults ≡ true
-    → faults_of (state_of log.story).opened (state_of log.story).ends ≤ before → MayLeaveRow (state_of log.story) row left
-    → rises (ticks_of (state_of log.story).opened (state_of log.story).ends) tick ≡ true → log.story ≡ story → lane ≡ row.tag.lane
-    → CoreInvariant log lanes now → IsRowToCommit (state_of story) row → IsFormed row
-    → CoreInvariant (with_step_on log (steps.Fault row.tag left before faults tick) ghost_state)
-    (with_reply lanes lane replies.DiskFault) now
-preserved_next_fault log lanes now story row lane left before faults tick ghost_state rose later leaves ticked same at_lane h next
-    formed =
+pub preserved_next_fault : (log new : Logged) (lanes : List LaneState) (now : ℕ) (story : List StoryStep) (row : Plain) (lane : ℕ)
+    → IsFaulted log new row None → log.story ≡ story → lane ≡ row.tag.lane → CoreInvariant log lanes now
+    → IsRowToCommit (state_of story) row → CoreInvariant new (with_reply lanes lane replies.DiskFault) now
+preserved_next_fault log new lanes now story row lane done same at_lane h next =
     let here : IsRowToCommit (state_of log.story) row = subst (λ t. IsRowToCommit (state_of t) row) (sym same) next in
-    subst (λ l. CoreInvariant (with_step_on log (steps.Fault row.tag left before faults tick) ghost_state)
-    (with_reply lanes l replies.DiskFault) now) (sym at_lane)
-    (preserved_fault log lanes now row left before faults tick ghost_state rose later leaves ticked h here.finishes
-    (here.at_moment ∙ h.phase.moment) here.made here.of_next.from
-    (omega (arith, here.of_next.upto, h.replies.count)) formed)
+    subst (λ l. CoreInvariant new (with_reply lanes l replies.DiskFault) now) (sym at_lane)
+    (preserved_fault log new lanes now row done h here.finishes (here.at_moment ∙ h.phase.moment) here.made here.of_next.from
+    (omega (arith, here.of_next.upto, h.replies.count)))
 
 -- how the story went on
 pub next_faults : (old new : List StoryStep) (row : Plain) (left : Option Plain) (before faults tick : ℕ)

@@ -1,4 +1,5 @@
 -- What a core keeps after a row, a refusal or an answer that finishes a command of a lane.
+use Rattle.std.specs.declared.snapshot.Snapshot.{Snapshot}
 use Rattle.std.proofs.Common.{◌≡◌, ℕ, ◌≤◌, true, Some, Ok, Err, List, ◌∷◌, ◌++◌, length, refl, ap, sym, subst, ◌∙◌, arith}
 use Rattle.cc_names.specs.Counts.{rises}
 use Rattle.cc_names.specs.Formed.{Plain, IsFormed}
@@ -71,17 +72,17 @@ preserved_refusal log lanes now tag refusal h made low high =
     })
 
 -- what is kept after an answer
-preserved_answer : (log : Logged) (lanes : List LaneState) (now : ℕ) (tag : Tag) (text : List ℕ) (reply : Reply)
-    → CoreInvariant log lanes now → decision_for (state_of log.story) tag ≡ Some (Ok (Answers text))
-    → reply_to_answer (next_command (state_of log.story) tag) text ≡ reply → 1 ≤ tag.lane → tag.lane ≤ length lanes
+preserved_answer : (log : Logged) (lanes : List LaneState) (now : ℕ) (tag : Tag) (text : Snapshot (List ℕ)) (reply : Reply)
+    → CoreInvariant log lanes now → decision_for (state_of log.story) tag ≡ Some (Ok (Answers text.value))
+    → reply_to_answer (next_command (state_of log.story) tag) text.value ≡ reply → 1 ≤ tag.lane → tag.lane ≤ length lanes
     → CoreInvariant (with_step log (steps.Answer tag text)) (with_reply lanes tag.lane reply) now
 preserved_answer log lanes now tag text reply h made replied low high =
     let s : State = state_of log.story in
-    let x : StoryStep = story_steps.Answer tag text in
+    let x : StoryStep = story_steps.Answer tag text.value in
     preserved_finished log lanes now x log.base log.ghost_state tag reply h low high
     (record { lawful = made; names = tt; leads = h.story.base })
     (record {
-      free = decided_is_free s tag (Ok (Answers text)) made;
+      free = decided_is_free s tag (Ok (Answers text.value)) made;
       same = record { phase = refl; number = refl; moment = refl };
       rows = same_rows s (after s x) refl;
       active = refl;
@@ -112,11 +113,12 @@ preserved_next_refusal log lanes now story tag refusal same h next =
     preserved_refusal log lanes now tag refusal h here.made here.of_next.from (omega (arith, here.of_next.upto, h.replies.count))
 
 -- what is kept after the answer to a lane's next command
-pub preserved_next_answer : (log : Logged) (lanes : List LaneState) (now : ℕ) (story : List StoryStep) (tag : Tag) (text : List ℕ)
-    (reply : Reply) → log.story ≡ story → CoreInvariant log lanes now → IsNextAnswer (state_of story) tag text reply
+pub preserved_next_answer : (log : Logged) (lanes : List LaneState) (now : ℕ) (story : List StoryStep) (tag : Tag)
+    (text : Snapshot (List ℕ)) (reply : Reply) → log.story ≡ story → CoreInvariant log lanes now
+    → IsNextAnswer (state_of story) tag text.value reply
     → CoreInvariant (with_step log (steps.Answer tag text)) (with_reply lanes tag.lane reply) now
 preserved_next_answer log lanes now story tag text reply same h next =
-    let here : IsNextAnswer (state_of log.story) tag text reply = subst (λ t. IsNextAnswer (state_of t) tag text reply) (sym same)
-    next in
+    let here : IsNextAnswer (state_of log.story) tag text.value reply =
+    subst (λ t. IsNextAnswer (state_of t) tag text.value reply) (sym same) next in
     preserved_answer log lanes now tag text reply h here.made here.reply here.of_next.from
     (omega (arith, here.of_next.upto, h.replies.count))

@@ -22,8 +22,9 @@ use Rattle.checkout_desk.specs.Deciding.{DecidesIfAny, Sees}
 use Rattle.view_lookup.specs.Answering.{AnswersAs}
 use Rattle.base_model.specs.Rows.{Base, size, only_where}
 use Rattle.legal_history.specs.Builds.Active.{building, build_of, rows_reserved}
-use Rattle.legal_history.specs.Commands.Decisions.{Makes, Scene}
-use Rattle.legal_history.specs.Commands.Lines.{change_decision, decision, query_decision}
+use Rattle.legal_history.specs.Commands.Decisions.{Makes, Scene, answered}
+use Rattle.legal_history.specs.Commands.Lines.{change_decision, decision}
+use Rattle.legal_history.specs.Queries.QueryLines.{query_answer}
 use Rattle.legal_history.specs.Stories.Commanded.{next_command_of}
 use Rattle.legal_history.specs.Stories.States.{State, scene, done_of, command_behind, same_tag, next_tag, next_command}
 use Rattle.legal_history.specs.Stories.States.{decision_for}
@@ -132,14 +133,14 @@ decided_so story lane on change view rows result legal free e tagged moment rows
 
 -- what is answered to the query that waits
 pub answered_so : (s : State) (lane : ℕ) (query : Query) (result : Result (List ℕ) (Or Refusal)) → build_of s.active lane ≡ None
-    → next_command_of s lane ≡ Some (commands.Query query) → AnswersAs result (query_decision s.base query)
+    → next_command_of s lane ≡ Some (commands.Query query) → AnswersAs result (query_answer s.base query)
     → AnswersNext s (next_tag s lane) result
 answered_so s lane query (Ok text) free e answers =
     let within = in_phase s.phase lane (done_of s.done lane) (commands.Query query) e in
     let next = next_is s lane (commands.Query query) free e in
     record {
       of_next = record { next = refl; from = within.0; upto = within.1 };
-      made = ap (option_map (decision (scene s))) next ∙ ap Some answers;
+      made = ap (option_map (decision (scene s))) next ∙ ap (λ answer. Some (answered answer)) answers;
       reply = ap (λ found. reply_to_answer found text) next;
     }
 answered_so s lane query (Err NoMemory) free e answers = tt
@@ -147,5 +148,6 @@ answered_so s lane query (Err (Is refusal)) free e answers =
     let within = in_phase s.phase lane (done_of s.done lane) (commands.Query query) e in
     record {
       of_next = record { next = refl; from = within.0; upto = within.1 };
-      made = ap (option_map (decision (scene s))) (next_is s lane (commands.Query query) free e) ∙ ap Some answers;
+      made = ap (option_map (decision (scene s))) (next_is s lane (commands.Query query) free e)
+          ∙ ap (λ answer. Some (answered answer)) answers;
     }

@@ -1,10 +1,9 @@
 -- What a core keeps, and how the story went on, where the disk failed under a lane's build, which ends with that.
 use Rattle.std.proofs.Common.{◌≡◌, ℕ, ◌-◌, ◌≤◌, true, Option, Some, None, List, [], ◌∷◌, ◌++◌, append_assoc}
-use Rattle.std.proofs.Common.{drop, length, set, refl, ap, sym, subst, ◌∙◌, arith}
+use Rattle.std.proofs.Common.{drop, length, set, refl, ap, ap₂, sym, subst, ◌∙◌, arith}
 use Rattle.std.proofs.lemmas.List.{append-nil, set-set}
 use Rattle.std.specs.Ordering.{nat_cmp}
 use Rattle.std.specs.FinMap.Entries.{put}
-use Rattle.cc_names.specs.Counts.{rises}
 use Rattle.cc_names.specs.Formed.{Plain, IsFormed}
 use Rattle.cc_names.specs.declared.replies.Reply.TheVariants as replies
 use Rattle.cc_names.specs.declared.rows.Tag.{Tag}
@@ -14,15 +13,14 @@ use Rattle.cc_names.specs.declared.steps.StoryStep.TheVariants as story_steps
 use Rattle.base_model.proofs.Tables.{find_put_same}
 use Rattle.cc_names.proofs.Common.{or_true}
 use Rattle.build_core.specs.Slots.{numbered_slots}
-use Rattle.disk_model.specs.DiskStates.{DiskState}
 use Rattle.legal_history.specs.Builds.Active.{Build, build_of}
 use Rattle.legal_history.specs.Builds.Turns.{is_complete}
 use Rattle.legal_history.specs.Stories.Committing.{LeavesRow, MayCommit}
 use Rattle.legal_history.specs.Stories.Lawful.{EndsBuild}
-use Rattle.legal_history.specs.Stories.States.{State, Faulted, start, done_of, with_done, next_tag, build_by, ticks_of, faults_of}
+use Rattle.legal_history.specs.Stories.States.{State, Faulted, start, done_of, with_done, next_tag, build_by}
 use Rattle.legal_history.specs.Stories.Steps.{after, state_of, done_by_fault, faulted_in, without_build}
 use Rattle.legal_history.proofs.Stories.LaterSteps.{own_done}
-use Rattle.story_log.specs.Logging.Appending.{MayLeaveRow}
+use Rattle.story_log.specs.Logging.Appending.{IsFaulted}
 use Rattle.base_core.specs.Calls.Building.{BuildInvariant}
 use Rattle.clearmake.specs.Going.{SamePhase, Finishes}
 use Rattle.base_core.specs.Keeping.CoreInvariants.{StoryInvariant, PhaseInvariant, AreReplies, AreBuilds, CoreInvariant}
@@ -62,23 +60,15 @@ after_fault s lane build left before faults tick is = ap (λ o. record s {
   ends = Faulted left faults tick ∷ s.ends;
 }) is
 
--- the log after a fault under a lane's build, and after the end of it
-abbrev pub broken_log : Logged → Tag → Option Plain → ℕ → ℕ → ℕ → DiskState → Logged
-broken_log log tag left before faults tick ghost_state = with_step (with_step_on log (steps.Fault tag left before faults tick)
-    ghost_state) (steps.End tag)
-
--- what is kept then
-preserved_broken : (log : Logged) (lanes : List LaneState) (now lane : ℕ) (build : Build) (row : Plain) (left : Option Plain)
-    (before faults tick : ℕ) (ghost_state : DiskState) → rises before faults ≡ true
-    → faults_of (state_of log.story).opened (state_of log.story).ends ≤ before → MayLeaveRow (state_of log.story) row left
-    → rises (ticks_of (state_of log.story).opened (state_of log.story).ends) tick ≡ true → CoreInvariant log lanes now → 1 ≤ lane
+-- what is kept after a fault under a lane's build, and after the end of it
+preserved_broken : (log new : Logged) (lanes : List LaneState) (now lane : ℕ) (build : Build) (row : Plain)
+    → IsFaulted log new row (Some (steps.End (next_tag (state_of log.story) lane))) → CoreInvariant log lanes now → 1 ≤ lane
     → lane ≤ length lanes → build_of (state_of log.story).active lane ≡ Some build
-    → row.tag ≡ next_tag (state_of log.story) lane → MayCommit (state_of log.story) row → IsFormed row
-    → CoreInvariant (broken_log log (next_tag (state_of log.story) lane) left before faults tick ghost_state)
-    (with_closed lanes lane replies.DiskFault) now
-preserved_broken log lanes now lane build row left before faults tick ghost_state rose later leaves ticked h low high is tagged
-    may formed = record {
-      story = story_more failed end log.base ghost_state story_with_fault (record
+    → row.tag ≡ next_tag (state_of log.story) lane → MayCommit (state_of log.story) row
+    → CoreInvariant new (with_closed lanes lane replies.DiskFault) now
+preserved_broken log new lanes now lane build row faulted h low high is tagged may =
+    subst (λ l. CoreInvariant l (with_closed lanes lane replies.DiskFault) now) (sym grows) (record {
+      story = story_more failed end log.base faulted.ghost_state story_with_fault (record
           { lawful = subst (λ t. EndsBuild t tag) (sym state1) ends; names = tt; leads = story_with_fault.base });
       phase = subst (λ t. PhaseInvariant t log.phases now) (sym state2)
           (phase_stays s (after s1 end) log.phases now h.phase same);
@@ -92,7 +82,7 @@ preserved_broken log lanes now lane build row left before faults tick ghost_stat
           (builds_closed s (after s1 end) lanes lane replies.DiskFault h.builds low high same (same_rows s (after s1 end) refl)
           refl
           active);
-    }
+    })
   where
     s : State
     s = state_of log.story
@@ -101,13 +91,17 @@ preserved_broken log lanes now lane build row left before faults tick ghost_stat
     tag = next_tag s lane
 
     fault : StoryStep
-    fault = story_steps.Fault tag left before faults tick
+    fault = story_steps.Fault tag faulted.left faulted.before faulted.faults faulted.tick
 
     end : StoryStep
     end = story_steps.End tag
 
     failed : Logged
-    failed = with_step_on log (steps.Fault tag left before faults tick) ghost_state
+    failed = with_step_on log fault faulted.ghost_state
+
+    grows : new ≡ with_step failed (steps.End tag)
+    grows = faulted.grows ∙ ap (λ t. with_step (with_step_on log (story_steps.Fault t faulted.left faulted.before faulted.faults
+        faulted.tick) faulted.ghost_state) (steps.End tag)) tagged
 
     story' : List StoryStep
     story' = log.story ++ fault ∷ []
@@ -116,7 +110,7 @@ preserved_broken log lanes now lane build row left before faults tick ghost_stat
     kept = h.builds.kept lane build is
 
     s1 : State
-    s1 = broken_state s lane build left faults tick
+    s1 = broken_state s lane build faulted.left faulted.faults faulted.tick
 
     by_tag : build_by s tag ≡ Some build
     by_tag = build_is_by s lane build is kept.tag
@@ -125,15 +119,15 @@ preserved_broken log lanes now lane build row left before faults tick ghost_stat
     by_tag1 = build_is_by s1 lane (broken build) (find_put_same lane (broken build) s.active) kept.tag
 
     story_with_fault : StoryInvariant failed
-    story_with_fault = story_more log fault log.base ghost_state h.story (record {
+    story_with_fault = story_more log fault log.base faulted.ghost_state h.story (record {
       lawful = record {
         wanted = record { row = row; of_tag = tagged; may = may };
-        rose = rose;
-        later = later;
-        leaves = subst (λ t. LeavesRow s t left) tagged (leaves_so s row left may leaves);
-        ticked = ticked;
+        rose = faulted.rose;
+        later = faulted.later;
+        leaves = subst (λ t. LeavesRow s t faulted.left) tagged (leaves_so s row faulted.left may faulted.leaves);
+        ticked = faulted.ticked;
       };
-      names = left_named IsFormed log.story row left leaves formed h.story.formed;
+      names = left_named IsFormed log.story row faulted.left faulted.leaves faulted.formed h.story.formed;
       leads = h.story.base;
     })
 
@@ -141,7 +135,8 @@ preserved_broken log lanes now lane build row left before faults tick ghost_stat
     ends = record { build = broken build; active = by_tag1; over = or_true (is_complete (broken build)) }
 
     state1 : state_of story' ≡ s1
-    state1 = state_from-more start log.story fault ∙ after_fault s lane build left before faults tick by_tag
+    state1 = state_from-more start log.story fault ∙ after_fault s lane build faulted.left faulted.before faulted.faults
+        faulted.tick by_tag
 
     state2 : state_of (story' ++ end ∷ []) ≡ after s1 end
     state2 = state_from-more start story' end ∙ ap (λ t. after t end) state1
@@ -162,13 +157,13 @@ preserved_broken log lanes now lane build row left before faults tick ghost_stat
         ∙ ap (numbered_slots 1) (set-set (builds_in lanes) (lane - 1) (Some (broken build)) None)
 
 -- how the story went on
-pub broken_finishes : (log : Logged) (story : List StoryStep) (lane : ℕ) (build : Build) (tag : Tag) (left : Option Plain)
-    (before faults tick : ℕ) (ghost_state : DiskState) → log.story ≡ story
-    → build_by (state_of story) (next_tag (state_of story) lane) ≡ Some build → tag ≡ next_tag (state_of story) lane
-    → Finishes story (broken_log log tag left before faults tick ghost_state).story lane
-broken_finishes log story lane build tag left before faults tick ghost_state same is tagged = record {
+broken_finishes : (log new : Logged) (story : List StoryStep) (lane : ℕ) (build : Build) (row : Plain) (tag : Tag)
+    → IsFaulted log new row (Some (steps.End tag)) → log.story ≡ story
+    → build_by (state_of story) (next_tag (state_of story) lane) ≡ Some build → row.tag ≡ tag
+    → tag ≡ next_tag (state_of story) lane → Finishes story new.story lane
+broken_finishes log new story lane build row tag faulted same is own tagged = record {
   steps = fault ∷ end ∷ [];
-  grows = ap (λ t. (t ++ fault ∷ []) ++ end ∷ []) same ∙ append_assoc story (fault ∷ []) (end ∷ []);
+  grows = grows ∙ append_assoc story (fault ∷ []) (end ∷ []);
   one = (ap (λ (t : Tag). t.lane) tagged, refl);
   phase = record { phase = ap (λ t. t.phase) state; number = ap (λ t. t.number) state; moment = ap (λ t. t.moment) state };
   done = ap (λ t. done_of t.done lane) state ∙ own_done s.done lane;
@@ -179,56 +174,48 @@ broken_finishes log story lane build tag left before faults tick ghost_state sam
     s = state_of story
 
     fault : StoryStep
-    fault = story_steps.Fault tag left before faults tick
+    fault = story_steps.Fault tag faulted.left faulted.before faulted.faults faulted.tick
 
     end : StoryStep
     end = story_steps.End tag
 
     s1 : State
-    s1 = broken_state s lane build left faults tick
+    s1 = broken_state s lane build faulted.left faulted.faults faulted.tick
+
+    grows : new.story ≡ (story ++ fault ∷ []) ++ end ∷ []
+    grows = ap (λ l. l.story) faulted.grows
+        ∙ ap₂ (λ t of_row. (t ++ story_steps.Fault of_row faulted.left faulted.before faulted.faults faulted.tick ∷ [])
+        ++ end ∷ []) same own
 
     state1 : state_of (story ++ fault ∷ []) ≡ s1
-    state1 = state_from-more start story fault ∙ ap (λ t. after s (story_steps.Fault t left before faults tick))
-        tagged ∙ after_fault s lane build left before faults tick is
+    state1 = state_from-more start story fault
+        ∙ ap (λ t. after s (story_steps.Fault t faulted.left faulted.before faulted.faults faulted.tick)) tagged
+        ∙ after_fault s lane build faulted.left faulted.before faulted.faults faulted.tick is
 
-    state : state_of ((log.story ++ fault ∷ []) ++ end ∷ []) ≡ record s1 {
+    state : state_of new.story ≡ record s1 {
       done = with_done s.done lane;
       active = without_build s1.active lane;
     }
-    state = ap (λ t. state_of ((t ++ fault ∷ []) ++ end ∷ [])) same ∙ state_from-more start (story ++ fault ∷ []) end
+    state = ap state_of grows ∙ state_from-more start (story ++ fault ∷ []) end
         ∙ ap (λ t. after t end) state1
         ∙ ap (λ t. record s1 { done = with_done s.done t.lane; active = without_build s1.active t.lane }) tagged
 
 -- what is kept where a row that was to give a unit an object was not committed
-pub preserved_broken_object : (log : Logged) (lanes : List LaneState) (now lane n : ℕ) (row : Plain) (object : ℕ) (tag : Tag)
-    (left : Option Plain) (before faults tick : ℕ) (ghost_state : DiskState) → rises before faults ≡ true
-    → faults_of (state_of log.story).opened (state_of log.story).ends ≤ before → MayLeaveRow (state_of log.story) row left
-    → rises (ticks_of (state_of log.story).opened (state_of log.story).ends) tick ≡ true → CoreInvariant log lanes now
-    → Gives (state_of log.story) lane n row object → tag ≡ next_tag (state_of log.story) lane → IsFormed row
-    → CoreInvariant (with_step (with_step_on log (steps.Fault row.tag left before faults tick) ghost_state) (steps.End tag))
-    (with_closed lanes lane replies.DiskFault) now
-preserved_broken_object log lanes now lane n row object tag left before faults tick ghost_state rose later leaves ticked h g
-    tagged formed =
-    let s = state_of log.story in
+pub preserved_broken_object : (log new : Logged) (lanes : List LaneState) (now lane n : ℕ) (row : Plain) (object : ℕ) (tag : Tag)
+    → IsFaulted log new row (Some (steps.End tag)) → CoreInvariant log lanes now → Gives (state_of log.story) lane n row object
+    → tag ≡ next_tag (state_of log.story) lane → CoreInvariant new (with_closed lanes lane replies.DiskFault) now
+preserved_broken_object log new lanes now lane n row object tag faulted h g tagged =
     let slot = lane_slot log lanes now lane g.build h g.active in
-    subst (λ t. CoreInvariant (with_step (with_step_on log (steps.Fault row.tag left before faults tick) ghost_state)
-    (steps.End t)) (with_closed lanes lane replies.DiskFault) now) (sym tagged)
-    (subst (λ t. CoreInvariant (with_step (with_step_on log (steps.Fault t left before faults tick) ghost_state)
-    (steps.End (next_tag s lane))) (with_closed lanes lane replies.DiskFault) now) (sym g.of_tag)
-    (preserved_broken log lanes now lane g.build row left before faults tick ghost_state rose later leaves ticked h slot.from
-    slot.upto g.active g.of_tag g.may formed))
+    preserved_broken log new lanes now lane g.build row (subst (λ t. IsFaulted log new row (Some (steps.End t))) tagged faulted) h
+    slot.from slot.upto g.active g.of_tag g.may
 
 -- how the story went on
-pub broken_object_finishes : (log : Logged) (lanes : List LaneState) (now : ℕ) (story : List StoryStep) (lane n : ℕ) (row : Plain)
-    (object : ℕ) (tag : Tag) (left : Option Plain) (before faults tick : ℕ) (ghost_state : DiskState) → log.story ≡ story
+pub broken_object_finishes : (log new : Logged) (lanes : List LaneState) (now : ℕ) (story : List StoryStep) (lane n : ℕ)
+    (row : Plain) (object : ℕ) (tag : Tag) → IsFaulted log new row (Some (steps.End tag)) → log.story ≡ story
     → CoreInvariant log lanes now → Gives (state_of log.story) lane n row object → tag ≡ next_tag (state_of log.story) lane
-    → Finishes story (with_step (with_step_on log (steps.Fault row.tag left before faults tick) ghost_state)
-    (steps.End tag)).story lane
-broken_object_finishes log lanes now story lane n row object tag left before faults tick ghost_state same h g tagged =
+    → Finishes story new.story lane
+broken_object_finishes log new lanes now story lane n row object tag faulted same h g tagged =
     let s = state_of log.story in
     let by_tag = build_is_by s lane g.build g.active (h.builds.kept lane g.build g.active).tag in
-    subst (λ t. Finishes t (with_step (with_step_on log (steps.Fault row.tag left before faults tick) ghost_state)
-    (steps.End tag)).story lane) same
-    (subst (λ t. Finishes log.story (with_step (with_step_on log (steps.Fault t left before faults tick) ghost_state)
-    (steps.End tag)).story lane) (tagged ∙ sym g.of_tag)
-    (broken_finishes log log.story lane g.build tag left before faults tick ghost_state refl by_tag tagged))
+    subst (λ t. Finishes t new.story lane) same
+    (broken_finishes log new log.story lane g.build row tag faulted refl by_tag (g.of_tag ∙ sym tagged) tagged)

@@ -66,7 +66,6 @@ opens_so old log h = record {
   story_is = ap (λ l. l.story) h.is;
   faultless = h.faultless;
   fit = h.fit;
-  adds = h.adds;
   files = h.files;
 }
 

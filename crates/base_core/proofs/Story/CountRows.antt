@@ -29,7 +29,7 @@ commit_row s row = (refl, omega arith, refl, fit 11 2 (omega arith) (omega arith
 commit_early : (s : State) (row : Plain) → CountsStep s (story_steps.Commit row 10) (counted 7 2) (counted 11 2) → ⊥
 commit_early s row h = absurd (omega (arith, h.0))
 
--- the third call of a commit behind a settled tail opens the gate: the row may be found
+-- the third call of a commit after a settled tail opens the gate: the row may be found
 fault_row : (tag : Tag) → CountsStep start (story_steps.Fault tag (Some (row tag)) 2 3 10) (counted 7 2)
     (counted 10 3)
 fault_row tag = (
@@ -43,7 +43,7 @@ fault_row tag = (
   (row tag, (true, InFlight, (λ shut some. refl), refl, (omega arith, omega arith))),
 )
 
--- the first one writes the frame behind the shut gate, or settles the tail: no row of its own can be found
+-- the first one writes the frame after the shut gate, or settles the tail: no row of its own can be found
 row_too_early : (tag : Tag) → CountsStep start (story_steps.Fault tag (Some (row tag)) 2 3 8) (counted 7 2)
     (counted 8 3) → ⊥
 row_too_early tag (before, after, one, at, rose, fits, writes, left) = too_early left

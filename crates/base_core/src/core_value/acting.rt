@@ -18,6 +18,7 @@ use cc_names::texts::Text;
 use checkout_desk::{decide, view_of};
 use disk_model::Disk;
 use std::alloc::Global;
+use std::snapshot::Snapshot;
 use story_log::Appended;
 use view_lookup::replied_name;
 
@@ -146,15 +147,15 @@ impl<D: Disk> Core<D> {
     }
 
     /// Answers its lane's next command. An `Err` changes nothing.
-    fn tell_answer(&mut self, alloc: Global, tag: Tag, text: Text) -> Result<(), NoMemory>
+    fn tell_answer(&mut self, tag: Tag, text: Text) -> Result<(), NoMemory>
         requires { IsNextAnswer (state_of self.old.story) tag text (replies.Answer text) }
         ensures ok { OnOk result (Acts self.old.story self.new.story tag.lane dones.Answered) }
         ensures err { OnErr result (self.new ≡ self.old) }
         ensures counted { KeepsCount self.old self.new }
     {
-        let replied = text.copy(alloc)?;
-        self.log.tell(Step::Answer { tag, text })?;
-        self.lanes.reply(tag.lane, Reply::Answer(replied));
+        let kept = Snapshot::of(&text);
+        self.log.tell(Step::Answer { tag, text: kept })?;
+        self.lanes.reply(tag.lane, Reply::Answer(text));
         Ok(())
     }
 
@@ -165,7 +166,8 @@ impl<D: Disk> Core<D> {
         ensures err { OnErr result (self.new ≡ self.old) }
         ensures counted { KeepsCount self.old self.new }
     {
-        let text = Text::of(Vec::new(alloc));
+        let nothing = Text::of(Vec::new(alloc));
+        let text = Snapshot::of(&nothing);
         self.log.tell(Step::Answer { tag, text })?;
         self.lanes.reply(tag.lane, Reply::Count(0));
         Ok(())
@@ -209,7 +211,7 @@ impl<D: Disk> Core<D> {
         let tag = self.tag(lane);
         match self.find_answer(alloc, lane, query) {
             Ok(text) => {
-                self.tell_answer(alloc, tag, text)?;
+                self.tell_answer(tag, text)?;
                 Ok(Done::Answered)
             }
             Err(Or::Is(refusal)) => {
@@ -223,8 +225,8 @@ impl<D: Disk> Core<D> {
     /// Carries out a lane's next command, which builds nothing: its row is committed, it is answered, it is refused, or the
     /// disk fails under it. An `Err` changes nothing. A commit has the disk's ticks as this call ends, and no fault was
     /// counted. A fault has the counts of faults as this call begins and ends, and the ticks as it ends. An answer, a refusal
-    /// and an `Err` make no device call. Takes time linear in the command, in the row or the answer, in the lanes and in the
-    /// steps since the last commit or fault, and what `decide` or `answer` takes of the base.
+    /// and an `Err` make no device call. Takes time linear in the command, in the row or the answer and in the lanes, and
+    /// what `decide` or `answer` takes of the base.
     #[tactic(auto, using(crate::proofs::Acting::Commanded::acts_on_no_build, crate::proofs::Building::UnitCalls::acts_waits))]
     pub fn act(&mut self, alloc: Global, lane: u32) -> Result<Done, NoMemory>
         requires { next_of_lane (state_of self.old.story) lane ≡ nexts.Act }

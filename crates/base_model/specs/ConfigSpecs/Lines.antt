@@ -101,12 +101,12 @@ abbrev pub with_options : ℕ → Option ℕ → List ℕ → Bool → List ℕ 
 with_options line block pattern of_object selector None = Err BadRule
 with_options line block pattern of_object selector (Some options) = rule_of line block pattern of_object selector options
 
--- `element PATTERN -config` and the words behind
+-- `element PATTERN -config` and the words after
 abbrev pub object_line : ℕ → Option ℕ → List ℕ → List (List ℕ) → Result Line SpecCause
 object_line line block pattern [] = Err BadRule
 object_line line block pattern (object ∷ words) = with_options line block pattern true object (options_from words no_options)
 
--- the words behind `element`
+-- the words after `element`
 abbrev pub element_line : ℕ → Option ℕ → List (List ℕ) → Result Line SpecCause
 element_line line block (pattern ∷ selector ∷ words) =
     if bytes_eq selector (codes "-config") then object_line line block pattern words

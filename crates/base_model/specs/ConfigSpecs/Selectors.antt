@@ -14,7 +14,7 @@ use Rattle.cc_names.specs.declared.selection.Selector.{Selector}
 use Rattle.cc_names.specs.declared.selection.Selector.TheVariants.{CheckedOut, Label, Latest, Wherever, Numbered, Config, Nothing}
 use Rattle.base_model.specs.ConfigSpecs.WildCards.{has_none}
 
--- the selector of the branch behind `main` by these names, by what follows them: LATEST or a number
+-- the selector of the branch after `main` by these names, by what follows them: LATEST or a number
 abbrev pub on_branch : List (List ℕ) → List ℕ → Option Selector
 on_branch names end =
     if bytes_eq end (codes "LATEST") then Some (Latest names) else option_map (Numbered names) (number_of end)
@@ -57,7 +57,7 @@ abbrev pub object_of_parts : List (List ℕ) → Option Selector
 object_of_parts (path ∷ [] ∷ object ∷ []) = of_object path object
 object_of_parts _ = None
 
--- the selector that a word spells, where it stands behind `-config` and where it does not
+-- the selector that a word spells, where it stands after `-config` and where it does not
 abbrev pub selector_by : Bool → List ℕ → Option Selector
 selector_by false word = selector_of_word word
 selector_by true word = object_of_parts (slice_split is_at word)

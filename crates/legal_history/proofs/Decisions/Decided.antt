@@ -22,6 +22,7 @@ use Rattle.legal_history.specs.Commands.LabelLines.{mklabel_of, mklabel_tests, r
 use Rattle.legal_history.specs.Commands.LabelLines.{mklabel_config_tests, mkarrow_of, mkarrow_from, mkarrow_tests, version_named}
 use Rattle.base_model.specs.Closures.{placed_by}
 use Rattle.legal_history.specs.Commands.Lines.{decision}
+use Rattle.legal_history.specs.Queries.QueryLines.{query_answer}
 use Rattle.legal_history.specs.Commands.ObjectLines.{rmdo_tests, due_objects}
 use Rattle.base_model.specs.Seen.{at}
 use Rattle.base_model.specs.Views.{out}
@@ -29,7 +30,7 @@ use Rattle.legal_history.specs.Commands.Tests.{needs_view, needs_idle, needs_fre
 use Rattle.legal_history.proofs.Decisions.DecidedSays.{Says, by_row, by_checkout, was_idle, saved_suits, by_labels, by_scrub}
 use Rattle.legal_history.proofs.Decisions.DecidedSays.{by_build}
 use Rattle.legal_history.proofs.Decisions.Handed.{IfDecided, past_is, selected_is, element_is, object_is, version_is, change_is}
-use Rattle.legal_history.proofs.Decisions.Queried.{query_is}
+use Rattle.legal_history.proofs.Decisions.Handed.{answered_is}
 
 by_element : (s : Scene) (command : Command) (v path : List ℕ) (kind : Kind) (nco : Bool)
     → IfDecided (Says s command) (mkelem s v nco kind path)
@@ -98,5 +99,5 @@ decided_says s (commands.Change (changes.Mkarrow v path version)) =
     (λ before. selected_is (Says s _) path (at s.base v path) (mkarrow_of s v path version)
     (λ e picked is. version_is (Says s _) path (version_named s.base e version) (mkarrow_from s v e picked)
     (λ tail found. by_row s _ (mkarrow_tests s v e picked tail) (deeds.Arrow e tail picked.row) (λ p. tt))))
-decided_says s (commands.Query query) = query_is (Says s (commands.Query query)) s.base query (λ text. tt)
+decided_says s (commands.Query query) = answered_is (Says s (commands.Query query)) (query_answer s.base query) (λ text. tt)
 decided_says s (commands.Build build) = by_build s build

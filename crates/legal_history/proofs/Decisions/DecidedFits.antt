@@ -36,6 +36,7 @@ use Rattle.base_model.specs.Fits.{fits, is_base}
 use Rattle.base_model.specs.Texts.{texts}
 use Rattle.legal_history.specs.Commands.LabelLines.{mklabel_config, mklabel_config_of, mklabel_config_tests, labels_or_nothing}
 use Rattle.legal_history.specs.Commands.Lines.{decision}
+use Rattle.legal_history.specs.Queries.QueryLines.{query_answer}
 use Rattle.legal_history.specs.Commands.ObjectLines.{due_among, due_objects, scrub, scrub_of, clearmake_tests, build_unless}
 use Rattle.legal_history.proofs.Decisions.CheckoutFits.{checkout_fits, mkbranch_fits, uncheckout_fits, checkin_fits}
 use Rattle.legal_history.proofs.Decisions.DirectoryFits.{mkelem_fits, rmname_fits, mv_fits}
@@ -43,8 +44,7 @@ use Rattle.legal_history.proofs.Decisions.LabelFits.{mklabel_fits, rmlabel_fits,
 use Rattle.legal_history.proofs.Decisions.SaveFits.{save_fits}
 use Rattle.legal_history.proofs.Decisions.FileFits.{Fits, RowFits, mkview_fits, rmview_fits, setcs_fits, rm_fits, mktype_fits}
 use Rattle.legal_history.proofs.Decisions.FileFits.{rmdo_fits}
-use Rattle.legal_history.proofs.Decisions.Handed.{past_is, object_is, row_is, answer_is}
-use Rattle.legal_history.proofs.Decisions.Queried.{query_is}
+use Rattle.legal_history.proofs.Decisions.Handed.{past_is, object_is, row_is, answer_is, answered_is}
 use Rattle.base_model.proofs.LabelsHold.{greater, all_listed, version_id_listed}
 use Rattle.base_model.proofs.Tables.{tied}
 use Rattle.legal_history.proofs.Decisions.Passed.{AllPass, unless_passes, fits_by}
@@ -187,7 +187,7 @@ command_fits s (commands.Change (changes.Rmdo v path)) base = rmdo_fits s v path
 command_fits s (commands.Change (changes.Scrub age)) base = scrub_fits s age
 command_fits s (commands.Change (changes.MklabelConfig v replace path label)) base = mklabel_config_fits s v replace path label
 command_fits s (commands.Change (changes.Mkarrow v path version)) base = mkarrow_fits s v path version base
-command_fits s (commands.Query query) base = query_is (Fits s) s.base query (λ text. tt)
+command_fits s (commands.Query query) base = answered_is (Fits s) (query_answer s.base query) (λ text. tt)
 command_fits s (commands.Build asked) base =
     build_fits s (first_refusal (clearmake_tests s asked.view)) (units (texts s.base asked.view) asked.file asked.macros
     asked.goals)

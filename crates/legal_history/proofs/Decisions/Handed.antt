@@ -1,5 +1,5 @@
 -- What holds of whatever is decided holds past tests, and of what these find and hand on.
-use Rattle.std.proofs.Common.{◌≡◌, refl, ap, sym, subst, ◌∙◌, ℕ, true, Option, Some, None, Result, Ok, List, [], ◌∷◌, ◌++◌}
+use Rattle.std.proofs.Common.{◌≡◌, refl, ap, sym, subst, ◌∙◌, ℕ, true, Option, Some, None, Result, Ok, Err, List, [], ◌∷◌, ◌++◌}
 use Rattle.cc_names.specs.declared.refusals.Refusal.{Refusal}
 use Rattle.cc_names.specs.declared.rows.Deed.{Deed}
 use Rattle.cc_names.specs.declared.selection.Picked.{Picked}
@@ -9,7 +9,7 @@ use Rattle.base_model.specs.Rows.{Base}
 use Rattle.base_model.specs.Conditions.{exists, has_out, is_directory}
 use Rattle.base_model.specs.Seen.{at}
 use Rattle.legal_history.specs.Commands.Decisions.{Decision, Makes, Answers, Scene, first_refusal, unless_refused, needs_room}
-use Rattle.legal_history.specs.Commands.Decisions.{past, makes, answers}
+use Rattle.legal_history.specs.Commands.Decisions.{past, makes, answers, answered}
 use Rattle.legal_history.specs.Commands.DirectoryLines.{changes_directory, out_directory}
 use Rattle.legal_history.specs.Commands.FileLines.{parent}
 use Rattle.legal_history.specs.Commands.Found.{for_selected, for_element, for_directory, for_object, for_version}
@@ -89,3 +89,9 @@ row_is P s tests deed so d h =
 pub answer_is : (P : Decision → Type 0) (tests : List (Option Refusal)) (text : List ℕ) → P (Answers text)
     → IfDecided P (answers tests text)
 answer_is P tests text so d h = subst P (decided_is (first_refusal tests) (Answers text) d h) so
+
+-- what holds of every text that answers holds of what is decided of a query
+pub answered_is : (P : Decision → Type 0) (answer : Result (List ℕ) Refusal) → ((text : List ℕ) → P (Answers text))
+    → IfDecided P (answered answer)
+answered_is P (Ok text) so d h = let is : Answers text ≡ d = cc in subst P is (so text)
+answered_is P (Err refusal) so d h = absurd (cc)

@@ -1,5 +1,5 @@
 -- The rows of labels and arrows fit.
-use Rattle.std.proofs.Common.{◌≡◌, refl, ℕ, Bool, true, false, ◌==◌, None, List, [], ◌∷◌, not, arith}
+use Rattle.std.proofs.Common.{◌≡◌, refl, ℕ, Bool, true, false, ◌==◌, None, List, [], ◌∷◌, arith}
 use Rattle.std.specs.Prelude.{is_none}
 use Rattle.std.proofs.lemmas.Bool.Decides.{nat_tests}
 use Rattle.cc_names.specs.declared.commands.VersionName.{VersionName}
@@ -8,7 +8,6 @@ use Rattle.cc_names.specs.declared.refusals.Refusal.TheVariants as refusals
 use Rattle.cc_names.specs.declared.rows.Deed.TheVariants as deeds
 use Rattle.cc_names.specs.declared.selection.Selector.TheVariants as selectors
 use Rattle.base_model.specs.Rows.{Base}
-use Rattle.legal_history.specs.Commands.CheckoutLines.{checkout}
 use Rattle.base_model.specs.Closures.{is_version_of}
 use Rattle.base_model.specs.Conditions.{is_label_type, arrow_row}
 use Rattle.legal_history.specs.Commands.Decisions.{Scene}
@@ -20,7 +19,6 @@ use Rattle.base_model.specs.Views.{out}
 use Rattle.legal_history.proofs.Decisions.FileFits.{Fits, RowFits}
 use Rattle.legal_history.proofs.Decisions.Handed.{past_is, element_is, row_is, selected_is, version_is}
 use Rattle.legal_history.proofs.Decisions.Passed.{unless_passes, fits_by, where_passes}
-use Rattle.base_model.proofs.VersionsStay.{of_element}
 use Rattle.legal_history.specs.Commands.LabelLines.{mklabel, mklabel_of, mklabel_tests, needs_version_picked, mkarrow}
 use Rattle.legal_history.specs.Commands.LabelLines.{mkarrow_of, mkarrow_from, mkarrow_tests, version_named, rmlabel, rmlabel_of}
 use Rattle.legal_history.specs.Commands.LabelLines.{rmlabel_tests}

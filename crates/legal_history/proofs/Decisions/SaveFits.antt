@@ -9,7 +9,6 @@ use Rattle.cc_names.specs.declared.selection.Seen.{Seen}
 use Rattle.cc_names.specs.declared.rows.Deed.TheVariants as deeds
 use Rattle.base_model.specs.Rows.{Base, size}
 use Rattle.base_model.specs.Changes.{tree}
-use Rattle.legal_history.specs.Commands.CheckoutLines.{checkout}
 use Rattle.base_model.specs.Conditions.{has_out, is_file, is_directory, is_file_kind, is_directory_kind, exists}
 use Rattle.legal_history.specs.Commands.Decisions.{Scene}
 use Rattle.legal_history.specs.Commands.FileLines.{save, save_tests, save_deed, saves_at, saves_element}

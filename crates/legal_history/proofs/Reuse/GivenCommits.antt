@@ -9,14 +9,13 @@ use Rattle.cc_names.specs.declared.rows.ReadOf.{ReadOf}
 use Rattle.cc_names.specs.declared.rows.Tag.{Tag}
 use Rattle.cc_names.specs.declared.units.Unit.{Unit}
 use Rattle.cc_names.proofs.Common.{same_inside}
-use Rattle.base_model.specs.Rows.{Base, size}
+use Rattle.base_model.specs.Rows.{size}
 use Rattle.legal_history.specs.Builds.Active.{Build, Given, build_of, came_to, is_outcome, object_of, number_from, unit_at}
 use Rattle.legal_history.specs.Builds.Active.{unit_with_first}
 use Rattle.base_model.specs.Closures.{is_path_among}
 use Rattle.legal_history.specs.Commands.Decisions.{Makes}
 use Rattle.base_model.specs.Changes.{targets_of}
 use Rattle.base_model.specs.Fits.{deed_fits, is_base}
-use Rattle.legal_history.specs.Builds.Reuse.{reusable}
 use Rattle.legal_history.specs.Builds.Serials.{makes}
 use Rattle.legal_history.specs.Stories.States.{State, scene, decision_for}
 use Rattle.legal_history.specs.Stories.Steps.{with_outcome, active_after, with_came}
@@ -25,8 +24,8 @@ use Rattle.legal_history.specs.Builds.UnitTurns.{Winks, Publishes}
 use Rattle.legal_history.proofs.Stories.Goes.{of_lane}
 use Rattle.legal_history.proofs.Builds.AllBuilds.{Each, each_noted}
 use Rattle.legal_history.proofs.Stories.DecidedSteps.{decided_of}
-use Rattle.legal_history.proofs.Builds.FineBuilds.{TakesFor, takes_for}
-use Rattle.legal_history.proofs.Builds.Published.{IsPublish, is_publish}
+use Rattle.legal_history.proofs.Builds.FineBuilds.{takes_for}
+use Rattle.legal_history.proofs.Builds.Published.{is_publish}
 use Rattle.legal_history.proofs.Stories.ConsistentStories.{IsConsistentState}
 use Rattle.legal_history.specs.Laws.Given.{IsHeld, HoldsGiven}
 use Rattle.legal_history.proofs.Decisions.DecidedIdle.{decided_idle}
@@ -41,8 +40,15 @@ pub record AllHeld (s : State) : Type 0 where
   pub given : Each (λ lane. HoldsGiven s.base) s.active
   pub apart : ViewsApart s.active
 
--- a publish is of its build's view and its unit's targets
-pub record PublishIs (build : Build) (unit : Unit) (view : List ℕ) (targets : List (List ℕ)) : Type 0 where
+-- The unit that a row of a lane is for: one of the lane's active build, without an outcome, of the row's view and targets.
+pub record IsForUnit (s : State) (lane : ℕ) (view : List ℕ) (targets : List (List ℕ)) : Type 0 where
+  pub build : Build
+  pub n : ℕ
+  pub unit : Unit
+  pub there : build_of s.active lane ≡ Some build
+  pub is_unit : unit_at build n ≡ Some unit
+  pub waits : is_outcome (came_to build n) ≡ false
+  pub place : unit_with_first build targets ≡ Some n
   pub same_view : build.view ≡ view
   pub same_targets : unit.targets ≡ targets
 
@@ -54,49 +60,83 @@ abbrev targets_in_deed : Deed → List (List ℕ)
 targets_in_deed (deeds.Publish v targets script entries outputs) = targets
 targets_in_deed deed = []
 
-pub publish_is : (b : Base) (build : Build) (n : ℕ) (unit : Unit) (view : List ℕ) (targets : List (List ℕ)) (script : List ℕ)
-    (entries : List ReadOf) (outputs : List (List ℕ)) →
-    IsPublish b build n unit (deeds.Publish view targets script entries outputs) → PublishIs build unit view targets
-publish_is b build n unit view targets script entries outputs p = record {
-  same_view = sym (ap view_of_deed p.is);
-  same_targets = sym (ap targets_in_deed p.is);
-}
+pub publish_for : (s : State) (row : Plain) (view : List ℕ) (targets : List (List ℕ)) (script : List ℕ) (entries : List ReadOf)
+    (outputs : List (List ℕ)) → row.deed ≡ deeds.Publish view targets script entries outputs → Publishes s row targets
+    → IsForUnit s row.tag.lane view targets
+publish_for s row view targets script entries outputs is e =
+    let made = is_publish s.base e.build e.n e.unit row.deed e.made in
+    record {
+      build = e.build;
+      n = e.n;
+      unit = e.unit;
+      there = of_lane s row.tag e.build e.running.waits.active;
+      is_unit = e.running.waits.is_unit;
+      waits = e.running.waits.waits;
+      place = e.place;
+      same_view = sym (ap view_of_deed made.is) ∙ ap view_of_deed is;
+      same_targets = sym (ap targets_in_deed made.is) ∙ ap targets_in_deed is;
+    }
 
--- a publish by a build leaves the targets of each unit that has an object
-leaves_given : (s : State) (tag : Tag) (view : List ℕ) (targets : List (List ℕ)) (build other : Build) (lane n m id : ℕ)
-    (unit of_m : Unit) (path : List ℕ) → IsConsistentState s → AllHeld s →
-    build_of s.active tag.lane ≡ Some build → unit_at build n ≡ Some unit → is_outcome (came_to build n) ≡ false
-    → PublishIs build unit view targets →
-    build_of s.active lane ≡ Some other → unit_at other m ≡ Some of_m → object_of (came_to other m) ≡ Some id
-    → makes path of_m ≡ true → (bytes_eq other.view view && is_path_among path targets) ≡ false
-leaves_given s tag view targets build other lane n m id unit of_m path sound h there is_unit waits p is is_m own made =
-    by_view (bytes_eq other.view view) refl
-  where
-    not_waiting : build ≡ other → is_path_among path targets ≡ true → ⊥
-    not_waiting same among =
-        let fine = sound.fine.holds tag.lane build there in
-        let of_n : number_from 0 path build.units ≡ Some n = fine.consistent.in_order.one n unit path is_unit
-        (ap (is_path_among path) p.same_targets ∙ among) in
-        let m_is : unit_at build m ≡ Some of_m = ap (λ (x : Build). unit_at x m) same ∙ is_m in
-        let of_m_too : number_from 0 path build.units ≡ Some m = fine.consistent.in_order.one m of_m path m_is made in
-        let number : n ≡ m = same_inside (sym of_n ∙ of_m_too) in
-        let over : is_outcome (came_to other m) ≡ true = object_is_outcome (came_to other m) id own in
-        let waiting : is_outcome (came_to other m) ≡ false = sym (ap (λ (x : Build). is_outcome (came_to x m)) same)
-        ∙ sym (ap (λ k. is_outcome (came_to build k)) number) ∙ waits in
-        let clash : true ≡ false = sym over ∙ waiting in
-        cc
+pub wink_for : (s : State) (row : Plain) (view : List ℕ) (id : ℕ) → is_base s.base ≡ true → Winks s row view id
+    → IsForUnit s row.tag.lane view (targets_of s.base id)
+wink_for s row view id base e =
+    let w = takes_for s row.tag e.n e.build e.unit e.may in
+    record {
+      build = e.build;
+      n = e.n;
+      unit = e.unit;
+      there = w.there;
+      is_unit = w.is_unit;
+      waits = w.waits;
+      place = e.place;
+      same_view = e.of_view;
+      same_targets = sym (chosen_object s.base e.build e.n e.unit id base e.chosen).targets;
+    }
 
-    by_path : build ≡ other → (t : Bool) → is_path_among path targets ≡ t → t ≡ false
-    by_path same false e = refl
-    by_path same true e = absurd (not_waiting same e)
+-- A row of a lane, for one of its build's units, beside another unit that makes a path.
+module _ (s : State) (lane : ℕ) (view : List ℕ) (targets : List (List ℕ)) (row_for : IsForUnit s lane view targets)
+    (other_lane : ℕ) (other : Build) (m : ℕ) (of_m : Unit) (path : List ℕ) where
+  -- where the row changes the path in the view of the other, both units are the same
+  is_same_unit : IsConsistentState s → AllHeld s → build_of s.active other_lane ≡ Some other → unit_at other m ≡ Some of_m
+      → makes path of_m ≡ true → other.view ≡ view → is_path_among path targets ≡ true
+      → (other_lane ≡ lane) × (row_for.build ≡ other) × (row_for.n ≡ m)
+  is_same_unit sound h is is_m made of_view among =
+      let lanes : other_lane ≡ lane = h.apart.one_lane other_lane lane other row_for.build is row_for.there
+      (of_view ∙ sym row_for.same_view) in
+      let same : row_for.build ≡ other = same_inside (sym row_for.there ∙ ap (build_of s.active) (sym lanes) ∙ is) in
+      let fine = sound.fine.holds lane row_for.build row_for.there in
+      let of_its : number_from 0 path row_for.build.units ≡ Some row_for.n =
+      fine.consistent.in_order.one row_for.n row_for.unit path row_for.is_unit
+      (ap (is_path_among path) row_for.same_targets ∙ among) in
+      let m_is : unit_at row_for.build m ≡ Some of_m = ap (λ (x : Build). unit_at x m) same ∙ is_m in
+      let of_its_m : number_from 0 path row_for.build.units ≡ Some m = fine.consistent.in_order.one m of_m path m_is made in
+      (lanes, same, same_inside (sym of_its ∙ of_its_m))
 
-    by_view : (t : Bool) → bytes_eq other.view view ≡ t → (t && is_path_among path targets) ≡ false
-    by_view false e = refl
-    by_view true e =
-        let of_view : other.view ≡ view = (bytes_eq-Decides other.view view).0 e in
-        let lanes : lane ≡ tag.lane = h.apart.one_lane lane tag.lane other build is there (of_view ∙ sym p.same_view) in
-        let same : build ≡ other = same_inside (sym there ∙ ap (build_of s.active) (sym lanes) ∙ is) in
-        by_path same (is_path_among path targets) refl
+  -- so where they are not the same, it leaves the path
+  pub leaves_others : IsConsistentState s → AllHeld s → build_of s.active other_lane ≡ Some other → unit_at other m ≡ Some of_m
+      → makes path of_m ≡ true → ((other_lane ≡ lane) × (row_for.build ≡ other) × (row_for.n ≡ m) → ⊥)
+      → (bytes_eq other.view view && is_path_among path targets) ≡ false
+  leaves_others sound h is is_m made apart = by (bytes_eq other.view view) (is_path_among path targets) refl refl
+    where
+      by : (t u : Bool) → bytes_eq other.view view ≡ t → is_path_among path targets ≡ u → (t && u) ≡ false
+      by false u of_view among = refl
+      by true false of_view among = refl
+      by true true of_view among = absurd (apart (is_same_unit sound h is is_m made
+          ((bytes_eq-Decides other.view view).0 of_view) among))
+
+  -- and so where the other has an object
+  leaves_given : IsConsistentState s → AllHeld s → build_of s.active other_lane ≡ Some other → unit_at other m ≡ Some of_m
+      → makes path of_m ≡ true → (id : ℕ) → object_of (came_to other m) ≡ Some id
+      → (bytes_eq other.view view && is_path_among path targets) ≡ false
+  leaves_given sound h is is_m made id own = leaves_others sound h is is_m made has_none
+    where
+      has_none : (other_lane ≡ lane) × (row_for.build ≡ other) × (row_for.n ≡ m) → ⊥
+      has_none same =
+          let over : is_outcome (came_to other m) ≡ true = object_is_outcome (came_to other m) id own in
+          let waiting : is_outcome (came_to other m) ≡ false = sym (ap (λ (x : Build). is_outcome (came_to x m)) same.1)
+          ∙ sym (ap (λ k. is_outcome (came_to row_for.build k)) same.2) ∙ row_for.waits in
+          let clash : true ≡ false = sym over ∙ waiting in
+          cc
 
 published_given : (s : State) (tag : Tag) (moment : ℕ) (view : List ℕ) (targets : List (List ℕ)) (script : List ℕ)
     (entries : List ReadOf) (outputs : List (List ℕ)) → IsConsistentState s → AllHeld s →
@@ -111,20 +151,16 @@ published_given s tag moment view targets script entries outputs sound h fit e =
     row : Plain
     row = record { tag = tag; moment = moment; deed = deeds.Publish view targets script entries outputs }
 
-    there : build_of s.active tag.lane ≡ Some e.build
-    there = of_lane s tag e.build e.running.waits.active
-
-    p : PublishIs e.build e.unit view targets
-    p = publish_is s.base e.build e.n e.unit view targets script entries outputs
-        (is_publish s.base e.build e.n e.unit (deeds.Publish view targets script entries outputs) e.made)
+    row_for : IsForUnit s tag.lane view targets
+    row_for = publish_for s row view targets script entries outputs refl e
 
     before : Each (λ lane. HoldsGiven (row ∷ s.base)) s.active
     before = record {
       holds = λ lane build is. record {
         given = λ m id own.
             given_stays row s.base build m id fit
-            (λ unit path is_m made. leaves_given s tag view targets e.build build lane e.n m id e.unit unit path sound h there
-            e.running.waits.is_unit e.running.waits.waits p is is_m own made)
+            (λ unit path is_m made. leaves_given s tag.lane view targets row_for lane build m unit path sound h is is_m made id
+            own)
             ((h.given.holds lane build is).given m id own);
       };
     }
@@ -132,21 +168,15 @@ published_given s tag moment view targets script entries outputs sound h fit e =
     own : (build : Build) → build_of s.active tag.lane ≡ Some build → HoldsGiven (row ∷ s.base)
         (with_came build (unit_with_first build targets) (Given (size s.base)))
     own build is =
-        let same : e.build ≡ build = same_inside (sym there ∙ is) in
+        let same : row_for.build ≡ build = same_inside (sym row_for.there ∙ is) in
         subst (λ x. HoldsGiven (row ∷ s.base) (with_came x (unit_with_first x targets) (Given (size s.base)))) same
-        (subst (λ o. HoldsGiven (row ∷ s.base) (with_came e.build o (Given (size s.base)))) (sym e.place)
-        (came_given (row ∷ s.base) e.build e.n (Given (size s.base))
+        (subst (λ o. HoldsGiven (row ∷ s.base) (with_came row_for.build o (Given (size s.base)))) (sym row_for.place)
+        (came_given (row ∷ s.base) row_for.build row_for.n (Given (size s.base))
         (λ id object. let number : size s.base ≡ id = same_inside object in
-        subst (IsHeld (row ∷ s.base) e.build e.n) number
-        (publish_held tag moment view targets script entries outputs s.base e.build e.n e.unit p.same_view p.same_targets
-        e.running.waits.is_unit e.place))
-        (before.holds tag.lane e.build there)))
-
--- a wink is of its build's view and its unit's targets
-pub wink_is : (b : Base) (build : Build) (n : ℕ) (unit : Unit) (view : List ℕ) (id : ℕ) → is_base b ≡ true → build.view ≡ view
-    → reusable b build n unit ≡ Some id → PublishIs build unit view (targets_of b id)
-wink_is b build n unit view id base of_view chosen =
-    record { same_view = of_view; same_targets = sym (chosen_object b build n unit id base chosen).targets }
+        subst (IsHeld (row ∷ s.base) row_for.build row_for.n) number
+        (publish_held s.base row_for.build row_for.n row_for.unit tag moment view targets script entries outputs
+        row_for.same_view row_for.same_targets row_for.is_unit row_for.place))
+        (before.holds tag.lane row_for.build row_for.there)))
 
 winked_given : (s : State) (tag : Tag) (moment : ℕ) (view : List ℕ) (id : ℕ) → IsConsistentState s → AllHeld s
     → deed_fits s.base (deeds.Wink view id) ≡ true → Winks s (record { tag = tag; moment = moment; deed = deeds.Wink view id })
@@ -159,19 +189,16 @@ winked_given s tag moment view id sound h fit e = each_noted (λ lane. HoldsGive
     row : Plain
     row = record { tag = tag; moment = moment; deed = deeds.Wink view id }
 
-    w : TakesFor s tag e.n e.build e.unit
-    w = takes_for s tag e.n e.build e.unit e.may
-
-    p : PublishIs e.build e.unit view (targets_of s.base id)
-    p = wink_is s.base e.build e.n e.unit view id sound.base e.of_view e.chosen
+    row_for : IsForUnit s tag.lane view (targets_of s.base id)
+    row_for = wink_for s row view id sound.base e
 
     before : Each (λ lane. HoldsGiven (row ∷ s.base)) s.active
     before = record {
       holds = λ lane build is. record {
         given = λ m other own.
             given_stays row s.base build m other fit
-            (λ unit path is_m made. leaves_given s tag view (targets_of s.base id) e.build build lane e.n m other e.unit unit path
-            sound h w.there w.is_unit w.waits p is is_m own made)
+            (λ unit path is_m made. leaves_given s tag.lane view (targets_of s.base id) row_for lane build m unit path sound h is
+            is_m made other own)
             ((h.given.holds lane build is).given m other own);
       };
     }
@@ -179,15 +206,15 @@ winked_given s tag moment view id sound h fit e = each_noted (λ lane. HoldsGive
     own : (build : Build) → build_of s.active tag.lane ≡ Some build → HoldsGiven (row ∷ s.base)
         (with_came build (unit_with_first build (targets_of s.base id)) (Given id))
     own build is =
-        let same : e.build ≡ build = same_inside (sym w.there ∙ is) in
+        let same : row_for.build ≡ build = same_inside (sym row_for.there ∙ is) in
         subst (λ x. HoldsGiven (row ∷ s.base) (with_came x (unit_with_first x (targets_of s.base id)) (Given id))) same
-        (subst (λ o. HoldsGiven (row ∷ s.base) (with_came e.build o (Given id))) (sym e.place)
-        (came_given (row ∷ s.base) e.build e.n (Given id)
+        (subst (λ o. HoldsGiven (row ∷ s.base) (with_came row_for.build o (Given id))) (sym row_for.place)
+        (came_given (row ∷ s.base) row_for.build row_for.n (Given id)
         (λ other object. let number : id ≡ other = same_inside object in
-        subst (IsHeld (row ∷ s.base) e.build e.n) number
-        (wink_held tag moment view id s.base e.build e.n e.unit p.same_view p.same_targets
-        (reusable_matches s.base e.build e.n e.unit id sound.base e.chosen).lives w.is_unit e.place))
-        (before.holds tag.lane e.build w.there)))
+        subst (IsHeld (row ∷ s.base) row_for.build row_for.n) number
+        (wink_held s.base row_for.build row_for.n row_for.unit tag moment view id row_for.same_view row_for.same_targets
+        (reusable_matches s.base e.build e.n e.unit id sound.base e.chosen).lives row_for.is_unit row_for.place))
+        (before.holds tag.lane row_for.build row_for.there)))
 
 commanded_given : (s : State) (tag : Tag) (moment : ℕ) (deed : Deed) → AllHeld s → deed_fits s.base deed ≡ true → IsOfCommand deed
     → decision_for s tag ≡ Some (Ok (Makes deed)) →

@@ -122,40 +122,42 @@ target_there build (target ∷ targets) n h = (
       (bytes_equal_themselves target),
 )
 
--- the object that a unit's publish makes is held at each target of the unit
-pub publish_held : (tag : Tag) (moment : ℕ) (view : List ℕ) (targets : List (List ℕ)) (script : List ℕ) (entries : List ReadOf)
-    (outputs : List (List ℕ)) (b : Base) (build : Build) (n : ℕ) (unit : Unit) →
-    build.view ≡ view → unit.targets ≡ targets → unit_at build n ≡ Some unit → unit_with_first build targets ≡ Some n →
-    IsHeld (record { tag = tag; moment = moment; deed = deeds.Publish view targets script entries outputs } ∷ b) build n (size b)
-publish_held tag moment view targets script entries outputs b build n unit same_view same_targets is place =
-    let first = target_there build targets n place in
-    record {
-      unit = unit;
-      is_unit = is;
-      lives = ap (λ t. is_some (value_after (only_if t (Sets (size b))) (live_row b (size b)))) (same_is_same (size b));
-      target = first.0;
-      is_target = ap (is_path_among first.0) same_targets ∙ first.1;
-      holds = λ path made.
-          held_after_won build.view path view (size b) targets (objects_held b)
-          ∙ ap₂ (λ s t. cond (s && t) (Some (size b)) (held_at (objects_held b) build.view path))
-          ((bytes_eq-Decides build.view view).1 same_view) (ap (is_path_among path) (sym same_targets) ∙ made);
-    }
+-- A unit of a build over a base.
+module _ (b : Base) (build : Build) (n : ℕ) (unit : Unit) where
+  -- the object that a unit's publish makes is held at each target of the unit
+  pub publish_held : (tag : Tag) (moment : ℕ) (view : List ℕ) (targets : List (List ℕ)) (script : List ℕ) (entries : List ReadOf)
+      (outputs : List (List ℕ)) →
+      build.view ≡ view → unit.targets ≡ targets → unit_at build n ≡ Some unit → unit_with_first build targets ≡ Some n →
+      IsHeld (record { tag = tag; moment = moment; deed = deeds.Publish view targets script entries outputs } ∷ b) build n (size b)
+  publish_held tag moment view targets script entries outputs same_view same_targets is place =
+      let first = target_there build targets n place in
+      record {
+        unit = unit;
+        is_unit = is;
+        lives = ap (λ t. is_some (value_after (only_if t (Sets (size b))) (live_row b (size b)))) (same_is_same (size b));
+        target = first.0;
+        is_target = ap (is_path_among first.0) same_targets ∙ first.1;
+        holds = λ path made.
+            held_after_won build.view path view (size b) targets (objects_held b)
+            ∙ ap₂ (λ s t. cond (s && t) (Some (size b)) (held_at (objects_held b) build.view path))
+            ((bytes_eq-Decides build.view view).1 same_view) (ap (is_path_among path) (sym same_targets) ∙ made);
+      }
 
--- the object that a unit winks in is held at each target of the unit
-pub wink_held : (tag : Tag) (moment : ℕ) (view : List ℕ) (id : ℕ) (b : Base) (build : Build) (n : ℕ) (unit : Unit)
-    → build.view ≡ view → unit.targets ≡ targets_of b id → is_some (live_row b id) ≡ true → unit_at build n ≡ Some unit →
-    unit_with_first build (targets_of b id) ≡ Some n → IsHeld (record { tag = tag; moment = moment; deed = deeds.Wink view id }
-    ∷ b) build n id
-wink_held tag moment view id b build n unit same_view same_targets lives is place =
-    let first = target_there build (targets_of b id) n place in
-    record {
-      unit = unit;
-      is_unit = is;
-      lives = lives;
-      target = first.0;
-      is_target = ap (is_path_among first.0) same_targets ∙ first.1;
-      holds = λ path made.
-          held_after_won build.view path view id (targets_of b id) (objects_held b)
-          ∙ ap₂ (λ s t. cond (s && t) (Some id) (held_at (objects_held b) build.view path))
-          ((bytes_eq-Decides build.view view).1 same_view) (ap (is_path_among path) (sym same_targets) ∙ made);
-    }
+  -- the object that a unit winks in is held at each target of the unit
+  pub wink_held : (tag : Tag) (moment : ℕ) (view : List ℕ) (id : ℕ)
+      → build.view ≡ view → unit.targets ≡ targets_of b id → is_some (live_row b id) ≡ true → unit_at build n ≡ Some unit →
+      unit_with_first build (targets_of b id) ≡ Some n → IsHeld (record { tag = tag; moment = moment; deed = deeds.Wink view id }
+      ∷ b) build n id
+  wink_held tag moment view id same_view same_targets lives is place =
+      let first = target_there build (targets_of b id) n place in
+      record {
+        unit = unit;
+        is_unit = is;
+        lives = lives;
+        target = first.0;
+        is_target = ap (is_path_among first.0) same_targets ∙ first.1;
+        holds = λ path made.
+            held_after_won build.view path view id (targets_of b id) (objects_held b)
+            ∙ ap₂ (λ s t. cond (s && t) (Some id) (held_at (objects_held b) build.view path))
+            ((bytes_eq-Decides build.view view).1 same_view) (ap (is_path_among path) (sym same_targets) ∙ made);
+      }

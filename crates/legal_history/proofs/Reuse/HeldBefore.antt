@@ -212,7 +212,7 @@ passes_after s x lane old new n unit sound objects_held e was is is_unit started
           ready = passed.ready;
         })
         sound.base
-        (λ path made. place_step s x lane old new n unit path sound objects_held e
+        (λ path made. place_step s lane old new n unit path x sound objects_held e
         (record { was = was; is = is; is_unit = of_old; waits = ap is_outcome started; made = made }))
         passed.passes
 

@@ -1,11 +1,10 @@
 -- Along a legal story each object that is taken has a record of just what its unit sees, and none that would do is passed over.
-use Rattle.std.proofs.Common.{◌≡◌, ap, sym, subst, ◌∙◌, inl, inr, ℕ, true, false, Some, None, List, ◌∷◌, ◌++◌}
+use Rattle.std.proofs.Common.{◌≡◌, ap, sym, subst, ◌∙◌, inl, inr, ℕ, true, false, Some, None, List, ◌∷◌}
 use Rattle.std.specs.Prelude.{is_some}
 use Rattle.cc_names.specs.Formed.{Plain}
 use Rattle.cc_names.specs.declared.rows.Deed.TheVariants as deeds
 use Rattle.cc_names.specs.declared.rows.ReadOf.{ReadOf}
 use Rattle.cc_names.specs.declared.rows.Tag.{Tag}
-use Rattle.cc_names.specs.declared.steps.StoryStep.{StoryStep}
 use Rattle.cc_names.specs.declared.steps.StoryStep.TheVariants as story_steps
 use Rattle.cc_names.specs.declared.steps.UnitEnd.TheVariants as ends
 use Rattle.cc_names.specs.declared.units.Unit.{Unit}
@@ -22,8 +21,9 @@ use Rattle.legal_history.specs.Laws.FromNothing.{MayTake}
 use Rattle.legal_history.specs.Laws.Given.{HoldsGiven}
 use Rattle.legal_history.specs.Laws.Objects.{GivesLive}
 use Rattle.legal_history.specs.Laws.TakenLaws.{PublishesWhatItRead, ReusesAny, TakesWhatItSees, ViewTakesWhatItSees}
+use Rattle.legal_history.specs.Laws.TakenLaws.{TakenRecordIsSeenKept, TakenRecordIsSeenWinked, NothingIsPassedOverStart}
+use Rattle.legal_history.specs.Laws.TakenLaws.{NothingIsPassedOverPublish, NothingIsPassedOverMatch, PublishedRecordIsWhatWasRead}
 use Rattle.legal_history.specs.Stories.Committing.{MakesRow}
-use Rattle.legal_history.specs.Stories.Lawful.{Legal}
 use Rattle.legal_history.specs.Stories.States.{State, build_by, start}
 use Rattle.legal_history.specs.Stories.Steps.{state_of}
 use Rattle.legal_history.proofs.Builds.Published.{is_publish}
@@ -66,9 +66,7 @@ view_takes_seen s tag n id view build unit base own of_view chosen = record {
   of_view = of_view;
 }
 
-pub story_kept : (prefix rest : List StoryStep) (tag : Tag) (n id : ℕ)
-    → Legal (prefix ++ story_steps.Concluded tag n (ends.Kept id) ∷ rest)
-    → TakesWhatItSees (state_of prefix) tag n id
+pub story_kept : TakenRecordIsSeenKept
 story_kept prefix rest tag n id legal =
     let keeps = (rest_is_legal start prefix (story_steps.Concluded tag n (ends.Kept id) ∷ rest) legal).0 in
     let waits = keeps.open_unit.waits in
@@ -81,9 +79,7 @@ active_of : (s : State) (tag : Tag) (n : ℕ) (build : Build) (unit : Unit) → 
 active_of s tag n build unit (inl o) = (o.waits.active, o.waits.is_unit)
 active_of s tag n build unit (inr r) = (r.waits.active, r.waits.is_unit)
 
-pub story_winked : (prefix rest : List StoryStep) (row : Plain) (tick : ℕ) (view : List ℕ) (id : ℕ)
-    → Legal (prefix ++ story_steps.Commit row tick ∷ rest) → row.deed ≡ deeds.Wink view id
-    → ViewTakesWhatItSees (state_of prefix) row.tag view id
+pub story_winked : TakenRecordIsSeenWinked
 story_winked prefix rest row tick view id legal is =
     let commits = (rest_is_legal start prefix (story_steps.Commit row tick ∷ rest) legal).0 in
     let winks : Winks (state_of prefix) row view id = subst (MakesRow (state_of prefix) row) is commits.may.made in
@@ -91,10 +87,7 @@ story_winked prefix rest row tick view id legal is =
     view_takes_seen (state_of prefix) row.tag winks.n id view winks.build winks.unit
     (base_fits prefix (prefix_is_legal start prefix _ legal)) own winks.of_view winks.chosen
 
-pub story_starts : (prefix rest : List StoryStep) (tag : Tag) (n : ℕ) (build : Build) (unit : Unit) (id : ℕ)
-    → Legal (prefix ++ story_steps.Start tag n ∷ rest) → ReusesAny (state_of prefix) tag build
-    → unit_at build n ≡ Some unit →
-    is_some (live_row (state_of prefix).base id) ≡ true → matches (state_of prefix).base build n unit id ≡ false
+pub story_starts : NothingIsPassedOverStart
 story_starts prefix rest tag n build unit id legal any is_unit lives =
     let b = (state_of prefix).base in
     let starts = (rest_is_legal start prefix (story_steps.Start tag n ∷ rest) legal).0 in
@@ -104,68 +97,60 @@ story_starts prefix rest tag n build unit id legal any is_unit lives =
     nothing_passed_over b build n unit id any.of_any any.reuses (subst (λ x. reusable b build n x ≡ None) same_unit
     (subst (λ x. reusable b x n starts.unit ≡ None) same_build starts.nothing)) lives
 
--- a row of a unit that may reuse nothing has a record that no live object has
-publishes_new : (s : State) (row : Plain) (build : Build) (id : ℕ) (view other : List ℕ) (targets : List (List ℕ))
-    (script : List ℕ) (reads : List ReadOf) (outputs stored : List (List ℕ)) → is_base s.base ≡ true → Publishes s row targets →
-    row.deed ≡ deeds.Publish view targets script reads outputs → HoldsGiven s.base build → ReusesAny s row.tag build
-    → deed_at s.base id ≡ Some (deeds.Publish other targets script reads stored) → is_some (live_row s.base id) ≡ false
-publishes_new s row build id view other targets script reads outputs stored base e is held any object =
-    let b = s.base in
-    let made = is_publish b e.build e.n e.unit row.deed e.made in
-    let same : e.build ≡ build = same_inside (sym e.running.waits.active ∙ any.active) in
-    let whole : deeds.Publish view targets script reads outputs ≡ deeds.Publish e.build.view e.unit.targets
-    (script_text e.unit.script) (entries (visible b e.build e.n e.unit) (here b e.build e.n e.unit).reads) made.outputs =
-    sym is ∙ made.is in
-    let own : deed_at b id ≡ Some (deeds.Publish other e.unit.targets (script_text e.unit.script)
-    (entries (visible b e.build e.n e.unit) (here b e.build e.n e.unit).reads) stored) = cc in
-    no_second_record b e.build e.n e.unit id other stored base (subst (GivesLive b) (sym same) (gives_live b build held))
-    (ap (λ (x : Build). x.own_only) same ∙ any.of_any) (ap (λ (x : Build). x.rebuild) same ∙ any.reuses)
-    e.nothing own
+-- A publish of a state, by the fields of its row's deed.
+module _ (s : State) (row : Plain) (view : List ℕ) (targets : List (List ℕ)) (script : List ℕ) (reads : List ReadOf)
+    (outputs : List (List ℕ)) (is : row.deed ≡ deeds.Publish view targets script reads outputs) (e : Publishes s row targets) where
+  -- a row of a unit that may reuse nothing has a record that no live object has
+  publishes_new : (build : Build) (id : ℕ) (other : List ℕ) (stored : List (List ℕ)) → is_base s.base ≡ true
+      → HoldsGiven s.base build → ReusesAny s row.tag build
+      → deed_at s.base id ≡ Some (deeds.Publish other targets script reads stored) → is_some (live_row s.base id) ≡ false
+  publishes_new build id other stored base held any object =
+      let b = s.base in
+      let made = is_publish b e.build e.n e.unit row.deed e.made in
+      let same : e.build ≡ build = same_inside (sym e.running.waits.active ∙ any.active) in
+      let whole : deeds.Publish view targets script reads outputs ≡ deeds.Publish e.build.view e.unit.targets
+      (script_text e.unit.script) (entries (visible b e.build e.n e.unit) (here b e.build e.n e.unit).reads) made.outputs =
+      sym is ∙ made.is in
+      let own : deed_at b id ≡ Some (deeds.Publish other e.unit.targets (script_text e.unit.script)
+      (entries (visible b e.build e.n e.unit) (here b e.build e.n e.unit).reads) stored) = cc in
+      no_second_record b e.build e.n e.unit id other stored base (subst (GivesLive b) (sym same) (gives_live b build held))
+      (ap (λ (x : Build). x.own_only) same ∙ any.of_any) (ap (λ (x : Build). x.rebuild) same ∙ any.reuses)
+      e.nothing own
 
-pub story_publishes : (prefix rest : List StoryStep) (row : Plain) (tick : ℕ) (build : Build) (id : ℕ) (view other : List ℕ)
-    (targets : List (List ℕ)) (script : List ℕ) (reads : List ReadOf) (outputs stored : List (List ℕ)) →
-    Legal (prefix ++ story_steps.Commit row tick ∷ rest) → row.deed ≡ deeds.Publish view targets script reads outputs
-    → ReusesAny (state_of prefix) row.tag build →
-    deed_at (state_of prefix).base id ≡ Some (deeds.Publish other targets script reads stored)
-    → is_some (live_row (state_of prefix).base id) ≡ false
+  -- the row is that of its unit's run
+  publishes_read : PublishesWhatItRead s row targets script reads outputs
+  publishes_read =
+      let b = s.base in
+      let made = is_publish b e.build e.n e.unit row.deed e.made in
+      let whole : deeds.Publish view targets script reads outputs ≡ deeds.Publish e.build.view e.unit.targets
+      (script_text e.unit.script) (entries (visible b e.build e.n e.unit) (here b e.build e.n e.unit).reads) made.outputs =
+      sym is ∙ made.is in
+      record {
+        n = e.n;
+        build = e.build;
+        unit = e.unit;
+        active = e.running.waits.active;
+        is_unit = e.running.waits.is_unit;
+        started = e.running.started;
+        targets_are = cc;
+        script_is = cc;
+        entries_are = cc;
+        outputs_are = cc;
+      }
+
+pub story_publishes : NothingIsPassedOverPublish
 story_publishes prefix rest row tick build id view other targets script reads outputs stored legal is any object =
     let commits = (rest_is_legal start prefix (story_steps.Commit row tick ∷ rest) legal).0 in
     let before = prefix_is_legal start prefix _ legal in
-    publishes_new (state_of prefix) row build id view other targets script reads outputs stored (base_fits prefix before)
-    (subst (MakesRow (state_of prefix) row) is commits.may.made) is
+    publishes_new (state_of prefix) row view targets script reads outputs is
+    (subst (MakesRow (state_of prefix) row) is commits.may.made) build id other stored (base_fits prefix before)
     (story_holds prefix row.tag.lane build before (of_lane (state_of prefix) row.tag build any.active)) any object
 
--- the row of a publish is that of its unit's run
-publishes_read : (s : State) (row : Plain) (view : List ℕ) (targets : List (List ℕ)) (script : List ℕ) (reads : List ReadOf)
-    (outputs : List (List ℕ)) → Publishes s row targets → row.deed ≡ deeds.Publish view targets script reads outputs →
-    PublishesWhatItRead s row targets script reads outputs
-publishes_read s row view targets script reads outputs e is =
-    let b = s.base in
-    let made = is_publish b e.build e.n e.unit row.deed e.made in
-    let whole : deeds.Publish view targets script reads outputs ≡ deeds.Publish e.build.view e.unit.targets
-    (script_text e.unit.script) (entries (visible b e.build e.n e.unit) (here b e.build e.n e.unit).reads) made.outputs =
-    sym is ∙ made.is in
-    record {
-      n = e.n;
-      build = e.build;
-      unit = e.unit;
-      active = e.running.waits.active;
-      is_unit = e.running.waits.is_unit;
-      started = e.running.started;
-      targets_are = cc;
-      script_is = cc;
-      entries_are = cc;
-      outputs_are = cc;
-    }
-
-pub story_records : (prefix rest : List StoryStep) (row : Plain) (tick : ℕ) (view : List ℕ) (targets : List (List ℕ))
-    (script : List ℕ) (reads : List ReadOf) (outputs : List (List ℕ)) →
-    Legal (prefix ++ story_steps.Commit row tick ∷ rest) → row.deed ≡ deeds.Publish view targets script reads outputs
-    → PublishesWhatItRead (state_of prefix) row targets script reads outputs
+pub story_records : PublishedRecordIsWhatWasRead
 story_records prefix rest row tick view targets script reads outputs legal is =
     let commits = (rest_is_legal start prefix (story_steps.Commit row tick ∷ rest) legal).0 in
-    publishes_read (state_of prefix) row view targets script reads outputs
-    (subst (MakesRow (state_of prefix) row) is commits.may.made) is
+    publishes_read (state_of prefix) row view targets script reads outputs is
+    (subst (MakesRow (state_of prefix) row) is commits.may.made)
 
 -- a unit for which a row is published is matched by no live object
 publishes_unmatched : (s : State) (row : Plain) (build : Build) (n : ℕ) (unit : Unit) (id : ℕ) (targets : List (List ℕ))
@@ -183,11 +168,7 @@ publishes_unmatched s row build n unit id targets e any place is_unit lives =
     e.nothing)) in
     nothing_passed_over b build n unit id any.of_any any.reuses nothing lives
 
-pub story_matches : (prefix rest : List StoryStep) (row : Plain) (tick : ℕ) (build : Build) (n : ℕ) (unit : Unit) (id : ℕ)
-    (view : List ℕ) (targets : List (List ℕ)) (script : List ℕ) (reads : List ReadOf) (outputs : List (List ℕ)) →
-    Legal (prefix ++ story_steps.Commit row tick ∷ rest) → row.deed ≡ deeds.Publish view targets script reads outputs
-    → ReusesAny (state_of prefix) row.tag build → unit_with_first build targets ≡ Some n → unit_at build n ≡ Some unit →
-    is_some (live_row (state_of prefix).base id) ≡ true → matches (state_of prefix).base build n unit id ≡ false
+pub story_matches : NothingIsPassedOverMatch
 story_matches prefix rest row tick build n unit id view targets script reads outputs legal is any place is_unit lives =
     let commits = (rest_is_legal start prefix (story_steps.Commit row tick ∷ rest) legal).0 in
     publishes_unmatched (state_of prefix) row build n unit id targets (subst (MakesRow (state_of prefix) row) is commits.may.made)

@@ -20,5 +20,5 @@ pub winked_held : (row : Plain) (b : Base) (build : Build) (n : ℕ) (unit : Uni
 winked_held row b build n unit id base is place chosen wink =
     let m = reusable_matches b build n unit id base chosen in
     subst (λ (deed : Deed). IsHeld (record { tag = row.tag; moment = row.moment; deed = deed } ∷ b) build n id) (sym wink)
-    (wink_held row.tag row.moment build.view id b build n unit refl (sym (match_targets b build n unit id m.matches_unit)) m.lives
+    (wink_held b build n unit row.tag row.moment build.view id refl (sym (match_targets b build n unit id m.matches_unit)) m.lives
     is place)

@@ -1,5 +1,5 @@
 -- A legal story leads to later states alone.
-use Rattle.std.proofs.Common.{◌≡◌, refl, sym, subst, ◌∙◌, ℕ, ◌≤◌, true, Some, List, [], ◌∷◌, ◌++◌, arith}
+use Rattle.std.proofs.Common.{◌≡◌, refl, sym, subst, ◌∙◌, ℕ, ◌≤◌, true, Some, List, ◌++◌, arith}
 use Rattle.cc_names.specs.declared.steps.StoryStep.{StoryStep}
 use Rattle.legal_history.specs.Builds.Active.{Build, build_of, is_outcome, came_to}
 use Rattle.legal_history.specs.Stories.Growth.{Continues, GoesLater, StillBuilds}

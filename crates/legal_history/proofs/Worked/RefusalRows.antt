@@ -14,7 +14,8 @@ use Rattle.cc_names.specs.declared.rows.Out.TheVariants as outs
 use Rattle.cc_names.specs.declared.rows.TypeKind.TheVariants as type_kinds
 use Rattle.base_model.specs.Fits.{is_base}
 use Rattle.legal_history.specs.Commands.Decisions.{Decision, Makes, Scene, needs_room}
-use Rattle.legal_history.specs.Commands.Lines.{change_decision, query_decision}
+use Rattle.legal_history.specs.Commands.Lines.{change_decision}
+use Rattle.legal_history.specs.Queries.QueryLines.{query_answer}
 use Rattle.legal_history.specs.Queries.VersionNames.{line}
 use Rattle.legal_history.specs.Worked.{base_of, tag}
 use Rattle.legal_history.proofs.Worked.TwoViews.{v, hi, unit}
@@ -32,15 +33,15 @@ a_directory = codes "d"
 abbrev root : List ℕ
 root = codes "."
 
--- what is decided of a change or of a query on the base of these deeds, while no build is active
+-- what is decided of a change, and what answers a query, on the base of these deeds, while no build is active
 abbrev scene : List Deed → Scene
 scene deeds = record { base = base_of deeds; active = []; moment = 1700000000 }
 
 abbrev change : List Deed → Change → Result Decision Refusal
 change deeds asked = change_decision (scene deeds) asked
 
-abbrev query : List Deed → Query → Result Decision Refusal
-query deeds asked = query_decision (base_of deeds) asked
+abbrev query : List Deed → Query → Result (List ℕ) Refusal
+query deeds asked = query_answer (base_of deeds) asked
 
 -- a view; a view with a private file; and one that has the root out, and there a new file or a new directory
 abbrev view : List Deed

@@ -1,4 +1,4 @@
--- What holds of every active build of a legal story, whatever base was opened and whatever its units have come to.
+-- What holds of every active build of a legal story, whatever base was opened and whatever the state of its units.
 use Rattle.std.specs.Prelude.{◌≡◌, ℕ, ◌<◌, ◌≤◌, true, Some, is_some, List, slice_get}
 use Rattle.cc_names.specs.declared.units.Unit.{Unit}
 use Rattle.base_model.specs.Rows.{Base, size, first_rows}

@@ -1,4 +1,4 @@
--- What the units of an active build come to in a build from nothing, and that what they have come to agrees with it.
+-- The outcomes of an active build's units in a build from nothing, and that those of the active build agree with them.
 use Rattle.std.specs.Prelude.{◌≡◌, ℕ, true, Option, Some, None, is_some, List, take, reverse}
 use Rattle.cc_names.specs.declared.steps.UnitEnd.{UnitEnd}
 use Rattle.cc_names.specs.declared.steps.UnitEnd.TheVariants.{Kept}

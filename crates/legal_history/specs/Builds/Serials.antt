@@ -1,4 +1,4 @@
--- What the units of a build come to one after the other, from nothing: no record, no object, no lane and no thread.
+-- The outcomes of a build's units, one after the other, from nothing: no record, no object, no lane and no thread.
 use Rattle.std.specs.Prelude.{not, ℕ, Bool, true, false, Option, Some, None, List, [], ◌∷◌, ◌++◌, find, option_map}
 use Rattle.std.specs.Option.{option_or}
 use Rattle.std.specs.List.{list_any}

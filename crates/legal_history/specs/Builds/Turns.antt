@@ -1,4 +1,4 @@
--- What a unit of an active build may do next, by what the build's other units have come to.
+-- What a unit of an active build may do next, by the outcomes of the build's other units.
 use Rattle.std.specs.Prelude.{ℕ, ◌+◌, Bool, true, ◌&&◌, Option, Some, None, Result, Ok, Err, List, [], ◌∷◌, option_map}
 use Rattle.std.specs.List.{list_all}
 use Rattle.cc_names.specs.declared.refusals.ScriptFault.{ScriptFault}

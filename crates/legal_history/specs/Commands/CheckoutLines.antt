@@ -1,4 +1,4 @@
--- The commands that take elements out and bring them in: the tests of each in their order, and its deed.
+-- `checkout`, `mkbranch`, `checkin` and `uncheckout`: the tests of each in their order, and its deed.
 use Rattle.std.specs.Prelude.{ℕ, Bool, true, false, not, ◌==◌, Option, Some, None, Result, List, [], ◌∷◌, find}
 use Rattle.cc_names.specs.declared.refusals.Refusal.{Refusal}
 use Rattle.cc_names.specs.declared.rows.Deed.{Deed}

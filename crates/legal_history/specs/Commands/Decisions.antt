@@ -27,15 +27,15 @@ first_refusal (Some refusal ∷ tests) = Some refusal
 first_refusal (None ∷ tests) = first_refusal tests
 
 -- what is decided past some tests: the first refusal among them, else what follows
-abbrev pub past : List (Option Refusal) → Result Decision Refusal → Result Decision Refusal
+abbrev pub past : {A : Type 0} → List (Option Refusal) → Result A Refusal → Result A Refusal
 past [] decided = decided
 past (Some refusal ∷ tests) decided = Err refusal
 past (None ∷ tests) decided = past tests decided
 
--- the refusal, where there is one, else the decision
-abbrev pub unless_refused : Option Refusal → Decision → Result Decision Refusal
-unless_refused (Some refusal) decision = Err refusal
-unless_refused None decision = Ok decision
+-- the refusal, where there is one, else what was decided
+abbrev pub unless_refused : {A : Type 0} → Option Refusal → A → Result A Refusal
+unless_refused (Some refusal) decided = Err refusal
+unless_refused None decided = Ok decided
 
 -- Room for some rows: those of the base and those that active builds reserve stay within the limit with them. The
 -- refusal carries the rows and the reserved ones, or the limit where these are more.
@@ -49,9 +49,14 @@ needs_room scene rows =
 abbrev pub makes : Scene → List (Option Refusal) → Deed → Result Decision Refusal
 makes scene tests deed = unless_refused (first_refusal (tests ++ needs_room scene 1 ∷ [])) (Makes deed)
 
--- a query makes no row
+-- a command that makes no row is answered by a text
 abbrev pub answers : List (Option Refusal) → List ℕ → Result Decision Refusal
 answers tests text = unless_refused (first_refusal tests) (Answers text)
+
+-- a query is decided by what answers it, a text or a refusal
+abbrev pub answered : Result (List ℕ) Refusal → Result Decision Refusal
+answered (Ok text) = Ok (Answers text)
+answered (Err refusal) = Err refusal
 
 -- a build reserves a row for each of its units
 abbrev pub begins_build : Scene → ℕ → List Unit → Result Decision Refusal

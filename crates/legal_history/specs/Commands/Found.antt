@@ -11,7 +11,7 @@ use Rattle.legal_history.specs.Commands.Decisions.{Decision, past}
 use Rattle.legal_history.specs.Commands.Tests.{refused_unless}
 
 -- what is decided of the element that is selected at a path, with what was picked of it
-abbrev pub for_selected : List ℕ → Seen → (ℕ → Picked → Result Decision Refusal) → Result Decision Refusal
+abbrev pub for_selected : {A : Type 0} → List ℕ → Seen → (ℕ → Picked → Result A Refusal) → Result A Refusal
 for_selected path (Element e picked) more = more e picked
 for_selected path (Private row) more = Err (refusals.NotElement path)
 for_selected path (Unselected e) more = Err (refusals.NoPath path)
@@ -32,7 +32,7 @@ for_directory b path (Unselected e) more = Err (refusals.NoPath path)
 for_directory b path Nothing more = Err (refusals.NoPath path)
 
 -- what is decided of the object that a view holds at a path
-abbrev pub for_object : List ℕ → Option ℕ → (ℕ → Result Decision Refusal) → Result Decision Refusal
+abbrev pub for_object : {A : Type 0} → List ℕ → Option ℕ → (ℕ → Result A Refusal) → Result A Refusal
 for_object path (Some id) more = more id
 for_object path None more = Err (refusals.NoObject path)
 

@@ -4,20 +4,16 @@ use Rattle.cc_names.specs.declared.commands.Change.{Change}
 use Rattle.cc_names.specs.declared.commands.Change.TheVariants as changes
 use Rattle.cc_names.specs.declared.commands.Command.{Command}
 use Rattle.cc_names.specs.declared.commands.Command.TheVariants as commands
-use Rattle.cc_names.specs.declared.commands.Query.{Query}
-use Rattle.cc_names.specs.declared.commands.Query.TheVariants as queries
 use Rattle.cc_names.specs.declared.refusals.Refusal.{Refusal}
 use Rattle.cc_names.specs.declared.rows.Kind.TheVariants.{File, Directory}
 use Rattle.cc_names.specs.declared.rows.TypeKind.TheVariants as type_kinds
-use Rattle.base_model.specs.Rows.{Base}
 use Rattle.legal_history.specs.Commands.CheckoutLines.{checkout, mkbranch, checkin, uncheckout}
-use Rattle.legal_history.specs.Commands.Decisions.{Scene, Decision}
+use Rattle.legal_history.specs.Commands.Decisions.{Scene, Decision, answered}
 use Rattle.legal_history.specs.Commands.DirectoryLines.{mkelem, rmname, mv}
 use Rattle.legal_history.specs.Commands.FileLines.{mkview, rmview, setcs, save, rm}
 use Rattle.legal_history.specs.Commands.LabelLines.{mktype, mklabel, rmlabel, mklabel_config, mkarrow}
 use Rattle.legal_history.specs.Commands.ObjectLines.{rmdo, scrub, clearmake}
-use Rattle.legal_history.specs.Queries.QueryLines.{catcs, lsdo, ls, cat, describe, lsvtree, lshistory, catcr, diffcr, covers}
-use Rattle.legal_history.specs.Queries.QueryLines.{findmerge}
+use Rattle.legal_history.specs.Queries.QueryLines.{query_answer}
 
 -- What is decided of a change: its first refusal in the order of its tests, else its row; or that there is nothing to change.
 abbrev pub change_decision : Scene → Change → Result Decision Refusal
@@ -43,22 +39,8 @@ change_decision s (changes.Mkarrow v path version) = mkarrow s v path version
 change_decision s (changes.Rmdo v path) = rmdo s v path
 change_decision s (changes.Scrub age) = scrub s age
 
--- What is decided of a query, by the base alone: its first refusal in the order of its tests, else its text.
-abbrev pub query_decision : Base → Query → Result Decision Refusal
-query_decision b (queries.Catcs v) = catcs b v
-query_decision b (queries.Lsdo v) = lsdo b v
-query_decision b (queries.Ls v path) = ls b v path
-query_decision b (queries.Cat v path version) = cat b v path version
-query_decision b (queries.Describe v path) = describe b v path
-query_decision b (queries.Lsvtree v path) = lsvtree b v path
-query_decision b (queries.Lshistory v path) = lshistory b v path
-query_decision b (queries.Catcr v path) = catcr b v path
-query_decision b (queries.Diffcr v path other second) = diffcr b v path other second
-query_decision b (queries.Covers seer v path) = covers b seer v path
-query_decision b (queries.Findmerge v path branch) = findmerge b v path branch
-
 -- What is decided of a command: of a change, of a query, or of a build, which begins or is refused.
 abbrev pub decision : Scene → Command → Result Decision Refusal
 decision s (commands.Change change) = change_decision s change
-decision s (commands.Query query) = query_decision s.base query
+decision s (commands.Query query) = answered (query_answer s.base query)
 decision s (commands.Build build) = clearmake s build.view build.file build.macros build.goals

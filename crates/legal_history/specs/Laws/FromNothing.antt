@@ -1,4 +1,4 @@
--- That a unit, or an object, has what the unit comes to in the build from nothing, and when a unit may take an object.
+-- That a unit, or an object, is as the build from nothing makes it, and when a unit may take an object.
 use Rattle.std.specs.Prelude.{◌≡◌, ℕ, true, false, ◌⊎◌, Some, None, List}
 use Rattle.cc_names.specs.declared.rows.Tag.{Tag}
 use Rattle.cc_names.specs.declared.units.Unit.{Unit}

@@ -17,7 +17,7 @@ abbrev pub StopLeavesABase : Type 0
 StopLeavesABase = (story : List StoryStep) (b : Base) → Legal story
     → IsLeftByStop (state_of story) b → is_base b ≡ true
 
--- It is sound where the base was sound as it was opened: the row that was in flight, or that a fault left after, may be an
+-- It is sound where the base was sound as it was opened: the row that was in flight, or that a fault left after them, may be an
 -- object, and then this object is true.
 abbrev pub StopLeavesABaseSound : Type 0
 StopLeavesABaseSound = (story : List StoryStep) (opening : Opening) (b : Base) → Legal story

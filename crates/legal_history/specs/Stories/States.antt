@@ -1,4 +1,4 @@
--- What a story has come to: the state that its steps leave, one after the other.
+-- The state of a story: what its steps leave, one after the other.
 use Rattle.std.specs.Prelude.{ℕ, ◌+◌, Bool, true, ◌&&◌, ◌==◌, Option, Some, None, Result, is_none, List, [], ◌∷◌, length}
 use Rattle.std.specs.Prelude.{slice_get, option_map, option_and_then, unwrap_or}
 use Rattle.std.specs.Ordering.{nat_cmp}

@@ -200,7 +200,7 @@ its_frames = refl
 -- 4: the third frame is the first that is damaged; the second is not, and a base that was opened is not damaged
 damaged : HasCause (statuses.Damaged 3) (unread forms.Verify 0) none_failed (disk_at journal 8 0) []
 unfolding frames
-damaged = (asked_check, third_is_damaged, refl, refl)
+damaged = (asked_check, third_is_damaged, refl, refl, record { more = []; calls = refl; once = inl refl })
 
 not_the_second : HasCause (statuses.Damaged 2) (unread forms.Verify 0) none_failed (disk_at journal 8 0) [] → ⊥
 unfolding frames

@@ -56,7 +56,7 @@ abbrev opened : List StoryStep
 opened = Opened [] (record { ticks = 0; faults = 0 }) true ∷ []
 
 -- A session is run through where it ends well or a command failed, and where the disk failed under it. Where the sink failed,
--- `run` leaves the later phases out, and `big` and `verify` write behind all of them.
+-- `run` leaves the later phases out, and `big` and `verify` write after all of them.
 run_through : map (λ status. is_through (Some forms.Run) status opened) all
     ≡ true ∷ true ∷ false ∷ false ∷ false ∷ false ∷ false ∷ true ∷ false ∷ false ∷ []
 run_through = refl

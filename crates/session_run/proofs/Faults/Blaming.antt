@@ -11,12 +11,13 @@ use Rattle.cc_names.specs.declared.steps.Counts.{Counts}
 use Rattle.cc_names.specs.declared.steps.StoryStep.{StoryStep}
 use Rattle.cc_names.specs.declared.steps.StoryStep.TheVariants as story_steps
 use Rattle.disk_model.specs.Counting.{next_count}
-use Rattle.disk_model.specs.Devices.{Device, Event, Measured, Fetched, Wrote, Tore, Synced, Failed, failures}
+use Rattle.disk_model.specs.Devices.{Device, Event, Measured, Fetched, Wrote, Tore, Synced, Failed, bytes_now, failures}
 use Rattle.disk_model.specs.DiskStates.{DiskState, IfModeled, Both, IsCounted, CountsFailures}
 use Rattle.disk_model.proofs.Recording.{failures_most}
 use Rattle.legal_history.specs.Stories.States.{State, End, start}
 use Rattle.legal_history.specs.Stories.Steps.{after, state_from, state_of}
 use Rattle.vob_journal.specs.Added.{Adds, WritesOn, is_reading_call, may_read, may_write}
+use Rattle.vob_journal.specs.Pieces.{OpensBy, ReadsForth, ReadsOnce, but_failed}
 use Rattle.vob_journal.proofs.Adding.{adds_none, adds_then}
 use Rattle.vob_journal.proofs.Telling.{both_map, both_then}
 use Rattle.story_log.specs.Stopping.Backed.{may_be_open}
@@ -248,6 +249,31 @@ all_read (Tore file place size left ∷ calls) h none = absurd (cc)
 all_read (Synced file ∷ calls) h none = absurd (cc)
 all_read (Failed ∷ calls) h none = absurd (omega (arith, none))
 
+-- what reads a journal once are calls that read
+forth_reads : (bytes : List ℕ) (from had : ℕ) (calls : List Event) (to has : ℕ) → ReadsForth bytes from had calls to has
+    → list_all may_read calls ≡ true
+forth_reads bytes from had [] to has h = refl
+forth_reads bytes from had (Fetched file place size ∷ calls) to has h =
+    forth_reads bytes from had calls (h.2.0 + 1) h.2.3.0 h.2.3.2
+forth_reads bytes from had (event ∷ calls) to has h = absurd h
+
+opening_reads : (bytes : List ℕ) (calls : List Event) (to : ℕ) → OpensBy bytes calls to → list_all may_read calls ≡ true
+opening_reads bytes calls to (inl none) = ap (list_all may_read) none
+opening_reads bytes calls to (inr read) =
+    ap (list_all may_read) read.2 ∙ list_all-append may_read read.0 (Measured 0 ∷ [])
+    ∙ ap (λ a. a && true) (forth_reads bytes 0 0 read.0 to read.1 read.3)
+
+but_failed_reads : (calls : List Event) → list_all may_read (but_failed calls) ≡ true → list_all may_read calls ≡ true
+but_failed_reads (Failed ∷ calls) h = h
+but_failed_reads calls h = h
+
+once_reads : (d e : Device) → ReadsOnce d e → Adds may_read d e
+once_reads d e h = record {
+  more = h.1.more;
+  calls = h.1.calls;
+  kinds = but_failed_reads h.1.more (opening_reads (bytes_now 0 d) (but_failed h.1.more) h.0 h.1.once);
+}
+
 writes_alone : (calls : List Event) → list_all may_write calls ≡ true → reads_first calls ≡ true
 writes_alone [] h = refl
 writes_alone (event ∷ calls) h = by (is_reading_call event) (reads_first calls) (list_all may_write calls) h
@@ -275,10 +301,10 @@ first_opens first rows counts tells is = ap (λ o. elim o [ None ↦ first | Som
 -- *Whose fault*, of a session whose base was opened
 pub blamed : (before opened now : DiskState) (story : List StoryStep) (rows : List Plain) (counts : Counts) (tells : Bool)
     → IsCounted before → IsCounted opened → IsCounted now
-    → opened.faults ≡ before.faults → Both (Adds may_read) before.modeled opened.modeled
+    → opened.faults ≡ before.faults → Both ReadsOnce before.modeled opened.modeled
     → first_step story ≡ Some (story_steps.Opened rows counts tells) → CountsFrom opened now story
     → IfModeled now.modeled (IsBlamed before.ticks story)
-blamed before opened now story rows counts tells was first second sound reads begins from = by now.modeled refl
+blamed before opened now story rows counts tells was first second sound once begins from = by now.modeled refl
   where
     is_first : from.first ≡ story_steps.Opened rows counts tells
     is_first = first_opens from.first rows counts tells (ap first_step (sym from.story_is) ∙ begins)
@@ -289,6 +315,9 @@ blamed before opened now story rows counts tells was first second sound reads be
     settles : SettlesJournal (may_be_open (state_from (after start (story_steps.Opened rows counts tells)) from.steps).ends)
         from.ended now
     settles = subst (λ s. SettlesJournal (may_be_open (state_of s).ends) from.ended now) story_is from.settled
+
+    reads : Both (Adds may_read) before.modeled opened.modeled
+    reads = both_map ReadsOnce (Adds may_read) before.modeled opened.modeled once_reads once
 
     all : Both (Adds may_write) opened.modeled now.modeled
     all = adds_on opened.modeled from.ended.modeled now.modeled (steps_add (after start from.first) from.steps opened from.ended

@@ -23,7 +23,7 @@ use Rattle.vob_journal.proofs.Staying.{modeled_stay}
 use Rattle.story_log.specs.Bases.Opening.{AreSynced}
 use Rattle.story_log.specs.Stored.Stops.{OfEachStop, found_in, found_on}
 use Rattle.story_log.specs.Stopping.Backed.{IsAccounted, IsSettled}
-use Rattle.story_log.specs.Stopping.Founds.{OpensAgain}
+use Rattle.story_log.specs.Stopping.StopLaws.{OpensAgain}
 use Rattle.story_log.specs.Stopping.Standing.{MayBeFound}
 use Rattle.base_rows.specs.Order.{oldest_first}
 use Rattle.story_log.proofs.Stopping.Backing.{within_calls}

@@ -84,7 +84,7 @@ blamed_as_settling before faults h =
     let meets = h.ends.1.0 (omega arith) in
     absurd (omega (arith, meets.0, meets.1, meets.2))
 
--- Or it hides behind the last fault, which left nothing: the write of tick 8 fails under command 3, which is answered by want of
+-- Or it hides after the last fault, which left nothing: the write of tick 8 fails under command 3, which is answered by want of
 -- memory.
 hidden : IsBlamed 0 (opened ∷ story_steps.Commit (row 1) 5 ∷ fault 2 0 1 7 ∷ [])
     (device (Measured 0 ∷ put ++ put ++ Wrote 0 0 1 (0 ∷ []) ∷ Failed ∷ Failed ∷ [])) → ⊥

@@ -8,7 +8,7 @@ use Rattle.legal_history.specs.Builds.Values.{IsSound}
 use Rattle.legal_history.specs.Stories.States.{Opening}
 use Rattle.legal_history.specs.Stories.Steps.{state_of}
 use Rattle.story_log.specs.Stored.Stops.{OfEachStop, found_on}
-use Rattle.story_log.specs.Stopping.Founds.{FoundBaseIsSound, OpensAgain}
+use Rattle.story_log.specs.Stopping.StopLaws.{FoundBaseIsSound, OpensAgain}
 use Rattle.base_rows.specs.Order.{oldest_first}
 use Rattle.story_log.proofs.Cases.{some_same}
 use Rattle.story_log.proofs.Stopping.FoundBases.{modeled_is}

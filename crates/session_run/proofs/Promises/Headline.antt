@@ -14,7 +14,9 @@ use Rattle.cc_names.proofs.Common.{and_false}
 use Rattle.cc_outside.specs.Feeds.{AppendsPrefix}
 use Rattle.cc_outside.specs.declared.sinks.WriteFault.{WriteFault}
 use Rattle.disk_model.specs.DiskStates.{DiskState, Both, IsCounted}
-use Rattle.vob_journal.specs.Pieces.{ReadsOnce}
+use Rattle.story_log.specs.Bases.Reading.{ReadsOnceBy}
+use Rattle.story_log.specs.Logging.Appending.{SettlesTail}
+use Rattle.story_log.proofs.Bases.ReadFrames.{once_of}
 use Rattle.vob_journal.specs.Reads.{SameFiles}
 use Rattle.vob_journal.proofs.Staying.{modeled_stay}
 use Rattle.story_log.specs.Stopping.Backed.{IsAccounted, may_be_open}
@@ -300,52 +302,55 @@ run_sink (Ok failed) rose faults wrote = λ other. wrote
 run_sink (Err NoMemory) rose faults wrote = λ other. wrote
 run_sink (Err (Is fault)) rose faults wrote = λ other. absurd (other refl)
 
--- the steps since a base was opened, and the settling of its journal, have the disk's counts
-counts_from : (one ran : Shown) (settled : List StoryStep) (ghost_state : DiskState) → IsJustOpened one.story → KeepsCount one ran
-    → settled ≡ ran.story → SettlesJournal (may_be_open (state_of ran.story).ends) ran.ghost_state ghost_state
-    → CountsFrom one.ghost_state ghost_state settled
-counts_from one ran settled ghost_state just keeps same settles = record {
-  first = story_steps.Opened just.rows just.counts just.tells;
-  steps = keeps.steps;
-  ended = ran.ghost_state;
-  story_is = same ∙ keeps.grows ∙ ap (λ story. story ++ keeps.steps) just.is;
-  counts = subst (λ story. CountsSteps (state_of story) keeps.steps one.ghost_state ran.ghost_state) just.is keeps.counts;
-  settled = subst (λ story. SettlesJournal (may_be_open (state_of story).ends) ran.ghost_state ghost_state) (sym same) settles;
-}
+-- A base was opened, its session was run, and then its journal was settled, which leaves the story.
+module _ (one ran : Shown) (settled : List StoryStep) (ghost_state : DiskState) (kept : settled ≡ ran.story)
+    (settles : SettlesJournal (may_be_open (state_of ran.story).ends) ran.ghost_state ghost_state)
+    (calls : Both (SettlesTail (state_of ran.story).ends) ran.ghost_state.modeled ghost_state.modeled) where
+  -- the steps since, and the settling, have the disk's counts
+  counts_from : IsJustOpened one.story → KeepsCount one ran → CountsFrom one.ghost_state ghost_state settled
+  counts_from just keeps = record {
+    first = story_steps.Opened just.rows just.counts just.tells;
+    steps = keeps.steps;
+    ended = ran.ghost_state;
+    story_is = kept ∙ keeps.grows ∙ ap (λ story. story ++ keeps.steps) just.is;
+    counts = subst (λ story. CountsSteps (state_of story) keeps.steps one.ghost_state ran.ghost_state) just.is keeps.counts;
+    settled = subst (λ story. SettlesJournal (may_be_open (state_of story).ends) ran.ghost_state ghost_state) (sym kept) settles;
+    calls = subst (λ story. Both (SettlesTail (state_of story).ends) ran.ghost_state.modeled ghost_state.modeled) (sym kept)
+        calls;
+  }
 
--- a base was opened, and this is what became of it: the story as it was when the journal was settled is the one that was run
-pub runs_opened : (result : Result Bool (Or WriteFault)) (form : Form) (phases : List Phase) (status : Status)
-    (first : Option StoryStep) (one ran : Shown) (settled history : List StoryStep) (before : ℕ) (ghost_state now : DiskState)
-    (outside : Outside) (faults : Change ℕ) → let story = ran.story in IsJustOpened one.story → KeepsCount one ran
-    → SettlesJournal (may_be_open (state_of ran.story).ends) ran.ghost_state ghost_state → settled ≡ story → history ≡ settled
-    → now ≡ ghost_state → status ≡ run_status result (rises before ghost_state.faults) → first_step story ≡ first → Legal settled
-    → IfOk result (HasDone form phases story outside) → IfErr result (λ cut. IsGivenUp form cut phases story outside)
-    → CountsWriteFaults result faults.before faults.after → IsAccounted (state_of settled) ghost_state
-    → IsMended (state_of settled) ghost_state → AllOpenAgain settled → RunsOpened form phases status first history before
-    (record { before = one.ghost_state; after = now }) outside faults
-runs_opened result form phases status first one ran settled history before ghost_state now outside faults just keeps settles kept
-    same seen is begins legal done left wrote accounted mended again =
-    subst (λ s. RunsOpened form phases status first s before (record { before = one.ghost_state; after = now }) outside faults)
-    (sym same)
-    (subst (λ d. RunsOpened form phases status first settled before (record { before = one.ghost_state; after = d }) outside
-    faults) (sym seen)
-    (record {
-      result = result;
-      status_is = is;
-      first_is = ap first_step kept ∙ begins;
-      legal = legal;
-      ran = subst (λ s. HasRunSo form result phases s outside) (sym kept) (ran_so result done left);
-      fault = wrote;
-      accounted = accounted;
-      mended = mended;
-      again = again;
-      counted = counts_from one ran settled ghost_state just keeps kept settles;
-    }))
-  where
-    ran_so : (r : Result Bool (Or WriteFault)) → IfOk r (HasDone form phases ran.story outside)
-        → IfErr r (λ cut. IsGivenUp form cut phases ran.story outside) → HasRunSo form r phases ran.story outside
-    ran_so (Ok failed) one two = one
-    ran_so (Err cut) one two = two
+  -- and this is what became of it
+  pub runs_opened : (result : Result Bool (Or WriteFault)) (form : Form) (phases : List Phase) (status : Status)
+      (first : Option StoryStep) (history : List StoryStep) (before : ℕ) (now : DiskState) (outside : Outside)
+      (faults : Change ℕ) → IsJustOpened one.story → KeepsCount one ran → history ≡ settled → now ≡ ghost_state
+      → status ≡ run_status result (rises before ghost_state.faults) → first_step ran.story ≡ first → Legal settled
+      → IfOk result (HasDone form phases ran.story outside) → IfErr result (λ cut. IsGivenUp form cut phases ran.story outside)
+      → CountsWriteFaults result faults.before faults.after → IsAccounted (state_of settled) ghost_state
+      → IsMended (state_of settled) ghost_state → AllOpenAgain settled → RunsOpened form phases status first history before
+      (record { before = one.ghost_state; after = now }) outside faults
+  runs_opened result form phases status first history before now outside faults just keeps same seen is begins legal done left
+      wrote accounted mended again =
+      subst (λ s. RunsOpened form phases status first s before (record { before = one.ghost_state; after = now }) outside faults)
+      (sym same)
+      (subst (λ d. RunsOpened form phases status first settled before (record { before = one.ghost_state; after = d }) outside
+      faults) (sym seen)
+      (record {
+        result = result;
+        status_is = is;
+        first_is = ap first_step kept ∙ begins;
+        legal = legal;
+        ran = subst (λ s. HasRunSo form result phases s outside) (sym kept) (ran_so result done left);
+        fault = wrote;
+        accounted = accounted;
+        mended = mended;
+        again = again;
+        counted = counts_from just keeps;
+      }))
+    where
+      ran_so : (r : Result Bool (Or WriteFault)) → IfOk r (HasDone form phases ran.story outside)
+          → IfErr r (λ cut. IsGivenUp form cut phases ran.story outside) → HasRunSo form r phases ran.story outside
+      ran_so (Ok failed) one two = one
+      ran_so (Err cut) one two = two
 
 -- the promises of one call
 pub record Promised (status : Status) (story : List StoryStep) (intake : Intake) (outside : Outside) (faults : Change ℕ)
@@ -471,21 +476,24 @@ promised_unstarted unstarted status intake outside faults disk unread counted ha
 -- why a base is not opened is the cause of the status
 open_cause : (because : OpenCause) (rose : Bool) (intake : Intake) (faults : Change ℕ) (disk : Change DiskState)
     → disk_rose disk ≡ rose → IsAsked intake → StopsBy disk.before.modeled found_on because
-    disk.before.faults disk.after.faults → HasCause (unstarted_status (of_unopened because rose)) intake faults disk []
-open_cause opens.NoMemory rose intake faults disk by asked is = λ closed. is
-open_cause (opens.Damaged row) true intake faults disk by asked is = (asked, by, λ opened. absurd (cc))
-open_cause (opens.Damaged row) false intake faults disk by asked is = (asked, is.1, by, refl)
-open_cause opens.DiskFault rose intake faults disk by asked is = (asked, is, λ opened. absurd (cc))
+    disk.before.faults disk.after.faults → Both (ReadsOnceBy because) disk.before.modeled disk.after.modeled
+    → HasCause (unstarted_status (of_unopened because rose)) intake faults disk []
+open_cause opens.NoMemory rose intake faults disk by asked is once = λ closed. is
+open_cause (opens.Damaged row) true intake faults disk by asked is once = (asked, by, λ opened. absurd (cc))
+open_cause (opens.Damaged row) false intake faults disk by asked is once = (asked, is.1, by, refl, once)
+open_cause opens.DiskFault rose intake faults disk by asked is once = (asked, is, λ opened. absurd (cc))
 
 promised_closed : (because : OpenCause) (status : Status) (intake : Intake) (outside : Outside) (faults : Change ℕ)
     (disk : Change DiskState) → outside.reading ≡ outside.first → IsAsked intake → FailsToOpen disk.before because disk.after
-    → Both ReadsOnce disk.before.modeled disk.after.modeled → WritesUnstarted (of_unopened because (disk_rose disk)) status
+    → Both (ReadsOnceBy because) disk.before.modeled disk.after.modeled
+    → WritesUnstarted (of_unopened because (disk_rose disk)) status
     outside.held outside.holds faults
     → Promised status [] intake outside faults disk
 promised_closed because status intake outside faults disk unread asked fails once wrote =
     unstarted_so (of_unopened because (disk_rose disk)) status intake outside faults disk fails.files unread
-    (open_cause because (disk_rose disk) intake faults disk refl asked fails.because) wrote
-    (stays_closed disk.before disk.after [] refl fails.tells fails.unchanged once fails.files)
+    (open_cause because (disk_rose disk) intake faults disk refl asked fails.because once) wrote
+    (stays_closed disk.before disk.after [] refl fails.tells fails.unchanged
+    (once_of because disk.before.modeled disk.after.modeled once) fails.files)
 
 -- a text of sites comes to a status that is not cut, and what is written is its text
 sites_uncut : (run : Result Replies SiteError) → is_cut (status_of_sites run) ≡ false
@@ -655,7 +663,7 @@ promised_run form phases status story intake outside faults disk was now gives (
         once = run.once;
         files = run.files;
         counted = ran.counted;
-        calls = blamed disk.before run.opened disk.after story _ _ _ was run.fit now run.faultless run.adds run.begins.first
+        calls = blamed disk.before run.opened disk.after story _ _ _ was run.fit now run.faultless run.once run.begins.first
             ran.counted;
       };
       files = keeps_files disk run.opened story run.files ran.counted;

@@ -74,21 +74,6 @@ moved outside held holds = record {
   reading = outside.reading;
 }
 
--- `big`: the phases have been run, and their transcripts are in memory
-pub sum_done : (seed size : ℕ) (phases : List Phase) (story : List StoryStep) (outside : Outside) (failed : Bool)
-    (held holds : Option (List ℕ)) → HasRunPhases phases story outside failed → Appends held holds (summary (text_of_story story))
-    → HasDone (forms.Big seed size) phases story (moved outside held holds) failed
-sum_done seed size phases story outside failed held holds ran written = record {
-  opened = ran.opened;
-  phases_are = ran.phases_are;
-  finished = ran.finished;
-  moments_are = ran.moments_are;
-  reading_is = ran.reading_is;
-  failures = ran.failures;
-  written = written;
-  alone = λ check. absurd (cc);
-}
-
 -- as many moments as began
 modeled_again : (moments : Option (List ℕ)) (story : List StoryStep) (first count : ℕ)
     → IfSome moments (λ modeled. moments_begun story ≡ clock_moments modeled first count)
@@ -97,70 +82,68 @@ modeled_again None story first count h = tt
 modeled_again (Some modeled) story first count h = h ∙ ap (clock_moments modeled first) (sym (clock_length modeled first count)
     ∙ sym (ap length h))
 
--- `big`: they have been run, but their summary was not written whole
-pub sum_cut : (cut : Or WriteFault) (seed size : ℕ) (phases : List Phase) (story : List StoryStep) (outside : Outside)
-    (failed : Bool) (held holds : Option (List ℕ)) → HasRunPhases phases story outside failed
-    → AppendsPrefix held holds (summary (text_of_story story)) → IsGivenUp (forms.Big seed size) cut phases story
-    (moved outside held holds)
-sum_cut cut seed size phases story outside failed held holds ran written = record {
-  opened = ran.opened;
-  begun = ([], sym ran.phases_are ∙ sym (append-nil (phases_begun story)));
-  moments_are = modeled_again outside.moments story outside.first (length phases) ran.moments_are;
-  reading_is = reads cut;
-  written = written;
-  cut_at = cut_so cut;
-  alone = λ check. absurd (cc);
-}
-  where
-    reads : (cut : Or WriteFault) → ReadsBy cut (length (phases_begun story)) (moved outside held holds)
-    reads NoMemory = inl (ran.reading_is ∙ ap (raised_count outside.first) (sym (ap length ran.phases_are)))
-    reads (Is fault) = ran.reading_is ∙ ap (raised_count outside.first) (sym (ap length ran.phases_are))
-
-    cut_so : (cut : Or WriteFault) → IsCutSo (forms.Big seed size) cut phases story (moved outside held holds)
-    cut_so NoMemory = tt
-    cut_so (Is fault) = record { phases_are = ran.phases_are; finished = ran.finished }
-
--- `big`: memory ran out as they were run
-pub sum_left : (cut : Or WriteFault) (seed size : ℕ) (phases : List Phase) (story : List StoryStep) (outside : Outside)
-    (held : Option (List ℕ)) → IsRunGivenUp cut phases story outside → IsGivenUp (forms.Big seed size) NoMemory phases story
-    (moved outside held held)
-sum_left cut seed size phases story outside held left = record {
-  opened = left.opened;
-  begun = left.begun;
-  moments_are = left.moments_are;
-  reading_is = reads cut left.reading_is;
-  written = nothing_written held (summary (text_of_story story));
-  cut_at = tt;
-  alone = λ check. absurd (cc);
-}
-  where
-    reads : (cut : Or WriteFault) → ReadsBy cut (length (phases_begun story)) outside
-        → ReadsBy NoMemory (length (phases_begun story)) (moved outside held held)
-    reads NoMemory h = h
-    reads (Is fault) h = inl h
-
--- `big`, by what its phases came to in memory
-pub left_in_memory : (r : Result Bool (Or WriteFault)) (cut : Or WriteFault) (seed size : ℕ) (phases : List Phase)
-    (story : List StoryStep) (outside : Outside) (held : Option (List ℕ)) → r ≡ Err cut
-    → IfErr r (λ cut. IsRunGivenUp cut phases story outside)
-    → IsGivenUp (forms.Big seed size) NoMemory phases story (moved outside held held)
-left_in_memory r cut seed size phases story outside held is left =
-    sum_left cut seed size phases story outside held (subst (λ r. IfErr r (λ cut. IsRunGivenUp cut phases story outside)) is left)
-
 -- what was written into an empty memory
 all_kept : (old new : Option (List ℕ)) (kept text : List ℕ) → old ≡ Some [] → new ≡ Some kept → Appends old new text → kept ≡ text
 all_kept old new kept text old_is new_is written =
     subst (λ o. Appends (Some []) o text) new_is (subst (λ o. Appends o new text) old_is written)
 
-pub cut_in_memory : (r : Result Bool (Or WriteFault)) (failed : Bool) (cut : Or WriteFault) (seed size : ℕ) (phases : List Phase)
-    (story : List StoryStep) (outside : Outside) (held holds : Option (List ℕ)) (kept text : List ℕ) → r ≡ Ok failed
-    → IfOk r (HasRunPhases phases story outside) → outside.held ≡ Some [] → outside.holds ≡ Some kept → text ≡ kept
-    → AppendsPrefix held holds (summary text) → IsGivenUp (forms.Big seed size) cut phases story (moved outside held holds)
-cut_in_memory r failed cut seed size phases story outside held holds kept text is done old new text_is written =
-    let ran : HasRunPhases phases story outside failed = subst (λ r. IfOk r (HasRunPhases phases story outside)) is done in
-    let whole = text_is ∙ all_kept outside.held outside.holds kept (text_of_story story) old new ran.written in
-    sum_cut cut seed size phases story outside failed held holds ran
-    (subst (λ bytes. AppendsPrefix held holds (summary bytes)) whole written)
+-- `big`, whose phases are run with their transcripts in memory
+module _ (seed size : ℕ) (phases : List Phase) (story : List StoryStep) (outside : Outside) where
+  -- they have been run, but their summary was not written whole
+  sum_cut : (cut : Or WriteFault) (failed : Bool) (held holds : Option (List ℕ)) → HasRunPhases phases story outside failed
+      → AppendsPrefix held holds (summary (text_of_story story))
+      → IsGivenUp (forms.Big seed size) cut phases story (moved outside held holds)
+  sum_cut cut failed held holds ran written = record {
+    opened = ran.opened;
+    begun = ([], sym ran.phases_are ∙ sym (append-nil (phases_begun story)));
+    moments_are = modeled_again outside.moments story outside.first (length phases) ran.moments_are;
+    reading_is = reads cut;
+    written = written;
+    cut_at = cut_so cut;
+    alone = λ check. absurd (cc);
+  }
+    where
+      reads : (cut : Or WriteFault) → ReadsBy cut (length (phases_begun story)) (moved outside held holds)
+      reads NoMemory = inl (ran.reading_is ∙ ap (raised_count outside.first) (sym (ap length ran.phases_are)))
+      reads (Is fault) = ran.reading_is ∙ ap (raised_count outside.first) (sym (ap length ran.phases_are))
+
+      cut_so : (cut : Or WriteFault) → IsCutSo (forms.Big seed size) cut phases story (moved outside held holds)
+      cut_so NoMemory = tt
+      cut_so (Is fault) = record { phases_are = ran.phases_are; finished = ran.finished }
+
+  -- memory ran out as they were run
+  sum_left : (cut : Or WriteFault) (held : Option (List ℕ)) → IsRunGivenUp cut phases story outside
+      → IsGivenUp (forms.Big seed size) NoMemory phases story (moved outside held held)
+  sum_left cut held left = record {
+    opened = left.opened;
+    begun = left.begun;
+    moments_are = left.moments_are;
+    reading_is = reads cut left.reading_is;
+    written = nothing_written held (summary (text_of_story story));
+    cut_at = tt;
+    alone = λ check. absurd (cc);
+  }
+    where
+      reads : (cut : Or WriteFault) → ReadsBy cut (length (phases_begun story)) outside
+          → ReadsBy NoMemory (length (phases_begun story)) (moved outside held held)
+      reads NoMemory h = h
+      reads (Is fault) h = inl h
+
+  -- by what the run came to
+  pub left_in_memory : (r : Result Bool (Or WriteFault)) (cut : Or WriteFault) (held : Option (List ℕ)) → r ≡ Err cut
+      → IfErr r (λ cut. IsRunGivenUp cut phases story outside)
+      → IsGivenUp (forms.Big seed size) NoMemory phases story (moved outside held held)
+  left_in_memory r cut held is left =
+      sum_left cut held (subst (λ r. IfErr r (λ cut. IsRunGivenUp cut phases story outside)) is left)
+
+  pub cut_in_memory : (r : Result Bool (Or WriteFault)) (failed : Bool) (cut : Or WriteFault) (held holds : Option (List ℕ))
+      (kept text : List ℕ) → r ≡ Ok failed → IfOk r (HasRunPhases phases story outside) → outside.held ≡ Some []
+      → outside.holds ≡ Some kept → text ≡ kept → AppendsPrefix held holds (summary text)
+      → IsGivenUp (forms.Big seed size) cut phases story (moved outside held holds)
+  cut_in_memory r failed cut held holds kept text is done old new text_is written =
+      let ran : HasRunPhases phases story outside failed = subst (λ r. IfOk r (HasRunPhases phases story outside)) is done in
+      let whole = text_is ∙ all_kept outside.held outside.holds kept (text_of_story story) old new ran.written in
+      sum_cut cut failed held holds ran (subst (λ bytes. AppendsPrefix held holds (summary bytes)) whole written)
 
 -- a story that was just opened: no phase began, and all is done
 just_begun : (story : List StoryStep) → IsJustOpened story → (is_opened story ≡ true) × (phases_begun story ≡ [])

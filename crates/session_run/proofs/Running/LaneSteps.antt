@@ -5,7 +5,6 @@ use Rattle.std.specs.Prelude.{option_map, option_and_then}
 use Rattle.cc_names.specs.declared.commands.Change.{Change}
 use Rattle.cc_names.specs.declared.commands.Command.{Command}
 use Rattle.cc_names.specs.declared.commands.Command.TheVariants as commands
-use Rattle.cc_names.specs.declared.commands.Query.{Query}
 use Rattle.cc_names.specs.declared.occasions.Done.{Done}
 use Rattle.cc_names.specs.declared.occasions.Done.TheVariants.{Committed, Refused, Answered, Faulted}
 use Rattle.cc_names.specs.declared.occasions.Next.TheVariants as nexts
@@ -21,11 +20,11 @@ use Rattle.base_core.proofs.Keeping.LaneCounts.{done_other}
 use Rattle.legal_history.specs.Stories.Commanded.{next_command_of}
 use Rattle.clearmake.specs.Going.{SamePhase, Finishes, lane_of}
 use Rattle.clearmake.specs.Nexts.{next_of_lane, next_by}
-use Rattle.base_model.specs.Rows.{Base, only_where}
-use Rattle.legal_history.specs.Commands.Decisions.{Scene, Decision, Makes, Answers, Begins}
-use Rattle.legal_history.specs.Commands.Lines.{change_decision, decision, query_decision}
+use Rattle.base_model.specs.Rows.{only_where}
+use Rattle.legal_history.specs.Commands.Decisions.{Scene, Decision, Makes, Answers, Begins, answered}
+use Rattle.legal_history.specs.Commands.Lines.{change_decision, decision}
+use Rattle.legal_history.specs.Queries.QueryLines.{query_answer}
 use Rattle.legal_history.proofs.Decisions.Handed.{IfDecided}
-use Rattle.legal_history.proofs.Decisions.Queried.{query_is}
 use Rattle.legal_history.specs.Stories.States.{State, start, scene, done_of, with_done, is_next, next_tag, decision_for}
 use Rattle.legal_history.specs.Stories.States.{build_if, build_by}
 use Rattle.legal_history.specs.Stories.Steps.{after, done_after, done_by_fault, state_of}
@@ -55,15 +54,15 @@ change_ends sc change = ends_if (change_decision sc change) by
     by (Begins units) is = tt
 
 -- a query makes no row
-query_ends : (b : Base) (query : Query) → EndsCommand (Some (query_decision b query))
+query_ends : (answer : Result (List ℕ) Refusal) → EndsCommand (Some (answered answer))
 unfolding EndsCommand
-query_ends b query = ends_if (query_decision b query) (query_is (λ decision. EndsCommand (Some (Ok decision))) b query
-    (λ text. tt))
+query_ends (Ok text) = tt
+query_ends (Err refusal) = tt
 
 command_ends : (sc : Scene) (command : Command) (tag : Tag) → next_by (Some command) tag ≡ nexts.Act
     → EndsCommand (Some (decision sc command))
 command_ends sc (commands.Change change) tag acts = change_ends sc change
-command_ends sc (commands.Query query) tag acts = query_ends sc.base query
+command_ends sc (commands.Query query) tag acts = query_ends (query_answer sc.base query)
 command_ends sc (commands.Build asked) tag acts = absurd (cc)
 
 found_ends : (sc : Scene) (is : Bool) (found : Option Command) (tag : Tag) → next_by found tag ≡ nexts.Act

@@ -186,42 +186,6 @@ moments_on modeled old new first reading count moment is before at now =
     is ∙ ap₂ (λ ms m. ms ++ m ∷ []) before (now ∙ ap (λ r. min (moment_at modeled r) last_moment) at)
     ∙ sym (clock_more modeled first count)
 
--- one phase more has been run
-pub run_goes_on : (phases : List Phase) (phase : Phase) (old new : List StoryStep) (outside : Outside) (holds : Option (List ℕ))
-    (reading moment number : ℕ) (failed more : Bool) → HasRunPhases phases old outside failed → RunsPhase phase moment old new
-    → more ≡ lanes_fail 1 (state_of new).phase.lanes (replies_of new) → IfSome outside.moments
-    (λ modeled. moment ≡ min (moment_at modeled outside.reading) last_moment) → reading ≡ raised_count outside.reading 1
-    → number ≡ length phases + 1 → Appends outside.holds holds (transcript number (state_of new).phase (replies_of new))
-    → HasRunPhases (phases ++ phase ∷ []) new (record {
-      held = outside.held;
-      holds = holds;
-      moments = outside.moments;
-      first = outside.first;
-      reading = reading;
-    }) (failed || more)
-run_goes_on phases phase old new outside holds reading moment number failed more so_far runs fails modeled reads count wrote =
-    record {
-      opened = runs.goes.opened;
-      phases_are = runs.goes.phases ∙ ap (λ ps. ps ++ phase ∷ []) so_far.phases_are;
-      number = omega (arith, runs.goes.number, so_far.number, one_more phases phase);
-      finished = runs.finished;
-      moments_are =
-          both_modeled outside.moments _ _ (λ modeled. moments_begun new ≡ clock_moments modeled outside.first
-          (length (phases ++ phase ∷ []))) so_far.moments_are modeled
-          (λ modeled before now. moments_on modeled old new outside.first outside.reading (length phases) moment runs.goes.moments
-          before so_far.reading_is now ∙ ap (clock_moments modeled outside.first) (sym (one_more phases phase)));
-      reading_is = reads ∙ ap (λ r. raised_count r 1) so_far.reading_is ∙ raised_last outside.first (length phases)
-          ∙ ap (raised_count outside.first) (sym (one_more phases phase));
-      failures = failures_more old new phase moment number failed more runs.goes runs.finished
-          (omega (arith, count, so_far.number))
-          so_far.failures fails;
-      written =
-          subst (Appends outside.held holds) (sym (rendered_more old new phase moment number runs.goes runs.finished
-          (omega (arith, count, so_far.number))))
-          (appends_more outside.held outside.holds holds (transcripts (ended_phases old))
-          (transcript number (state_of new).phase (replies_of new)) so_far.written wrote);
-    }
-
 moments_kept : (modeled : List ℕ) (story : List StoryStep) (first count : ℕ)
     → moments_begun story ≡ clock_moments modeled first count → moments_begun story
     ≡ clock_moments modeled first (length (moments_begun story))
@@ -248,97 +212,129 @@ read_by : (cut : Or WriteFault) (count : ℕ) (outside : Outside) → outside.re
 read_by NoMemory count outside is = inl is
 read_by (Is fault) count outside is = is
 
--- the run was given up for want of memory
-pub run_leaves : (phases rest all : List Phase) (phase : Phase) (old new : List StoryStep) (outside : Outside)
-    (moment reading : ℕ) (failed : Bool) → HasRunPhases phases old outside failed → LeavesPhase phase moment old new
-    → IfSome outside.moments (λ modeled. moment ≡ min (moment_at modeled outside.reading) last_moment)
-    → phases ++ phase ∷ rest ≡ all → reading ≡ raised_count outside.reading 1
-    → IsRunGivenUp NoMemory all new (record outside { reading = reading })
-run_leaves phases rest all phase old new outside moment reading failed so_far (inl is) modeled whole reads = record {
-  opened = ap is_opened is ∙ so_far.opened;
-  begun = (phase ∷ rest, sym whole ∙ ap (λ ps. ps ++ phase ∷ rest) (sym (ap phases_begun is ∙ so_far.phases_are)));
-  moments_are =
-      both_modeled outside.moments _ _ (λ modeled. moments_begun new ≡ clock_moments modeled outside.first
-      (length (moments_begun new))) so_far.moments_are modeled
-      (λ modeled before now. moments_kept modeled new outside.first (length phases) (ap moments_begun is ∙ before));
-  reading_is = inr (read_once_more outside.first outside.reading reading (length phases) (length (phases_begun new))
-      so_far.reading_is reads (ap length (ap phases_begun is ∙ so_far.phases_are)));
-  written =
-      subst (AppendsPrefix outside.held outside.holds) (append-nil (transcripts (ended_phases old))
-      ∙ sym (ap (λ s. transcripts (ended_phases s)) is))
-      (is_prefix outside.held outside.holds (transcripts (ended_phases old)) [] so_far.written);
-  cut_at = tt;
-}
-run_leaves phases rest all phase old new outside moment reading failed so_far (inr goes) modeled whole reads = record {
-  opened = goes.opened;
-  begun = (
-    rest,
-    sym whole ∙ sym (append_assoc phases (phase ∷ []) rest)
-        ∙ ap (λ ps. ps ++ rest) (sym (goes.phases ∙ ap (λ ps. ps ++ phase ∷ []) so_far.phases_are)),
-  );
-  moments_are =
-      both_modeled outside.moments _ _ (λ modeled. moments_begun new ≡ clock_moments modeled outside.first
-      (length (moments_begun new))) so_far.moments_are modeled
-      (λ modeled before now. moments_kept modeled new outside.first (suc (length phases))
-      (moments_on modeled old new outside.first outside.reading (length phases) moment goes.moments before so_far.reading_is
-      now));
-  reading_is =
-      inl (read_for_it outside.first outside.reading reading (length phases) (length (phases_begun new)) so_far.reading_is reads
-      (ap length (goes.phases ∙ ap (λ ps. ps ++ phase ∷ []) so_far.phases_are) ∙ one_more phases phase));
-  written =
-      subst (AppendsPrefix outside.held outside.holds)
-      (ap (λ prefix. prefix ++ transcripts (last_given new)) (ap transcripts (sym goes.earlier))
-      ∙ sym (flat_map-append transcript_of (earlier_phases new) (last_given new)))
-      (is_prefix outside.held outside.holds (transcripts (ended_phases old)) (transcripts (last_given new)) so_far.written);
-  cut_at = tt;
-}
-
 cut_in : (cut : Or WriteFault) (story : List StoryStep) (old new : Option (List ℕ))
     → IsCutAtLast story (transcripts (earlier_phases story)) old new → IsCutBy cut story old new
 cut_in NoMemory story old new h = tt
 cut_in (Is fault) story old new h = h
 
--- the run was given up in a transcript
-pub run_is_cut : (cut : Or WriteFault) (phases rest all : List Phase) (phase : Phase) (old new : List StoryStep)
-    (outside : Outside) (holds : Option (List ℕ)) (moment reading number : ℕ) (failed : Bool)
-    → HasRunPhases phases old outside failed → RunsPhase phase moment old new
-    → IfSome outside.moments (λ modeled. moment ≡ min (moment_at modeled outside.reading) last_moment)
-    → number ≡ length phases + 1 → phases ++ phase ∷ rest ≡ all → AppendsPrefix outside.holds holds
-    (transcript number (state_of new).phase (replies_of new)) → reading ≡ raised_count outside.reading 1
-    → IsRunGivenUp cut all new (record outside { holds = holds; reading = reading })
-run_is_cut cut phases rest all phase old new outside holds moment reading number failed so_far runs modeled count whole wrote
-    reads =
-    let begun : phases_begun new ≡ phases ++ phase ∷ [] = runs.goes.phases ∙ ap (λ ps. ps ++ phase ∷ []) so_far.phases_are in
-    record {
-      opened = runs.goes.opened;
-      begun = (rest, sym whole ∙ sym (append_assoc phases (phase ∷ []) rest) ∙ ap (λ ps. ps ++ rest) (sym begun));
-      moments_are =
-          both_modeled outside.moments _ _ (λ modeled. moments_begun new
-          ≡ clock_moments modeled outside.first (length (moments_begun new))) so_far.moments_are modeled
-          (λ modeled before now. moments_kept modeled new outside.first (suc (length phases))
-          (moments_on modeled old new outside.first outside.reading (length phases) moment runs.goes.moments before
-          so_far.reading_is now));
-      reading_is =
-          read_by cut (length (phases_begun new)) (record outside { holds = holds; reading = reading })
-          (read_for_it outside.first outside.reading reading (length phases) (length (phases_begun new)) so_far.reading_is reads
-          (ap length begun ∙ one_more phases phase));
-      written =
-          subst (AppendsPrefix outside.held holds) (sym (rendered_more old new phase moment number runs.goes runs.finished
-          (omega (arith, count, so_far.number))))
-          (prefix_more outside.held outside.holds holds (transcripts (ended_phases old))
-          (transcript number (state_of new).phase (replies_of new)) so_far.written wrote);
-      cut_at = cut_in cut new outside.held holds (record {
-        begun = omega (arith, ap length begun, one_more phases phase);
+-- Some phases have been run, and the clock was read for one more.
+module _ (phases : List Phase) (phase : Phase) (old new : List StoryStep) (outside : Outside) (moment reading : ℕ) (failed : Bool)
+    (so_far : HasRunPhases phases old outside failed)
+    (modeled : IfSome outside.moments (λ modeled. moment ≡ min (moment_at modeled outside.reading) last_moment))
+    (reads : reading ≡ raised_count outside.reading 1) where
+  -- it has been run
+  pub run_goes_on : (holds : Option (List ℕ)) (number : ℕ) (more : Bool) → RunsPhase phase moment old new
+      → more ≡ lanes_fail 1 (state_of new).phase.lanes (replies_of new) → number ≡ length phases + 1
+      → Appends outside.holds holds (transcript number (state_of new).phase (replies_of new))
+      → HasRunPhases (phases ++ phase ∷ []) new (record {
+        held = outside.held;
+        holds = holds;
+        moments = outside.moments;
+        first = outside.first;
+        reading = reading;
+      }) (failed || more)
+  run_goes_on holds number more runs fails count wrote =
+      record {
+        opened = runs.goes.opened;
+        phases_are = runs.goes.phases ∙ ap (λ ps. ps ++ phase ∷ []) so_far.phases_are;
+        number = omega (arith, runs.goes.number, so_far.number, one_more phases phase);
         finished = runs.finished;
-        written = (
-          take wrote.0 (transcript number (state_of new).phase (replies_of new)),
-          subst (λ prefix. Appends outside.held holds (prefix ++ take wrote.0
-              (transcript number (state_of new).phase (replies_of new)))) (sym (ap transcripts runs.goes.earlier))
-              (appends_more outside.held outside.holds holds (transcripts (ended_phases old))
-              (take wrote.0 (transcript number (state_of new).phase (replies_of new))) so_far.written wrote.2),
-        );
-      });
-    }
+        moments_are =
+            both_modeled outside.moments _ _ (λ modeled. moments_begun new ≡ clock_moments modeled outside.first
+            (length (phases ++ phase ∷ []))) so_far.moments_are modeled
+            (λ modeled before now. moments_on modeled old new outside.first outside.reading (length phases) moment
+            runs.goes.moments before so_far.reading_is now ∙ ap (clock_moments modeled outside.first) (sym (one_more phases phase)));
+        reading_is = reads ∙ ap (λ r. raised_count r 1) so_far.reading_is ∙ raised_last outside.first (length phases)
+            ∙ ap (raised_count outside.first) (sym (one_more phases phase));
+        failures = failures_more old new phase moment number failed more runs.goes runs.finished
+            (omega (arith, count, so_far.number))
+            so_far.failures fails;
+        written =
+            subst (Appends outside.held holds) (sym (rendered_more old new phase moment number runs.goes runs.finished
+            (omega (arith, count, so_far.number))))
+            (appends_more outside.held outside.holds holds (transcripts (ended_phases old))
+            (transcript number (state_of new).phase (replies_of new)) so_far.written wrote);
+      }
+
+  -- the run was given up for want of memory
+  pub run_leaves : (rest all : List Phase) → LeavesPhase phase moment old new → phases ++ phase ∷ rest ≡ all
+      → IsRunGivenUp NoMemory all new (record outside { reading = reading })
+  run_leaves rest all (inl is) whole = record {
+    opened = ap is_opened is ∙ so_far.opened;
+    begun = (phase ∷ rest, sym whole ∙ ap (λ ps. ps ++ phase ∷ rest) (sym (ap phases_begun is ∙ so_far.phases_are)));
+    moments_are =
+        both_modeled outside.moments _ _ (λ modeled. moments_begun new ≡ clock_moments modeled outside.first
+        (length (moments_begun new))) so_far.moments_are modeled
+        (λ modeled before now. moments_kept modeled new outside.first (length phases) (ap moments_begun is ∙ before));
+    reading_is = inr (read_once_more outside.first outside.reading reading (length phases) (length (phases_begun new))
+        so_far.reading_is reads (ap length (ap phases_begun is ∙ so_far.phases_are)));
+    written =
+        subst (AppendsPrefix outside.held outside.holds) (append-nil (transcripts (ended_phases old))
+        ∙ sym (ap (λ s. transcripts (ended_phases s)) is))
+        (is_prefix outside.held outside.holds (transcripts (ended_phases old)) [] so_far.written);
+    cut_at = tt;
+  }
+  run_leaves rest all (inr goes) whole = record {
+    opened = goes.opened;
+    begun = (
+      rest,
+      sym whole ∙ sym (append_assoc phases (phase ∷ []) rest)
+          ∙ ap (λ ps. ps ++ rest) (sym (goes.phases ∙ ap (λ ps. ps ++ phase ∷ []) so_far.phases_are)),
+    );
+    moments_are =
+        both_modeled outside.moments _ _ (λ modeled. moments_begun new ≡ clock_moments modeled outside.first
+        (length (moments_begun new))) so_far.moments_are modeled
+        (λ modeled before now. moments_kept modeled new outside.first (suc (length phases))
+        (moments_on modeled old new outside.first outside.reading (length phases) moment goes.moments before so_far.reading_is
+        now));
+    reading_is =
+        inl (read_for_it outside.first outside.reading reading (length phases) (length (phases_begun new)) so_far.reading_is reads
+        (ap length (goes.phases ∙ ap (λ ps. ps ++ phase ∷ []) so_far.phases_are) ∙ one_more phases phase));
+    written =
+        subst (AppendsPrefix outside.held outside.holds)
+        (ap (λ prefix. prefix ++ transcripts (last_given new)) (ap transcripts (sym goes.earlier))
+        ∙ sym (flat_map-append transcript_of (earlier_phases new) (last_given new)))
+        (is_prefix outside.held outside.holds (transcripts (ended_phases old)) (transcripts (last_given new)) so_far.written);
+    cut_at = tt;
+  }
+
+  -- the run was given up in its transcript
+  pub run_is_cut : (cut : Or WriteFault) (rest all : List Phase) (holds : Option (List ℕ)) (number : ℕ)
+      → RunsPhase phase moment old new → number ≡ length phases + 1 → phases ++ phase ∷ rest ≡ all
+      → AppendsPrefix outside.holds holds (transcript number (state_of new).phase (replies_of new))
+      → IsRunGivenUp cut all new (record outside { holds = holds; reading = reading })
+  run_is_cut cut rest all holds number runs count whole wrote =
+      let begun : phases_begun new ≡ phases ++ phase ∷ [] = runs.goes.phases ∙ ap (λ ps. ps ++ phase ∷ []) so_far.phases_are in
+      record {
+        opened = runs.goes.opened;
+        begun = (rest, sym whole ∙ sym (append_assoc phases (phase ∷ []) rest) ∙ ap (λ ps. ps ++ rest) (sym begun));
+        moments_are =
+            both_modeled outside.moments _ _ (λ modeled. moments_begun new
+            ≡ clock_moments modeled outside.first (length (moments_begun new))) so_far.moments_are modeled
+            (λ modeled before now. moments_kept modeled new outside.first (suc (length phases))
+            (moments_on modeled old new outside.first outside.reading (length phases) moment runs.goes.moments before
+            so_far.reading_is now));
+        reading_is =
+            read_by cut (length (phases_begun new)) (record outside { holds = holds; reading = reading })
+            (read_for_it outside.first outside.reading reading (length phases) (length (phases_begun new)) so_far.reading_is reads
+            (ap length begun ∙ one_more phases phase));
+        written =
+            subst (AppendsPrefix outside.held holds) (sym (rendered_more old new phase moment number runs.goes runs.finished
+            (omega (arith, count, so_far.number))))
+            (prefix_more outside.held outside.holds holds (transcripts (ended_phases old))
+            (transcript number (state_of new).phase (replies_of new)) so_far.written wrote);
+        cut_at = cut_in cut new outside.held holds (record {
+          begun = omega (arith, ap length begun, one_more phases phase);
+          finished = runs.finished;
+          written = (
+            take wrote.0 (transcript number (state_of new).phase (replies_of new)),
+            subst (λ prefix. Appends outside.held holds (prefix ++ take wrote.0
+                (transcript number (state_of new).phase (replies_of new)))) (sym (ap transcripts runs.goes.earlier))
+                (appends_more outside.held outside.holds holds (transcripts (ended_phases old))
+                (take wrote.0 (transcript number (state_of new).phase (replies_of new))) so_far.written wrote.2),
+          );
+        });
+      }
 
 -- the phases that have been taken, the one in hand and those after it are all
 pub in_hand : (taken left rest all items : List Phase) (phase : Phase) → taken ++ left ≡ all → left ≡ phase ∷ rest → all ≡ items

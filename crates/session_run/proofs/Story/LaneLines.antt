@@ -1,7 +1,7 @@
 -- The lines of lanes, by the words of their commands.
 use Rattle.std.proofs.Common.{◌≡◌, ℕ, ◌+◌, List, [], ◌∷◌, ◌++◌, length, refl, ap}
 use Rattle.std.specs.Prelude.{map, suc}
-use Rattle.cc_names.specs.CommandWords.{lane_words, words_of_command}
+use Rattle.session_text.specs.CommandWords.{lane_words, words_of_command}
 use Rattle.cc_names.specs.declared.commands.Lane.{Lane}
 use Rattle.cc_names.specs.declared.commands.LaneWords.{LaneWords}
 use Rattle.cc_names.specs.declared.commands.Phase.{Phase}

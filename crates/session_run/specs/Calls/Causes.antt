@@ -6,7 +6,8 @@ use Rattle.cc_names.specs.declared.refusals.SessionError.{SessionError}
 use Rattle.cc_names.specs.declared.steps.StoryStep.{StoryStep}
 use Rattle.cc_names.specs.Counts.{raised_count, Rose, RoseAbove, RoseAtMost, rises}
 use Rattle.cc_outside.specs.GhostStates.{RestsOnceEnded, SinkState, SourceState}
-use Rattle.disk_model.specs.DiskStates.{DiskState, IfModeled}
+use Rattle.disk_model.specs.DiskStates.{DiskState, IfModeled, Both}
+use Rattle.vob_journal.specs.Pieces.{ReadsOnceTo}
 use Rattle.story_log.specs.Stored.Damaged.{IsDamaged, IsUndamaged}
 use Rattle.story_log.specs.Stored.Stops.{found_on}
 use Rattle.legal_history.specs.Stories.States.{all_done}
@@ -160,7 +161,7 @@ HasReplied intake disk story status = IsReplied intake status × IsUntouched dis
 -- 1 or 3. Memory may run out anywhere, but where no base was opened it hides no
 -- fault of the disk. The other causes exclude one another, a failed source and a failed sink aside, so each status but those
 -- comes exactly where its cause does, unless the sink fails or memory runs out. Where the disk failed and a base was opened, each
--- command is finished.
+-- command is finished. Of a damaged journal nothing was read after the damaged frame.
 abbrev pub HasCause : Status → Intake → Change ℕ → Change DiskState → List StoryStep → Type 0
 HasCause statuses.Good intake sink_faults disk story = RanWhole intake disk story false
     ⊎ HasReplied intake disk story statuses.Good
@@ -171,7 +172,7 @@ HasCause (statuses.BadSession error) intake sink_faults disk story =
     (IsTaken intake × IsFirstWrong intake error × IsUntouched disk story)
     ⊎ HasReplied intake disk story (statuses.BadSession error)
 HasCause (statuses.Damaged row) intake sink_faults disk story = IsAsked intake × DiskDamaged disk row × (disk_rose disk ≡ false)
-    × (story ≡ [])
+    × (story ≡ []) × Both (ReadsOnceTo row) disk.before.modeled disk.after.modeled
 HasCause statuses.ReadFault intake sink_faults disk story = SourceFailed intake × IsUntouched disk story
 HasCause statuses.WriteFault intake sink_faults disk story = Rose sink_faults.before sink_faults.after
 HasCause statuses.DiskFault intake sink_faults disk story = IsAsked intake × (disk_rose disk ≡ true)

@@ -10,6 +10,7 @@ use Rattle.legal_history.specs.Stories.Steps.{after, state_of}
 use Rattle.vob_journal.specs.Added.{WritesOn}
 use Rattle.vob_journal.specs.Pieces.{ReadsOnce}
 use Rattle.vob_journal.specs.Reads.{SameFiles, SameObjects}
+use Rattle.story_log.specs.Logging.Appending.{SettlesTail}
 use Rattle.story_log.specs.Stopping.Backed.{may_be_open}
 use Rattle.base_core.specs.Story.Counted.{CountsSteps}
 use Rattle.session_run.specs.Calls.Causes.{Change}
@@ -25,7 +26,7 @@ pub record SettlesJournal (ajar : Bool) (old new : DiskState) : Type 0 where
 
 -- The steps of a history after its first, from the disk as the base was opened to the disk as it came back. The disk was
 -- called within commits and faults alone, and each of these has its counts as its own call began and as it ended. After the
--- last step the journal was settled.
+-- last step the journal was settled, by the calls that this takes and no others.
 pub record CountsFrom (opened closed : DiskState) (story : List StoryStep) : Type 0 where
   pub first : StoryStep
   pub steps : List StoryStep
@@ -33,6 +34,7 @@ pub record CountsFrom (opened closed : DiskState) (story : List StoryStep) : Typ
   pub story_is : story ≡ first ∷ steps
   pub counts : CountsSteps (after start first) steps opened ended
   pub settled : SettlesJournal (may_be_open (state_of story).ends) ended closed
+  pub calls : Both (SettlesTail (state_of story).ends) ended.modeled closed.modeled
 
 -- *Accounted*: opening counted no fault and read the journal once, which left both files as they were. From then on the
 -- count rose at the faults of the history, and once more at most as the journal was settled, by the counts of some disk between

@@ -10,10 +10,10 @@ use Rattle.legal_history.specs.Stories.Steps.{state_of}
 use Rattle.cc_names.specs.Counts.{rises}
 use Rattle.vob_journal.specs.Pieces.{ReadsOnce}
 use Rattle.vob_journal.specs.Reads.{SameFiles}
-use Rattle.story_log.specs.Stored.Founds.{Found}
+use Rattle.story_log.specs.Stored.Founds.{FoundFiles}
 use Rattle.story_log.specs.Stored.Stops.{OfEachStop, found_on}
 use Rattle.story_log.specs.Stopping.Backed.{IsSettled}
-use Rattle.story_log.specs.Stopping.Founds.{OpensAgain}
+use Rattle.story_log.specs.Stopping.StopLaws.{OpensAgain}
 use Rattle.story_log.specs.Stopping.Standing.{MayBeFound}
 use Rattle.session_run.specs.Story.Begun.{is_opened}
 
@@ -62,7 +62,7 @@ StopKeepsFound before after = IfModeled before.modeled (λ d. IfModeled after.mo
 
 -- whatever a stop may find of a story opens again, to a base that is sound where the opened one was
 abbrev pub AllOpenAgain : List StoryStep → Type 0
-AllOpenAgain story = (opening : Opening) (k : ℕ) (found : Found)
+AllOpenAgain story = (opening : Opening) (k : ℕ) (found : FoundFiles)
     → (state_of story).opened ≡ Some opening
     → MayBeFound opening (state_of story).ends k found → OpensAgain opening.base found
 

@@ -6,13 +6,13 @@ use Rattle.cc_names.specs.declared.steps.StoryStep.{StoryStep}
 use Rattle.cc_names.specs.Counts.{rises}
 use Rattle.cc_outside.specs.declared.sinks.WriteFault.{WriteFault}
 use Rattle.disk_model.specs.DiskStates.{DiskState, Both, IsCounted}
-use Rattle.vob_journal.specs.Added.{Adds, may_read}
 use Rattle.vob_journal.specs.Pieces.{ReadsOnce}
 use Rattle.vob_journal.specs.Reads.{SameFiles}
 use Rattle.legal_history.specs.Stories.Steps.{state_of}
 use Rattle.legal_history.specs.Stories.Lawful.{Legal}
 use Rattle.story_log.specs.Stopping.Backed.{IsAccounted}
 use Rattle.story_log.specs.Bases.Opening.{FailsToOpen}
+use Rattle.story_log.specs.Bases.Reading.{ReadsOnceBy}
 use Rattle.story_log.specs.declared.opening.OpenCause.{OpenCause}
 use Rattle.session_run.specs.Calls.Causes.{Change, disk_rose}
 use Rattle.session_run.specs.Faults.Accounted.{CountsFrom}
@@ -40,7 +40,7 @@ pub record RunsOpened (form : Form) (phases : List Phase) (status : Status) (fir
   pub again : AllOpenAgain story
   pub counted : CountsFrom disk.before disk.after story
 
--- the base that the disk stood for was opened, by calls that read and of which none failed
+-- the base that the disk stood for was opened, by calls of which none failed, and its journal was read once
 pub record RunsOn (form : Form) (phases : List Phase) (status : Status) (story : List StoryStep) (outside : Outside)
     (faults : Change ℕ) (disk : Change DiskState) : Type 0 where
   pub begins : BeginsOn disk.before story
@@ -48,7 +48,6 @@ pub record RunsOn (form : Form) (phases : List Phase) (status : Status) (story :
   pub opened : DiskState
   pub faultless : opened.faults ≡ disk.before.faults
   pub fit : IsCounted opened
-  pub adds : Both (Adds may_read) disk.before.modeled opened.modeled
   pub once : Both ReadsOnce disk.before.modeled opened.modeled
   pub files : Both SameFiles disk.before.modeled opened.modeled
   pub runs : RunsOpened form phases status first story disk.before.faults (record { before = opened; after = disk.after }) outside
@@ -59,7 +58,7 @@ pub record StaysClosed (status : Status) (story : List StoryStep) (outside : Out
     (disk : Change DiskState) : Type 0 where
   pub because : OpenCause
   pub fails : FailsToOpen disk.before because disk.after
-  pub once : Both ReadsOnce disk.before.modeled disk.after.modeled
+  pub once : Both (ReadsOnceBy because) disk.before.modeled disk.after.modeled
   pub empty : story ≡ []
   pub unread : outside.reading ≡ outside.first
   pub wrote : WritesUnstarted (of_unopened because (disk_rose disk)) status outside.held outside.holds faults

@@ -10,7 +10,8 @@ use Rattle.cc_names.specs.declared.replies.Reply.{Reply}
 use Rattle.cc_names.specs.declared.replies.Reply.TheVariants as replies
 use Rattle.cc_names.specs.declared.steps.StoryStep.{StoryStep}
 use Rattle.cc_names.specs.declared.steps.StoryStep.TheVariants as story_steps
-use Rattle.reply_text.specs.Replies.{render, is_made_line}
+use Rattle.reply_text.specs.Replies.{render_words, is_made_line}
+use Rattle.session_text.specs.CommandWords.{words_of_command}
 use Rattle.legal_history.specs.Stories.States.{State, all_done, start}
 use Rattle.legal_history.specs.Stories.Steps.{after, state_of}
 use Rattle.base_core.specs.Story.Replying.{replies_after, no_replies}
@@ -65,6 +66,10 @@ earlier_phases story = closed_over replies_after start no_replies story
 -- the phases of a story in order, the last one where all its commands are finished
 abbrev pub ended_phases : List StoryStep → List EndedPhase
 ended_phases story = ended_over replies_after story
+
+-- The lines of a lane of a phase, where each command is given by its word.
+abbrev pub render : Phase → ℕ → List Reply → List ℕ
+render phase number answers = render_words (words_of_command phase) number answers
 
 -- the lines of lanes that are numbered from n on
 abbrev pub lanes_text : Phase → ℕ → List Lane → Replies → List ℕ

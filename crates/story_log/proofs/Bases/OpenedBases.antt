@@ -3,7 +3,7 @@ use Rattle.std.proofs.Common.{◌≡◌, ℕ, ◌<◌, ◌⊎◌, inl, inr, true
 use Rattle.std.proofs.Common.{reverse, refl, sym, ap, subst, ◌∙◌, arith}
 use Rattle.std.proofs.lemmas.List.{append-nil}
 use Rattle.cc_names.specs.declared.steps.StoryStep.TheVariants as story_steps
-use Rattle.disk_model.specs.Devices.{Device, Failed, Leaves, LeavesNow, MayLeave, Measures, Idles, bytes_now, file_of}
+use Rattle.disk_model.specs.Devices.{Device, Failed, Leaves, LeavesNow, MayLeave, Idles, bytes_now, file_of}
 use Rattle.disk_model.specs.Files.{File, IsImage, stable}
 use Rattle.disk_model.specs.DiskStates.{DiskState, IfModeled, Both, IsCounted}
 use Rattle.base_model.specs.Fits.{is_base}
@@ -11,19 +11,18 @@ use Rattle.base_model.specs.Rows.{Base}
 use Rattle.legal_history.specs.Stories.States.{Opening}
 use Rattle.cc_names.specs.Counts.{rises}
 use Rattle.legal_history.specs.Stories.Steps.{state_of}
-use Rattle.vob_journal.specs.Added.{Adds, may_read}
 use Rattle.vob_journal.specs.Answered.{OneMore, OneFault}
 use Rattle.vob_journal.specs.Frames.{frames}
 use Rattle.vob_journal.specs.Moves.{Moves, Stands, Between}
 use Rattle.vob_journal.specs.Reads.{SameFiles}
 use Rattle.vob_journal.specs.Shown.{Shown}
 use Rattle.vob_journal.specs.declared.left.Left.TheVariants as lefts
-use Rattle.vob_journal.proofs.Adding.{adds_none, adds_one, measured_adds}
 use Rattle.vob_journal.proofs.Journals.{stable_image}
 use Rattle.vob_journal.proofs.Passing.{passes_none, passes_call}
 use Rattle.vob_journal.proofs.Staying.{modeled_then}
-use Rattle.vob_journal.proofs.Telling.{both_from, both_map, both_then, modeled_both, modeled_back, modeled_map}
+use Rattle.vob_journal.proofs.Telling.{both_from, both_then, modeled_both, modeled_back, modeled_map}
 use Rattle.story_log.specs.Stopping.Backed.{IsMirrored, IsBacked}
+use Rattle.story_log.specs.Stopping.Journals.{JournalState, journal_state}
 use Rattle.story_log.specs.Logging.Logs.{Logged, opened_log}
 use Rattle.story_log.specs.Bases.Opening.{AreSynced, IsBaseOn, IsOpened, StopsBy, FailsToOpen}
 use Rattle.story_log.specs.Story.Formed.{AreFormed}
@@ -42,7 +41,7 @@ use Rattle.story_log.proofs.Stored.Fitting.{nothing_taken}
 use Rattle.story_log.proofs.Stored.Holding.{held_in_image}
 use Rattle.story_log.proofs.Stopping.Backing.{within_calls}
 use Rattle.story_log.proofs.Logging.LogSteps.{oldest_back}
-use Rattle.story_log.proofs.Bases.ReadRows.{adds_on, finds_list, moves_then, raised_rises}
+use Rattle.story_log.proofs.Bases.ReadRows.{finds_list, moves_then, raised_rises}
 
 -- what stops since find, where a journal was only read
 leaves_list : (list : List (List ℕ)) (d e : Device) (k : ℕ) (image : List ℕ) → length d.calls < k → Moves list [] list [] d e
@@ -102,10 +101,6 @@ idle_keeps d e is (inr missed) = subst (Keeps d) (sym missed) (record {
   now = λ image left. inl (handed_image d is image left);
 })
 
-idle_adds : (d e : Device) → Idles d e → Adds may_read d e
-idle_adds d e (inl same) = subst (Adds may_read d) (sym same) (adds_none may_read d)
-idle_adds d e (inr missed) = subst (Adds may_read d) (sym missed) (adds_one may_read Failed d refl)
-
 both_idle : (old new : Option Device) → IfModeled old (λ d. file_of 0 d ≡ stable (bytes_now 0 d)) → Both Idles old new
     → Both Keeps old new
 both_idle old new is idles = both_from (λ d. file_of 0 d ≡ stable (bytes_now 0 d)) Idles Keeps old new idle_keeps is idles
@@ -115,22 +110,19 @@ pub record IsNewOn {D : Type 0} (ghost_state : D → DiskState) (first : DiskSta
   pub list : IfModeled first.modeled (λ d. journal.list ≡ frames (bytes_now 0 d))
   pub left : journal.left ≡ lefts.Nothing
   pub keeps : Both (Moves journal.list [] journal.list []) first.modeled (ghost_state journal.disk).modeled
-  pub adds : Both (Adds may_read) first.modeled (ghost_state journal.disk).modeled
   pub files : Both SameFiles first.modeled (ghost_state journal.disk).modeled
   pub counts : OneMore first (ghost_state journal.disk)
 
 pub new_on : {D : Type 0} (ghost_state : D → DiskState) (first : DiskState) (journal : Shown D)
     → IfModeled first.modeled (λ d. journal.list ≡ frames (bytes_now 0 d)) → journal.left ≡ lefts.Nothing → journal.leftover ≡ []
     → Both (Moves journal.list [] journal.list journal.leftover) first.modeled (ghost_state journal.disk).modeled
-    → Both (Measures 0) first.modeled (ghost_state journal.disk).modeled
     → Both SameFiles first.modeled (ghost_state journal.disk).modeled → OneMore first (ghost_state journal.disk)
     → IsNewOn ghost_state first journal
-new_on ghost_state first journal list left leftover moves measured files counts = record {
+new_on ghost_state first journal list left leftover moves files counts = record {
   list = list;
   left = left;
   keeps = subst (λ l. Both (Moves journal.list [] journal.list l) first.modeled (ghost_state journal.disk).modeled) leftover
       moves;
-  adds = both_map (Measures 0) (Adds may_read) first.modeled (ghost_state journal.disk).modeled measured_adds measured;
   files = files;
   counts = counts;
 }
@@ -157,13 +149,6 @@ pub files_first : {D : Type 0} (ghost_state : D → DiskState) (first : DiskStat
     → Both SameFiles first.modeled (ghost_state read.disk).modeled
 files_first ghost_state first opened read new reads = modeled_then first.modeled (ghost_state opened.disk).modeled
     (ghost_state read.disk).modeled new.files reads.files
-
--- and calls that read were made
-pub read_since : {D : Type 0} (ghost_state : D → DiskState) (first : DiskState) (opened read : Shown D)
-    → IsNewOn ghost_state first opened → OnlyReads ghost_state opened read
-    → Both (Adds may_read) first.modeled (ghost_state read.disk).modeled
-read_since ghost_state first opened read new reads = adds_on first.modeled (ghost_state opened.disk).modeled
-    (ghost_state read.disk).modeled new.adds reads.adds
 
 -- why reading stopped, said of the disk as it was handed in
 found_first : (list : List (List ℕ)) (d e : Device) → SameFiles d e → list ≡ frames (bytes_now 0 d)
@@ -212,13 +197,12 @@ unchanged_modeled ticks (Some d) (Some e) synced same keep = λ k later. unchang
 
 pub fails_to_open : (first now : DiskState) (cause : OpenCause) → IsCounted first → IfModeled first.modeled AreSynced
     → Both Keeps first.modeled now.modeled
-    → Both (Adds may_read) first.modeled now.modeled → Both SameFiles first.modeled now.modeled
+    → Both SameFiles first.modeled now.modeled
     → StopsBy first.modeled found_on cause first.faults now.faults → FailsToOpen first cause now
-fails_to_open first now cause counted synced keeps reads files because = record {
+fails_to_open first now cause counted synced keeps files because = record {
   because = because;
   tells = both_tells Keeps first.modeled now.modeled keeps;
   unchanged = unchanged_modeled first.ticks first.modeled now.modeled synced counted.modeled keeps;
-  reads = reads;
   files = files;
 }
 
@@ -228,16 +212,15 @@ pub fails_at_once : (first now : DiskState) → IsCounted first → IsCounted no
     → Both SameFiles first.modeled now.modeled → OneFault first now → FailsToOpen first causes.DiskFault now
 fails_at_once first now counted after synced idles files fault =
     fails_to_open first now causes.DiskFault counted synced
-    (both_idle first.modeled now.modeled (journal_synced first.modeled synced) idles)
-    (both_map Idles (Adds may_read) first.modeled now.modeled idle_adds idles) files
+    (both_idle first.modeled now.modeled (journal_synced first.modeled synced) idles) files
     (raised_rises first now counted after fault.1)
 
 -- the disk after a base that was opened
-covered_opened : (opening : Opening) (base : Base) (list leftover : List (List ℕ)) (d e : Device)
+covered_opened : (opening : Opening) (base : Base) (journal : JournalState) (d e : Device)
     → opening.counts.ticks ≡ length d.calls → opening.base ≡ base → is_base base ≡ true → AreFormed base
-    → file_of 1 d ≡ stable (bytes_now 1 d) → list ≡ payloads base → leftover ≡ [] → Moves list [] list [] d e
-    → IsMirrored opening [] list leftover lefts.Nothing [] [] e
-covered_opened opening base list leftover d e ticks base_is good formed synced is none moves = record {
+    → file_of 1 d ≡ stable (bytes_now 1 d) → journal.list ≡ payloads base → journal.leftover ≡ []
+    → Moves journal.list [] journal.list [] d e → IsMirrored opening [] journal [] [] e
+covered_opened opening base journal d e ticks base_is good formed synced is none moves = record {
   stored = base;
   list_is = is;
   formed = formed;
@@ -245,11 +228,11 @@ covered_opened opening base list leftover d e ticks base_is good formed synced i
   owned_are = sym (nothing_taken base good);
   leftover_is = none;
   nothing = λ _. none;
-  stops = λ k journal objects later j o.
+  stops = λ k image objects later j o.
       let since : length d.calls < k = omega (arith, ticks, later) in
-      held_in_image (file_of 1 d) base opening.base (frames journal) objects held formed
-      (leaves_list list d e k journal since moves j ∙ is) (leaves_objects list d e k objects since moves o);
-  now = λ image left. subst (λ l. Stands list l image) (sym none) (moves.now image left);
+      held_in_image (file_of 1 d) base opening.base (frames image) objects held formed
+      (leaves_list journal.list d e k image since moves j ∙ is) (leaves_objects journal.list d e k objects since moves o);
+  now = λ image left. subst (λ l. Stands journal.list l image) (sym none) (moves.now image left);
 }
   where
     held : IsHeld (file_of 1 d) base opening.base
@@ -270,9 +253,9 @@ module _ {D : Type 0} (ghost_state : D → DiskState) (first : DiskState) (hande
       ∙ append-nil (payloads base)) through.so_far.list_is through.nothing
 
   pub opened_backed : IsBacked (state_of (story_steps.Opened (oldest_first base) handed.counts handed.tells ∷ []))
-      (ghost_state read.disk) read.list read.leftover read.ended read.left read.settled
+      (ghost_state read.disk) (journal_state read)
   opened_backed = record {
-    opening = record { base = reverse (oldest_first base); counts = handed.counts; tells = handed.tells };
+    opening = opening;
     opened = refl;
     tells = tells ∙ sym (both_tells (Moves opened.list [] opened.list []) first.modeled (ghost_state read.disk).modeled
         (since_first ghost_state first opened read new reads));
@@ -286,23 +269,18 @@ module _ {D : Type 0} (ghost_state : D → DiskState) (first : DiskState) (hande
         (since_first ghost_state first opened read new reads);
   }
     where
+      opening : Opening
+      opening = record { base = reverse (oldest_first base); counts = handed.counts; tells = handed.tells }
+
       by : (old now : Option Device) → IfModeled old (λ d. first.ticks ≡ length d.calls) → IfModeled old AreSynced
           → IfModeled now (λ _. opened.list ≡ payloads base) → Both (Moves opened.list [] opened.list []) old now
-          → IfModeled now (IsMirrored (record {
-            base = reverse (oldest_first base);
-            counts = handed.counts;
-            tells = handed.tells;
-          }) [] read.list read.leftover read.left [] [])
+          → IfModeled now (IsMirrored opening [] (journal_state read) [] [])
       by old None same both is moves = tt
       by None (Some e) same both is moves = absurd moves
       by (Some d) (Some e) same both is moves =
-          subst (λ left. IsMirrored (record { base = reverse (oldest_first base); counts = handed.counts; tells = handed.tells })
-          [] read.list read.leftover left [] [] e) (sym (reads.left ∙ new.left))
-          (subst (λ l. IsMirrored (record { base = reverse (oldest_first base); counts = handed.counts; tells = handed.tells }) []
-          l read.leftover lefts.Nothing [] [] e) (sym reads.list)
-          (covered_opened (record { base = reverse (oldest_first base); counts = handed.counts; tells = handed.tells }) base
-          opened.list read.leftover d e (ticks ∙ same) (oldest_back base) through.so_far.good through.so_far.formed both.1 is
-          through.so_far.leftover moves))
+          covered_opened opening base (journal_state read) d e (ticks ∙ same) (oldest_back base) through.so_far.good
+          through.so_far.formed both.1 (reads.list ∙ is) through.so_far.leftover
+          (subst (λ l. Moves l [] l [] d e) (sym reads.list) moves)
 
   base_on : IsBaseOn first base handed
   base_on = record {
@@ -328,8 +306,6 @@ module _ {D : Type 0} (ghost_state : D → DiskState) (first : DiskState) (hande
     is = is ∙ ap (opened_log base handed) (sym (ap (λ l. l.ghost_state) is));
     faultless = ap (λ l. l.ghost_state.faults) is ∙ faultless ∙ new.counts.1;
     fit = subst IsCounted (sym (ap (λ l. l.ghost_state) is)) fit;
-    adds = subst (λ s. Both (Adds may_read) first.modeled s.modeled) (sym (ap (λ l. l.ghost_state) is))
-        (adds_on first.modeled (ghost_state opened.disk).modeled (ghost_state read.disk).modeled new.adds reads.adds);
     files = subst (λ s. Both SameFiles first.modeled s.modeled) (sym (ap (λ l. l.ghost_state) is))
         (files_first ghost_state first opened read new reads);
   }

@@ -12,20 +12,18 @@ use Rattle.base_model.specs.Rows.{Base}
 use Rattle.base_model.specs.Fits.{fits, is_base}
 use Rattle.cc_names.specs.Counts.{rises}
 use Rattle.row_form.specs.Spelled.{spelling_of}
-use Rattle.vob_journal.specs.Added.{Adds, may_read}
 use Rattle.vob_journal.specs.Frames.{frames}
 use Rattle.vob_journal.specs.Moves.{Moves, Stands}
 use Rattle.vob_journal.specs.Reads.{SameFiles}
 use Rattle.vob_journal.specs.Shown.{Shown}
-use Rattle.vob_journal.proofs.Adding.{adds_then}
 use Rattle.vob_journal.proofs.Passing.{passes_then}
 use Rattle.vob_journal.proofs.Journals.{same_moves}
-use Rattle.vob_journal.proofs.Staying.{modeled_adds_none, modeled_stay, modeled_then}
+use Rattle.vob_journal.proofs.Staying.{modeled_stay, modeled_then}
 use Rattle.vob_journal.proofs.Telling.{both_then, modeled_back, modeled_next, modeled_both, modeled_from, modeled_map}
 use Rattle.story_log.specs.Bases.Opening.{StopsBy}
 use Rattle.story_log.specs.Bases.Reading.{OnlyReads, NextIs, IsMissed, IsNextRow, IsNoRow, IsReadSoFar}
 use Rattle.story_log.specs.Stored.Damaged.{IsDamaged}
-use Rattle.story_log.specs.Stored.Founds.{Found}
+use Rattle.story_log.specs.Stored.Founds.{FoundFiles}
 use Rattle.story_log.specs.Stored.Stops.{found_with}
 use Rattle.story_log.specs.Stored.Payloads.{payloads}
 use Rattle.story_log.specs.declared.opening.OpenCause.{OpenCause}
@@ -86,11 +84,6 @@ read_more ghost_state base row payload old new h reads next is = record {
 pub row_fits : (base : Base) (row : Plain) → is_base (row ∷ base) ≡ true → fits base row.deed ≡ true
 row_fits base row good = (and_parts (fits base row.deed) (is_base base) good).0
 
--- calls that read are added, and more of them
-pub adds_on : (one two three : Option Device) → Both (Adds may_read) one two → Both (Adds may_read) two three
-    → Both (Adds may_read) one three
-adds_on one two three h g = both_then (Adds may_read) (Adds may_read) (Adds may_read) one two three (adds_then may_read) h g
-
 -- where nothing was read yet
 pub reads_none : {D : Type 0} (ghost_state : D → DiskState) (base : Base) (journal : Shown D)
     → IsReadSoFar ghost_state base journal → OnlyReads ghost_state journal journal
@@ -102,7 +95,6 @@ reads_none ghost_state base journal h = record {
       (modeled_map (λ d. (image : List ℕ) → LeavesNow 0 d image → frames image ≡ journal.list)
       (λ d. (image : List ℕ) → LeavesNow 0 d image → Stands journal.list [] image) (ghost_state journal.disk).modeled
       (λ d now image left. inl (now image left)) h.now);
-  adds = modeled_adds_none (ghost_state journal.disk).modeled;
   files = modeled_stay (ghost_state journal.disk).modeled;
 }
 
@@ -117,7 +109,6 @@ reads_then ghost_state one two three h g =
       stops = both_then P P P (ghost_state one.disk).modeled (ghost_state two.disk).modeled (ghost_state three.disk).modeled
           (moves_then one.list) h.stops
           (subst (λ l. Both (Moves l [] l []) (ghost_state two.disk).modeled (ghost_state three.disk).modeled) h.list g.stops);
-      adds = adds_on (ghost_state one.disk).modeled (ghost_state two.disk).modeled (ghost_state three.disk).modeled h.adds g.adds;
       files = modeled_then (ghost_state one.disk).modeled (ghost_state two.disk).modeled (ghost_state three.disk).modeled h.files
           g.files;
     }
@@ -139,8 +130,8 @@ stops_here ghost_state base payload causes.DiskFault old new h next none = absur
 stops_here ghost_state base payload causes.NoMemory old new h next none = next.faultless
 
 -- why no payload was read
-pub stops_unread : (modeled : Option Device) (found : Device → Found) (cause : OpenCause) (old new : ℕ) → IsMissed cause old new
-    → StopsBy modeled found cause old new
+pub stops_unread : (modeled : Option Device) (found : Device → FoundFiles) (cause : OpenCause) (old new : ℕ)
+    → IsMissed cause old new → StopsBy modeled found cause old new
 stops_unread modeled found (causes.Damaged n) old new missed = absurd missed
 stops_unread modeled found causes.DiskFault old new missed = missed
 stops_unread modeled found causes.NoMemory old new missed = missed

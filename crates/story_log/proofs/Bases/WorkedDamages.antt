@@ -15,7 +15,7 @@ use Rattle.story_log.proofs.Bases.Unfit.{misfit_gives_none}
 use Rattle.story_log.proofs.Stored.Damaged.{damaged_here, damaged_once, stored_undamaged}
 use Rattle.story_log.proofs.Stored.Fitting.{base_is_stored}
 use Rattle.story_log.specs.Stored.Damaged.{IsDamaged, IsUndamaged}
-use Rattle.story_log.specs.Stored.Founds.{Found}
+use Rattle.story_log.specs.Stored.Founds.{FoundFiles}
 use Rattle.story_log.specs.Stored.Payloads.{payloads}
 use Rattle.story_log.specs.Story.Formed.{AreFormed}
 use Rattle.story_log.specs.declared.opening.OpenCause.TheVariants.{Damaged}
@@ -64,7 +64,7 @@ views_are_formed : AreFormed views
 views_are_formed = (formed 2 119 second_tag refl, (formed 1 118 first_tag refl, tt))
 
 -- these frames are found, with no object
-abbrev pub as_found : List (List ℕ) → Found
+abbrev pub as_found : List (List ℕ) → FoundFiles
 as_found list = record { frames = list; objects = [] }
 
 -- views v, w and v once more: the third row is spelled, but a view of that name is there

@@ -2,84 +2,60 @@
 use Rattle.std.proofs.Common.{◌≡◌, ℕ, ◌+◌, ◌≤◌, inl, inr, Bool, true, false, Option, Some, None, List, [], ◌∷◌, ◌++◌, refl, ap}
 use Rattle.std.proofs.Common.{sym, subst, ◌∙◌, arith, append_assoc}
 use Rattle.std.specs.Option.{option_to_list}
-use Rattle.std.specs.Prelude.{IfSome, Result, Ok, Err, is_some, if◌then◌else◌}
+use Rattle.std.specs.Prelude.{IfSome, MatchResult, Result, Ok, Err, is_some, if◌then◌else◌, is_ok}
 use Rattle.cc_names.specs.Formed.{Plain, IsFormed}
 use Rattle.cc_names.specs.declared.commands.Phase.{Phase}
 use Rattle.cc_names.specs.declared.rows.Tag.{Tag}
 use Rattle.cc_names.specs.declared.steps.Step.{Step}
 use Rattle.cc_names.specs.declared.steps.Step.TheVariants as steps
+use Rattle.cc_names.specs.declared.steps.StoryStep.TheVariants as story_steps
 use Rattle.disk_model.specs.Counting.{next_count}
 use Rattle.disk_model.specs.Devices.{Device}
-use Rattle.disk_model.specs.DiskStates.{DiskState, IfModeled, Both, IsCounted}
+use Rattle.disk_model.specs.DiskStates.{DiskState, Both, IsCounted}
 use Rattle.base_model.specs.Fits.{fits}
 use Rattle.base_model.specs.Rows.{Base}
-use Rattle.legal_history.specs.Stories.States.{State, End, start, hanging}
-use Rattle.legal_history.specs.Stories.Steps.{state_of}
+use Rattle.legal_history.specs.Stories.States.{State, End, hanging}
 use Rattle.row_form.specs.Spelled.{spelling_of}
-use Rattle.vob_journal.specs.Lefts.{FailsInPhase, leftover_after, settled_after}
+use Rattle.vob_journal.specs.Lefts.{FailsInPhase}
 use Rattle.vob_journal.specs.Phases.{Spends, calls_of}
-use Rattle.vob_journal.specs.Moves.{Moves}
 use Rattle.vob_journal.specs.Added.{WritesOn, may_write}
-use Rattle.vob_journal.specs.Calls.{device_after_commit}
+use Rattle.vob_journal.specs.Calls.{FailsToPut, device_after_commit, settled_first}
 use Rattle.vob_journal.specs.declared.left.Left.{Left}
 use Rattle.vob_journal.specs.declared.left.Left.TheVariants as lefts
 use Rattle.story_log.specs.Logging.Appending.{CommitsRow, StandsSettled, IsQuiet, MayLeaveRow, IsCommitted, IsFaulted}
-use Rattle.story_log.specs.Logging.Appending.{with_ending}
-use Rattle.story_log.specs.Logging.Leaving.{left_in, LeftSo}
-use Rattle.story_log.specs.Logging.Logs.{IsLogged, with_step_on}
-use Rattle.story_log.specs.Story.Telling.{story_of, AreNamedBySteps, shown_as, stands_alone}
-use Rattle.base_rows.specs.Order.{oldest_first}
+use Rattle.story_log.specs.Logging.Appending.{SettlesTail, with_ending}
+use Rattle.story_log.specs.Logging.Leaving.{LeftSo}
+use Rattle.story_log.specs.Logging.Logs.{IsLogged, logged_state, with_step_on}
+use Rattle.story_log.specs.Stopping.Journals.{JournalState}
+use Rattle.story_log.specs.Story.Telling.{shown_as, stands_alone}
 use Rattle.story_log.specs.Story.Handed.{Handed}
 use Rattle.vob_journal.proofs.Adding.{adds_none}
-use Rattle.story_log.proofs.Logging.Leavings.{hanging_is}
+use Rattle.vob_journal.proofs.Telling.{both_map}
+use Rattle.story_log.proofs.Logging.Faults.{FaultKept, fault_step, fault_told}
 use Rattle.story_log.proofs.Logging.Logged.{logged_fault, logged_step, quiet_shown}
-use Rattle.story_log.proofs.Logging.LogSteps.{shown, shown_row, shown_step, shown_step_on, is_named_step}
+use Rattle.story_log.proofs.Logging.Logging.{MissesRow}
+use Rattle.story_log.proofs.Logging.LogSteps.{IsNamedBySteps, shown, shown_row, shown_step, shown_step_on, is_named_step}
 use Rattle.story_log.proofs.Logging.Rising.{rises_more, rises_raised}
-
--- the fault of the disk, as it is kept
-abbrev pub fault_step : Tag → Option Plain → ℕ → ℕ → ℕ → Step
-fault_step tag found before faults tick = steps.Fault tag found before faults tick
 
 -- a quiet step stands alone
 quiet_alone : (step : Step) → IsQuiet step → stands_alone step ≡ true
 quiet_alone step quiet = ap is_some (quiet_shown (shown_as step) quiet).1
 
--- what the log shows after a fault and the step that it brings with it
-pub shown_faulted : (on : Handed) (kept more : List Step) (base : Base) (phases : List Phase) (tag : Tag) (found : Option Plain)
-    (before faults tick : ℕ) (ending : Option Step) (old new : DiskState) → AreNamedBySteps 1 0 kept (oldest_first base) phases
-    → IfSome ending IsQuiet → more ≡ kept ++ fault_step tag found before faults tick ∷ option_to_list ending
-    → shown on more base phases new ≡ with_ending (with_step_on (shown on kept base phases old)
-    (fault_step tag found before faults tick) new) ending
-shown_faulted on kept more base phases tag found before faults tick None old new h quiet e =
-    shown_step_on on kept more base phases (fault_step tag found before faults tick) old new h refl e
-shown_faulted on kept more base phases tag found before faults tick (Some step) old new h quiet e =
-    let fault = fault_step tag found before faults tick in
-    shown_step on (kept ++ fault ∷ []) more base phases step new (is_named_step kept (kept ++ fault ∷ []) base phases fault h refl
-    refl) (quiet_alone step quiet) (e ∙ sym (append_assoc kept (fault ∷ []) (step ∷ [])))
-    ∙ ap (λ log. with_ending log (Some step)) (shown_step_on on kept (kept ++ fault ∷ []) base phases fault old new h refl refl)
-
--- and what it keeps
-pub logged_faulted : (on : Handed) (kept more : List Step) (base : Base) (phases : List Phase) (tag : Tag) (row : Plain)
-    (earlier found : Option Plain) (before faults tick : ℕ) (ending : Option Step) (old new : DiskState)
-    (list leftover list' leftover' : List (List ℕ)) (ended ended' : Bool) (left left' : Left) (settled settled' : Bool)
-    → IfSome ending IsQuiet → IsLogged on kept base phases old list leftover ended left settled
-    → more ≡ kept ++ fault_step tag found before faults tick ∷ option_to_list ending
-    → Both (Moves list leftover list' leftover') old.modeled new.modeled
-    → IfModeled old.modeled (λ _. (list' ≡ list) × (leftover' ≡ leftover_after left' leftover (spelling_of row)))
-    → earlier ≡ left_in kept → LeftSo earlier row left' found → tick ≡ new.ticks → faults ≡ new.faults → IsCounted old
-    → IsCounted new → ended' ≡ true → settled' ≡ settled_after left' → (left' ≡ lefts.Earlier → settled ≡ false)
-    → fits base row.deed ≡ true → IsFormed row → IsLogged on more base phases new list' leftover' ended' left' settled'
-logged_faulted on kept more base phases tag row earlier found before faults tick None old new list leftover list' leftover' ended
-    ended' left left' settled settled' quiet h e moves stays copied so at counts was counted end set ajar fit formed =
-    logged_fault on kept more base phases tag row earlier found before faults tick old new list leftover list' leftover' ended
-    ended' left left' settled settled' h e moves stays copied so at counts was counted end set ajar fit formed
-logged_faulted on kept more base phases tag row earlier found before faults tick (Some step) old new list leftover list' leftover'
-    ended ended' left left' settled settled' quiet h e moves stays copied so at counts was counted end set ajar fit formed =
-    let fault = fault_step tag found before faults tick in
-    logged_step on (kept ++ fault ∷ []) more base phases step new list' leftover' ended' left' settled'
-    (logged_fault on kept (kept ++ fault ∷ []) base phases tag row earlier found before faults tick old new list leftover list'
-    leftover' ended ended' left left' settled settled' h refl moves stays copied so at counts was counted end set ajar fit formed)
-    quiet (e ∙ sym (append_assoc kept (fault ∷ []) (step ∷ [])))
+-- what a log shows after a fault and the step that it brings with it
+module _ (on : Handed) (kept : List Step) (base : Base) (phases : List Phase) (named : IsNamedBySteps kept base phases)
+    (fault : FaultKept) (old new : DiskState) where
+  pub shown_faulted : (more : List Step) (ending : Option Step) → IfSome ending IsQuiet
+      → more ≡ kept ++ fault_step fault ∷ option_to_list ending
+      → shown on more base phases new
+      ≡ with_ending (with_step_on (shown on kept base phases old) (fault_told fault) new) ending
+  shown_faulted more None quiet e =
+      shown_step_on on kept base phases named more (fault_step fault) (fault_told fault) old new refl e
+  shown_faulted more (Some step) quiet e =
+      let failed = kept ++ fault_step fault ∷ [] in
+      shown_step on failed base phases (is_named_step on kept base phases named failed (fault_step fault) refl refl) more step new
+      (quiet_alone step quiet) (e ∙ sym (append_assoc kept (fault_step fault ∷ []) (step ∷ [])))
+      ∙ ap (λ log. with_ending log (Some step)) (shown_step_on on kept base phases named failed (fault_step fault)
+      (fault_told fault) old new refl refl)
 
 -- what was left is what a fault may leave
 may_leave_so : (s : State) (row : Plain) (left' : Left) (found : Option Plain) → LeftSo (hanging s.ends) row left' found
@@ -114,70 +90,79 @@ earlier_unsettled settled lefts.Nothing old new h is = absurd (cc)
 earlier_unsettled settled lefts.Earlier old new h is = h.0
 earlier_unsettled settled lefts.InFlight old new h is = absurd (cc)
 
--- the row was committed
-pub is_committed : (on : Handed) (kept more : List Step) (base grown : Base) (phases : List Phase) (tag : Tag)
-    (number tick calls : ℕ) (row : Plain) (old new : DiskState) (list leftover : List (List ℕ)) (ended : Bool) (left : Left)
-    (settled : Bool) → IsLogged on kept base phases old list leftover ended left settled
-    → more ≡ kept ++ steps.Commit tag number tick ∷ [] → grown ≡ row ∷ base → tick ≡ new.ticks → new.ticks ≡ old.ticks + calls
-    → 1 ≤ calls → new.faults ≡ old.faults → IsFormed row → IsCounted new → Both WritesOn old.modeled new.modeled
-    → Both (CommitsRow (state_of (story_of on kept (oldest_first base) phases)).ends row) old.modeled new.modeled
-    → IsCommitted (shown on kept base phases old) (shown on more grown phases new) row
-is_committed on kept more base grown phases tag number tick calls row old new list leftover ended left settled h e g at spent some
-    same formed fit writes calls' = record {
-      tick = tick;
-      ghost_state = new;
-      formed = formed;
-      grows = shown_row on kept more base grown phases tag number tick row old new h.modeled e g;
-      ticked = rises_more _ tick (omega (arith, h.backed.ticks, at, spent, some));
-      at = at;
-      spent = omega (arith, at, spent, some);
-      faults = same;
-      fit = fit;
-      writes = writes;
-      calls = calls';
-    }
+-- what a log is after an append, and keeps
+module _ (on : Handed) (kept : List Step) (base : Base) (phases : List Phase) (left : Option Plain) (old new : DiskState)
+    (journal : JournalState) (h : IsLogged on kept base phases left old journal) where
+  -- the row was committed
+  pub is_committed : (more : List Step) (grown : Base) (tag : Tag) (number tick calls : ℕ) (row : Plain)
+      → more ≡ kept ++ steps.Commit tag number tick ∷ [] → grown ≡ row ∷ base → tick ≡ new.ticks → new.ticks ≡ old.ticks + calls
+      → 1 ≤ calls → new.faults ≡ old.faults → IsFormed row → IsCounted new → Both WritesOn old.modeled new.modeled
+      → Both (CommitsRow (logged_state on kept base phases).ends row) old.modeled new.modeled
+      → IsCommitted (shown on kept base phases old) (shown on more grown phases new) row
+  is_committed more grown tag number tick calls row e g at spent some same formed fit writes calls' = record {
+    tick = tick;
+    ghost_state = new;
+    formed = formed;
+    grows = shown_row on kept base phases h.modeled more grown tag number tick row old new e g;
+    ticked = rises_more _ tick (omega (arith, h.backed.ticks, at, spent, some));
+    at = at;
+    spent = omega (arith, at, spent, some);
+    faults = same;
+    fit = fit;
+    writes = writes;
+    calls = calls';
+  }
 
--- the disk failed
-pub is_faulted : (on : Handed) (kept more : List Step) (base : Base) (phases : List Phase) (tag : Tag) (row : Plain)
-    (earlier found : Option Plain) (before faults tick : ℕ) (ending : Option Step) (old new : DiskState)
-    (list leftover : List (List ℕ)) (ended : Bool) (left left' : Left) (settled : Bool) → tag ≡ row.tag → IfSome ending IsQuiet
-    → IsLogged on kept base phases old list leftover ended left settled
-    → more ≡ kept ++ fault_step tag found before faults tick ∷ option_to_list ending → earlier ≡ left_in kept
-    → LeftSo earlier row left' found → tick ≡ new.ticks → faults ≡ new.faults → before ≡ old.faults
-    → next_count old.ticks ≤ new.ticks → new.faults ≡ next_count old.faults → IsCounted old → IsCounted new → IsFormed row
-    → Both WritesOn old.modeled new.modeled → FailsInPhase settled left' old.ticks new.ticks
-    → IsFaulted (shown on kept base phases old) (shown on more base phases new) row ending
-is_faulted on kept more base phases tag row earlier found before faults tick ending old new list leftover ended left left' settled
-    tagged quiet h e copied so at counts was spent rose counted counted' formed writes fails =
-    let s = state_of (story_of on kept (oldest_first base) phases) in
-    let found_so : LeftSo (hanging s.ends) row left' found = subst (λ o. LeftSo o row left' found) (copied
-    ∙ sym (hanging_is on 1 0 kept (oldest_first base) phases start h.modeled)) so in
-    record {
-      left = found;
-      before = before;
-      faults = faults;
-      tick = tick;
-      ghost_state = new;
-      formed = formed;
-      grows = shown_faulted on kept more base phases tag found before faults tick ending old new h.modeled quiet e
-          ∙ ap (λ t. with_ending (with_step_on (shown on kept base phases old) (fault_step t found before faults tick) new)
-          ending) tagged;
-      rose = rises_raised before old.faults faults (omega (arith, was)) counted.faults (omega (arith, counts, rose))
-          (omega (arith, counts, counted'.faults));
-      later = omega (arith, h.backed.faults, was);
-      leaves = may_leave_so s row left' found found_so;
-      calls = (settled, left', h.backed.shut, found_so, subst (FailsInPhase settled left' old.ticks) (sym at) fails);
-      ticked = rises_raised _ old.ticks tick h.backed.ticks counted.ticks (omega (arith, at, spent))
-          (omega (arith, at, counted'.ticks));
-      counted = was;
-      one = counts ∙ rose ∙ ap next_count (sym was);
-      modeled = counts;
-      at = at;
-      spent = rises_raised old.ticks old.ticks tick (omega arith) counted.ticks (omega (arith, at, spent))
-          (omega (arith, at, counted'.ticks));
-      fit = counted';
-      writes = writes;
-    }
+  -- the disk failed: what is kept after the fault and the step that it brings with it
+  pub logged_faulted : (more : List Step) (row : Plain) (fault : FaultKept) (ending : Option Step) (journal' : JournalState)
+      → IfSome ending IsQuiet → more ≡ kept ++ fault_step fault ∷ option_to_list ending
+      → MissesRow row old new journal journal' → LeftSo left row journal'.left fault.left.value → fault.tick ≡ new.ticks
+      → fault.faults ≡ new.faults → fits base row.deed ≡ true → IsFormed row
+      → IsLogged on more base phases fault.left.value new journal'
+  logged_faulted more row fault None journal' quiet e missed so at counts fit formed =
+      logged_fault on kept base phases left old journal h more row fault new journal' e missed so at counts fit formed
+  logged_faulted more row fault (Some step) journal' quiet e missed so at counts fit formed =
+      let failed = kept ++ fault_step fault ∷ [] in
+      logged_step on failed base phases fault.left.value new journal'
+      (logged_fault on kept base phases left old journal h failed row fault new journal' refl missed so at counts fit formed)
+      more step quiet (e ∙ sym (append_assoc kept (fault_step fault ∷ []) (step ∷ [])))
+
+  -- and what became of the row
+  pub is_faulted : (more : List Step) (row : Plain) (fault : FaultKept) (ending : Option Step) (how : Left)
+      → fault.tag ≡ row.tag → IfSome ending IsQuiet → more ≡ kept ++ fault_step fault ∷ option_to_list ending
+      → LeftSo left row how fault.left.value → fault.tick ≡ new.ticks → fault.faults ≡ new.faults → fault.before ≡ old.faults
+      → next_count old.ticks ≤ new.ticks → new.faults ≡ next_count old.faults → IsCounted old → IsCounted new → IsFormed row
+      → Both WritesOn old.modeled new.modeled → FailsInPhase journal.settled how old.ticks new.ticks
+      → IsFaulted (shown on kept base phases old) (shown on more base phases new) row ending
+  is_faulted more row fault ending how tagged quiet e so at counts was spent rose counted counted' formed writes fails =
+      let s = logged_state on kept base phases in
+      let found : LeftSo (hanging s.ends) row how fault.left.value = subst (λ o. LeftSo o row how fault.left.value) h.hangs so in
+      record {
+        left = fault.left.value;
+        before = fault.before;
+        faults = fault.faults;
+        tick = fault.tick;
+        ghost_state = new;
+        formed = formed;
+        grows = shown_faulted on kept base phases h.modeled fault old new more ending quiet e
+            ∙ ap (λ t. with_ending (with_step_on (shown on kept base phases old)
+            (story_steps.Fault t fault.left.value fault.before fault.faults fault.tick) new) ending) tagged;
+        rose = rises_raised fault.before old.faults fault.faults (omega (arith, was)) counted.faults (omega (arith, counts, rose))
+            (omega (arith, counts, counted'.faults));
+        later = omega (arith, h.backed.faults, was);
+        leaves = may_leave_so s row how fault.left.value found;
+        calls = (journal.settled, how, h.backed.shut, found, subst (FailsInPhase journal.settled how old.ticks) (sym at) fails);
+        ticked = rises_raised _ old.ticks fault.tick h.backed.ticks counted.ticks (omega (arith, at, spent))
+            (omega (arith, at, counted'.ticks));
+        counted = was;
+        one = counts ∙ rose ∙ ap next_count (sym was);
+        modeled = counts;
+        at = at;
+        spent = rises_raised old.ticks old.ticks fault.tick (omega arith) counted.ticks (omega (arith, at, spent))
+            (omega (arith, at, counted'.ticks));
+        fit = counted';
+        writes = writes;
+      }
 
 -- settling takes two calls at most
 pub few_calls : {T E : Type 0} (settled : Bool) (result : Result T E) (old new : DiskState)
@@ -191,3 +176,22 @@ few_calls false (Err fault) old new h = omega (arith, h.1)
 pub writes_none : (modeled : Option Device) → Both WritesOn modeled modeled
 writes_none None = tt
 writes_none (Some d) = record { adds = adds_none may_write d; objects = refl }
+
+-- a journal that was settled, or was to be
+settles_none_at : (ends : List End) (d : Device) → SettlesTail ends d d
+settles_none_at ends d = (true, 0, λ shut row. refl, inl refl)
+
+pub settles_no_tail : (ends : List End) (modeled : Option Device) → Both (SettlesTail ends) modeled modeled
+settles_no_tail ends None = tt
+settles_no_tail ends (Some d) = settles_none_at ends d
+
+pub settles_tail : {T E : Type 0} (r : Result T E) (ends : List End) (settled : Bool) (tail : ℕ) (old new : Option Device)
+    → StandsSettled ends settled → (settled ≡ true → is_ok r ≡ true)
+    → MatchResult r (λ _. Both (λ d e. e ≡ settled_first settled tail d) old new) (λ _. Both (FailsToPut tail (0 ∷ [])) old new)
+    → Both (SettlesTail ends) old new
+settles_tail (Ok x) ends settled tail old new stands rests calls =
+    both_map (λ d e. e ≡ settled_first settled tail d) (SettlesTail ends) old new
+    (λ d e is. (settled, tail, stands, inl is)) calls
+settles_tail (Err fault) ends true tail old new stands rests calls = let none = rests refl in absurd (cc none)
+settles_tail (Err fault) ends false tail old new stands rests calls =
+    both_map (FailsToPut tail (0 ∷ [])) (SettlesTail ends) old new (λ d e is. (false, tail, stands, inr (refl, is))) calls

@@ -2,7 +2,6 @@
 use Rattle.std.proofs.Common.{◌≡◌, ℕ, ◌≤◌, Bool, true, false, not, Option, Some, None, List, [], ◌∷◌, ◌++◌, length, refl, ap}
 use Rattle.std.proofs.Common.{sym, subst, ◌∙◌, arith}
 use Rattle.cc_names.specs.Formed.{IsFormed, Plain}
-use Rattle.cc_names.specs.declared.rows.Tag.{Tag}
 use Rattle.cc_names.specs.declared.steps.StoryStep.TheVariants as story_steps
 use Rattle.disk_model.specs.Devices.{Device}
 use Rattle.disk_model.specs.DiskStates.{DiskState, IfModeled, Both, IsCounted}
@@ -11,19 +10,27 @@ use Rattle.legal_history.specs.Stories.States.{State, Opening, End, Committed, F
 use Rattle.legal_history.specs.Stories.Steps.{after}
 use Rattle.row_form.specs.Spelled.{spelling_of}
 use Rattle.vob_journal.specs.Lefts.{leftover_after, settled_after}
-use Rattle.vob_journal.specs.Moves.{Moves}
 use Rattle.vob_journal.specs.declared.left.Left.{Left}
 use Rattle.vob_journal.specs.declared.left.Left.TheVariants as lefts
+use Rattle.story_log.specs.Stopping.Journals.{JournalState}
 use Rattle.story_log.specs.Stopping.Backed.{IsMirrored, IsBacked, has_row, may_be_open}
 use Rattle.story_log.specs.Logging.Leaving.{LeftSo}
 use Rattle.story_log.specs.Stopping.Standing.{base_by}
-use Rattle.story_log.proofs.Stopping.Backing.{still_modeled, commit_covered, fault_covered}
+use Rattle.story_log.proofs.Logging.Faults.{FaultKept, fault_told}
+use Rattle.story_log.proofs.Stopping.Backing.{MovesTo, still_modeled, commit_covered, fault_covered}
 
 -- what holds where a device is modeled
 pub if_modeled : (modeled : Option Device) (P Q : Device → Type 0) → ((d : Device) → P d → Q d) → IfModeled modeled P
     → IfModeled modeled Q
 if_modeled None P Q f h = tt
 if_modeled (Some d) P Q f h = f d h
+
+-- the disk's ticks are the calls so far
+calls_counted : (ghost_state : DiskState) (tick : ℕ) → IsCounted ghost_state → tick ≡ ghost_state.ticks
+    → IfModeled ghost_state.modeled (λ d. tick ≡ length d.calls)
+calls_counted ghost_state tick counted at =
+    if_modeled ghost_state.modeled (λ d. ghost_state.ticks ≡ length d.calls) (λ d. tick ≡ length d.calls)
+    (λ d modeled. at ∙ modeled) counted.modeled
 
 -- the ticks at the newest end are at most the calls so far
 pub ticks_counted : (opening : Opening) (s : State) (ghost_state : DiskState) → s.opened ≡ Some opening
@@ -35,10 +42,9 @@ ticks_counted opening s ghost_state opened ticks counted =
     (λ d e. omega (arith, ticks, e, ap (λ o. ticks_of o s.ends) opened)) counted.modeled
 
 -- the same of the state after a step that is neither a commit nor a fault
-pub backed_same : (s t : State) (ghost_state : DiskState) (list leftover : List (List ℕ)) (ended : Bool) (left : Left)
-    (settled : Bool) → t.opened ≡ s.opened → t.base ≡ s.base → t.ends ≡ s.ends
-    → IsBacked s ghost_state list leftover ended left settled → IsBacked t ghost_state list leftover ended left settled
-backed_same s t ghost_state list leftover ended left settled opened base ends h = record {
+pub backed_same : (s t : State) (ghost_state : DiskState) (journal : JournalState) → t.opened ≡ s.opened → t.base ≡ s.base
+    → t.ends ≡ s.ends → IsBacked s ghost_state journal → IsBacked t ghost_state journal
+backed_same s t ghost_state journal opened base ends h = record {
   opening = h.opening;
   opened = opened ∙ h.opened;
   tells = h.tells;
@@ -48,34 +54,49 @@ backed_same s t ghost_state list leftover ended left settled opened base ends h 
   base = base ∙ h.base ∙ ap (base_by h.opening) (sym ends);
   ticks = omega (arith, h.ticks, ap (λ o. ticks_of o t.ends) opened, ap (ticks_of s.opened) ends);
   faults = omega (arith, h.faults, ap (λ o. faults_of o t.ends) opened, ap (faults_of s.opened) ends);
-  covered = subst (λ e. IfModeled ghost_state.modeled (IsMirrored h.opening e list leftover left [] [])) (sym ends) h.covered;
+  covered = subst (λ e. IfModeled ghost_state.modeled (IsMirrored h.opening e journal [] [])) (sym ends) h.covered;
 }
 
+-- the journal took a row
+pub record TakesRow (row : Plain) (old new : DiskState) (journal journal' : JournalState) : Type 0 where
+  pub moves : Both (MovesTo journal journal') old.modeled new.modeled
+  pub grown : IfModeled old.modeled (λ _. (journal'.list ≡ journal.list ++ spelling_of row ∷ []) × (journal'.leftover ≡ []))
+  pub faults : new.faults ≡ old.faults
+  pub was : IsCounted old
+  pub counted : IsCounted new
+  pub ended : journal'.ended ≡ true
+  pub left : journal'.left ≡ lefts.Nothing
+  pub settled : journal'.settled ≡ settled_after journal'.left
+
+-- the disk failed as the journal was to take a row
+pub record MissesRow (row : Plain) (old new : DiskState) (journal journal' : JournalState) : Type 0 where
+  pub moves : Both (MovesTo journal journal') old.modeled new.modeled
+  pub stays : IfModeled old.modeled (λ _. (journal'.list ≡ journal.list)
+      × (journal'.leftover ≡ leftover_after journal'.left journal.leftover (spelling_of row)))
+  pub was : IsCounted old
+  pub counted : IsCounted new
+  pub ended : journal'.ended ≡ true
+  pub settled : journal'.settled ≡ settled_after journal'.left
+  pub ajar : journal'.left ≡ lefts.Earlier → journal.settled ≡ false
+
 -- a row was committed
-pub backed_commit : (s : State) (row : Plain) (tick : ℕ) (old new : DiskState) (list leftover list' leftover' : List (List ℕ))
-    (ended ended' : Bool) (left left' : Left) (settled settled' : Bool) → IsBacked s old list leftover ended left settled
-    → Both (Moves list leftover list' leftover') old.modeled new.modeled
-    → IfModeled old.modeled (λ _. (list' ≡ list ++ spelling_of row ∷ []) × (leftover' ≡ [])) → tick ≡ new.ticks
-    → new.faults ≡ old.faults → IsCounted old → IsCounted new → ended' ≡ true → left' ≡ lefts.Nothing
-    → settled' ≡ settled_after left' → fits s.base row.deed ≡ true → IsFormed row
-    → IsBacked (after s (story_steps.Commit row tick)) new list' leftover' ended' left' settled'
-backed_commit s row tick old new list leftover list' leftover' ended ended' left left' settled settled' h moves grown at same was
-    counted end none set fit formed = record {
-      opening = h.opening;
-      opened = h.opened;
-      tells = h.tells ∙ sym (still_modeled (Moves list leftover list' leftover') old.modeled new.modeled moves);
-      at_end = end;
-      calm = λ e. none;
-      shut = λ e some. set ∙ ap settled_after none;
-      base = ap (λ b. row ∷ b) h.base;
-      ticks = omega (arith, at);
-      faults = omega (arith, h.faults, same);
-      covered = commit_covered h.opening s.ends list leftover list' leftover' left left' row tick old.modeled new.modeled
-          h.covered
-          (ticks_counted h.opening s old h.opened h.ticks was) moves
-          (if_modeled new.modeled (λ e. new.ticks ≡ length e.calls) (λ e. tick ≡ length e.calls) (λ e modeled. at
-          ∙ modeled) counted.modeled) grown (subst (λ b. fits b row.deed ≡ true) h.base fit) formed;
-    }
+pub backed_commit : (s : State) (row : Plain) (tick : ℕ) (old new : DiskState) (journal journal' : JournalState)
+    → IsBacked s old journal → TakesRow row old new journal journal' → tick ≡ new.ticks → fits s.base row.deed ≡ true
+    → IsFormed row → IsBacked (after s (story_steps.Commit row tick)) new journal'
+backed_commit s row tick old new journal journal' h took at fit formed = record {
+  opening = h.opening;
+  opened = h.opened;
+  tells = h.tells ∙ sym (still_modeled (MovesTo journal journal') old.modeled new.modeled took.moves);
+  at_end = took.ended;
+  calm = λ e. took.left;
+  shut = λ e some. took.settled ∙ ap settled_after took.left;
+  base = ap (λ b. row ∷ b) h.base;
+  ticks = omega (arith, at);
+  faults = omega (arith, h.faults, took.faults);
+  covered = commit_covered h.opening s.ends journal journal' row tick old.modeled new.modeled h.covered
+      (ticks_counted h.opening s old h.opened h.ticks took.was) took.moves
+      (calls_counted new tick took.counted at) took.grown (subst (λ b. fits b row.deed ≡ true) h.base fit) formed;
+}
 
 -- where nothing hangs after a row, no fault may have left the tail open
 shut_behind : (ends : List End) → hanging ends ≡ None → has_row ends ≡ true → may_be_open ends ≡ false
@@ -103,41 +124,25 @@ fault_shut ends row lefts.InFlight None faults tick settled shut so ajar e = abs
 fault_shut ends row lefts.InFlight (Some left) faults tick settled shut so ajar e = absurd (cc)
 
 -- the disk failed
-pub backed_fault : (s : State) (tag : Tag) (row : Plain) (found : Option Plain) (before faults tick : ℕ) (old new : DiskState)
-    (list leftover list' leftover' : List (List ℕ)) (ended ended' : Bool) (left left' : Left) (settled settled' : Bool)
-    (t : State) → t.opened ≡ s.opened → t.base ≡ s.base → t.ends ≡ Faulted found faults tick ∷ s.ends
-    → IsBacked s old list leftover ended left settled → Both (Moves list leftover list' leftover') old.modeled new.modeled
-    → IfModeled old.modeled (λ _. (list' ≡ list) × (leftover' ≡ leftover_after left' leftover (spelling_of row)))
-    → LeftSo (hanging s.ends) row left' found → tick ≡ new.ticks → faults ≡ new.faults → IsCounted old → IsCounted new
-    → ended' ≡ true → settled' ≡ settled_after left' → (left' ≡ lefts.Earlier → settled ≡ false) → fits s.base row.deed ≡ true
-    → IsFormed row → IsBacked t new list' leftover' ended' left' settled'
-backed_fault s tag row found before faults tick old new list leftover list' leftover' ended ended' left left' settled settled' t
-    opened base ends h moves stays so at counts was counted end set ajar fit formed = record {
-      opening = h.opening;
-      opened = opened ∙ h.opened;
-      tells = h.tells ∙ sym (still_modeled (Moves list leftover list' leftover') old.modeled new.modeled moves);
-      at_end = end;
-      calm = λ e. fault_shut s.ends row left' found faults tick settled h.shut so ajar (ap may_be_open (sym ends) ∙ e);
-      shut = λ e some. set ∙ ap settled_after (fault_shut s.ends row left' found faults tick settled h.shut so ajar
-          (ap may_be_open (sym ends) ∙ e));
-      base = base ∙ h.base ∙ ap (base_by h.opening) (sym ends);
-      ticks = omega (
-        arith,
-        at,
-        ap (ticks_of t.opened) ends,
-        ap (λ o. ticks_of o (Faulted found faults tick ∷ s.ends)) (opened
-            ∙ h.opened),
-      );
-      faults = omega (
-        arith,
-        counts,
-        ap (faults_of t.opened) ends,
-        ap (λ o. faults_of o (Faulted found faults tick ∷ s.ends)) (opened
-            ∙ h.opened),
-      );
-      covered = subst (λ e. IfModeled new.modeled (IsMirrored h.opening e list' leftover' left' [] [])) (sym ends)
-          (fault_covered h.opening s.ends list leftover list' leftover' left left' row found faults tick old.modeled new.modeled
-          h.covered (ticks_counted h.opening s old h.opened h.ticks was) moves
-          (if_modeled new.modeled (λ e. new.ticks ≡ length e.calls) (λ e. tick ≡ length e.calls) (λ e modeled. at
-          ∙ modeled) counted.modeled) stays so (subst (λ b. fits b row.deed ≡ true) h.base fit) formed);
-    }
+pub backed_fault : (s : State) (row : Plain) (fault : FaultKept) (old new : DiskState) (journal journal' : JournalState)
+    → IsBacked s old journal → MissesRow row old new journal journal' → LeftSo (hanging s.ends) row journal'.left fault.left.value
+    → fault.tick ≡ new.ticks → fault.faults ≡ new.faults → fits s.base row.deed ≡ true → IsFormed row
+    → IsBacked (after s (fault_told fault)) new journal'
+backed_fault s row fault old new journal journal' h missed so at counts fit formed = record {
+  opening = h.opening;
+  opened = h.opened;
+  tells = h.tells ∙ sym (still_modeled (MovesTo journal journal') old.modeled new.modeled missed.moves);
+  at_end = missed.ended;
+  calm = nothing;
+  shut = λ e some. missed.settled ∙ ap settled_after (nothing e);
+  base = h.base;
+  ticks = omega (arith, at);
+  faults = omega (arith, counts);
+  covered = fault_covered h.opening s.ends journal journal' row fault.left.value fault.faults fault.tick old.modeled new.modeled
+      h.covered (ticks_counted h.opening s old h.opened h.ticks missed.was) missed.moves
+      (calls_counted new fault.tick missed.counted at) missed.stays so (subst (λ b. fits b row.deed ≡ true) h.base fit) formed;
+}
+  where
+    nothing : may_be_open (Faulted fault.left.value fault.faults fault.tick ∷ s.ends) ≡ false → journal'.left ≡ lefts.Nothing
+    nothing e = fault_shut s.ends row journal'.left fault.left.value fault.faults fault.tick journal.settled h.shut so
+        missed.ajar e

@@ -21,10 +21,10 @@ use Rattle.legal_history.specs.Stories.States.{State, Opening, End, Committed, F
 use Rattle.legal_history.specs.Stories.Steps.{after, state_of}
 use Rattle.legal_history.specs.Stories.Committing.{LeavesRow}
 use Rattle.legal_history.specs.Stories.Lawful.{Legal, LegalFrom, Lawful}
-use Rattle.story_log.specs.Stopping.Founds.{OpensAgain, SpellsBase}
+use Rattle.story_log.specs.Stopping.StopLaws.{OpensAgain, SpellsBase}
 use Rattle.story_log.specs.Story.Handed.{Handed}
 use Rattle.story_log.specs.Bases.Opening.{IsBaseOn}
-use Rattle.story_log.specs.Stored.Founds.{Found, Represents}
+use Rattle.story_log.specs.Stored.Founds.{FoundFiles, Represents}
 use Rattle.story_log.specs.Stored.Opened.{base_opened, IsOpenedAs}
 use Rattle.story_log.specs.Stored.Stops.{found_on}
 use Rattle.story_log.specs.Story.Formed.{NamesOnly, TellsOnly}
@@ -50,7 +50,7 @@ record IsOnly (P : Plain → Type 0) (opening : Opening) (b : Base) : Type 0 whe
   each : AllByRecursion P b
 
 -- what was found represents such a base
-record SpellsOnly (P : Plain → Type 0) (opening : Opening) (found : Found) : Type 0 where
+record SpellsOnly (P : Plain → Type 0) (opening : Opening) (found : FoundFiles) : Type 0 where
   base : Base
   only : IsOnly P opening base
   is : Represents found base
@@ -65,10 +65,10 @@ record IsFound (P : Plain → Type 0) (s : State) (opening : Opening) : Type 0 w
   opened : s.opened ≡ Some opening
   base : s.base ≡ base_by opening s.ends
   only : IsOnly P opening s.base
-  found : (k : ℕ) (found : Found) → MayBeFound opening s.ends k found → SpellsOnly P opening found
+  found : (k : ℕ) (found : FoundFiles) → MayBeFound opening s.ends k found → SpellsOnly P opening found
 
 -- a base that was found
-stands_base : (P : Plain → Type 0) (opening : Opening) (b : Base) (left : Option Plain) (found : Found)
+stands_base : (P : Plain → Type 0) (opening : Opening) (b : Base) (left : Option Plain) (found : FoundFiles)
     → IsOnly P opening b → FitsBehind P opening b left → StandsFor b left found → SpellsOnly P opening found
 stands_base P opening b left found only behind (inl e) = record { base = b; only = only; is = e }
 stands_base P opening b None found only behind (inr e) = record { base = b; only = only; is = e }
@@ -77,8 +77,8 @@ stands_base P opening b (Some row) found only behind (inr e) = record { base = r
 -- after one more commit or fault
 one_more : (P : Plain → Type 0) (opening : Opening) (end : End) (ends : List End) → IsOnly P opening (base_by opening ends)
     → IsOnly P opening (base_by opening (end ∷ ends)) → FitsBehind P opening (base_by opening (end ∷ ends)) (left_after end)
-    → FitsBehind P opening (base_by opening ends) (left_within end) → ((k : ℕ) (found : Found)
-    → MayBeFound opening ends k found → SpellsOnly P opening found) → (k : ℕ) (found : Found)
+    → FitsBehind P opening (base_by opening ends) (left_within end) → ((k : ℕ) (found : FoundFiles)
+    → MayBeFound opening ends k found → SpellsOnly P opening found) → (k : ℕ) (found : FoundFiles)
     → MayBeFound opening (end ∷ ends) k found → SpellsOnly P opening found
 one_more P opening end ends old new behind within h k found (inl later) =
     stands_base P opening (base_by opening (end ∷ ends)) (left_after end) found new behind later.1
@@ -105,7 +105,7 @@ stays_found P s t opening opened base ends h = record {
   opened = opened ∙ h.opened;
   base = base ∙ h.base ∙ ap (base_by opening) (sym ends);
   only = subst (IsOnly P opening) (sym base) h.only;
-  found = subst (λ e. (k : ℕ) (found : Found) → MayBeFound opening e k found
+  found = subst (λ e. (k : ℕ) (found : FoundFiles) → MayBeFound opening e k found
       → SpellsOnly P opening found) (sym ends) h.found;
 }
 
@@ -190,7 +190,7 @@ first_found P (story_steps.Opened rows counts tells) lawful named is = (
 first_found P x lawful named is = absurd (cc)
 
 -- whatever a stop may find is a base of such rows
-found_only : (P : Plain → Type 0) → Laws → (story : List StoryStep) (opening : Opening) (k : ℕ) (found : Found)
+found_only : (P : Plain → Type 0) → Laws → (story : List StoryStep) (opening : Opening) (k : ℕ) (found : FoundFiles)
     → Legal story → TellsOnly P story → (state_of story).opened ≡ Some opening → MayBeFound opening (state_of story).ends k found
     → SpellsOnly P opening found
 found_only P laws [] opening k found legal named opened may = absurd (cc)
@@ -202,14 +202,14 @@ found_only P laws (x ∷ story) opening k found legal named opened may =
     (sym same) may))
 
 -- whatever a stop may find is a base
-pub found_base : Laws → (story : List StoryStep) (opening : Opening) (k : ℕ) (found : Found) → Legal story
+pub found_base : Laws → (story : List StoryStep) (opening : Opening) (k : ℕ) (found : FoundFiles) → Legal story
     → (state_of story).opened ≡ Some opening → MayBeFound opening (state_of story).ends k found → SpellsBase opening.base found
 found_base laws story opening k found legal opened may =
     let spells = found_only (λ (row : Plain). Unit {0}) laws story opening k found legal (tells_rows story) opened may in
     record { base = spells.base; good = spells.only.good; is = spells.is; sound = spells.only.sound }
 
 -- and where the story names only formed rows it opens again
-pub opens_again : Laws → (story : List StoryStep) (opening : Opening) (k : ℕ) (found : Found) → Legal story
+pub opens_again : Laws → (story : List StoryStep) (opening : Opening) (k : ℕ) (found : FoundFiles) → Legal story
     → TellsOnly IsFormed story → (state_of story).opened ≡ Some opening → MayBeFound opening (state_of story).ends k found
     → OpensAgain opening.base found
 opens_again laws story opening k found legal named opened may =

@@ -10,7 +10,7 @@ use Rattle.base_model.specs.Rows.{Base, size}
 use Rattle.legal_history.proofs.Outputs.Alike.{base_alike, live_alike}
 use Rattle.row_form.specs.Extents.{in_frame, plain_deed}
 use Rattle.story_log.specs.Stored.Fitting.{plain_rows, are_stored_rows}
-use Rattle.story_log.specs.Stored.Founds.{Found, AreOutputs, IsDeedOf, AreRowsOf, is_live, Represents}
+use Rattle.story_log.specs.Stored.Founds.{FoundFiles, AreOutputs, IsDeedOf, AreRowsOf, is_live, Represents}
 use Rattle.story_log.specs.Stored.Opened.{output_opened, deed_opened, rows_opened, base_opened}
 use Rattle.story_log.proofs.Stored.Fitting.{stored_are_base, stored_are_plain}
 
@@ -86,7 +86,7 @@ represented_alike lives objects (spelt ∷ earlier) (row ∷ older) are =
     }
     ∷ represented_alike lives objects earlier older are.1 i
 
-pub represented_is_base : (found : Found) (b : Base) → Represents found b → is_base b ≡ true
+pub represented_is_base : (found : FoundFiles) (b : Base) → Represents found b → is_base b ≡ true
 represented_is_base found b r =
     base_alike (plain_rows r.stored) b (represented_alike (is_live b) found.objects r.stored b r.rows)
     ∙ plain_are_base (length found.objects) r.stored r.good

@@ -13,7 +13,7 @@ use Rattle.legal_history.proofs.Outputs.Alike.{fits_alike}
 use Rattle.container_store.specs.Extents.{may_take}
 use Rattle.story_log.specs.Story.Formed.{AreFormed}
 use Rattle.story_log.specs.Stored.Fitting.{plain_rows, fits_stored}
-use Rattle.story_log.specs.Stored.Founds.{Found, AreRowsOf, is_live}
+use Rattle.story_log.specs.Stored.Founds.{FoundFiles, AreRowsOf, is_live}
 use Rattle.story_log.specs.Stored.Kept.{IsKept, OfLive, IsHeld}
 use Rattle.story_log.specs.Stored.Opened.{rows_opened, base_opened, IsOpenedAs}
 use Rattle.story_log.specs.Stored.Payloads.{payloads}
@@ -45,7 +45,7 @@ rows_open lives objects (row ∷ older) base =
 pub opens_itself : (objects : List ℕ) (b : Base) → is_base b ≡ true → base_opened objects b ≡ b
 opens_itself objects b base = rows_open (is_live (plain_rows b)) objects b base
 
-pub opens_as : (found : Found) (b : Base) → found.frames ≡ payloads b → is_base b ≡ true → AreFormed b → IsOpenedAs found b
+pub opens_as : (found : FoundFiles) (b : Base) → found.frames ≡ payloads b → is_base b ≡ true → AreFormed b → IsOpenedAs found b
 opens_as found b spelled base formed = record {
   stored = b;
   spelled = spelled;

@@ -11,7 +11,7 @@ use Rattle.story_log.specs.Bases.Reading.{IsUnfit}
 use Rattle.story_log.specs.Story.Formed.{AreFormed}
 use Rattle.story_log.specs.Stored.Payloads.{payloads}
 use Rattle.story_log.specs.Stored.Fitting.{fits_stored, are_stored_rows}
-use Rattle.story_log.specs.Stored.Founds.{Found}
+use Rattle.story_log.specs.Stored.Founds.{FoundFiles}
 use Rattle.story_log.proofs.Stored.Fitting.{base_is_stored, fits_as_plain}
 use Rattle.story_log.specs.Stored.Damaged.{IsDamaged, IsUndamaged, RepresentedIsUndamaged, FoundIsDamagedOnce, FramesAreOfOneList}
 
@@ -113,7 +113,7 @@ module _ (long : ℕ) where
       (and_parts (fits_stored long older row.deed) (are_stored_rows long older) good).1 h.1 f)
 
 -- frames of rows that may follow one another are not damaged
-pub stored_undamaged : (found : Found) (stored : Base) → found.frames ≡ payloads stored → AreFormed stored
+pub stored_undamaged : (found : FoundFiles) (stored : Base) → found.frames ≡ payloads stored → AreFormed stored
     → are_stored_rows (length found.objects) stored ≡ true → IsUndamaged found
 stored_undamaged found stored spelled formed good n damaged =
     let at = goes_on (length found.objects) stored (payloads damaged.stored) damaged.rest damaged.payload good formed (sym spelled
@@ -125,10 +125,10 @@ pub represented_undamaged : RepresentedIsUndamaged
 represented_undamaged found b r = stored_undamaged found r.stored r.spelled r.formed r.good
 
 -- what was found, up to the frame before one
-abbrev cut : Found → Base → Found
+abbrev cut : FoundFiles → Base → FoundFiles
 cut found stored = record { frames = payloads stored; objects = found.objects }
 
-earlier_damage : (found : Found) (n : ℕ) (one : IsDamaged found n) (stored : Base)
+earlier_damage : (found : FoundFiles) (n : ℕ) (one : IsDamaged found n) (stored : Base)
     → Goes (payloads one.stored) one.payload (payloads stored) → IsDamaged (cut found stored) n
 earlier_damage found n one stored goes = record {
   stored = one.stored;
@@ -155,7 +155,7 @@ damaged_once found m n one two = by (which_prefix (payloads one.stored) (payload
         (earlier_damage found n two one.stored goes))
 
 -- a payload that spells no row which fits those before it is damaged, whatever the file of objects has
-pub damaged_here : (found : Found) (base : Base) (payload : List ℕ) (rest : List (List ℕ)) (n : ℕ) → is_base base ≡ true
+pub damaged_here : (found : FoundFiles) (base : Base) (payload : List ℕ) (rest : List (List ℕ)) (n : ℕ) → is_base base ≡ true
     → AreFormed base → found.frames ≡ payloads base ++ payload ∷ rest → n ≡ size base → IsUnfit base payload
     → IsDamaged found n
 damaged_here found base payload rest n good formed is number unfit = record {

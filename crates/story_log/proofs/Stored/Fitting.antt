@@ -1,5 +1,5 @@
 -- A row that fits a base names no extent, so its frame spells it as it is.
-use Rattle.std.proofs.Common.{◌≡◌, refl, ap, sym, ◌∙◌, ℕ, Bool, true, false, ltb, List, [], ◌∷◌, map}
+use Rattle.std.proofs.Common.{◌≡◌, refl, ap, sym, ◌∙◌, ℕ, Bool, true, false, ltb, List, [], ◌∷◌, map, arith}
 use Rattle.std.specs.Prelude.{◌&&◌}
 use Rattle.std.proofs.lemmas.Bool.{and_parts, and_from}
 use Rattle.cc_names.specs.Formed.{Plain}
@@ -9,6 +9,7 @@ use Rattle.base_model.specs.Fits.{row_limit, fits, is_base}
 use Rattle.base_model.specs.Rows.{Base, size}
 use Rattle.container_store.specs.Extents.{may_take}
 use Rattle.row_form.specs.Extents.{plain_deed}
+use Rattle.row_form.specs.Spelled.{code_of}
 use Rattle.story_log.specs.Stored.Taken.{ObjectExtent, extent_of_owned, extents_of, taken_after, taken}
 use Rattle.story_log.specs.Stored.Fitting.{plain_rows, fits_stored, are_stored_rows}
 use Rattle.story_log.specs.Stored.Founds.{IsDeedOf}
@@ -32,6 +33,10 @@ fits_opened lives objects b deed fit = refl
 pub no_extents : (b : Base) (deed : Deed) → fits b deed ≡ true → extents_of deed ≡ []
 no_extents b (deeds.PublishAt view targets script entries outputs) fit = absurd (never (ltb (size b) row_limit) fit)
 no_extents b deed fit = refl
+
+pub is_not_at_extents : (b : Base) (deed : Deed) → fits b deed ≡ true → code_of deed ≡ 23 → ⊥
+is_not_at_extents b (deeds.PublishAt view targets script entries outputs) fit code = absurd (never (ltb (size b) row_limit) fit)
+is_not_at_extents b deed fit code = omega (arith, code)
 
 pub fits_free : (n : ℕ) (b : Base) (deed : Deed) (held : List ObjectExtent) → fits b deed ≡ true
     → may_take n (map extent_of_owned held) (extents_of deed) ≡ true

@@ -15,7 +15,7 @@ use Rattle.story_log.specs.Story.Formed.{AreFormed}
 use Rattle.story_log.specs.Stored.Payloads.{payloads}
 use Rattle.story_log.specs.Stored.Taken.{extent_of_owned, extents_in, extents_of, taken}
 use Rattle.story_log.specs.Stored.Fitting.{plain_rows, are_stored_rows}
-use Rattle.story_log.specs.Stored.Founds.{Found, bytes_at, IsOutput, AreOutputs, IsDeedOf, AreRowsOf, is_live, Represents}
+use Rattle.story_log.specs.Stored.Founds.{FoundFiles, bytes_at, IsOutput, AreOutputs, IsDeedOf, AreRowsOf, is_live, Represents}
 use Rattle.story_log.specs.Stored.Opened.{output_opened, deed_opened, rows_opened, base_opened}
 use Rattle.story_log.proofs.Stored.Alike.{opened_size, opened_alike, same_live}
 
@@ -63,7 +63,7 @@ rows_are_opened lives objects (row ∷ older) good =
     )
 
 -- so it is represented
-pub represents_opened : (found : Found) (stored : Base) → found.frames ≡ payloads stored → AreFormed stored
+pub represents_opened : (found : FoundFiles) (stored : Base) → found.frames ≡ payloads stored → AreFormed stored
     → are_stored_rows (length found.objects) stored ≡ true → Represents found (base_opened found.objects stored)
 represents_opened found stored spelled formed good =
     let objects = found.objects in

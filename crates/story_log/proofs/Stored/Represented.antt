@@ -11,7 +11,7 @@ use Rattle.legal_history.specs.Builds.Values.{IsSound}
 use Rattle.legal_history.proofs.Outputs.Alike.{sound_alike}
 use Rattle.legal_history.proofs.Outputs.Deeds.{deed_among}
 use Rattle.story_log.specs.Stored.Fitting.{plain_rows}
-use Rattle.story_log.specs.Stored.Founds.{Found, IsOutput, AreOutputs, IsDeedOf, AreRowsOf, is_live, Represents}
+use Rattle.story_log.specs.Stored.Founds.{FoundFiles, IsOutput, AreOutputs, IsDeedOf, AreRowsOf, is_live, Represents}
 use Rattle.story_log.specs.Stored.Opened.{output_opened, deed_opened, row_opened, rows_opened, base_opened}
 use Rattle.story_log.proofs.Stored.Alike.{same_size, opened_size, opened_alike, represented_alike, represented_is_base, same_live}
 
@@ -59,7 +59,7 @@ live_kept lives objects (spelt ∷ earlier) (row ∷ older) id are live =
         (λ i. Some (deed_opened ((ap lives sizes ∙ lives_here) i) objects spelt.deed)) ∙ ap Some deed
     by false is rest = rest
 
-module _ (found : Found) (b : Base) (r : Represents found b) where
+module _ (found : FoundFiles) (b : Base) (r : Represents found b) where
   abbrev opened : Base
   opened = base_opened found.objects r.stored
 

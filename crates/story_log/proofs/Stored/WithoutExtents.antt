@@ -1,19 +1,24 @@
 -- Frames that name no extent represent the bases whose rows they spell and no others, and are damaged as they are by themselves.
-use Rattle.std.proofs.Common.{◌≡◌, refl, ap, sym, ◌∙◌, subst, ℕ, Bool, List, [], ◌∷◌, ◌++◌, length, get_or}
+use Rattle.std.proofs.Common.{◌≡◌, refl, ap, sym, ◌∙◌, subst, ℕ, Bool, true, List, [], ◌∷◌, ◌++◌, length, map, get_or}
+use Rattle.std.proofs.lemmas.Bool.{and_parts}
 use Rattle.std.specs.List.{AllByRecursion}
 use Rattle.cc_names.specs.Formed.{Plain}
 use Rattle.cc_names.specs.declared.rows.Deed.{Deed}
 use Rattle.cc_names.specs.declared.rows.Deed.TheVariants as deeds
+use Rattle.base_model.specs.Fits.{fits}
 use Rattle.base_model.specs.Rows.{Base, size}
+use Rattle.container_store.specs.Extents.{may_take}
 use Rattle.row_form.specs.Spelled.{spelling_of, code_of}
 use Rattle.story_log.specs.Stored.Payloads.{payloads}
 use Rattle.story_log.specs.Stored.Damaged.{IsDamaged}
-use Rattle.story_log.specs.Stored.Founds.{Found, IsDeedOf, AreRowsOf, is_live, Represents}
-use Rattle.story_log.specs.Stored.WithoutExtents.{HasNoExtent, IsDamagedFrame, WithoutExtentsDamageIsOfFrames}
-use Rattle.story_log.specs.Stored.WithoutExtents.{SpelledIsRepresented, WithoutExtentsNothingChanges}
+use Rattle.story_log.specs.Stored.Founds.{FoundFiles, IsDeedOf, AreRowsOf, is_live, Represents}
+use Rattle.story_log.specs.Stored.Fitting.{plain_rows, fits_stored, are_stored_rows}
+use Rattle.story_log.specs.Stored.Taken.{extent_of_owned, extents_of, taken}
+use Rattle.story_log.specs.Stored.WithoutExtents.{HasNoExtent, IsDamagedFrame, RepresentedHasNoExtent, SpelledIsRepresented}
+use Rattle.story_log.specs.Stored.WithoutExtents.{WithoutExtentsDamageIsOfFrames, WithoutExtentsNothingChanges}
 use Rattle.story_log.proofs.Stored.Bases.{base_is_itself}
 use Rattle.story_log.proofs.Stored.Damaged.{damaged_here}
-use Rattle.story_log.proofs.Stored.Fitting.{base_is_stored, fits_as_stored, stored_are_base}
+use Rattle.story_log.proofs.Stored.Fitting.{base_is_stored, fits_as_stored, is_not_at_extents, stored_are_base}
 
 pub spelled_is_represented : SpelledIsRepresented
 spelled_is_represented found b base formed spelled = record {
@@ -41,6 +46,10 @@ all_back : {A : Type 0} (P : A → Type 0) (xs ys : List A) → AllByRecursion P
 all_back P [] ys all = all
 all_back P (x ∷ xs) ys all = all_back P xs ys all.1
 
+all_both : {A : Type 0} (P : A → Type 0) (xs ys : List A) → AllByRecursion P xs → AllByRecursion P ys → AllByRecursion P (xs ++ ys)
+all_both P [] ys one two = two
+all_both P (x ∷ xs) ys one two = (one.0, all_both P xs ys one.1 two)
+
 rows_as_spelt : (lives : ℕ → Bool) (objects : List ℕ) (stored b : Base) → AllByRecursion HasNoExtent (payloads stored)
     → AreRowsOf lives objects stored b → b ≡ stored
 rows_as_spelt lives objects [] [] none are = refl
@@ -54,7 +63,7 @@ rows_as_spelt lives objects (spelt ∷ earlier) (row ∷ older) none are =
     are.1 in
     λ i. record { tag = are.0.tag i; moment = are.0.moment i; deed = deed i } ∷ rest i
 
-pub represented_is_spelled : (found : Found) (b : Base) → AllByRecursion HasNoExtent found.frames → Represents found b
+pub represented_is_spelled : (found : FoundFiles) (b : Base) → AllByRecursion HasNoExtent found.frames → Represents found b
     → found.frames ≡ payloads b
 represented_is_spelled found b none r =
     let plain = subst (AllByRecursion HasNoExtent) r.spelled none in
@@ -62,6 +71,20 @@ represented_is_spelled found b none r =
 
 pub nothing_changes : WithoutExtentsNothingChanges
 nothing_changes found b none base formed = (represented_is_spelled found b none, spelled_is_represented found b base formed)
+
+-- the rows of what represents a base fit, and a publish at extents does not
+none_named : (length : ℕ) (stored : Base) → are_stored_rows length stored ≡ true → AllByRecursion HasNoExtent (payloads stored)
+none_named length [] good = tt
+none_named length (row ∷ older) good =
+    let here = and_parts (fits_stored length older row.deed) (are_stored_rows length older) good in
+    let fit = and_parts (fits (plain_rows older) row.deed)
+    (may_take length (map extent_of_owned (taken older)) (extents_of row.deed)) here.0 in
+    all_both HasNoExtent (payloads older) (spelling_of row ∷ []) (none_named length older here.1)
+    (λ code. is_not_at_extents (plain_rows older) row.deed fit.0 (sym (code_at row) ∙ code), tt)
+
+pub represented_names_none : RepresentedHasNoExtent
+represented_names_none found b r =
+    subst (AllByRecursion HasNoExtent) (sym r.spelled) (none_named (length found.objects) r.stored r.good)
 
 -- damage
 pub damage_of_frames : WithoutExtentsDamageIsOfFrames

@@ -8,13 +8,12 @@ use Rattle.disk_model.specs.Files.{stable}
 use Rattle.base_model.specs.Rows.{Base}
 use Rattle.base_model.specs.Fits.{is_base}
 use Rattle.cc_names.specs.Counts.{rises}
-use Rattle.vob_journal.specs.Added.{Adds, may_read}
 use Rattle.vob_journal.specs.Reads.{SameFiles}
 use Rattle.story_log.specs.Story.Handed.{Handed}
 use Rattle.story_log.specs.Logging.Logs.{Logged, opened_log}
 use Rattle.story_log.specs.Story.Formed.{AreFormed}
 use Rattle.story_log.specs.Stored.Damaged.{IsDamaged, IsUndamaged}
-use Rattle.story_log.specs.Stored.Founds.{Found}
+use Rattle.story_log.specs.Stored.Founds.{FoundFiles}
 use Rattle.story_log.specs.Stored.Opened.{IsOpenedAs}
 use Rattle.story_log.specs.Stored.Stops.{OfEachStop, found_on}
 use Rattle.base_rows.specs.Order.{oldest_first}
@@ -34,7 +33,7 @@ pub record IsBaseOn (old : DiskState) (base : Base) (handed : Handed) : Type 0 w
   pub fits : is_base base ≡ true
   pub formed : AreFormed base
 
--- a log of such a base, under which no disk failed: calls that read were made, and both files are as they were
+-- a log of such a base, under which no disk failed: both files are as they were
 pub record IsOpened (old : DiskState) (log : Logged) : Type 0 where
   pub base : Base
   pub handed : Handed
@@ -42,11 +41,10 @@ pub record IsOpened (old : DiskState) (log : Logged) : Type 0 where
   pub is : log ≡ opened_log base handed log.ghost_state
   pub faultless : log.ghost_state.faults ≡ old.faults
   pub fit : IsCounted log.ghost_state
-  pub adds : Both (Adds may_read) old.modeled log.ghost_state.modeled
   pub files : Both SameFiles old.modeled log.ghost_state.modeled
 
--- A base was opened: the one that was found on the disk, where no frame is damaged. Calls that read were made, no fault was
--- counted, and both files are as they were.
+-- A base was opened: the one that was found on the disk, where no frame is damaged. No fault was counted, and both files are as
+-- they were.
 pub record OpensCore (old : DiskState) (story : List StoryStep) (new : DiskState) : Type 0 where
   pub base : Base
   pub handed : Handed
@@ -55,20 +53,18 @@ pub record OpensCore (old : DiskState) (story : List StoryStep) (new : DiskState
   pub story_is : story ≡ story_steps.Opened (oldest_first base) handed.counts handed.tells ∷ []
   pub faultless : new.faults ≡ old.faults
   pub fit : IsCounted new
-  pub adds : Both (Adds may_read) old.modeled new.modeled
   pub files : Both SameFiles old.modeled new.modeled
 
 -- why what was found was not read through, with the disk's counts of faults before and after
-abbrev pub StopsBy : Option Device → (Device → Found) → OpenCause → ℕ → ℕ → Type 0
+abbrev pub StopsBy : Option Device → (Device → FoundFiles) → OpenCause → ℕ → ℕ → Type 0
 StopsBy modeled found (causes.Damaged n) old new = (new ≡ old) × IfModeled modeled (λ d. IsDamaged (found d) n)
 StopsBy modeled found causes.DiskFault old new = rises old new ≡ true
 StopsBy modeled found causes.NoMemory old new = new ≡ old
 
--- No base was opened: each stop since finds what was found there, calls that read were made, and both files are as they were.
+-- No base was opened: each stop since finds what was found there, and both files are as they were.
 pub record FailsToOpen (old : DiskState) (cause : OpenCause) (new : DiskState) : Type 0 where
   pub because : StopsBy old.modeled found_on cause old.faults new.faults
   pub tells : is_some new.modeled ≡ is_some old.modeled
   pub unchanged : IfModeled old.modeled (λ d. IfModeled new.modeled (λ e. (k : ℕ) → old.ticks < k
       → OfEachStop e k (λ found. found ≡ found_on d)))
-  pub reads : Both (Adds may_read) old.modeled new.modeled
   pub files : Both SameFiles old.modeled new.modeled

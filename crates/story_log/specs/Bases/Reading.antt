@@ -2,16 +2,16 @@
 use Rattle.std.specs.Prelude.{◌≡◌, ◌≤◌, ℕ, Bool, true, false, Option, Some, None, List, [], ◌∷◌, ◌++◌}
 use Rattle.cc_names.specs.Formed.{IsFormed, Plain}
 use Rattle.cc_names.specs.declared.rows.Deed.{Deed}
-use Rattle.disk_model.specs.Devices.{LeavesNow}
+use Rattle.disk_model.specs.Devices.{Device, LeavesNow}
 use Rattle.disk_model.specs.DiskStates.{DiskState, IfModeled, Both}
 use Rattle.base_model.specs.Rows.{Base, size}
 use Rattle.base_model.specs.Fits.{fits, is_base}
 use Rattle.cc_names.specs.Counts.{rises}
 use Rattle.row_form.specs.Spelled.{spelling_of}
-use Rattle.vob_journal.specs.Added.{Adds, may_read}
 use Rattle.vob_journal.specs.Answered.{GivesNext}
 use Rattle.vob_journal.specs.Frames.{frames}
 use Rattle.vob_journal.specs.Moves.{Moves}
+use Rattle.vob_journal.specs.Pieces.{IsReadUntil, ReadsOnce, ReadsOnceTo}
 use Rattle.vob_journal.specs.Reads.{SameFiles}
 use Rattle.vob_journal.specs.Shown.{Shown}
 use Rattle.story_log.specs.Story.Formed.{AreFormed}
@@ -25,7 +25,6 @@ pub record OnlyReads {D : Type 0} (ghost_state : D → DiskState) (old new : Sho
   pub left : new.left ≡ old.left
   pub ticks : (ghost_state old.disk).ticks ≤ (ghost_state new.disk).ticks
   pub stops : Both (Moves old.list [] old.list []) (ghost_state old.disk).modeled (ghost_state new.disk).modeled
-  pub adds : Both (Adds may_read) (ghost_state old.disk).modeled (ghost_state new.disk).modeled
   pub files : Both SameFiles (ghost_state old.disk).modeled (ghost_state new.disk).modeled
 
 -- the end of a list was read where nothing was found
@@ -45,6 +44,25 @@ abbrev pub IsMissed : OpenCause → ℕ → ℕ → Type 0
 IsMissed (causes.Damaged n) old new = ⊥
 IsMissed causes.DiskFault old new = rises old new ≡ true
 IsMissed causes.NoMemory old new = new ≡ old
+
+-- a damaged frame is the one after those of a base
+abbrev pub IsAfterBase : Base → OpenCause → Type 0
+IsAfterBase b (causes.Damaged n) = n ≡ size b
+IsAfterBase b cause = Unit {0}
+
+-- a journal was read on, to any of its frames or to its end
+abbrev pub IsReadOn : ℕ → ℕ → Device → Device → Type 0
+IsReadOn from had d e = (to : ℕ) × IsReadUntil from had to d e
+
+-- a journal was read on, until this stopped it: to a damaged frame, and no further
+abbrev pub IsReadBy : OpenCause → ℕ → ℕ → Device → Device → Type 0
+IsReadBy (causes.Damaged n) from had d e = IsReadUntil from had n d e
+IsReadBy cause from had d e = IsReadOn from had d e
+
+-- A journal was read once, until this stopped it: to a damaged frame, and no further.
+abbrev pub ReadsOnceBy : OpenCause → Device → Device → Type 0
+ReadsOnceBy (causes.Damaged n) d e = ReadsOnceTo n d e
+ReadsOnceBy cause d e = ReadsOnce d e
 
 -- why a row of this deed may not follow a base
 abbrev pub IsMisfit : Base → Deed → OpenCause → Type 0

@@ -1,8 +1,8 @@
 -- What became of a row that was to be committed.
-use Rattle.std.specs.Prelude.{◌≡◌, ℕ, ◌<◌, ◌≤◌, ◌⊎◌, Bool, true, false, Option, Some, None, option_map, List}
+use Rattle.std.specs.Prelude.{◌≡◌, ℕ, ◌<◌, ◌≤◌, ◌⊎◌, Bool, true, false, Option, Some, None, option_map, List, [], ◌∷◌}
 use Rattle.cc_names.specs.Formed.{Plain, IsFormed}
 use Rattle.cc_names.specs.declared.steps.Step.{Step}
-use Rattle.cc_names.specs.declared.steps.Step.TheVariants as steps
+use Rattle.cc_names.specs.declared.steps.StoryStep.TheVariants as story_steps
 use Rattle.disk_model.specs.Counting.{next_count}
 use Rattle.disk_model.specs.Devices.{Device}
 use Rattle.disk_model.specs.DiskStates.{DiskState, Both, IsCounted}
@@ -12,7 +12,7 @@ use Rattle.legal_history.specs.Stories.Steps.{state_of}
 use Rattle.cc_names.specs.Counts.{rises}
 use Rattle.row_form.specs.Spelled.{spelling_of}
 use Rattle.vob_journal.specs.Added.{WritesOn}
-use Rattle.vob_journal.specs.Calls.{device_after_commit}
+use Rattle.vob_journal.specs.Calls.{FailsToPut, device_after_commit, settled_first}
 use Rattle.vob_journal.specs.Lefts.{FailsInPhase}
 use Rattle.vob_journal.specs.declared.left.Left.{Left}
 use Rattle.story_log.specs.Logging.Leaving.{LeftSo}
@@ -36,6 +36,12 @@ StandsSettled ends settled = may_be_open ends ≡ false → has_row ends ≡ tru
 abbrev pub CommitsRow : List End → Plain → Device → Device → Type 0
 CommitsRow ends row d e = (settled : Bool) × (tail : ℕ) × StandsSettled ends settled
     × (e ≡ device_after_commit settled tail (spelling_of row) d)
+
+-- the calls that settle the journal after these commits and faults, as far as they go where one fails, and no others: a settled
+-- tail is not settled again
+abbrev pub SettlesTail : List End → Device → Device → Type 0
+SettlesTail ends d e = (settled : Bool) × (tail : ℕ) × StandsSettled ends settled
+    × ((e ≡ settled_first settled tail d) ⊎ ((settled ≡ false) × FailsToPut tail (0 ∷ []) d e))
 
 -- what a fault under a row left after these commits and faults, by how many calls were made: the row only where its gate was to
 -- be opened, and what an earlier fault had left only where the tail was to be settled
@@ -75,7 +81,7 @@ pub record IsFaulted (old new : Logged) (row : Plain) (ending : Option Step) : T
   pub tick : ℕ
   pub ghost_state : DiskState
   pub formed : IsFormed row
-  pub grows : new ≡ with_ending (with_step_on old (steps.Fault row.tag left before faults tick) ghost_state) ending
+  pub grows : new ≡ with_ending (with_step_on old (story_steps.Fault row.tag left before faults tick) ghost_state) ending
   pub rose : rises before faults ≡ true
   pub later : faults_of (state_of old.story).opened (state_of old.story).ends ≤ before
   pub leaves : MayLeaveRow (state_of old.story) row left

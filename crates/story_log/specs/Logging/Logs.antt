@@ -1,5 +1,5 @@
 -- A story with the rows and the phases that it names, on a disk, and what each kind of step adds to it.
-use Rattle.std.specs.Prelude.{◌≡◌, ℕ, Bool, List, [], ◌∷◌, ◌++◌}
+use Rattle.std.specs.Prelude.{◌≡◌, ℕ, Option, List, [], ◌∷◌, ◌++◌}
 use Rattle.std.specs.Option.{option_to_list}
 use Rattle.cc_names.specs.Formed.{Plain}
 use Rattle.cc_names.specs.declared.commands.Phase.{Phase}
@@ -8,9 +8,10 @@ use Rattle.cc_names.specs.declared.steps.StoryStep.{StoryStep}
 use Rattle.cc_names.specs.declared.steps.StoryStep.TheVariants as story_steps
 use Rattle.disk_model.specs.DiskStates.{DiskState}
 use Rattle.base_model.specs.Rows.{Base}
+use Rattle.legal_history.specs.Stories.States.{State, hanging}
 use Rattle.legal_history.specs.Stories.Steps.{state_of}
-use Rattle.vob_journal.specs.declared.left.Left.{Left}
 use Rattle.story_log.specs.Stopping.Backed.{IsBacked}
+use Rattle.story_log.specs.Stopping.Journals.{JournalState}
 use Rattle.story_log.specs.Story.Handed.{Handed}
 use Rattle.story_log.specs.Story.Telling.{story_of, AreNamedBySteps, shown_as}
 use Rattle.base_rows.specs.Order.{oldest_first}
@@ -23,12 +24,18 @@ pub record Logged : Type 0 where
   pub phases : List Phase
   pub ghost_state : DiskState
 
--- the steps tell all rows of the base and all phases, they lead to that base, and the disk is that of their story
-pub record IsLogged (handed : Handed) (steps : List Step) (base : Base) (phases : List Phase) (ghost_state : DiskState)
-    (list leftover : List (List ℕ)) (ended : Bool) (left : Left) (settled : Bool) : Type 0 where
+-- the state of the story that steps tell of a base and of phases
+abbrev pub logged_state : Handed → List Step → Base → List Phase → State
+logged_state handed steps base phases = state_of (story_of handed steps (oldest_first base) phases)
+
+-- the steps tell all rows of the base and all phases, they lead to that base, the row that may be found after its rows is as the
+-- newest commit or fault left it, and the journal is that of their story
+pub record IsLogged (handed : Handed) (steps : List Step) (base : Base) (phases : List Phase) (left : Option Plain)
+    (ghost_state : DiskState) (journal : JournalState) : Type 0 where
   pub modeled : AreNamedBySteps 1 0 steps (oldest_first base) phases
-  pub leads : (state_of (story_of handed steps (oldest_first base) phases)).base ≡ base
-  pub backed : IsBacked (state_of (story_of handed steps (oldest_first base) phases)) ghost_state list leftover ended left settled
+  pub leads : (logged_state handed steps base phases).base ≡ base
+  pub hangs : left ≡ hanging (logged_state handed steps base phases).ends
+  pub backed : IsBacked (logged_state handed steps base phases) ghost_state journal
 
 -- this base was opened
 abbrev pub opened_log : Base → Handed → DiskState → Logged
@@ -73,10 +80,10 @@ with_step log step = record {
 abbrev pub with_ghost_state : Logged → DiskState → Logged
 with_ghost_state log ghost_state = record { story = log.story; base = log.base; phases = log.phases; ghost_state = ghost_state }
 
--- with such a step, while the disk changed
-abbrev pub with_step_on : Logged → Step → DiskState → Logged
+-- with a step of the story, while the disk changed
+abbrev pub with_step_on : Logged → StoryStep → DiskState → Logged
 with_step_on log step ghost_state = record {
-  story = log.story ++ option_to_list (shown_as step);
+  story = log.story ++ step ∷ [];
   base = log.base;
   phases = log.phases;
   ghost_state = ghost_state;

@@ -9,7 +9,6 @@ use Rattle.base_model.specs.Rows.{Base}
 use Rattle.legal_history.specs.Stories.States.{State, Opening, End, Committed, Faulted, ticks_of, faults_of, hanging}
 use Rattle.row_form.specs.Spelled.{spelling_of}
 use Rattle.vob_journal.specs.Moves.{Stands}
-use Rattle.vob_journal.specs.declared.left.Left.{Left}
 use Rattle.vob_journal.specs.declared.left.Left.TheVariants as lefts
 use Rattle.story_log.specs.Story.Formed.{AreFormed}
 use Rattle.story_log.specs.Stored.Founds.{Represents}
@@ -17,6 +16,7 @@ use Rattle.story_log.specs.Stored.Kept.{IsHeld}
 use Rattle.story_log.specs.Stored.Payloads.{payloads}
 use Rattle.story_log.specs.Stored.Stops.{OfEachStop, OfStopNow, found_in}
 use Rattle.story_log.specs.Stored.Taken.{ObjectExtent, extents_of, taken}
+use Rattle.story_log.specs.Stopping.Journals.{JournalState}
 use Rattle.story_log.specs.Stopping.Standing.{base_by, MayBeFound}
 
 -- a row that a fault may have left after rows, as its frame spells it, which has these extents; the file of objects has what is
@@ -33,21 +33,21 @@ abbrev pub IsLeftOver : File → Base → Base → Option Plain → List (List �
 IsLeftOver file stored b None leftover extents = leftover ≡ []
 IsLeftOver file stored b (Some row) leftover extents = (leftover ≡ []) ⊎ IsLeft file stored b row leftover extents
 
--- The rows of a journal with this list, as frames spell them, are those of the base after these commits and faults, and the file
--- of objects keeps what is needed of them; what is left over after the list is what the newest fault left. The extents that are
--- taken are those of live objects, and those of the row that is left over.
-pub record IsMirrored (opening : Opening) (ends : List End) (list leftover : List (List ℕ)) (left : Left)
-    (owned : List ObjectExtent) (orphaned : List Extent) (d : Device) : Type 0 where
+-- The rows of a journal, as frames spell them, are those of the base after these commits and faults, and the file of objects
+-- keeps what is needed of them; what is left over after its list is what the newest fault left. The extents that are taken are
+-- those of live objects, and those of the row that is left over.
+pub record IsMirrored (opening : Opening) (ends : List End) (journal : JournalState) (owned : List ObjectExtent)
+    (orphaned : List Extent) (d : Device) : Type 0 where
   pub stored : Base
-  pub list_is : list ≡ payloads stored
+  pub list_is : journal.list ≡ payloads stored
   pub formed : AreFormed stored
   pub held : IsHeld (file_of 1 d) stored (base_by opening ends)
   pub owned_are : owned ≡ taken stored
-  pub leftover_is : IsLeftOver (file_of 1 d) stored (base_by opening ends) (hanging ends) leftover orphaned
-  pub nothing : left ≡ lefts.Nothing → leftover ≡ []
-  pub stops : (k : ℕ) (journal objects : List ℕ) → opening.counts.ticks < k → Leaves 0 d k journal → Leaves 1 d k objects
-      → MayBeFound opening ends k (found_in journal objects)
-  pub now : (journal : List ℕ) → LeavesNow 0 d journal → Stands list leftover journal
+  pub leftover_is : IsLeftOver (file_of 1 d) stored (base_by opening ends) (hanging ends) journal.leftover orphaned
+  pub nothing : journal.left ≡ lefts.Nothing → journal.leftover ≡ []
+  pub stops : (k : ℕ) (image objects : List ℕ) → opening.counts.ticks < k → Leaves 0 d k image → Leaves 1 d k objects
+      → MayBeFound opening ends k (found_in image objects)
+  pub now : (image : List ℕ) → LeavesNow 0 d image → Stands journal.list journal.leftover image
 
 -- whether a row was committed since the base was opened, or a fault left one
 abbrev pub has_row : List End → Bool
@@ -66,18 +66,17 @@ may_be_open (Faulted (Some row) faults tick ∷ earlier) = true
 
 -- The base was opened, and the journal after it is that of its history; nothing is taken in the file of objects. Where no fault
 -- may have left the journal's tail open none did, and the tail is settled, unless it stands as it was opened.
-pub record IsBacked (s : State) (ghost_state : DiskState) (list leftover : List (List ℕ)) (ended : Bool) (left : Left)
-    (settled : Bool) : Type 0 where
+pub record IsBacked (s : State) (ghost_state : DiskState) (journal : JournalState) : Type 0 where
   pub opening : Opening
   pub opened : s.opened ≡ Some opening
   pub tells : opening.tells ≡ is_some ghost_state.modeled
-  pub at_end : ended ≡ true
-  pub calm : may_be_open s.ends ≡ false → left ≡ lefts.Nothing
-  pub shut : may_be_open s.ends ≡ false → has_row s.ends ≡ true → settled ≡ true
+  pub at_end : journal.ended ≡ true
+  pub calm : may_be_open s.ends ≡ false → journal.left ≡ lefts.Nothing
+  pub shut : may_be_open s.ends ≡ false → has_row s.ends ≡ true → journal.settled ≡ true
   pub base : s.base ≡ base_by opening s.ends
   pub ticks : ticks_of s.opened s.ends ≤ ghost_state.ticks
   pub faults : faults_of s.opened s.ends ≤ ghost_state.faults
-  pub covered : IfModeled ghost_state.modeled (IsMirrored opening s.ends list leftover left [] [])
+  pub covered : IfModeled ghost_state.modeled (IsMirrored opening s.ends journal [] [])
 
 -- No stop now finds more than the base.
 abbrev pub IsSettled : State → DiskState → Type 0

@@ -3,7 +3,7 @@ use Rattle.std.specs.Prelude.{ℕ, ◌<◌, ◌≤◌, ◌⊎◌, Option, Some, 
 use Rattle.cc_names.specs.Formed.{Plain}
 use Rattle.base_model.specs.Rows.{Base}
 use Rattle.legal_history.specs.Stories.States.{Opening, End, Committed, Faulted, ticks_of}
-use Rattle.story_log.specs.Stored.Founds.{Found, Represents}
+use Rattle.story_log.specs.Stored.Founds.{FoundFiles, Represents}
 
 -- a base with the row that a fault may have left after it
 abbrev pub with_left : Option Plain → Base → Base
@@ -11,7 +11,7 @@ with_left None b = b
 with_left (Some row) b = row ∷ b
 
 -- What was found represents a base, or that and the row that a fault left after it.
-abbrev pub StandsFor : Base → Option Plain → Found → Type 0
+abbrev pub StandsFor : Base → Option Plain → FoundFiles → Type 0
 StandsFor b left found = Represents found b ⊎ Represents found (with_left left b)
 
 -- the base that was opened with the row of each commit since; commits and faults are listed newest first
@@ -38,7 +38,7 @@ left_within (Faulted left faults tick) = left
 -- What a stop at device call k may find, by the commits and faults since the base was opened, newest first.
 -- After the newest one it finds its base, or that and the row that a fault left; within its call it may find its row
 -- besides; before, what the earlier ones say.
-abbrev pub MayBeFound : Opening → List End → ℕ → Found → Type 0
+abbrev pub MayBeFound : Opening → List End → ℕ → FoundFiles → Type 0
 MayBeFound opening [] k found = Represents found opening.base
 MayBeFound opening (end ∷ earlier) k found =
     ((tick_of end < k) × StandsFor (base_by opening (end ∷ earlier)) (left_after end) found)

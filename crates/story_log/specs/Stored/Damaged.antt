@@ -6,7 +6,7 @@ use Rattle.row_form.specs.Spelled.{spelling_of}
 use Rattle.story_log.specs.Story.Formed.{AreFormed}
 use Rattle.story_log.specs.Stored.Payloads.{payloads}
 use Rattle.story_log.specs.Stored.Fitting.{fits_stored, are_stored_rows}
-use Rattle.story_log.specs.Stored.Founds.{Found, Represents}
+use Rattle.story_log.specs.Stored.Founds.{FoundFiles, Represents}
 
 -- no formed row that may follow these rows has this spelling, where the file of objects has this length
 abbrev pub MayNotFollow : ℕ → Base → List ℕ → Type 0
@@ -16,7 +16,7 @@ MayNotFollow long stored payload = (row : Plain) → IsFormed row → payload �
 
 -- Frame n is the first that spells no formed row, or whose row may not follow those before it: it does not fit them, or one of
 -- its extents passes the end of the file of objects or overlaps another of the row or of an object that is live there.
-pub record IsDamaged (found : Found) (n : ℕ) : Type 0 where
+pub record IsDamaged (found : FoundFiles) (n : ℕ) : Type 0 where
   pub stored : Base
   pub payload : List ℕ
   pub rest : List (List ℕ)
@@ -27,16 +27,16 @@ pub record IsDamaged (found : Found) (n : ℕ) : Type 0 where
   pub unfit : MayNotFollow (length found.objects) stored payload
 
 -- no frame is damaged
-abbrev pub IsUndamaged : Found → Type 0
+abbrev pub IsUndamaged : FoundFiles → Type 0
 IsUndamaged found = (n : ℕ) → IsDamaged found n → ⊥
 
 -- What represents a base is not damaged.
 abbrev pub RepresentedIsUndamaged : Type 0
-RepresentedIsUndamaged = (found : Found) (b : Base) → Represents found b → IsUndamaged found
+RepresentedIsUndamaged = (found : FoundFiles) (b : Base) → Represents found b → IsUndamaged found
 
 -- One frame at most is damaged.
 abbrev pub FoundIsDamagedOnce : Type 0
-FoundIsDamagedOnce = (found : Found) (m n : ℕ) → IsDamaged found m → IsDamaged found n → m ≡ n
+FoundIsDamagedOnce = (found : FoundFiles) (m n : ℕ) → IsDamaged found m → IsDamaged found n → m ≡ n
 
 -- Frames spell one list of formed rows at most.
 abbrev pub FramesAreOfOneList : Type 0

@@ -13,7 +13,7 @@ use Rattle.story_log.specs.Stored.Payloads.{payloads}
 use Rattle.story_log.specs.Stored.Fitting.{are_stored_rows}
 
 -- what is found on a disk: the frames of the journal, and the bytes of the file of objects
-pub record Found : Type 0 where
+pub record FoundFiles : Type 0 where
   pub frames : List (List ℕ)
   pub objects : List ℕ
 
@@ -62,7 +62,7 @@ is_live b id = is_some (live_row b id)
 
 -- What was found represents a base: the frames spell formed rows that may follow one another, and the rows of the base are by
 -- these, with the bytes of live objects as the file of objects has them.
-pub record Represents (found : Found) (b : Base) : Type 0 where
+pub record Represents (found : FoundFiles) (b : Base) : Type 0 where
   pub stored : Base
   pub spelled : found.frames ≡ payloads stored
   pub formed : AreFormed stored

@@ -8,7 +8,7 @@ use Rattle.cc_names.specs.declared.rows.Deed.TheVariants as deeds
 use Rattle.base_model.specs.Rows.{Base, size}
 use Rattle.story_log.specs.Story.Formed.{AreFormed}
 use Rattle.story_log.specs.Stored.Fitting.{are_stored_rows, plain_rows}
-use Rattle.story_log.specs.Stored.Founds.{Found, bytes_at, is_live}
+use Rattle.story_log.specs.Stored.Founds.{FoundFiles, bytes_at, is_live}
 use Rattle.story_log.specs.Stored.Payloads.{payloads}
 
 -- an output: the bytes of its extent where the object is live
@@ -38,7 +38,7 @@ base_opened objects stored = rows_opened (is_live (plain_rows stored)) objects s
 
 -- What was found opens to a base: its frames spell formed rows that may follow one another, and the base is the one of these
 -- rows.
-pub record IsOpenedAs (found : Found) (base : Base) : Type 0 where
+pub record IsOpenedAs (found : FoundFiles) (base : Base) : Type 0 where
   pub stored : Base
   pub spelled : found.frames ≡ payloads stored
   pub formed : AreFormed stored

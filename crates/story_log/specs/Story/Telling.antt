@@ -16,12 +16,12 @@ shown_as (steps.Opened rows) = None
 shown_as (steps.PhaseBegun number moment) = None
 shown_as (steps.Commit tag number tick) = None
 shown_as (steps.Refused tag refusal) = Some (story_steps.Refused tag refusal)
-shown_as (steps.Answer tag text) = Some (story_steps.Answer tag text)
+shown_as (steps.Answer tag text) = Some (story_steps.Answer tag text.value)
 shown_as (steps.Begin tag rows units) = Some (story_steps.Begin tag rows units)
 shown_as (steps.Start tag n) = Some (story_steps.Start tag n)
 shown_as (steps.Concluded tag n outcome) = Some (story_steps.Concluded tag n outcome)
 shown_as (steps.End tag) = Some (story_steps.End tag)
-shown_as (steps.Fault tag left before faults tick) = Some (story_steps.Fault tag left before faults tick)
+shown_as (steps.Fault tag left before faults tick) = Some (story_steps.Fault tag left.value before faults tick)
 
 -- whether a step names no row and no phase
 abbrev pub stands_alone : Step → Bool

@@ -16,4 +16,4 @@ returns g c =
     carried_as (seen_then (own_of c.args.making.written.now c.args.path.now) c.args.path.now
     (λ found. Done (present c.args.path.now found)))
     (carried_then g.met.F.Files.transitive (λ found. Done (present c.args.path.now found)) c.in_ok-found.ensures
-    (carried_pure _ _ _ g.met.F.Files.reflexive _ _ _ _ _ c.present.ensures))
+    (carried_pure g.met.F.Files.reflexive c.present.ensures))

@@ -1,7 +1,6 @@
 use Rattle.std.proofs.lemmas.Result.{err_from_is_err_and}
 use Rattle.build_script.specs.MadeOf.{made_of}
 use Rattle.build_script.specs.Making.{form_of, output_by_parts}
-use Rattle.script_grammar.specs.Parts.{gives}
 use Rattle.script_grammar.specs.Run.{Done, with_output}
 use Rattle.script_grammar.proofs.CarriedLemmas.{carried_then, carried_failed, carried_pure}
 use Rattle.build_script.proofs.making.pour.Goals as goal
@@ -16,4 +15,4 @@ pub returns : goal.returns
 returns g c =
     carried_then g.met.F.Files.transitive (λ text. Done (with_output (output_by_parts c.args.making.path.now c.args.making.before)
     (form_of c.args.form c.args.path.now text) (made_of c.args.made.now))) c.in_ok-text.ensures
-    (carried_pure _ _ _ g.met.F.Files.reflexive _ _ _ _ _ (rw c.as_bytes.ensures at c.say_as.ensures))
+    (carried_pure g.met.F.Files.reflexive (rw c.as_bytes.ensures at c.say_as.ensures))

@@ -1,4 +1,4 @@
-use Rattle.std.proofs.Common.{◌≡◌, ℕ, Bool, true, false, List, [], ◌∷◌, refl, sym, ap, ◌∙◌, if◌then◌else◌}
+use Rattle.std.proofs.Common.{◌≡◌, Bool, true, false, [], ◌∷◌, refl, sym, ap, ◌∙◌, if◌then◌else◌}
 use Rattle.std.specs.List.{filter_map}
 use Rattle.std.proofs.lemmas.Result.{err_from_is_err_and}
 use Rattle.cc_names.specs.Paths.{is_root}
@@ -6,8 +6,7 @@ use Rattle.script_grammar.specs.Includes.{under}
 use Rattle.build_script.specs.Making.{found_with}
 use Rattle.script_grammar.specs.Parts.{gives, own_of}
 use Rattle.script_grammar.specs.Run.{probe_of}
-use Rattle.script_grammar.proofs.CarriedLemmas.{carried_over, carried_as, carried_pure}
-use Rattle.build_script.proofs.IncludeLemmas.{carried_ended, carried_passed}
+use Rattle.script_grammar.proofs.CarriedLemmas.{carried_on, carried_as, carried_pure, carried_ended, carried_passed}
 use Rattle.build_script.proofs.preprocess.find_included.Goals as goal
 
 pub returns-in_err-found-clause-went : goal.returns-in_err-found-clause-went
@@ -28,8 +27,8 @@ returns-then-is_root-clause-went g c =
     let looks = λ (b : Bool). probe_of (own_of c.args.making.written.now) c.args.path.now
     (c.args.path.now ∷ (if b then [] else filter_map (under c.args.path.now) c.args.directories.now)) c.args.probes.now in
     let missed = rw c.in_default.is at (c.in_ok-found.ensures.went []) in
-    carried_as (ap looks (sym root)) (carried_over g.met.F.Files.transitive missed
-    (carried_pure _ _ _ g.met.F.Files.reflexive _ _ _ _ _ (c.absent.ensures c.probe.new.probes)))
+    carried_as (ap looks (sym root)) (carried_on g.met.F.Files.transitive missed
+    (carried_pure g.met.F.Files.reflexive (c.absent.ensures c.probe.new.probes)))
 
 pub returns-clause-went : goal.returns-clause-went
 returns-clause-went g c =
@@ -37,4 +36,4 @@ returns-clause-went g c =
     let looks = λ (b : Bool). probe_of (own_of c.args.making.written.now) c.args.path.now
     (c.args.path.now ∷ (if b then [] else filter_map (under c.args.path.now) c.args.directories.now)) c.args.probes.now in
     let missed = rw c.in_default.is at (c.in_ok-found.ensures.went (filter_map (under c.args.path.now) c.args.directories.now)) in
-    carried_as (ap looks (sym below)) (carried_over g.met.F.Files.transitive missed c.find_under.ensures.went)
+    carried_as (ap looks (sym below)) (carried_on g.met.F.Files.transitive missed c.find_under.ensures.went)

@@ -1,12 +1,12 @@
-use Rattle.std.proofs.Common.{◌+◌, ℕ, List, [], length, drop, refl, sym, ap, arith}
+use Rattle.std.proofs.Common.{◌+◌, ℕ, List, drop, refl, sym, ap, arith}
 use Rattle.std.specs.List.{filter_map}
+use Rattle.std.proofs.lemmas.List.{drop_all}
 use Rattle.std.proofs.lemmas.Result.{err_from_is_err_and}
 use Rattle.script_grammar.specs.Includes.{under}
 use Rattle.build_script.specs.Making.{found_with}
 use Rattle.script_grammar.specs.Parts.{gives, own_of}
 use Rattle.script_grammar.specs.Run.{probe_of}
-use Rattle.script_grammar.proofs.CarriedLemmas.{carried_over, carried_as, carried_pure}
-use Rattle.build_script.proofs.IncludeLemmas.{carried_ended, carried_passed, all_dropped}
+use Rattle.script_grammar.proofs.CarriedLemmas.{carried_on, carried_as, carried_pure, carried_ended, carried_passed}
 use Rattle.build_script.proofs.RunLemmas.{item_at}
 use Rattle.build_script.proofs.preprocess.find_under.Goals as goal
 
@@ -17,7 +17,7 @@ returns-in_err-found-clause-went g c =
     c.loop-directory-test.true in
     let looks = λ (directories : List (List ℕ)). probe_of (own_of c.args.making.written.now) c.args.path.now
     (filter_map (under c.args.path.now) directories) c.loop-directory.probes in
-    rw (p.1, p.2) (carried_over g.met.F.Files.transitive c.loop-directory.invariant.went
+    rw (p.1, p.2) (carried_on g.met.F.Files.transitive c.loop-directory.invariant.went
     (carried_ended (gives (found_with c.probe_under.new.probes))
     (carried_as (ap looks (sym cut)) (c.in_err-found.ensures.went (drop (c.loop-directory.directory-index + 1)
     c.args.directories.now)))))
@@ -30,7 +30,7 @@ returns-in-Some-clause-went g c =
     (filter_map (under c.args.path.now) directories) c.loop-directory.probes in
     let found = rw c.in-Some.is at (c.in_ok-found.ensures.went (drop (c.loop-directory.directory-index + 1)
     c.args.directories.now)) in
-    carried_over g.met.F.Files.transitive c.loop-directory.invariant.went
+    carried_on g.met.F.Files.transitive c.loop-directory.invariant.went
     (carried_passed (gives (found_with c.probe_under.new.probes)) c.in-Some.text refl (carried_as (ap looks (sym cut)) found))
 
 pub loop-directory-preserved : goal.loop-directory-preserved
@@ -43,7 +43,7 @@ loop-directory-preserved g c =
     let behind = drop (c.loop-directory.directory-index + 1) c.args.directories.now in
     let missed = rw c.in_default.is at (c.in_ok-found.ensures.went behind) in
     record {
-      went = carried_over g.met.F.Files.transitive c.loop-directory.invariant.went
+      went = carried_on g.met.F.Files.transitive c.loop-directory.invariant.went
           (carried_passed (λ (u : Unit {0}). probe_of own c.args.path.now (filter_map (under c.args.path.now) behind)
           c.probe_under.new.probes) tt refl (carried_as (ap looks (sym cut)) missed));
       counted = omega (arith, c.loop-directory.invariant.counted, c.in_ok-found.ensures.counted);
@@ -53,7 +53,7 @@ pub returns-clause-went : goal.returns-clause-went
 returns-clause-went g c =
     let looks = λ (directories : List (List ℕ)). probe_of (own_of c.args.making.written.now) c.args.path.now
     (filter_map (under c.args.path.now) directories) c.loop-directory.probes in
-    let none = all_dropped c.args.directories.now c.loop-directory.directory-index c.loop-directory-test.false in
-    carried_over g.met.F.Files.transitive c.loop-directory.invariant.went
-    (carried_as (ap looks (sym none)) (carried_pure _ _ _ g.met.F.Files.reflexive _ _ _ _ _
+    let none = drop_all c.loop-directory.directory-index c.args.directories.now c.loop-directory-test.false in
+    carried_on g.met.F.Files.transitive c.loop-directory.invariant.went
+    (carried_as (ap looks (sym none)) (carried_pure g.met.F.Files.reflexive
     (c.absent.ensures c.loop-directory.probes)))

@@ -5,8 +5,8 @@ use Rattle.build_script.specs.Making.{output_by_parts, preprocessing, resumed_ma
 use Rattle.build_script.specs.OpenTexts.{rests_of}
 use Rattle.script_grammar.specs.Parts.{gives, own_of}
 use Rattle.script_grammar.specs.Run.{preprocessed_text, depth_limit}
-use Rattle.script_grammar.proofs.CarriedLemmas.{carried_over, carried_as, carried_here, and_then-done}
-use Rattle.build_script.proofs.IncludeLemmas.{carried_ended, rests_pushed}
+use Rattle.script_grammar.proofs.CarriedLemmas.{carried_on, carried_as, carried_here, and_then-done, carried_ended}
+use Rattle.build_script.proofs.IncludeLemmas.{rests_pushed}
 use Rattle.build_script.proofs.preprocess.replace_includes.Goals as goal
 
 pub loop-innermost-init : goal.loop-innermost-init
@@ -18,8 +18,8 @@ loop-innermost-init g c =
     ∙ rw (c.of.ensures, c.new-inside.ensures.items) refl in
     carried_as (ap (λ (rests : List (List ℕ)). resumed_making pp rests made) rests
     ∙ and_then-done (preprocessed_text depth_limit pp c.args.text made))
-    (carried_here _ _ _ g.met.F.Files.reflexive _ (λ (u : Unit {0}). resumed_making pp (rests_of c.put_back.new.inside.items)
-    made) tt _)
+    (carried_here g.met.F.Files.reflexive (λ (u : Unit {0}). resumed_making pp (rests_of c.put_back.new.inside.items)
+    made) tt)
 
 pub loop-innermost-preserved : goal.loop-innermost-preserved
 loop-innermost-preserved g c =
@@ -27,7 +27,7 @@ loop-innermost-preserved g c =
     (output_by_parts c.args.making.path.now c.args.making.before) in
     let cut : c.loop-innermost.inside.items ≡ c.pop.new.self.items ++ c.in-Some.innermost ∷ [] = c.in-Some.ensures.items in
     let rests = ap rests_of cut ∙ rests_pushed c.pop.new.self.items c.in-Some.innermost in
-    carried_over g.met.F.Files.transitive c.loop-innermost.invariant
+    carried_on g.met.F.Files.transitive c.loop-innermost.invariant
     (carried_as (ap (λ (rests : List (List ℕ)). resumed_making pp rests (made_of c.loop-innermost.made)) (sym rests))
     c.in_ok-step.ensures.went)
 
@@ -38,7 +38,7 @@ returns-in_err-step g c =
     (output_by_parts c.args.making.path.now c.args.making.before) in
     let cut : c.loop-innermost.inside.items ≡ c.pop.new.self.items ++ c.in-Some.innermost ∷ [] = c.in-Some.ensures.items in
     let rests = ap rests_of cut ∙ rests_pushed c.pop.new.self.items c.in-Some.innermost in
-    rw (p.1, p.2) (carried_over g.met.F.Files.transitive c.loop-innermost.invariant
+    rw (p.1, p.2) (carried_on g.met.F.Files.transitive c.loop-innermost.invariant
     (carried_ended (gives (λ (u : Unit {0}). made_of c.step.new.made))
     (carried_as (ap (λ (rests : List (List ℕ)). resumed_making pp rests (made_of c.loop-innermost.made)) (sym rests))
     c.in_err-step.ensures.went)))

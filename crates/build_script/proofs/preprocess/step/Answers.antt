@@ -1,14 +1,14 @@
-use Rattle.std.proofs.Common.{◌≡◌, ◌+◌, ◌-◌, ℕ, suc, Some, None, Ok, List, ◌∷◌, length, refl, sym, ap, ◌∙◌, arith}
+use Rattle.std.proofs.Common.{◌≡◌, ◌+◌, ◌-◌, ℕ, suc, Some, None, List, ◌∷◌, length, sym, ap, ◌∙◌, arith}
 use Rattle.std.proofs.lemmas.Result.{err_from_is_err_and}
-use Rattle.script_grammar.specs.Forms.{lines_in}
 use Rattle.script_grammar.specs.Includes.{include_of}
 use Rattle.build_script.specs.MadeOf.{made_of}
 use Rattle.build_script.specs.Making.{output_by_parts, resumed_making, includes, preprocessing, made_by_parts}
 use Rattle.build_script.specs.OpenTexts.{rest_of, rests_of}
 use Rattle.script_grammar.specs.Parts.{own_of}
-use Rattle.script_grammar.specs.Run.{Made, and_then, unless_fault, preprocessed_text, depth_limit}
+use Rattle.script_grammar.specs.Run.{and_then, unless_fault, preprocessed_text, depth_limit}
 use Rattle.script_grammar.proofs.CarriedLemmas.{carried_as, carried_here, carried_then, carried_failed, carried_given_up}
-use Rattle.build_script.proofs.IncludeLemmas.{carried_unsaid, lines_behind, rests_length, resumed_making-with_output}
+use Rattle.script_grammar.proofs.CarriedLemmas.{carried_unsaid}
+use Rattle.build_script.proofs.IncludeLemmas.{lines_behind, rests_length, resumed_making-with_output}
 use Rattle.build_script.proofs.IncludeLemmas.{resumed_making-unsaid, resumed_making-included_text}
 use Rattle.build_script.proofs.preprocess.step.Goals as goal
 
@@ -38,8 +38,8 @@ returns-in_default-2-clause-went g c =
     let goes = resumed_making-with_output pp (rest_of c.args.innermost) c.in-Some.line.now (rest_of c.past.result) below made
     after lines plain c.in_ok-say.ensures in
     carried_as (sym (goes ∙ ap (λ (rests : List (List ℕ)). resumed_making pp rests after) (sym c.in_ok-put_back.ensures.rests)))
-    (carried_here _ _ _ g.met.F.Files.reflexive _ (λ (u : Unit {0}). resumed_making pp (rests_of c.put_back.new.inside.items)
-    after) tt _)
+    (carried_here g.met.F.Files.reflexive (λ (u : Unit {0}). resumed_making pp (rests_of c.put_back.new.inside.items)
+    after) tt)
 
 pub returns-in_err-text-clause-went : goal.returns-in_err-text-clause-went
 returns-in_err-text-clause-went g c =
@@ -86,7 +86,7 @@ returns-in_err-enter-clause-went g c =
     rw (p.1, p.2) (carried_as (ap (λ (n : ℕ). and_then (includes (depth_limit - n) pp c.in-Some-2.path made) (unless_fault more))
     levels ∙ sym goes)
     (carried_then g.met.F.Files.transitive more (c.in_ok-text.ensures.went c.args.made.now.bytes.items)
-    (carried_given_up _ _ _ g.met.F.Files.reflexive _ _ _ _)))
+    (carried_given_up g.met.F.Files.reflexive)))
 
 pub returns-clause-went : goal.returns-clause-went
 returns-clause-went g c =
@@ -114,5 +114,5 @@ returns-clause-went g c =
     carried_as (ap (λ (n : ℕ). and_then (includes (depth_limit - n) pp c.in-Some-2.path made) (unless_fault more)) levels
     ∙ sym goes)
     (carried_then g.met.F.Files.transitive more (c.in_ok-text.ensures.went c.args.made.now.bytes.items)
-    (carried_as enters (carried_here _ _ _ g.met.F.Files.reflexive _ (λ (u : Unit {0}). resumed_making pp
-    (rests_of c.enter.new.inside.items) after) tt _)))
+    (carried_as enters (carried_here g.met.F.Files.reflexive (λ (u : Unit {0}). resumed_making pp
+    (rests_of c.enter.new.inside.items) after) tt)))

@@ -1,6 +1,4 @@
-use Rattle.std.proofs.Common.{sym, ap}
 use Rattle.std.proofs.lemmas.Result.{err_from_is_err_and}
-use Rattle.script_grammar.specs.Parts.{gives}
 use Rattle.build_script.specs.Progress.{run_state}
 use Rattle.script_grammar.specs.Run.{State, Done, target_outputs}
 use Rattle.script_grammar.proofs.CarriedLemmas.{carried_then, carried_failed, carried_as, carried_pure}
@@ -19,4 +17,4 @@ returns g c =
     let lines = carried_as (after_lines_same c.in_ok-set.set.keys c.args.targets.now c.in_ok-set.ensures c.args.lines.now
     (run_state c.args.progress.now)) c.in_ok-run_lines.ensures in
     carried_then g.met.F.Files.transitive (λ (after : State). Done (target_outputs c.args.targets.now after.own)) lines
-    (carried_pure _ _ _ g.met.F.Files.reflexive _ _ _ _ _ c.outputs.ensures)
+    (carried_pure g.met.F.Files.reflexive c.outputs.ensures)

@@ -7,6 +7,7 @@ invariant-loop-done g l = record {
   within : l.done ≤ length l.text;
   written : Appends (g.K.Sink.ghost_state l.initial.sink).held (g.K.Sink.ghost_state l.sink).held (take l.done l.text);
   kept : (g.K.Sink.ghost_state l.initial.sink).faults ≤ (g.K.Sink.ghost_state l.sink).faults;
+  goes_on : (g.K.Sink.ghost_state l.sink).ended ≡ (g.K.Sink.ghost_state l.initial.sink).ended;
   faultless : (g.K.Sink.ghost_state l.sink).faults ≡ (g.K.Sink.ghost_state l.initial.sink).faults;
 }
 

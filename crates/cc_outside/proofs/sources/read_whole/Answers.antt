@@ -40,7 +40,7 @@ loop-bytes-preserved g c = record {
       );
   counted =
       omega (arith, c.in_ok-extend_from_slice.ensures.len, c.in-Ok.ensures.counted, c.in-Ok.ensures.within, length-take {A = ℕ});
-  goes_on = goes_on _ (g.S.Source.ghost_state c.loop-bytes.source).ended _ _ c.in-Ok.count _ c.if-count-eq0.false
+  goes_on = goes_on _ (g.S.Source.ghost_state c.loop-bytes.source).ended _ _ c.in-Ok.count c.if-count-eq0.false
       c.loop-bytes.invariant.goes_on c.in-Ok.ensures.ended;
   faultless = c.in-Ok.ensures.faultless ∙ c.loop-bytes.invariant.faultless;
 }

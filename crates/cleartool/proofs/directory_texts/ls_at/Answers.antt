@@ -1,7 +1,6 @@
 -- What is known of the directory that was found is told of the path.
-use Rattle.std.proofs.Common.{Ok, List, ℕ, ap, sym, ◌∙◌, arith}
+use Rattle.std.proofs.Common.{Ok, ap, sym, ◌∙◌, arith}
 use Rattle.std.proofs.lemmas.Grind.{common_steps}
-use Rattle.legal_history.specs.Commands.Decisions.{Answers}
 use Rattle.legal_history.specs.Queries.DirectoryTexts.{ls_text}
 use Rattle.cleartool.proofs.Refused.{no_directory}
 use Rattle.cleartool.proofs.directory_texts.ls_at.Goals as goal
@@ -21,4 +20,4 @@ returns c =
     let path = c.args.path.now in
     let found = c.in_ok-element.ensures in
     found.1 (ls_text c.args.rows.now v path)
-    ∙ ap (λ (text : List ℕ). Ok (Answers text)) (sym (c.in_ok-ls_text.ensures found.0))
+    ∙ ap Ok (sym (c.in_ok-ls_text.ensures found.0))

@@ -38,8 +38,8 @@ returns c =
     let made : c.in_ok-suffix_rules.suffix_rules.items ≡ suffix_rules_of reading.suffixes
     (filter (is_suffix_rule reading.suffixes (groups_of lines)) (joined_rules lines)) =
     c.in_ok-suffix_rules.ensures
-    ∙ (ap (λ (s : List (List ℕ)). suffix_rules_of s c.as_slice-3.result.now) (c.as_slice-2.ensures ∙ given.suffixes)
-    ∙ ap (suffix_rules_of reading.suffixes) (c.as_slice-3.ensures.value ∙ parts)) in
+    ∙ (ap (λ (s : List (List ℕ)). suffix_rules_of s c.as_slice-2.result.now) given.suffixes
+    ∙ ap (suffix_rules_of reading.suffixes) (c.as_slice-2.ensures.value ∙ parts)) in
     let phony = c.into_parts-macros.result.phony.keys in
     let macros : List Macro = macros_of c.into_parts-macros.result.macros in
     let as_made = λ (r : List MakeRule) (s : List SuffixRule) (p : List (List ℕ)) (m : List Macro). let made : Contents =

@@ -1,11 +1,15 @@
-use Rattle.std.proofs.Common.{◌≡◌, ap, ◌∙◌, sym, [], arith}
-use Rattle.std.proofs.lemmas.List.{nil_from_length}
-use Rattle.make_grammar.specs.Contents.{suffix_rules_of}
-use Rattle.make_text.proofs.SuffixLemmas.{no_rules}
+use Rattle.std.proofs.Common.{◌≡◌, ap, ◌∙◌}
+use Rattle.make_text.specs.declared.suffix_order.Side.TheVariants.{From, To}
+use Rattle.make_text.specs.SuffixOrder.{in_order}
+use Rattle.make_text.proofs.OrderLemmas.{rules_in_order}
 use Rattle.make_text.proofs.suffix_rules.suffix_rules.Goals as goal
 
-pub returns-then-is_empty : goal.returns-then-is_empty
-returns-then-is_empty c =
-    let none : c.args.rules.now ≡ [] = nil_from_length c.args.rules.now (grind arith) in
-    c.new-made.ensures.items
-    ∙ sym (ap (suffix_rules_of c.args.suffixes.now) none ∙ no_rules c.args.suffixes.now c.args.suffixes.now)
+pub returns : goal.returns
+returns c =
+    rw (
+      c.in_ok-ordered.ensures,
+      c.in_ok-by_second.ensures,
+      c.in_ok-placed.ensures,
+      c.len-count.ensures.count,
+      rules_in_order c.args.suffixes.now c.args.rules.now c.len-count.ensures.suffixes c.len-count.ensures.apart,
+    ) at c.without_places.ensures

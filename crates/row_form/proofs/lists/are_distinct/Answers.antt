@@ -1,7 +1,7 @@
 -- The keys tell which targets were seen.
-use Rattle.std.proofs.Common.{◌≡◌, ℕ, Bool, true, false, not, List, ◌∷◌, ◌+◌, ◌<◌, suc, length, get_or, drop, refl, sym, ◌∙◌, ap}
-use Rattle.std.proofs.Common.{drop-cons, add-one}
+use Rattle.std.proofs.Common.{◌≡◌, Bool, true, false, not, refl, sym, ◌∙◌, ap}
 use Rattle.std.specs.Bool.{MatchBool}
+use Rattle.row_form.proofs.AtExtents.{one_less}
 use Rattle.row_form.proofs.Distinct.{is_seen, are_fresh, fresh_first, fresh_next, fresh_seen}
 use Rattle.row_form.proofs.lists.are_distinct.Goals as goal
 
@@ -17,12 +17,6 @@ holds : (a : Bool) (P Q : Type 0) → a ≡ true → MatchBool a P Q → P
 holds true P Q e h = h
 holds false P Q e h = absurd (cc)
 
-prefix : (targets : List (List ℕ)) (index : ℕ) (target : List ℕ) → index < length targets → target ≡ get_or targets index target
-    → drop index targets ≡ target ∷ drop (index + 1) targets
-prefix targets index target h e =
-    drop-cons targets index target h ∙ ap (λ t. t ∷ drop (suc index) targets) (sym e)
-    ∙ ap (λ n. target ∷ drop n targets) (sym (add-one index))
-
 pub loop-target-init : goal.loop-target-init
 loop-target-init c = fresh_first c.args.targets.now ∙ ap (λ keys. are_fresh keys c.args.targets.now)
     (sym c.in_ok-seen.ensures.empty)
@@ -32,7 +26,7 @@ returns-then-not-branch c =
     let keys = c.loop-target.seen.keys in
     let there = not_false _ _ c.in_ok-insert.ensures.added c.if-not-branch.true in
     let seen : is_seen keys c.target-item.result ≡ true = ap (is_seen keys) (sym c.as_bytes.ensures.bytes) ∙ there in
-    let prefix_is = prefix c.args.targets.now c.loop-target.target-index c.target-item.result c.loop-target-test.true
+    let prefix_is = one_less c.args.targets.now c.loop-target.target-index c.target-item.result c.loop-target-test.true
     c.target-item.is in
     sym (c.loop-target.invariant ∙ ap (are_fresh keys) prefix_is ∙ fresh_seen keys _ _ seen)
 
@@ -42,7 +36,7 @@ loop-target-preserved c =
     let away = not_true _ _ c.in_ok-insert.ensures.added c.if-not-branch.false in
     let fresh : is_seen keys c.target-item.result ≡ false = ap (is_seen keys) (sym c.as_bytes.ensures.bytes) ∙ away in
     let put = holds _ _ _ c.if-not-branch.false c.in_ok-insert.ensures.keys in
-    let prefix_is = prefix c.args.targets.now c.loop-target.target-index c.target-item.result c.loop-target-test.true
+    let prefix_is = one_less c.args.targets.now c.loop-target.target-index c.target-item.result c.loop-target-test.true
     c.target-item.is in
     c.loop-target.invariant ∙ ap (are_fresh keys) prefix_is ∙ fresh_next keys c.insert.new.self.keys c.as_bytes.result _ _
     c.as_bytes.ensures.bytes fresh put

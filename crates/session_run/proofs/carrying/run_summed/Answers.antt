@@ -12,12 +12,12 @@ returns-in_default-clause-err g c = λ seed size.
 
 pub returns-in_default-run-clause-err : goal.returns-in_default-run-clause-err
 returns-in_default-run-clause-err g c = λ seed size.
-    left_in_memory c.run_phases-core.result.1 _ seed size c.args.phases.items c.run_phases-core.result.0.story _
+    left_in_memory seed size c.args.phases.items c.run_phases-core.result.0.story _ c.run_phases-core.result.1 _
     (g.K.Sink.ghost_state c.args.sink.now).held c.in_default-run.is c.run_phases-core.ensures.err
 
 pub returns-clause-err : goal.returns-clause-err
 returns-clause-err g c = λ seed size.
-    cut_in_memory c.run_phases-core.result.1 c.in-Ok-run.failed c.in-Err.cut seed size c.args.phases.items
-    c.run_phases-core.result.0.story _ (g.K.Sink.ghost_state c.args.sink.now).held
-    (g.K.Sink.ghost_state c.write_summary.new.sink).held _ c.bytes.result.now c.in-Ok-run.is c.run_phases-core.ensures.ok
-    (ap (λ (b : Basin). Some b.held) c.in-Ok.ensures) refl c.bytes.ensures c.in-Err.ensures.err
+    cut_in_memory seed size c.args.phases.items c.run_phases-core.result.0.story _ c.run_phases-core.result.1 c.in-Ok-run.failed
+    c.in-Err.cut (g.K.Sink.ghost_state c.args.sink.now).held (g.K.Sink.ghost_state c.write_summary.new.sink).held _
+    c.bytes.result.now c.in-Ok-run.is c.run_phases-core.ensures.ok (ap (λ (b : Basin). Some b.held) c.in-Ok.ensures) refl
+    c.bytes.ensures c.in-Err.ensures.err

@@ -53,16 +53,15 @@ returns-in-Err-clause-err g c =
           (g.C.Clock.ghost_state c.args.clock.now).readings;
       reading = (g.C.Clock.ghost_state at.clock).readings;
     } in
-    run_leaves at.yielded (into_iter_items c.next.new.self) c.args.phases.items c.in-Some.phase at.core.story
-    c.run_commands-next.result.0.story outside
-    c.moment_of-moment.result (g.C.Clock.ghost_state c.moment_of-moment.new.clock).readings at.failed at.invariant.run
-    (on_err c.run_commands-next.result.1 _ (LeavesPhase c.in-Some.phase c.moment_of-moment.result at.core.story
-    c.run_commands-next.result.0.story) c.in-Err.is c.run_commands-next.ensures.err)
+    run_leaves at.yielded c.in-Some.phase at.core.story c.run_commands-next.result.0.story outside c.moment_of-moment.result
+    (g.C.Clock.ghost_state c.moment_of-moment.new.clock).readings at.failed at.invariant.run
     (modeled_still (g.C.Clock.ghost_state at.clock).modeled (g.C.Clock.ghost_state c.args.clock.now).modeled
     c.moment_of-moment.result (g.C.Clock.ghost_state at.clock).readings at.invariant.clock c.moment_of-moment.ensures.moment)
+    c.moment_of-moment.ensures.counted (into_iter_items c.next.new.self) c.args.phases.items
+    (on_err c.run_commands-next.result.1 _ (LeavesPhase c.in-Some.phase c.moment_of-moment.result at.core.story
+    c.run_commands-next.result.0.story) c.in-Err.is c.run_commands-next.ensures.err)
     (in_hand at.yielded (into_iter_items at.phase-iterator) (into_iter_items c.next.new.self) _ c.args.phases.items
     c.in-Some.phase at.invariant.rest c.in-Some.ensures.steps.0 c.into_iter-phase-iterator.ensures.into_iter_gives.0)
-    c.moment_of-moment.ensures.counted
 
 pub loop-phase-preserved : goal.loop-phase-preserved
 loop-phase-preserved g c =
@@ -80,16 +79,15 @@ loop-phase-preserved g c =
     record {
       run =
           run_goes_on at.yielded c.in-Some.phase at.core.story c.run_commands-next.result.0.story outside
-          (g.K.Sink.ghost_state c.write_transcript.new.sink).held (g.C.Clock.ghost_state c.moment_of-moment.new.clock).readings
-          c.moment_of-moment.result (at.number + 1) at.failed c.any_failed-failed.result
-          at.invariant.run
-          (on_ok c.run_commands-next.result.1 _ (RunsPhase c.in-Some.phase c.moment_of-moment.result at.core.story
-          c.run_commands-next.result.0.story) c.in_default.is c.run_commands-next.ensures.ok)
-          c.any_failed-failed.ensures
+          c.moment_of-moment.result (g.C.Clock.ghost_state c.moment_of-moment.new.clock).readings at.failed at.invariant.run
           (modeled_still (g.C.Clock.ghost_state at.clock).modeled (g.C.Clock.ghost_state c.args.clock.now).modeled
           c.moment_of-moment.result (g.C.Clock.ghost_state at.clock).readings at.invariant.clock
           c.moment_of-moment.ensures.moment)
-          c.moment_of-moment.ensures.counted (ap (λ n. n + 1) at.invariant.number) c.in_default-write_transcript.ensures.ok;
+          c.moment_of-moment.ensures.counted (g.K.Sink.ghost_state c.write_transcript.new.sink).held (at.number + 1)
+          c.any_failed-failed.result
+          (on_ok c.run_commands-next.result.1 _ (RunsPhase c.in-Some.phase c.moment_of-moment.result at.core.story
+          c.run_commands-next.result.0.story) c.in_default.is c.run_commands-next.ensures.ok)
+          c.any_failed-failed.ensures (ap (λ n. n + 1) at.invariant.number) c.in_default-write_transcript.ensures.ok;
       first = c.run_commands-next.ensures.first ∙ at.invariant.first;
       rest = append_assoc at.yielded (c.in-Some.phase ∷ []) (into_iter_items c.next.new.self)
           ∙ in_hand at.yielded (into_iter_items at.phase-iterator) (into_iter_items c.next.new.self) _ _ c.in-Some.phase
@@ -114,19 +112,18 @@ returns-in-Err-write_transcript-clause-err g c =
           (g.C.Clock.ghost_state c.args.clock.now).readings;
       reading = (g.C.Clock.ghost_state at.clock).readings;
     } in
-    run_is_cut c.in-Err-write_transcript.error at.yielded (into_iter_items c.next.new.self) c.args.phases.items c.in-Some.phase
-    at.core.story c.run_commands-next.result.0.story outside
-    (g.K.Sink.ghost_state c.write_transcript.new.sink).held c.moment_of-moment.result
-    (g.C.Clock.ghost_state c.moment_of-moment.new.clock).readings (at.number + 1) at.failed
-    at.invariant.run
-    (on_ok c.run_commands-next.result.1 _ (RunsPhase c.in-Some.phase c.moment_of-moment.result at.core.story
-    c.run_commands-next.result.0.story) c.in_default.is c.run_commands-next.ensures.ok)
+    run_is_cut at.yielded c.in-Some.phase at.core.story c.run_commands-next.result.0.story outside c.moment_of-moment.result
+    (g.C.Clock.ghost_state c.moment_of-moment.new.clock).readings at.failed at.invariant.run
     (modeled_still (g.C.Clock.ghost_state at.clock).modeled (g.C.Clock.ghost_state c.args.clock.now).modeled
     c.moment_of-moment.result (g.C.Clock.ghost_state at.clock).readings at.invariant.clock c.moment_of-moment.ensures.moment)
+    c.moment_of-moment.ensures.counted c.in-Err-write_transcript.error (into_iter_items c.next.new.self) c.args.phases.items
+    (g.K.Sink.ghost_state c.write_transcript.new.sink).held (at.number + 1)
+    (on_ok c.run_commands-next.result.1 _ (RunsPhase c.in-Some.phase c.moment_of-moment.result at.core.story
+    c.run_commands-next.result.0.story) c.in_default.is c.run_commands-next.ensures.ok)
     (ap (λ n. n + 1) at.invariant.number)
     (in_hand at.yielded (into_iter_items at.phase-iterator) (into_iter_items c.next.new.self) _ c.args.phases.items
     c.in-Some.phase at.invariant.rest c.in-Some.ensures.steps.0 c.into_iter-phase-iterator.ensures.into_iter_gives.0)
-    c.in-Err-write_transcript.ensures.err c.moment_of-moment.ensures.counted
+    c.in-Err-write_transcript.ensures.err
 
 pub returns-in-Err-write_transcript-clause-fault : goal.returns-in-Err-write_transcript-clause-fault
 returns-in-Err-write_transcript-clause-fault g c =

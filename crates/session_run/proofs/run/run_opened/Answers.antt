@@ -7,10 +7,9 @@ use Rattle.session_run.proofs.run.run_opened.Goals as goal
 pub returns : goal.returns
 returns g c =
     let core = c.settle.new.core in
-    runs_opened c.carry_out-core.result.1 c.args.given.form c.args.given.phases.items c.status_of-status.result _ c.args.core
-    c.carry_out-core.result.0 core.story _ c.args.before core.ghost_state _ _ _
-    c.requires.opened c.carry_out-core.ensures.counted c.settle.ensures.settles
-    c.settle.ensures.same c.into_parts-disk.ensures.history c.into_parts-disk.ensures.disk
+    runs_opened c.args.core c.carry_out-core.result.0 core.story core.ghost_state c.settle.ensures.same c.settle.ensures.settles
+    c.settle.ensures.calls c.carry_out-core.result.1 c.args.given.form c.args.given.phases.items c.status_of-status.result _ _
+    c.args.before _ _ _ c.requires.opened c.carry_out-core.ensures.counted c.into_parts-disk.ensures.history c.into_parts-disk.ensures.disk
     (c.status_of-status.ensures ∙ ap (run_status c.carry_out-core.result.1) (c.has_risen.ensures
     ∙ ap (rises c.args.before) c.counts.ensures.faults))
     c.carry_out-core.ensures.first c.into_parts-disk.ensures.legal c.carry_out-core.ensures.ok c.carry_out-core.ensures.err

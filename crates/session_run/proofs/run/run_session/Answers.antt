@@ -35,7 +35,6 @@ returns-in-Ok g c =
       opened = core.ghost_state;
       faultless = c.in-Ok.ensures.ok.faultless;
       fit = c.in-Ok.ensures.ok.fit;
-      adds = c.in-Ok.ensures.ok.adds;
       once = c.in-Ok.ensures.once;
       files = c.in-Ok.ensures.ok.files;
       runs =

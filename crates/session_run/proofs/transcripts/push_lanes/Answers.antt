@@ -1,6 +1,6 @@
 use Rattle.std.proofs.Common.{◌≡◌, ◌∙◌, ◌++◌, List, length, sym, ap, arith}
 use Rattle.std.specs.Prelude.{map}
-use Rattle.cc_names.specs.CommandWords.{lane_words, words_of_command}
+use Rattle.session_text.specs.CommandWords.{lane_words, words_of_command}
 use Rattle.cc_names.specs.declared.commands.LaneWords.{LaneWords}
 use Rattle.cc_names.specs.declared.commands.PhaseWords.{PhaseWords}
 use Rattle.legal_history.specs.Stories.Steps.{state_of}

@@ -1,5 +1,5 @@
 use Rattle.std.proofs.Common.{◌≡◌, ◌++◌, ◌+◌, ◌≤◌, length}
-use Rattle.cc_names.specs.CommandWords.{words_of_command}
+use Rattle.session_text.specs.CommandWords.{words_of_command}
 use Rattle.legal_history.specs.Stories.Steps.{state_of}
 use Rattle.base_core.specs.Story.Replying.{replies_of}
 use Rattle.session_run.specs.Story.Rendered.{lanes_text}

@@ -1,4 +1,4 @@
-use Rattle.std.proofs.Common.{sym, ap, ◌∙◌, List, ℕ, take, drop, ◌-◌, ◌+◌, subst}
+use Rattle.std.proofs.Common.{sym, ap, ◌∙◌, List, ℕ, take, drop, ◌+◌, subst}
 use Rattle.std.specs.List.{slice_split}
 use Rattle.cc_names.specs.Answers.{Gives}
 use Rattle.cc_names.specs.Paths.{is_slash}

@@ -1,30 +1,49 @@
 -- a base is opened, or is not
-use Rattle.std.proofs.Common.{◌≡◌, sym, ◌∙◌, ap, subst}
+use Rattle.std.proofs.Common.{◌≡◌, length, sym, ◌∙◌, ap, subst, arith}
 use Rattle.disk_model.specs.Devices.{Measures}
 use Rattle.disk_model.specs.DiskStates.{Both, DiskState}
-use Rattle.vob_journal.specs.Pieces.{IsReadUntil, ReadsOnce}
-use Rattle.vob_journal.specs.Shown.{Shown}
-use Rattle.vob_journal.proofs.Pieces.{modeled_once, modeled_once_idle}
+use Rattle.vob_journal.specs.Pieces.{ReadsOnce}
+use Rattle.vob_journal.specs.Shown.{Shown, frames_read}
+use Rattle.vob_journal.proofs.Pieces.{modeled_once_idle}
 use Rattle.story_log.specs.Logging.Logs.{Logged}
 use Rattle.story_log.specs.Story.Handed.{handed_disk}
 use Rattle.story_log.specs.Bases.Opening.{FailsToOpen}
+use Rattle.story_log.specs.Bases.Reading.{IsReadBy, IsReadOn, ReadsOnceBy}
+use Rattle.story_log.specs.declared.opening.OpenCause.{OpenCause}
 use Rattle.story_log.specs.declared.opening.OpenCause.TheVariants as causes
-use Rattle.story_log.proofs.Bases.OpenedBases.{new_on, fails_at_once, fails_to_open, keeps_first, read_since, files_first}
+use Rattle.story_log.proofs.Bases.ReadFrames.{once_by, once_on}
+use Rattle.story_log.proofs.Bases.OpenedBases.{new_on, fails_at_once, fails_to_open, keeps_first, files_first}
 use Rattle.story_log.proofs.Bases.OpenedBases.{stops_first, journal_synced, opened_backed, is_opened}
 use Rattle.story_log.proofs.opening.open_log.Goals as goal
 
 pub open-requires : goal.open-requires
 open-requires g c = journal_synced (g.D.Disk.ghost_state c.args.disk).modeled c.requires
 
+-- nothing was read yet
+none_read : {D : Type 0} (opened : Shown D) → opened.rest ≡ opened.list → frames_read opened ≡ 0
+none_read opened is = omega (arith, ap length is)
+
 -- the calls of an opening, where the journal's length was told
-once_since : {D : Type 0} (ghost_state : D → DiskState) (first : DiskState) (opened read : Shown D) → opened.tail ≡ 0
+once_since : {D : Type 0} (ghost_state : D → DiskState) (first : DiskState) (opened read : Shown D) → opened.rest ≡ opened.list
     → opened.reach ≡ 0 → Both (Measures 0) first.modeled (ghost_state opened.disk).modeled
-    → Both (IsReadUntil opened.tail opened.reach) (ghost_state opened.disk).modeled (ghost_state read.disk).modeled
+    → Both (IsReadOn (frames_read opened) opened.reach) (ghost_state opened.disk).modeled (ghost_state read.disk).modeled
     → Both ReadsOnce first.modeled (ghost_state read.disk).modeled
-once_since ghost_state first opened read tail reach made until =
-    modeled_once first.modeled (ghost_state opened.disk).modeled (ghost_state read.disk).modeled made
-    (subst (λ n. Both (IsReadUntil 0 n) (ghost_state opened.disk).modeled (ghost_state read.disk).modeled) reach
-    (subst (λ n. Both (IsReadUntil n opened.reach) (ghost_state opened.disk).modeled (ghost_state read.disk).modeled) tail until))
+once_since ghost_state first opened read rest reach made on =
+    once_on first.modeled (ghost_state opened.disk).modeled (ghost_state read.disk).modeled made
+    (subst (λ n. Both (IsReadOn 0 n) (ghost_state opened.disk).modeled (ghost_state read.disk).modeled) reach
+    (subst (λ n. Both (IsReadOn n opened.reach) (ghost_state opened.disk).modeled (ghost_state read.disk).modeled)
+    (none_read opened rest) on))
+
+stopped_since : {D : Type 0} (ghost_state : D → DiskState) (first : DiskState) (cause : OpenCause) (opened read : Shown D)
+    → opened.rest ≡ opened.list
+    → opened.reach ≡ 0 → Both (Measures 0) first.modeled (ghost_state opened.disk).modeled
+    → Both (IsReadBy cause (frames_read opened) opened.reach) (ghost_state opened.disk).modeled (ghost_state read.disk).modeled
+    → Both (ReadsOnceBy cause) first.modeled (ghost_state read.disk).modeled
+stopped_since ghost_state first cause opened read rest reach made by =
+    once_by cause first.modeled (ghost_state opened.disk).modeled (ghost_state read.disk).modeled made
+    (subst (λ n. Both (IsReadBy cause 0 n) (ghost_state opened.disk).modeled (ghost_state read.disk).modeled) reach
+    (subst (λ n. Both (IsReadBy cause n opened.reach) (ghost_state opened.disk).modeled (ghost_state read.disk).modeled)
+    (none_read opened rest) by))
 
 pub returns-in-Err-clause-err : goal.returns-in-Err-clause-err
 returns-in-Err-clause-err g c =
@@ -38,12 +57,11 @@ returns-in-Err-read_rows-clause-err g c =
     let opened = c.in-Ok.journal in
     let read = c.read_rows.new.journal in
     let begins = c.in-Ok.ensures.begins in
-    let new = new_on ghost_state first opened c.in-Ok.ensures.list begins.4 begins.1 c.in-Ok.ensures.moves c.in-Ok.ensures.modeled
-    c.in-Ok.ensures.files c.in-Ok.ensures.counts in
+    let new = new_on ghost_state first opened c.in-Ok.ensures.list begins.4 begins.1 c.in-Ok.ensures.moves c.in-Ok.ensures.files
+    c.in-Ok.ensures.counts in
     subst (λ disk. FailsToOpen first c.in-Err-read_rows.cause (ghost_state disk)) (sym c.into_disk.ensures)
     (fails_to_open first (ghost_state read.disk) c.in-Err-read_rows.cause (g.met.D.Disk.counted c.args.disk) c.requires
     (keeps_first ghost_state first opened read new c.in-Err-read_rows.ensures.reads)
-    (read_since ghost_state first opened read new c.in-Err-read_rows.ensures.reads)
     (files_first ghost_state first opened read new c.in-Err-read_rows.ensures.reads)
     (stops_first ghost_state first c.in-Err-read_rows.cause opened read new c.in-Err-read_rows.ensures.err))
 
@@ -53,8 +71,8 @@ open-requires-2 g c =
     let first = ghost_state c.args.disk in
     let opened = c.in-Ok.journal in
     let begins = c.in-Ok.ensures.begins in
-    let new = new_on ghost_state first opened c.in-Ok.ensures.list begins.4 begins.1 c.in-Ok.ensures.moves c.in-Ok.ensures.modeled
-    c.in-Ok.ensures.files c.in-Ok.ensures.counts in
+    let new = new_on ghost_state first opened c.in-Ok.ensures.list begins.4 begins.1 c.in-Ok.ensures.moves c.in-Ok.ensures.files
+    c.in-Ok.ensures.counts in
     let rows = c.in-Ok-read_rows.ensures in
     opened_backed ghost_state first (handed_disk c.counts-handed.result g.D.Disk.tells) c.in-Ok-read_rows.rows.base opened
     c.read_rows.new.journal
@@ -67,8 +85,8 @@ returns-in-Ok-open-clause-ok g c =
     let first = ghost_state c.args.disk in
     let opened = c.in-Ok.journal in
     let begins = c.in-Ok.ensures.begins in
-    let new = new_on ghost_state first opened c.in-Ok.ensures.list begins.4 begins.1 c.in-Ok.ensures.moves c.in-Ok.ensures.modeled
-    c.in-Ok.ensures.files c.in-Ok.ensures.counts in
+    let new = new_on ghost_state first opened c.in-Ok.ensures.list begins.4 begins.1 c.in-Ok.ensures.moves c.in-Ok.ensures.files
+    c.in-Ok.ensures.counts in
     let rows = c.in-Ok-read_rows.ensures in
     is_opened ghost_state first (handed_disk c.counts-handed.result g.D.Disk.tells) c.in-Ok-read_rows.rows.base opened
     c.read_rows.new.journal
@@ -84,13 +102,12 @@ returns-in-Err-open-clause-err g c =
     let opened = c.in-Ok.journal in
     let read = c.read_rows.new.journal in
     let begins = c.in-Ok.ensures.begins in
-    let new = new_on ghost_state first opened c.in-Ok.ensures.list begins.4 begins.1 c.in-Ok.ensures.moves c.in-Ok.ensures.modeled
-    c.in-Ok.ensures.files c.in-Ok.ensures.counts in
+    let new = new_on ghost_state first opened c.in-Ok.ensures.list begins.4 begins.1 c.in-Ok.ensures.moves c.in-Ok.ensures.files
+    c.in-Ok.ensures.counts in
     subst (λ disk. FailsToOpen first causes.NoMemory (ghost_state disk)) (sym (c.into_disk-in-Err-open.ensures
     ∙ ap (λ journal. journal.disk) c.in-Err-open.ensures.err))
     (fails_to_open first (ghost_state read.disk) causes.NoMemory (g.met.D.Disk.counted c.args.disk) c.requires
     (keeps_first ghost_state first opened read new c.in-Ok-read_rows.ensures.reads)
-    (read_since ghost_state first opened read new c.in-Ok-read_rows.ensures.reads)
     (files_first ghost_state first opened read new c.in-Ok-read_rows.ensures.reads) (c.in-Ok-read_rows.ensures.faultless
     ∙ new.counts.1))
 
@@ -102,9 +119,9 @@ returns-in-Err-read_rows-clause-once g c =
     let ghost_state = g.D.Disk.ghost_state in
     let first = ghost_state c.args.disk in
     let begins = c.in-Ok.ensures.begins in
-    subst (λ disk. Both ReadsOnce first.modeled (ghost_state disk).modeled) (sym c.into_disk.ensures)
-    (once_since ghost_state first c.in-Ok.journal c.read_rows.new.journal begins.2 begins.5 c.in-Ok.ensures.modeled
-    c.in-Err-read_rows.ensures.until)
+    subst (λ disk. Both (ReadsOnceBy c.in-Err-read_rows.cause) first.modeled (ghost_state disk).modeled) (sym c.into_disk.ensures)
+    (stopped_since ghost_state first c.in-Err-read_rows.cause c.in-Ok.journal c.read_rows.new.journal begins.0 begins.5
+    c.in-Ok.ensures.modeled c.in-Err-read_rows.ensures.until)
 
 pub returns-in-Ok-open-clause-once : goal.returns-in-Ok-open-clause-once
 returns-in-Ok-open-clause-once g c =
@@ -113,8 +130,8 @@ returns-in-Ok-open-clause-once g c =
     let begins = c.in-Ok.ensures.begins in
     subst (λ (s : DiskState). Both ReadsOnce first.modeled s.modeled) (sym (ap (λ (l : Logged). l.ghost_state)
     c.in-Ok-open.ensures.ok))
-    (once_since ghost_state first c.in-Ok.journal c.read_rows.new.journal begins.2 begins.5 c.in-Ok.ensures.modeled
-    c.in-Ok-read_rows.ensures.until)
+    (once_since ghost_state first c.in-Ok.journal c.read_rows.new.journal begins.0 begins.5 c.in-Ok.ensures.modeled
+    c.in-Ok-read_rows.ensures.forth)
 
 pub returns-in-Err-open-clause-once : goal.returns-in-Err-open-clause-once
 returns-in-Err-open-clause-once g c =
@@ -123,5 +140,5 @@ returns-in-Err-open-clause-once g c =
     let begins = c.in-Ok.ensures.begins in
     subst (λ disk. Both ReadsOnce first.modeled (ghost_state disk).modeled) (sym (c.into_disk-in-Err-open.ensures
     ∙ ap (λ journal. journal.disk) c.in-Err-open.ensures.err))
-    (once_since ghost_state first c.in-Ok.journal c.read_rows.new.journal begins.2 begins.5 c.in-Ok.ensures.modeled
-    c.in-Ok-read_rows.ensures.until)
+    (once_since ghost_state first c.in-Ok.journal c.read_rows.new.journal begins.0 begins.5 c.in-Ok.ensures.modeled
+    c.in-Ok-read_rows.ensures.forth)

@@ -1,9 +1,9 @@
 -- one more row of a journal
 use Rattle.std.proofs.Common.{ℕ, List, Option, Some, Ok, sym, subst}
 use Rattle.vob_journal.specs.Pieces.{ReadsNext}
-use Rattle.vob_journal.proofs.Pieces.{modeled_until}
 use Rattle.story_log.specs.Bases.Reading.{NextIs}
 use Rattle.story_log.specs.declared.opening.OpenCause.{OpenCause}
+use Rattle.story_log.proofs.Bases.ReadFrames.{after_missed, after_no_row, read_for_none}
 use Rattle.story_log.proofs.Bases.ReadRows.{read_more, stops_here}
 use Rattle.story_log.proofs.opening.read_next_row.Goals as goal
 
@@ -32,8 +32,20 @@ returns-in-Ok-clause-forth g c =
 
 pub returns-clause-forth : goal.returns-clause-forth
 returns-clause-forth g c =
-    modeled_until _ _ _ _ _ _ (subst (λ (f : Option (List ℕ)). ReadsNext {E = OpenCause} (Ok f) g.D.Disk.ghost_state
-    c.args.journal.now c.next_payload.new.journal) c.in-Ok-Some.field-0-is c.in-Ok-Some.ensures.forth)
+    let old = c.args.journal.now in
+    let new = c.next_payload.new.journal in
+    let next : NextIs g.D.Disk.ghost_state (Some c.in-Ok-Some.payload) old new =
+    subst (λ f. NextIs g.D.Disk.ghost_state f old new) c.in-Ok-Some.field-0-is c.in-Ok-Some.ensures.ok in
+    read_for_none g.D.Disk.ghost_state c.args.rows.now c.in-Ok-Some.payload old new c.requires c.in-Ok-Some.ensures.reads next
+    (subst (λ (f : Option (List ℕ)). ReadsNext {E = OpenCause} (Ok f) g.D.Disk.ghost_state old new) c.in-Ok-Some.field-0-is
+    c.in-Ok-Some.ensures.forth)
+
+pub returns-clause-next : goal.returns-clause-next
+returns-clause-next g c =
+    after_no_row c.args.rows.now c.as_bytes.result.now c.in-Err-next_row.cause c.in-Err-next_row.ensures.err
+
+pub returns-in-Err-clause-next : goal.returns-in-Err-clause-next
+returns-in-Err-clause-next g c = after_missed c.args.rows.now c.in-Err.cause _ _ c.in-Err.ensures.err
 
 pub returns-in-Ok-None-clause-forth : goal.returns-in-Ok-None-clause-forth
 returns-in-Ok-None-clause-forth g c =

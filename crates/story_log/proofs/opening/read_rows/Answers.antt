@@ -1,19 +1,19 @@
 -- one more row was read
-use Rattle.std.proofs.Common.{◌≡◌, ◌<◌, ◌&&◌, ◌∷◌, [], Bool, true, false, Option, Some, None, Result, Ok, Err, length, nat_lt}
-use Rattle.std.proofs.Common.{refl, ap, sym}
+use Rattle.std.proofs.Common.{◌≡◌, ◌+◌, ◌<◌, ◌&&◌, ◌∷◌, [], Bool, true, false, Option, Some, None, Result, Ok, Err, length}
+use Rattle.std.proofs.Common.{nat_lt, refl, ap, sym}
 use Rattle.std.proofs.Common.{subst, ◌∙◌, arith}
 use Rattle.std.proofs.lemmas.Bool.{ltb-true}
 use Rattle.std.specs.Prelude.{is_err, OnOk}
 use Rattle.cc_names.specs.declared.rows.Deed.{Deed}
 use Rattle.disk_model.specs.DiskStates.{Both, DiskState}
 use Rattle.vob_journal.specs.Pieces.{IsReadForth, IsReadUntil, ReadsNext}
-use Rattle.vob_journal.specs.Shown.{Shown}
+use Rattle.vob_journal.specs.Shown.{Shown, frames_read}
 use Rattle.vob_journal.proofs.Pieces.{modeled_forth_none, modeled_forth_then, modeled_forth_until, modeled_until}
-use Rattle.vob_journal.proofs.Pieces.{modeled_until_none}
 use Rattle.base_model.specs.Rows.{Base, size}
 use Rattle.base_model.specs.Fits.{deed_fits, fits, row_limit}
-use Rattle.story_log.specs.Bases.Reading.{IsReadSoFar, ReadsOn}
+use Rattle.story_log.specs.Bases.Reading.{IsAfterBase, IsReadSoFar, ReadsOn}
 use Rattle.story_log.specs.declared.opening.OpenCause.{OpenCause}
+use Rattle.story_log.proofs.Bases.ReadFrames.{frames_so_far, modeled_on, modeled_on_none, read_by}
 use Rattle.story_log.proofs.Bases.ReadRows.{reads_none, reads_then, row_fits, stops_behind}
 use Rattle.story_log.proofs.opening.read_rows.Goals as goal
 
@@ -33,12 +33,14 @@ below_limit b deed fit = by (nat_lt (size b) row_limit) refl fit
 -- the frame of a row was read
 row_forth : {A D : Type 0} (ghost_state : D → DiskState) (found : Option A) (row : A) (old new : Shown D) → found ≡ Some row
     → ReadsNext {E = OpenCause} (Ok found) ghost_state old new
-    → Both (IsReadForth old.tail old.reach new.tail new.reach) (ghost_state old.disk).modeled (ghost_state new.disk).modeled
+    → Both (IsReadForth (frames_read old) old.reach (frames_read new) new.reach) (ghost_state old.disk).modeled
+    (ghost_state new.disk).modeled
 row_forth ghost_state found row old new is h = subst (λ f. ReadsNext {E = OpenCause} (Ok f) ghost_state old new) is h
 
 end_forth : {A D : Type 0} (ghost_state : D → DiskState) (found : Option A) (old new : Shown D) → found ≡ None
     → ReadsNext {E = OpenCause} (Ok found) ghost_state old new
-    → Both (IsReadUntil old.tail old.reach) (ghost_state old.disk).modeled (ghost_state new.disk).modeled
+    → Both (IsReadUntil (frames_read old) old.reach (frames_read old + 1)) (ghost_state old.disk).modeled
+    (ghost_state new.disk).modeled
 end_forth ghost_state found old new is h = subst (λ f. ReadsNext {E = OpenCause} (Ok f) ghost_state old new) is h
 
 pub frames-init : goal.frames-init
@@ -105,20 +107,24 @@ returns-in-Err-clause-err g c =
     c.frames.invariant.faultless c.in-Err.ensures.err
 
 pub returns-in_default-clause-until : goal.returns-in_default-clause-until
-returns-in_default-clause-until g c = modeled_until_none _ _ _
+returns-in_default-clause-until g c = modeled_on_none _ _ _
 
 pub returns-then-is_err-clause-until : goal.returns-then-is_err-clause-until
 returns-then-is_err-clause-until g c =
     let ghost_state = g.D.Disk.ghost_state in
-    modeled_until _ _ _ _ _ _ (modeled_forth_then _ _ _ _ _ _ _ _ _ c.frames.invariant.forth
+    modeled_on _ _ _ _ _ (modeled_until _ _ _ _ _ _ (modeled_forth_then _ _ _ _ _ _ _ _ _ c.frames.invariant.forth
     (row_forth ghost_state _ c.in-Ok-Some.row c.frames.journal c.read_next_row.new.journal c.in-Ok-Some.field-0-is
-    c.in-Ok-Some.ensures.forth))
+    c.in-Ok-Some.ensures.forth)))
 
-pub returns-in-Ok-None-clause-until : goal.returns-in-Ok-None-clause-until
-returns-in-Ok-None-clause-until g c =
-    modeled_forth_until _ _ _ _ _ _ _ c.frames.invariant.forth
+pub returns-in-Ok-None-clause-forth : goal.returns-in-Ok-None-clause-forth
+returns-in-Ok-None-clause-forth g c =
+    modeled_on _ _ _ _ _ (modeled_forth_until _ _ _ _ _ _ _ _ c.frames.invariant.forth
     (end_forth g.D.Disk.ghost_state _ c.frames.journal c.read_next_row.new.journal c.in-Ok-None.field-0-is
-    c.in-Ok-None.ensures.forth)
+    c.in-Ok-None.ensures.forth))
 
 pub returns-in-Err-clause-until : goal.returns-in-Err-clause-until
-returns-in-Err-clause-until g c = modeled_forth_until _ _ _ _ _ _ _ c.frames.invariant.forth c.in-Err.ensures.forth
+returns-in-Err-clause-until g c =
+    read_by c.in-Err.cause c.frames.rows.base _ _ (frames_read c.frames.journal) c.frames.journal.reach _ _ _
+    c.frames.invariant.forth c.in-Err.ensures.forth
+    (frames_so_far g.D.Disk.ghost_state c.frames.rows.base c.frames.journal c.frames.invariant.so_far)
+    (subst (λ (b : Base). IsAfterBase b c.in-Err.cause) c.all.ensures c.in-Err.ensures.next)

@@ -1,7 +1,6 @@
 -- The tests are those of the model, in its order.
-use Rattle.std.proofs.Common.{ℕ, List, Ok, ap, sym, ◌∙◌, arith}
+use Rattle.std.proofs.Common.{Ok, ap, sym, ◌∙◌, arith}
 use Rattle.std.proofs.lemmas.Grind.{common_steps}
-use Rattle.legal_history.specs.Commands.Decisions.{Answers}
 use Rattle.vob_history.proofs.MergeTests.{answered, no_branch, unselected}
 use Rattle.vob_history.proofs.merges.findmerge.Goals as goal
 
@@ -32,4 +31,4 @@ returns c =
     let name = c.args.branch.now in
     answered c.args.rows.now v path name c.in_ok-find_selected.field-0 (c.in_ok-find_selected.ensures)
     c.in_ok-needs_branch.ensures
-    ∙ ap (λ (text : List ℕ). Ok (Answers text)) (sym c.in_ok-findmerge_text.ensures)
+    ∙ ap Ok (sym c.in_ok-findmerge_text.ensures)

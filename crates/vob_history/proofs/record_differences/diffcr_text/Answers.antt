@@ -12,8 +12,7 @@ returns c =
     let first = c.record_of-first.result in
     let second = c.record_of-second.result in
     let keys = c.in_ok-paths.paths.keys in
-    differences_written b c.args.one c.args.two first.targets.now second.targets.now first.script.now second.script.now
-    first.entries.now second.entries.now c.are_same_paths-same_targets.result c.eq-same_script.result keys c.of.result
+    differences_written b c.args.one c.args.two first second c.are_same_paths-same_targets.result c.eq-same_script.result keys c.of.result
     c.record_of-first.ensures.targets c.record_of-second.ensures.targets c.record_of-first.ensures.script
     c.record_of-second.ensures.script c.record_of-first.ensures.entries c.record_of-second.ensures.entries
     c.are_same_paths-same_targets.ensures c.eq-same_script.ensures c.in_ok-push_listed.ensures.ordered c.in_ok-paths.ensures

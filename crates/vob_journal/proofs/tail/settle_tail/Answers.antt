@@ -1,8 +1,8 @@
 use Rattle.std.proofs.Common.{true, false, [], ◌∷◌, sym, subst}
 use Rattle.disk_model.specs.Devices.{Device}
 use Rattle.disk_model.specs.DiskStates.{IfModeled, Both}
-use Rattle.vob_journal.specs.Calls.{Settles, LeavesLeftover}
-use Rattle.vob_journal.specs.Phases.{PutsDown, FailsToPut}
+use Rattle.vob_journal.specs.Calls.{FailsToPut, Settles, LeavesLeftover}
+use Rattle.vob_journal.specs.Phases.{PutsDown}
 use Rattle.vob_journal.specs.Tails.{IsTail}
 use Rattle.vob_journal.proofs.Phasing.{settles_none, settles_put, settling_failed}
 use Rattle.vob_journal.proofs.Telling.{both_same, answer_from}
@@ -23,8 +23,8 @@ returns-clause-modeled g c =
     let leftover = subst (λ b. IfModeled modeled (IsTail b tail)) c.if-settled.false c.requires in
     let settles = λ (d e : Device). subst (λ b. IsTail false tail d → PutsDown tail (0 ∷ []) d e
     → Settles b tail d e) (sym c.if-settled.false) (settles_put tail d e) in
-    let stays = λ (d e : Device). subst (λ b. IsTail false tail d → FailsToPut tail 1 d e
+    let stays = λ (d e : Device). subst (λ b. IsTail false tail d → FailsToPut tail (0 ∷ []) d e
     → LeavesLeftover b tail d e) (sym c.if-settled.false) (settling_failed tail d e) in
-    answer_from c.put_down.result (IsTail false tail) (PutsDown tail (0 ∷ [])) (Settles c.args.settled tail) (FailsToPut tail 1)
-    (LeavesLeftover c.args.settled tail) _ _
+    answer_from c.put_down.result (IsTail false tail) (PutsDown tail (0 ∷ [])) (Settles c.args.settled tail)
+    (FailsToPut tail (0 ∷ [])) (LeavesLeftover c.args.settled tail) _ _
     settles stays leftover c.put_down.ensures.modeled

@@ -1,6 +1,6 @@
-use Rattle.std.proofs.Common.{◌+◌, true, length}
-use Rattle.vob_journal.specs.Calls.{KeepsFrames}
-use Rattle.vob_journal.specs.Phases.{PutsDown, FailsToPut, Stages}
+use Rattle.std.proofs.Common.{◌+◌, true}
+use Rattle.vob_journal.specs.Calls.{FailsToPut, KeepsFrames}
+use Rattle.vob_journal.specs.Phases.{PutsDown, Stages}
 use Rattle.vob_journal.specs.Tails.{IsTail}
 use Rattle.vob_journal.proofs.Phasing.{stages_piece, staging_failed}
 use Rattle.vob_journal.proofs.Telling.{answer_from}
@@ -12,6 +12,6 @@ returns-clause-modeled g c =
     let payload = c.args.frame.now in
     let piece = c.as_bytes.result.now in
     answer_from c.put_down.result (IsTail true tail) (PutsDown (tail + 1) piece) (Stages tail payload)
-    (FailsToPut (tail + 1) (length piece)) (KeepsFrames true true tail) _ _
-    (stages_piece tail payload piece c.as_bytes.ensures.bytes) (staging_failed tail (length piece)) c.requires.shut
+    (FailsToPut (tail + 1) piece) (KeepsFrames true true tail) _ _
+    (stages_piece tail payload piece c.as_bytes.ensures.bytes) (staging_failed tail piece) c.requires.shut
     c.put_down.ensures.modeled

@@ -1,4 +1,4 @@
-use Rattle.std.proofs.Common.{◌≡◌, ℕ, get_or, true, sym, ap, ◌∙◌, subst, rules}
+use Rattle.std.proofs.Common.{◌≡◌, ℕ, get_or, true, sym, ap, ◌∙◌, subst}
 use Rattle.vob_replica.specs.Tables.{is_entry_at}
 use Rattle.vob_replica.proofs.PlaceLaws.{number-there, place-of}
 use Rattle.vob_replica.proofs.tables.number_there.Goals as goal

@@ -1,5 +1,4 @@
-use Rattle.std.proofs.Common.{◌≡◌, List, sym, subst, rules}
-use Rattle.vob_replica.specs.declared.events.Identity.{Identity}
+use Rattle.std.proofs.Common.{◌≡◌, sym, subst}
 use Rattle.vob_replica.specs.Tables.{with_operation, Ascends}
 use Rattle.vob_replica.proofs.PlaceLaws.{place-of}
 use Rattle.vob_replica.proofs.TableLaws.{put-present, Ascends-with_operation}

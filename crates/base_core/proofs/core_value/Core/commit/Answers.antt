@@ -2,7 +2,6 @@
 use Rattle.std.proofs.Common.{◌≡◌, ℕ, true, Option, Some, None, Ok, List, ◌++◌, ◌∷◌, [], ap, ap₂, sym, subst, ◌∙◌}
 use Rattle.view_lookup.specs.Naming.{replied_name}
 use Rattle.cc_names.specs.Formed.{Plain}
-use Rattle.cc_names.specs.declared.replies.Reply.TheVariants as replies
 use Rattle.cc_names.specs.declared.steps.StoryStep.{StoryStep}
 use Rattle.cc_names.specs.declared.steps.StoryStep.TheVariants as story_steps
 use Rattle.base_model.specs.Fits.{fits}
@@ -36,10 +35,7 @@ preserved_append log new lanes now story row lane name count appends.Committed s
     (preserved_next_row log lanes now story row lane done.tick done.ghost_state done.ticked same at_lane h next done.formed
     (row_reply name count) (next.finishes.reply (row ∷ log.base) ∙ ap Some (ap₂ row_reply named counted)))
 preserved_append log new lanes now story row lane name count appends.Faulted same at_lane h next named counted became =
-    let done : IsFaulted log new row None = became in
-    subst (λ own. CoreInvariant own (with_reply lanes lane replies.DiskFault) now) (sym done.grows)
-    (preserved_next_fault log lanes now story row lane done.left done.before done.faults done.tick done.ghost_state done.rose
-    done.later done.leaves done.ticked same at_lane h next done.formed)
+    preserved_next_fault log new lanes now story row lane became same at_lane h next
 
 -- the story went on by a step of that kind
 acts_so : (log new : Logged) (story : List StoryStep) (row : Plain) (appended : Appended) → log.story ≡ story

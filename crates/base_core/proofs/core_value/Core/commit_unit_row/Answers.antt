@@ -7,9 +7,8 @@ use Rattle.legal_history.specs.Stories.States.{next_tag}
 use Rattle.legal_history.specs.Stories.Steps.{state_of}
 use Rattle.story_log.specs.Logging.Appending.{Appends, IsCommitted, IsFaulted}
 use Rattle.story_log.specs.declared.logs.Appended.TheVariants as appends
-use Rattle.clearmake.specs.Going.{GoesOn, HasOutcome, Finishes}
+use Rattle.clearmake.specs.Going.{GoesOn, HasOutcome}
 use Rattle.base_core.specs.Keeping.CoreInvariants.{CoreInvariant}
-use Rattle.story_log.specs.Logging.Logs.{with_step, with_step_on}
 use Rattle.base_core.proofs.Building.BrokenBuilds.{preserved_broken_object, broken_object_finishes}
 use Rattle.story_log.proofs.Cases.{some_same}
 use Rattle.base_core.proofs.Keeping.LaneSlots.{lane_slot, slot_there}
@@ -116,13 +115,9 @@ invariant_of-self-in-Faulted g c =
     c.in_ok-append.ensures.ok in
     let tagged : c.tag-tag.result ≡ next_tag (state_of c.self.inside.log.story) c.args.lane = c.tag-tag.ensures
     ∙ ap (λ v. next_tag (state_of v.story) c.args.lane) (sym c.self.view_is) in
-    subst (λ log. CoreInvariant log c.close.new.self c.self.inside.moment) (sym done.grows)
-    (subst (λ lanes. CoreInvariant (with_step (with_step_on c.self.inside.log
-    (steps.Fault c.args.row.tag done.left done.before done.faults done.tick) done.ghost_state) (steps.End c.tag-tag.result))
-    lanes c.self.inside.moment) (sym c.close.ensures)
-    (preserved_broken_object c.self.inside.log c.self.inside.lanes c.self.inside.moment c.args.lane c.args.unit c.args.row
-    c.args.object c.tag-tag.result done.left done.before done.faults done.tick done.ghost_state done.rose done.later
-    done.leaves done.ticked c.self.invariant gives tagged done.formed))
+    subst (λ lanes. CoreInvariant c.append.new.self lanes c.self.inside.moment) (sym c.close.ensures)
+    (preserved_broken_object c.self.inside.log c.append.new.self c.self.inside.lanes c.self.inside.moment c.args.lane c.args.unit
+    c.args.row c.args.object c.tag-tag.result done c.self.invariant gives tagged)
 
 pub returns-in-Committed-clause-ok : goal.returns-in-Committed-clause-ok
 returns-in-Committed-clause-ok g c =
@@ -147,10 +142,9 @@ returns-in-Faulted-clause-ok g c =
     c.in_ok-append.ensures.ok in
     let tagged : c.tag-tag.result ≡ next_tag (state_of c.self.inside.log.story) c.args.lane = c.tag-tag.ensures
     ∙ ap (λ v. next_tag (state_of v.story) c.args.lane) (sym c.self.view_is) in
-    subst (λ log. Finishes c.args.self.now.story log.story c.args.lane) (sym done.grows)
-    (broken_object_finishes c.self.inside.log c.self.inside.lanes c.self.inside.moment c.args.self.now.story c.args.lane
-    c.args.unit c.args.row c.args.object c.tag-tag.result done.left done.before done.faults done.tick done.ghost_state
-    (ap (λ v. v.story) c.self.view_is) c.self.invariant gives tagged)
+    broken_object_finishes c.self.inside.log c.append.new.self c.self.inside.lanes c.self.inside.moment c.args.self.now.story
+    c.args.lane c.args.unit c.args.row c.args.object c.tag-tag.result done (ap (λ v. v.story) c.self.view_is) c.self.invariant
+    gives tagged
 
 pub returns-in-Committed-clause-counted : goal.returns-in-Committed-clause-counted
 returns-in-Committed-clause-counted g c =

@@ -1,7 +1,9 @@
 -- a command that found nothing is answered: what is kept then
 use Rattle.std.proofs.Common.{[], ap, sym, subst, ◌∙◌}
+use Rattle.legal_history.specs.Stories.Steps.{state_of}
 use Rattle.cc_names.specs.declared.replies.Reply.TheVariants as replies
 use Rattle.cc_names.specs.declared.steps.Step.TheVariants as steps
+use Rattle.base_core.specs.Calls.Acting.{IsNextAnswer}
 use Rattle.base_core.specs.Keeping.CoreInvariants.{CoreInvariant}
 use Rattle.story_log.specs.Logging.Logs.{with_step}
 use Rattle.base_core.proofs.Story.Counts.{log_stays}
@@ -19,9 +21,10 @@ returns-in_err-tell-clause-counted g c = log_stays c.self.inside.log c.tell.new.
 
 pub invariant_of-self-2 : goal.invariant_of-self-2
 invariant_of-self-2 g c =
-    subst (λ log. CoreInvariant log c.reply.new.self c.self.inside.moment) (sym (c.in_ok-tell.ensures.ok
-    ∙ ap (λ text. with_step c.self.inside.log (steps.Answer c.args.tag text)) (c.of-text.ensures ∙ c.new.ensures.items)))
-    (subst (λ lanes. CoreInvariant (with_step c.self.inside.log (steps.Answer c.args.tag [])) lanes c.self.inside.moment)
-    (sym c.reply.ensures)
-    (preserved_next_answer c.self.inside.log c.self.inside.lanes c.self.inside.moment c.args.self.now.story c.args.tag []
-    (replies.Count 0) (ap (λ v. v.story) c.self.view_is) c.self.invariant c.requires))
+    subst (λ log. CoreInvariant log c.reply.new.self c.self.inside.moment) (sym c.in_ok-tell.ensures.ok)
+    (subst (λ lanes. CoreInvariant (with_step c.self.inside.log (steps.Answer c.args.tag c.of-text.result)) lanes
+    c.self.inside.moment) (sym c.reply.ensures)
+    (preserved_next_answer c.self.inside.log c.self.inside.lanes c.self.inside.moment c.args.self.now.story c.args.tag
+    c.of-text.result (replies.Count 0) (ap (λ v. v.story) c.self.view_is) c.self.invariant
+    (subst (λ text. IsNextAnswer (state_of c.args.self.now.story) c.args.tag text (replies.Count 0))
+    (sym (c.of-text.ensures ∙ c.of-nothing.ensures ∙ c.new.ensures.items)) c.requires)))

@@ -9,7 +9,7 @@ pub returns-then-not-contains : goal.returns-then-not-contains
 returns-then-not-contains g c =
     let stray : list_any (λ target. bytes_eq target c.in-Makes.output) c.args.targets.now.keys ≡ false =
     sym (any-turned c.in-Makes.output c.args.targets.now.keys) ∙ sym c.contains.ensures ∙ c.if-not-contains.true in
-    rw c.in-Makes.is (rw stray (rw c.in_ok-copy-in-Makes.ensures.copy (carried_pure _ _ _ g.met.F.Files.reflexive _ _ _ _ _
+    rw c.in-Makes.is (rw stray (rw c.in_ok-copy-in-Makes.ensures.copy (carried_pure g.met.F.Files.reflexive
     refl)))
 
 pub returns-else-not-contains : goal.returns-else-not-contains

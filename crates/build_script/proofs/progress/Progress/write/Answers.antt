@@ -29,7 +29,7 @@ returns-in_err-store g c =
       c.length_before.ensures,
       c.begin-made.ensures,
     ) at c.in_ok-make.ensures)
-    (carried_given_up _ _ _ g.met.F.Files.reflexive _ _ _ _))
+    (carried_given_up g.met.F.Files.reflexive))
 
 pub returns : goal.returns
 returns g c =
@@ -41,4 +41,4 @@ returns g c =
     })) in
     rw c.in_ok-store.ensures (carried_then g.met.F.Files.transitive more
     (rw (c.length_before.ensures, c.begin-made.ensures) at c.in_ok-make.ensures)
-    (carried_pure _ _ _ g.met.F.Files.reflexive _ _ _ _ _ refl))
+    (carried_pure g.met.F.Files.reflexive refl))

@@ -9,8 +9,11 @@ use Rattle.clearmake.proofs.builder_passes.BuilderPass.run_outside.Goals as goal
 
 pub invariant_of-files : goal.invariant_of-files
 invariant_of-files g c =
-    reading_begins _ c.self.inside.pass c.self.inside.context.now.tag c.self.inside.context.now.count c.args.self
-    c.args.start.now.value.seen c.args.unit c.args.script.now c.args.targets.now c.self.invariant.0 c.self.view_is
+    reading_begins _ (record {
+      pass = c.self.inside.pass;
+      tag = c.self.inside.context.now.tag;
+      count = c.self.inside.context.now.count;
+    }) c.args.self c.args.start.now.value.seen c.args.unit c.args.script.now c.args.targets.now c.self.invariant.0 c.self.view_is
     c.requires.begins c.requires.builds c.requires.started
 
 pub returns-clause-pass : goal.returns-clause-pass

@@ -20,6 +20,5 @@ pub invariant_of-self : goal.invariant_of-self
 invariant_of-self c =
     let disk = c.args.self.now in
     record {
-      replayed = missed_replayed disk.first.journal.items disk.first.objects.items disk.trace.items disk.failed _ _
-          disk.ticks disk.faults _ disk.replayed c.one_more-self.ensures c.if-self-lt18446744073709551615.true;
+      replayed = missed_replayed disk _ c.one_more-self.ensures c.if-self-lt18446744073709551615.true;
     }

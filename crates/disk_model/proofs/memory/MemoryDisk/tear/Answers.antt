@@ -23,10 +23,9 @@ invariant_of-self-2 c =
     c.overwrite.new.self) (sym c.is_err-2.ensures.value ∙ c.if-is_err-2.false) c.overwrite.ensures.ok in
     record {
       replayed =
-          torn_replayed disk.first.journal.items disk.first.objects.items disk.trace.items c.push.new.self.items traced
-          disk.failed _ _ _ _ c.args.file c.args.place c.args.lost c.args.landed.now disk.ticks disk.faults _
-          disk.replayed kept refl (ap (λ t. calls.Tear c.args.file c.args.place t c.args.lost) c.in-Ok.ensures) c.requires
-          wrote.journal wrote.objects c.one_more-self.ensures (omega (arith, c.if-self.false, disk.replayed.ticks_fit));
+          torn_replayed disk c.push.new.self.items traced c.overwrite.new.self c.args.file c.args.place c.args.lost
+          c.args.landed.now _ kept refl (ap (λ t. calls.Tear c.args.file c.args.place t c.args.lost) c.in-Ok.ensures)
+          c.requires wrote c.one_more-self.ensures (omega (arith, c.if-self.false, disk.replayed.ticks_fit));
     }
 
 pub returns-clause-modeled : goal.returns-clause-modeled

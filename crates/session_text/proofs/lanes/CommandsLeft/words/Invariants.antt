@@ -1,6 +1,6 @@
 use Rattle.std.proofs.Common.{◌≡◌, ◌++◌, length}
 use Rattle.std.specs.Prelude.{map}
-use Rattle.cc_names.specs.CommandWords.{word_of}
+use Rattle.session_text.specs.CommandWords.{word_of}
 use Rattle.session_text.specs.Kinds.{kinds_of}
 use Rattle.session_text.specs.Reading.{IsRight}
 use Rattle.session_text.specs.Sessions.{commands_of}

@@ -1,7 +1,7 @@
-use Rattle.std.proofs.Common.{refl, sym}
+use Rattle.std.proofs.Common.{refl, sym, ap, ◌∙◌}
 use Rattle.session_text.specs.declared.kinds.Kind.TheVariants as kinds
 use Rattle.session_text.specs.Reading.{FindsLane}
-use Rattle.session_text.proofs.Seen.{IsSeen, right-at, lane-step}
+use Rattle.session_text.proofs.Seen.{IsSeen, behind, right-at, lane-step}
 use Rattle.session_text.proofs.phases.LanesLeft.next.Goals as goal
 
 pub go_to-requires-clause-right : goal.go_to-requires-clause-right
@@ -45,6 +45,7 @@ returns-clause-ok c =
       found = finds.found;
       left = c.bytes_left-left.ensures;
     } in
-    lane-step c.self.inside.place c.in_ok-place.place c.go_to.new.self c.go_to-2.new.self c.rest-rest.result c.find_lane.new.rest
+    lane-step c.self.inside.place c.go_to.new.self c.go_to-2.new.self c.rest-rest.result c.find_lane.new.rest
     c.bytes_left-left.result c.in-Some.words c.in_ok-name.name c.args.self.now c.of.result
-    seen finds.same (sym c.self.view_is) c.in_ok-name.ensures c.in_ok-place.ensures c.go_to.ensures c.go_to-2.ensures c.of.ensures
+    seen finds.same (sym c.self.view_is) c.in_ok-name.ensures
+    (c.go_to.ensures ∙ ap (λ place. behind place c.bytes_left-left.result) c.in_ok-place.ensures) c.go_to-2.ensures c.of.ensures

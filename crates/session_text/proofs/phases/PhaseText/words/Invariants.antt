@@ -1,6 +1,6 @@
 use Rattle.std.proofs.Common.{◌≡◌, ◌++◌, length}
 use Rattle.std.specs.Prelude.{map}
-use Rattle.cc_names.specs.CommandWords.{lane_words}
+use Rattle.session_text.specs.CommandWords.{lane_words}
 use Rattle.session_text.proofs.phases.PhaseText.words.Given as goal
 
 abbrev pub invariant-lanes : goal.invariant-lanes

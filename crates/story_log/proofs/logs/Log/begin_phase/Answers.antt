@@ -1,6 +1,7 @@
 -- a phase is told after the story
 use Rattle.std.proofs.Common.{◌≡◌, ◌+◌, ◌∷◌, [], ◌++◌, length, ap, ◌∙◌, arith}
 use Rattle.story_log.specs.Logging.Logs.{with_phase}
+use Rattle.story_log.specs.Stopping.Journals.{journal_state}
 use Rattle.story_log.specs.Story.Handed.{handed_disk}
 use Rattle.story_log.proofs.Logging.Logged.{logged_phase}
 use Rattle.story_log.proofs.Logging.LogSteps.{shown_phase}
@@ -8,18 +9,18 @@ use Rattle.story_log.proofs.logs.Log.begin_phase.Goals as goal
 
 pub invariant_of-self-2 : goal.invariant_of-self-2
 invariant_of-self-2 g c =
-    let phases : c.push_reserved.new.self.items ≡ c.self.inside.phases.items ++ c.args.phase ∷ [] = c.push_reserved.ensures.items
+    let log = c.self.inside in
+    let phases : c.push_reserved.new.self.items ≡ log.phases.items ++ c.args.phase ∷ [] = c.push_reserved.ensures.items
     ∙ ap (λ xs. xs ++ c.args.phase ∷ []) c.reserve.ensures.items in
-    logged_phase (handed_disk c.self.inside.handed g.D.Disk.tells) c.self.inside.steps.items _ c.self.inside.rows.base
-    c.self.inside.phases.items _ (c.len.result + 1) c.args.moment c.args.phase _ _ _ _ _ _ c.self.invariant
-    c.in_ok-push_step.ensures.ok phases
-    (omega (arith, ap length c.reserve.ensures.items))
+    logged_phase (handed_disk log.handed g.D.Disk.tells) log.steps.items log.rows.base log.phases.items log.left
+    (g.D.Disk.ghost_state log.journal.disk) (journal_state log.journal) c.self.invariant _ _ (c.len.result + 1) c.args.moment
+    c.args.phase c.in_ok-push_step.ensures.ok phases (omega (arith, ap length c.reserve.ensures.items))
 
 pub returns-clause-ok : goal.returns-clause-ok
 returns-clause-ok g c =
-    let phases : c.push_reserved.new.self.items ≡ c.self.inside.phases.items ++ c.args.phase ∷ [] = c.push_reserved.ensures.items
+    let log = c.self.inside in
+    let phases : c.push_reserved.new.self.items ≡ log.phases.items ++ c.args.phase ∷ [] = c.push_reserved.ensures.items
     ∙ ap (λ xs. xs ++ c.args.phase ∷ []) c.reserve.ensures.items in
-    shown_phase (handed_disk c.self.inside.handed g.D.Disk.tells) c.self.inside.steps.items _ c.self.inside.rows.base
-    c.self.inside.phases.items _ (c.len.result + 1) c.args.moment c.args.phase _ c.self.invariant.modeled
-    c.in_ok-push_step.ensures.ok phases
+    shown_phase (handed_disk log.handed g.D.Disk.tells) log.steps.items log.rows.base log.phases.items c.self.invariant.modeled
+    _ _ (c.len.result + 1) c.args.moment c.args.phase _ c.in_ok-push_step.ensures.ok phases
     ∙ ap (λ log. with_phase log c.args.phase c.args.moment) c.self.view_is

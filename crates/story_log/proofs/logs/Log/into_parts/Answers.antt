@@ -2,11 +2,11 @@
 use Rattle.std.proofs.Common.{subst}
 use Rattle.legal_history.specs.Stories.Steps.{state_of}
 use Rattle.story_log.specs.Stopping.Backed.{IsAccounted}
+use Rattle.story_log.specs.Stopping.Journals.{journal_state}
 use Rattle.story_log.proofs.Stopping.Settled.{accounted}
 use Rattle.story_log.proofs.logs.Log.into_parts.Goals as goal
 
 pub returns-clause-backed : goal.returns-clause-backed
 returns-clause-backed g c = subst (λ log. IsAccounted (state_of log.story) log.ghost_state) c.self.view_is
-    (accounted _ (g.D.Disk.ghost_state c.self.inside.journal.disk) c.self.inside.journal.list c.self.inside.journal.leftover
-    c.self.inside.journal.ended c.self.inside.journal.left c.self.inside.journal.settled c.self.invariant.backed
+    (accounted _ (g.D.Disk.ghost_state c.self.inside.journal.disk) (journal_state c.self.inside.journal) c.self.invariant.backed
     (g.met.D.Disk.counted c.self.inside.journal.disk))

@@ -3,6 +3,7 @@ use Rattle.std.proofs.Common.{◌≡◌, [], ◌∷◌, ◌++◌, List, ap, ◌�
 use Rattle.cc_names.specs.declared.steps.Step.{Step}
 use Rattle.cc_names.specs.declared.steps.Step.TheVariants as steps
 use Rattle.base_model.specs.Rows.{size}
+use Rattle.story_log.specs.Stopping.Journals.{journal_state}
 use Rattle.story_log.specs.Story.Handed.{handed_disk}
 use Rattle.story_log.proofs.Bases.OpeningStep.{opened_logged, opened_shown}
 use Rattle.story_log.proofs.logs.Log.open.Goals as goal
@@ -13,9 +14,8 @@ invariant_of-result g c =
     let kept : c.push_step.new.steps.items ≡ steps.Opened c.size.result ∷ [] = pushed
     ∙ ap (λ (before : List Step). before ++ steps.Opened c.size.result ∷ []) c.new-steps.ensures.items in
     opened_logged (handed_disk c.args.handed g.D.Disk.tells) c.args.rows.base c.size.result c.push_step.new.steps.items
-    c.new.result.items (g.D.Disk.ghost_state c.args.journal.disk) c.args.journal.list c.args.journal.leftover
-    c.args.journal.ended c.args.journal.left c.args.journal.settled
-    (c.size.ensures.size ∙ ap size c.all.ensures) kept c.new.ensures.items c.requires
+    c.new.result.items (c.size.ensures.size ∙ ap size c.all.ensures) kept c.new.ensures.items
+    (g.D.Disk.ghost_state c.args.journal.disk) (journal_state c.args.journal) c.requires
 
 pub returns-clause-ok : goal.returns-clause-ok
 returns-clause-ok g c =
@@ -23,5 +23,5 @@ returns-clause-ok g c =
     let kept : c.push_step.new.steps.items ≡ steps.Opened c.size.result ∷ [] = pushed
     ∙ ap (λ (before : List Step). before ++ steps.Opened c.size.result ∷ []) c.new-steps.ensures.items in
     opened_shown (handed_disk c.args.handed g.D.Disk.tells) c.args.rows.base c.size.result c.push_step.new.steps.items
-    c.new.result.items (g.D.Disk.ghost_state c.args.journal.disk) (c.size.ensures.size
-    ∙ ap size c.all.ensures) kept c.new.ensures.items
+    c.new.result.items (c.size.ensures.size ∙ ap size c.all.ensures) kept c.new.ensures.items
+    (g.D.Disk.ghost_state c.args.journal.disk)

@@ -3,25 +3,23 @@ use Rattle.std.proofs.Common.{◌≤◌, ◌+◌, ◌∙◌, sym, subst}
 use Rattle.disk_model.specs.DiskStates.{Both}
 use Rattle.vob_journal.specs.Added.{WritesOn}
 use Rattle.legal_history.specs.Stories.Steps.{state_of}
-use Rattle.base_rows.specs.Order.{oldest_first}
-use Rattle.story_log.specs.Logging.Logs.{IsLogged}
+use Rattle.story_log.specs.Logging.Appending.{SettlesTail}
+use Rattle.story_log.specs.Logging.Logs.{IsLogged, logged_state}
 use Rattle.story_log.specs.Stopping.Backed.{IsSettled}
+use Rattle.story_log.specs.Stopping.Journals.{journal_state}
 use Rattle.story_log.specs.Story.Handed.{handed_disk}
-use Rattle.story_log.specs.Story.Telling.{story_of}
-use Rattle.story_log.proofs.Logging.Appended.{few_calls, writes_none}
+use Rattle.story_log.proofs.Logging.Appended.{few_calls, settles_no_tail, settles_tail, writes_none}
 use Rattle.story_log.proofs.Stopping.Settled.{logged_settled, settled_before, settled_so}
 use Rattle.story_log.proofs.logs.Log.settle.Goals as goal
 
 pub invariant_of-self : goal.invariant_of-self
 invariant_of-self g c =
-    logged_settled (handed_disk c.self.inside.handed g.D.Disk.tells) c.self.inside.steps.items c.self.inside.rows.base
-    c.self.inside.phases.items _ (g.D.Disk.ghost_state c.self.inside.journal.disk)
-    (g.D.Disk.ghost_state c.settle.new.self.disk) c.self.inside.journal.list c.self.inside.journal.leftover
-    c.settle.new.self.list c.settle.new.self.leftover c.self.inside.journal.ended c.settle.new.self.ended
-    c.self.inside.journal.left c.settle.new.self.left c.self.inside.journal.settled c.settle.new.self.settled c.settle.result
-    c.self.invariant c.settle.ensures.moves c.settle.ensures.list c.settle.ensures.leftover c.settle.ensures.left
-    c.settle.ensures.ended c.settle.ensures.costs (g.met.D.Disk.counted c.self.inside.journal.disk)
-    (λ e. c.in_default.not-Nothing (c.left_by_last_call.ensures ∙ e))
+    let log = c.self.inside in
+    logged_settled (handed_disk log.handed g.D.Disk.tells) log.steps.items log.rows.base log.phases.items log.left
+    (g.D.Disk.ghost_state log.journal.disk) (g.D.Disk.ghost_state c.settle.new.self.disk) (journal_state log.journal)
+    (journal_state c.settle.new.self) c.self.invariant c.settle.ensures.moves c.settle.ensures.list c.settle.ensures.ended
+    (g.met.D.Disk.counted log.journal.disk) (λ e. c.in_default.not-Nothing (c.left_by_last_call.ensures ∙ e)) _ c.settle.result
+    c.settle.ensures.leftover c.settle.ensures.left c.settle.ensures.costs
 
 pub returns-in_default-clause-writes : goal.returns-in_default-clause-writes
 returns-in_default-clause-writes g c =
@@ -41,18 +39,34 @@ returns-in_default-clause-few g c =
 
 pub returns-in-Nothing-clause-ok : goal.returns-in-Nothing-clause-ok
 returns-in-Nothing-clause-ok g c =
-    subst (λ log. IsSettled (state_of log.story) log.ghost_state) c.self.view_is
-    (settled_before (state_of (story_of (handed_disk c.self.inside.handed g.D.Disk.tells) c.self.inside.steps.items
-    (oldest_first c.self.inside.rows.base) c.self.inside.phases.items)) (g.D.Disk.ghost_state c.self.inside.journal.disk)
-    c.self.inside.journal.list c.self.inside.journal.leftover c.self.inside.journal.ended c.self.inside.journal.left
-    c.self.inside.journal.settled c.self.invariant.backed (sym c.left_by_last_call.ensures ∙ c.in-Nothing.is))
+    let log = c.self.inside in
+    subst (λ l. IsSettled (state_of l.story) l.ghost_state) c.self.view_is
+    (settled_before (logged_state (handed_disk log.handed g.D.Disk.tells) log.steps.items log.rows.base log.phases.items)
+    (g.D.Disk.ghost_state log.journal.disk) (journal_state log.journal) c.self.invariant.backed
+    (sym c.left_by_last_call.ensures ∙ c.in-Nothing.is))
 
 pub returns-in_default-clause-ok : goal.returns-in_default-clause-ok
 returns-in_default-clause-ok g c =
-    let logged : IsLogged (handed_disk c.self.inside.handed g.D.Disk.tells) c.self.inside.steps.items c.self.inside.rows.base
-    c.self.inside.phases.items (g.D.Disk.ghost_state c.settle.new.self.disk) c.settle.new.self.list c.settle.new.self.leftover
-    c.settle.new.self.ended c.settle.new.self.left c.settle.new.self.settled = invariant_of-self g c in
-    settled_so (state_of (story_of (handed_disk c.self.inside.handed g.D.Disk.tells) c.self.inside.steps.items
-    (oldest_first c.self.inside.rows.base) c.self.inside.phases.items)) (g.D.Disk.ghost_state c.settle.new.self.disk)
-    c.settle.new.self.list c.self.inside.journal.leftover c.settle.new.self.leftover c.settle.new.self.ended
-    c.settle.new.self.left c.settle.new.self.settled c.settle.result logged.backed c.settle.ensures.leftover
+    let log = c.self.inside in
+    let on = handed_disk log.handed g.D.Disk.tells in
+    let logged : IsLogged on log.steps.items log.rows.base log.phases.items log.left
+    (g.D.Disk.ghost_state c.settle.new.self.disk) (journal_state c.settle.new.self) = invariant_of-self g c in
+    settled_so (logged_state on log.steps.items log.rows.base log.phases.items) (g.D.Disk.ghost_state c.settle.new.self.disk)
+    log.journal.leftover (journal_state c.settle.new.self) c.settle.result logged.backed c.settle.ensures.leftover
+
+pub returns-in-Nothing-clause-calls : goal.returns-in-Nothing-clause-calls
+returns-in-Nothing-clause-calls g c =
+    let log = c.self.inside in
+    subst (λ l. Both (SettlesTail (state_of l.story).ends) l.ghost_state.modeled l.ghost_state.modeled) c.self.view_is
+    (settles_no_tail (logged_state (handed_disk log.handed g.D.Disk.tells) log.steps.items log.rows.base log.phases.items).ends
+    (g.D.Disk.ghost_state log.journal.disk).modeled)
+
+pub returns-in_default-clause-calls : goal.returns-in_default-clause-calls
+returns-in_default-clause-calls g c =
+    let log = c.self.inside in
+    subst (λ l. Both (SettlesTail (state_of l.story).ends) l.ghost_state.modeled
+    (g.D.Disk.ghost_state c.settle.new.self.disk).modeled) c.self.view_is
+    (settles_tail c.settle.result
+    (logged_state (handed_disk log.handed g.D.Disk.tells) log.steps.items log.rows.base log.phases.items).ends
+    log.journal.settled log.journal.tail _ _ c.self.invariant.backed.shut (λ is. (c.settle.ensures.rests is).0)
+    c.settle.ensures.calls)

@@ -24,7 +24,7 @@ returns-clause-ok c =
     let number = c.args.number in
     let at : c.version_place-place.result ≡ version_place number inside.versions.items =
     c.version_place-place.ensures.place ∙ ap (version_place number) c.deref.ensures.value in
-    ap (λ (versions : List VersionMade). branch_made_by inside.made inside.element inside.masters.items versions)
+    ap (λ (versions : List VersionMade). branch_made_by inside.made inside.element inside.masters versions)
     (version-put inside.versions.items c.insert.new.self.items c.version_place-place.result c.new.result number c.args.made
     c.in_ok-insert.ensures.items c.new.ensures at)
     ∙ ap (λ (tree : Tree). with_version_by tree number c.args.made) c.self.view_is
