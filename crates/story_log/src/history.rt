@@ -2,8 +2,9 @@
 
 ghost use Rattle.std.specs.Prelude.{◌≡◌, []};
 
+use crate::steps::Steps;
 use cc_names::rows::Row;
-use cc_names::steps::{Counts, Step};
+use cc_names::steps::Counts;
 use disk_model::Disk;
 use session_text::PhaseText;
 use std::alloc::Global;
@@ -16,7 +17,7 @@ use std::marker::{Model, PhantomData};
 pub struct History<D: Disk> {
     rows: Vec<Row>,
     phases: Vec<PhaseText>,
-    steps: Vec<Step>,
+    steps: Steps,
     handed: Counts,
     on: PhantomData<D>,
 }
@@ -37,7 +38,7 @@ impl<D: Disk> Model for History<D> {
 
 impl<D: Disk> History<D> {
     ghost use Rattle.story_log.specs.Story.Handed.{handed_disk};
-    ghost use Rattle.story_log.specs.Story.Telling.{story_of, AreNamedBySteps, rows_named, TellsStory};
+    ghost use Rattle.story_log.specs.Story.Telling.{story_of, AreNamedBySteps, rows_named};
 
     /// The history of a session that opened no base. Takes no memory.
     pub fn empty(alloc: Global) -> History<D>
@@ -46,7 +47,7 @@ impl<D: Disk> History<D> {
         History {
             rows: Vec::new(alloc),
             phases: Vec::new(alloc),
-            steps: Vec::new(alloc),
+            steps: Steps::new(),
             handed: Counts {
                 ticks: 0,
                 faults: 0,
@@ -56,12 +57,7 @@ impl<D: Disk> History<D> {
     }
 
     /// The history of these steps with the rows and phases that they name, in their order.
-    pub fn of(
-        rows: Vec<Row>,
-        phases: Vec<PhaseText>,
-        steps: Vec<Step>,
-        handed: Counts,
-    ) -> History<D>
+    pub fn of(rows: Vec<Row>, phases: Vec<PhaseText>, steps: Steps, handed: Counts) -> History<D>
         requires { AreNamedBySteps 1 0 steps.items rows.items phases.items }
         ensures { result
             ≡ story_of (handed_disk handed D.tells) steps.items rows.items phases.items }
@@ -80,12 +76,5 @@ impl<D: Disk> History<D> {
         ensures { result.now ≡ rows_named self.now }
     {
         self.rows.as_slice()
-    }
-
-    /// The steps, oldest first. With the rows and the phases that they name by number they tell the story.
-    pub fn steps(&self) -> &[Step]
-        ensures { TellsStory result.now self.now }
-    {
-        self.steps.as_slice()
     }
 }

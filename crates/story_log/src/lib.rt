@@ -1,8 +1,8 @@
 //! The story of a base with the rows and phases that it names, and the journal that keeps the rows.
 //!
 //! What it is for: a base is opened from the disk that keeps it, a row is committed, and what a session leaves is told. A `Log`
-//! keeps rows, phases, steps and the journal; it takes all memory for a row before it appends it, and the row joins the base once
-//! the journal has acknowledged it.
+//! keeps rows, phases and the journal; it takes all memory for a row before it appends it, and the row joins the base once the
+//! journal has acknowledged it. The steps of its story are there for contracts alone: `Steps` takes no memory.
 //!
 //! What it promises, of the disk's content where the disk models its device: `open_log` opens the base that a disk stands for,
 //! or says why not. `append` adds the step of a commit or of a fault, with what the disk's counts were; `tell` and
@@ -20,7 +20,9 @@ mod history;
 pub mod laws;
 mod logs;
 mod opening;
+mod steps;
 
 pub use history::History;
 pub use logs::{Appended, Log};
 pub use opening::{OpenCause, OpenFault, open_log};
+pub use steps::Steps;

@@ -2,10 +2,9 @@
 
 ghost use Rattle.std.specs.Prelude.{◌≡◌, ◌+◌, ◌<◌, ◌≤◌, ◌^◌, ◌++◌, ◌∷◌, [], length, true, false, IfOk, OnOk, OnErr};
 ghost use Rattle.row_form.specs.Spelled.{spelling_of};
-ghost use Rattle.std.specs.Vec.{vec_len, vec_capacity};
-ghost use Rattle.std.specs.Option.{option_to_list};
 
 use crate::history::History;
+use crate::steps::Steps;
 use cc_names::memory::NoMemory;
 use cc_names::names::Name;
 use cc_names::paths::Path;
@@ -28,13 +27,13 @@ pub enum Appended {
     Faulted,
 }
 
-/// Steps as they are kept, with the rows and the phases that they name by number, and the journal of the rows. Contracts see
+/// The steps of a story, the rows and the phases that they name by number, and the journal of the rows. Contracts see
 /// it as the story that the steps tell, the base of these rows, the phases, and the disk's counts and device.
 #[derive(Drop)]
 pub struct Log<D: Disk> {
     rows: Rows,
     phases: Vec<PhaseText>,
-    steps: Vec<Step>,
+    steps: Steps,
     /// The row that the newest fault left, where no row was committed since.
     left: Option<Row>,
     /// The disk's counts as it was handed in.
@@ -75,25 +74,6 @@ fn frame_of(alloc: Global, row: &Row) -> Result<Frame, NoMemory>
     Frame::of(alloc, payload.as_bytes())
 }
 
-/// A step and the one that it brings with it, for which there is room.
-fn push_both(steps: &mut Vec<Step>, step: Step, ending: Option<Step>)
-    requires { vec_len steps.old + 2 ≤ vec_capacity steps.old }
-    ensures { steps.new.items ≡ steps.old.items ++ step ∷ option_to_list ending }
-{
-    steps.push_reserved(step);
-    if let Some(ending) = ending {
-        steps.push_reserved(ending);
-    }
-}
-
-fn push_step(steps: &mut Vec<Step>, step: Step) -> Result<(), NoMemory>
-    ensures ok { OnOk result (steps.new.items ≡ steps.old.items ++ step ∷ []) }
-    ensures err { OnErr result (steps.new.items ≡ steps.old.items) }
-{
-    steps.push(step)?;
-    Ok(())
-}
-
 impl<D: Disk> Log<D> {
     ghost use Rattle.std.specs.Prelude.{◌≡◌, ◌+◌, ◌<◌, ◌^◌, ◌++◌, ◌∷◌, [], length, true, false, IfOk, IfErr, IfSome, OnOk, OnErr, MatchResult};
     ghost use Rattle.cc_names.specs.declared.steps.StoryStep.TheVariants as story_steps;
@@ -111,37 +91,26 @@ impl<D: Disk> Log<D> {
     ghost use Rattle.base_model.specs.Fits.{fits};
     ghost use Rattle.vob_journal.specs.Added.{WritesOn};
 
-    /// The story of a base that was opened, whose rows are those of the journal. The journal comes back where
-    /// memory runs out.
-    pub fn open(
-        alloc: Global,
-        rows: Rows,
-        handed: Counts,
-        journal: Journal<D>,
-    ) -> Result<Log<D>, Journal<D>>
+    /// The story of a base that was opened, whose rows are those of the journal. Takes no memory.
+    pub fn open(alloc: Global, rows: Rows, handed: Counts, journal: Journal<D>) -> Log<D>
         requires { IsBacked
             (state_of (story_steps.Opened (oldest_first rows.base) handed D.tells ∷ []))
             (D.ghost_state journal.disk) (journal_state journal) }
-        ensures ok { IfOk result
-            (λ log. log
-            ≡ opened_log rows.base (handed_disk handed D.tells) (D.ghost_state journal.disk)) }
-        ensures err { IfErr result (λ back. back ≡ journal) }
+        ensures { result
+            ≡ opened_log rows.base (handed_disk handed D.tells) (D.ghost_state journal.disk) }
     {
-        let mut steps = Vec::new(alloc);
-        let opened = Step::Opened {
+        let mut steps = Steps::new();
+        steps.tell(&Step::Opened {
             rows: rows.all().size(),
-        };
-        if push_step(&mut steps, opened).is_err() {
-            return Err(journal);
-        }
-        Ok(Log {
+        });
+        Log {
             rows,
             phases: Vec::new(alloc),
             steps,
             left: None,
             handed,
             journal,
-        })
+        }
     }
 
     /// Tells that a phase began. An `Err` changes nothing.
@@ -152,13 +121,10 @@ impl<D: Disk> Log<D> {
     {
         self.phases.reserve(1)?;
         let number = self.phases.len() as u32 + 1;
-        push_step(
-            &mut self.steps,
-            Step::PhaseBegun {
-                phase: number,
-                moment,
-            },
-        )?;
+        self.steps.tell(&Step::PhaseBegun {
+            phase: number,
+            moment,
+        });
         self.phases.push_reserved(phase);
         Ok(())
     }
@@ -180,12 +146,11 @@ impl<D: Disk> Log<D> {
         let frame = frame_of(alloc, &row)?;
         let prepared = prepare(alloc, &self.rows, row.deed())?;
         self.rows.reserve(row.deed(), &prepared)?;
-        self.steps.reserve(2)?;
         let tag = row.tag();
         let number = self.rows.all().size();
         let before = self.journal.counts().faults;
         if let Ok(tick) = self.journal.append(&frame) {
-            self.steps.push_reserved(Step::Commit { tag, number, tick });
+            self.steps.tell(&Step::Commit { tag, number, tick });
             self.left = None;
             self.rows.push(row, prepared);
             return Ok(Appended::Committed);
@@ -205,18 +170,16 @@ impl<D: Disk> Log<D> {
             after: counts.faults,
             tick: counts.ticks,
         };
-        push_both(&mut self.steps, fault, ending);
+        self.steps.tell_both(&fault, &ending);
         Ok(Appended::Faulted)
     }
 
-    /// Tells a step that names no row and no phase, and is no fault of the disk. An `Err` changes nothing.
-    pub fn tell(&mut self, step: Step) -> Result<(), NoMemory>
-        requires quiet { IsQuiet step }
-        ensures ok { OnOk result (self.new ≡ with_step self.old step) }
-        ensures err { OnErr result (self.new ≡ self.old) }
+    /// Tells a step that names no row and no phase, and is no fault of the disk. Takes no memory.
+    pub fn tell(&mut self, step: &Step)
+        requires quiet { IsQuiet step.now }
+        ensures { self.new ≡ with_step self.old step.now }
     {
-        push_step(&mut self.steps, step)?;
-        Ok(())
+        self.steps.tell(step);
     }
 
     /// Settles the journal's tail where a fault left it open; elsewhere it makes no device call, and changes nothing.

@@ -202,11 +202,5 @@ pub fn open_log<D: Disk>(
             });
         }
     };
-    match Log::open(alloc, rows, handed, journal) {
-        Ok(log) => Ok(log),
-        Err(journal) => Err(OpenFault {
-            cause: OpenCause::NoMemory,
-            disk: journal.into_disk(),
-        }),
-    }
+    Ok(Log::open(alloc, rows, handed, journal))
 }

@@ -141,36 +141,35 @@ impl<D: Disk> Core<D> {
         ensures counted { KeepsCount self.old self.new }
     {
         let replied = refusal.copy(alloc)?;
-        self.log.tell(Step::Refused { tag, refusal })?;
+        let step = Step::Refused { tag, refusal };
+        self.log.tell(&step);
         self.lanes.reply(tag.lane, Reply::Refused(replied));
         Ok(())
     }
 
-    /// Answers its lane's next command. An `Err` changes nothing.
-    fn tell_answer(&mut self, tag: Tag, text: Text) -> Result<(), NoMemory>
+    /// Answers its lane's next command. Takes no memory.
+    fn tell_answer(&mut self, tag: Tag, text: Text)
         requires { IsNextAnswer (state_of self.old.story) tag text (replies.Answer text) }
-        ensures ok { OnOk result (Acts self.old.story self.new.story tag.lane dones.Answered) }
-        ensures err { OnErr result (self.new ≡ self.old) }
+        ensures acts { Acts self.old.story self.new.story tag.lane dones.Answered }
         ensures counted { KeepsCount self.old self.new }
     {
         let kept = Snapshot::of(&text);
-        self.log.tell(Step::Answer { tag, text: kept })?;
+        let step = Step::Answer { tag, text: kept };
+        self.log.tell(&step);
         self.lanes.reply(tag.lane, Reply::Answer(text));
-        Ok(())
     }
 
-    /// Answers its lane's next command, which found nothing for its row: it counts nothing. An `Err` changes nothing.
-    fn tell_nothing(&mut self, alloc: Global, tag: Tag) -> Result<(), NoMemory>
+    /// Answers its lane's next command, which found nothing for its row: it counts nothing. Takes no memory.
+    fn tell_nothing(&mut self, alloc: Global, tag: Tag)
         requires { IsNextAnswer (state_of self.old.story) tag [] (replies.Count 0) }
-        ensures ok { OnOk result (Acts self.old.story self.new.story tag.lane dones.Answered) }
-        ensures err { OnErr result (self.new ≡ self.old) }
+        ensures acts { Acts self.old.story self.new.story tag.lane dones.Answered }
         ensures counted { KeepsCount self.old self.new }
     {
         let nothing = Text::of(Vec::new(alloc));
         let text = Snapshot::of(&nothing);
-        self.log.tell(Step::Answer { tag, text })?;
+        let step = Step::Answer { tag, text };
+        self.log.tell(&step);
         self.lanes.reply(tag.lane, Reply::Count(0));
-        Ok(())
     }
 
     /// Carries out a lane's next command, a change: its row is committed, there is nothing to change, the command is refused, or
@@ -188,7 +187,7 @@ impl<D: Disk> Core<D> {
         match self.decide(alloc, lane, change) {
             Ok(Some(row)) => self.commit(alloc, row),
             Ok(None) => {
-                self.tell_nothing(alloc, tag)?;
+                self.tell_nothing(alloc, tag);
                 Ok(Done::Answered)
             }
             Err(Or::Is(refusal)) => {
@@ -211,7 +210,7 @@ impl<D: Disk> Core<D> {
         let tag = self.tag(lane);
         match self.find_answer(alloc, lane, query) {
             Ok(text) => {
-                self.tell_answer(tag, text)?;
+                self.tell_answer(tag, text);
                 Ok(Done::Answered)
             }
             Err(Or::Is(refusal)) => {

@@ -35,23 +35,21 @@ impl<D: Disk> Core<D> {
         plan_build(alloc, self.hashing, &self.rows(), &asked, occasion)
     }
 
-    /// Begins the build that was decided for the next command of its lane. An `Err` changes nothing.
-    fn open_build(&mut self, build: ActiveBuild) -> Result<(), NoMemory>
+    /// Begins the build that was decided for the next command of its lane. Takes no memory.
+    fn open_build(&mut self, build: ActiveBuild)
         requires { IsNextBuild (state_of self.old.story) build }
-        ensures ok { OnOk result
-            (Begins self.old.story self.new.story build.tag.lane
-            (begins.Units (length build.units))) }
-        ensures err { OnErr result (self.new ≡ self.old) }
+        ensures begins { Begins self.old.story self.new.story build.tag.lane
+            (begins.Units (length build.units)) }
         ensures counted { KeepsCount self.old self.new }
     {
         let tag = build.tag();
-        self.log.tell(Step::Begin {
+        let step = Step::Begin {
             tag,
             rows: build.rows(),
             units: build.units().len() as u32,
-        })?;
+        };
+        self.log.tell(&step);
         self.lanes.open(tag.lane, build);
-        Ok(())
     }
 
     /// Begins the build of a lane's next command and answers how many units it has, or refuses the command. A build that is
@@ -73,7 +71,7 @@ impl<D: Disk> Core<D> {
         match self.plan(alloc, lane) {
             Ok(build) => {
                 let count = build.units().len() as u32;
-                self.open_build(build)?;
+                self.open_build(build);
                 Ok(Begun::Units(count))
             }
             Err(Or::Is(refusal)) => {
@@ -94,7 +92,8 @@ impl<D: Disk> Core<D> {
     {
         let tag = self.tag(lane);
         let reply = reply_of(alloc, &self.rows(), self.build_at(lane))?;
-        self.log.tell(Step::End { tag })?;
+        let step = Step::End { tag };
+        self.log.tell(&step);
         self.lanes.close(lane, reply);
         Ok(())
     }

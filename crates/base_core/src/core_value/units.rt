@@ -37,16 +37,14 @@ impl<D: Disk> Core<D> {
     ghost use Rattle.base_core.specs.Story.Counted.{KeepsCount};
     ghost use Rattle.clearmake.specs.Going.{HasOutcome};
 
-    /// Tells a step by which a unit of a lane's build comes to something without a row. An `Err` changes nothing.
-    fn note_step(&mut self, lane: u32, unit: u32, step: Step, came: Came) -> Result<(), NoMemory>
-        requires { Notes (state_of self.old.story) lane unit step (came_of came) }
-        ensures ok { OnOk result (Noted self.old.story self.new.story lane unit (came_of came)) }
-        ensures err { OnErr result (self.new ≡ self.old) }
+    /// Tells a step by which a unit of a lane's build comes to something without a row.
+    fn note_step(&mut self, lane: u32, unit: u32, step: &Step, came: Came)
+        requires { Notes (state_of self.old.story) lane unit step.now (came_of came) }
+        ensures noted { Noted self.old.story self.new.story lane unit (came_of came) }
         ensures counted { KeepsCount self.old self.new }
     {
-        self.log.tell(step)?;
+        self.log.tell(step);
         self.lanes.note(lane, unit, came);
-        Ok(())
     }
 
     /// Concludes a unit of a lane's build without a row. An `Err` changes nothing.
@@ -64,27 +62,20 @@ impl<D: Disk> Core<D> {
     {
         let tag = self.tag(lane);
         let outcome = end.copy(alloc)?;
-        self.note_step(
-            lane,
-            unit,
-            Step::Concluded { tag, unit, outcome },
-            Came::Concluded(end),
-        )?;
+        let step = Step::Concluded { tag, unit, outcome };
+        self.note_step(lane, unit, &step, Came::Concluded(end));
         Ok(())
     }
 
-    /// Starts the script of a unit of a lane's build; one that cannot be read has this fault, and is the unit's outcome. An
-    /// `Err` changes nothing.
-    fn start(&mut self, lane: u32, unit: u32, fault: Option<ScriptFault>) -> Result<(), NoMemory>
+    /// Starts the script of a unit of a lane's build; one that cannot be read has this fault, and is the unit's outcome.
+    fn start(&mut self, lane: u32, unit: u32, fault: Option<ScriptFault>)
         requires { MayStart (state_of self.old.story) lane unit fault }
-        ensures ok { OnOk result
-            (Noted self.old.story self.new.story lane unit (came_by_start fault)) }
-        ensures err { OnErr result (self.new ≡ self.old) }
+        ensures noted { Noted self.old.story self.new.story lane unit (came_by_start fault) }
         ensures counted { KeepsCount self.old self.new }
     {
         let tag = self.tag(lane);
-        self.note_step(lane, unit, Step::Start { tag, unit }, came_by_start(fault))?;
-        Ok(())
+        let step = Step::Start { tag, unit };
+        self.note_step(lane, unit, &step, came_by_start(fault));
     }
 
     /// Has at hand what a unit of a lane's build is likely to ask for. Changes no answer.
@@ -130,11 +121,11 @@ impl<D: Disk> Core<D> {
             }
             UnitStep::Wink(object) => Ok(UnitTurn::End(self.wink(alloc, lane, unit, object)?)),
             UnitStep::Start(script, targets) => {
-                self.start(lane, unit, None)?;
+                self.start(lane, unit, None);
                 Ok(UnitTurn::Run(script, targets))
             }
             UnitStep::Unreadable(fault) => {
-                self.start(lane, unit, Some(fault))?;
+                self.start(lane, unit, Some(fault));
                 Ok(UnitTurn::End(TurnEnd::Concluded))
             }
             UnitStep::Run(script, targets) => Ok(UnitTurn::Run(script, targets)),

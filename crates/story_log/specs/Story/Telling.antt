@@ -62,11 +62,3 @@ rows_named [] = []
 rows_named (story_steps.Opened rows counts tells ∷ story) = rows ++ rows_named story
 rows_named (story_steps.Commit row tick ∷ story) = row ∷ rows_named story
 rows_named (step ∷ story) = rows_named story
-
--- some steps tell a story, with the rows and phases that they name
-pub record TellsStory (kept : List Step) (story : List StoryStep) : Type 0 where
-  pub handed : Handed
-  pub rows : List Plain
-  pub phases : List Phase
-  pub modeled : AreNamedBySteps 1 0 kept rows phases
-  pub is : story ≡ story_of handed kept rows phases

@@ -10,7 +10,6 @@ use Rattle.story_log.specs.Story.Handed.{handed_disk}
 use Rattle.story_log.specs.Bases.Opening.{FailsToOpen}
 use Rattle.story_log.specs.Bases.Reading.{IsReadBy, IsReadOn, ReadsOnceBy}
 use Rattle.story_log.specs.declared.opening.OpenCause.{OpenCause}
-use Rattle.story_log.specs.declared.opening.OpenCause.TheVariants as causes
 use Rattle.story_log.proofs.Bases.ReadFrames.{once_by, once_on}
 use Rattle.story_log.proofs.Bases.OpenedBases.{new_on, fails_at_once, fails_to_open, keeps_first, files_first}
 use Rattle.story_log.proofs.Bases.OpenedBases.{stops_first, journal_synced, opened_backed, is_opened}
@@ -79,8 +78,8 @@ open-requires-2 g c =
     (g.met.D.Disk.counted c.args.disk) c.counts-handed.ensures.ticks c.counts-handed.ensures.faults
     (sym (g.met.D.Disk.as_typed c.args.disk)) c.requires new rows.reads rows.faultless rows.ok
 
-pub returns-in-Ok-open-clause-ok : goal.returns-in-Ok-open-clause-ok
-returns-in-Ok-open-clause-ok g c =
+pub returns-clause-ok : goal.returns-clause-ok
+returns-clause-ok g c =
     let ghost_state = g.D.Disk.ghost_state in
     let first = ghost_state c.args.disk in
     let opened = c.in-Ok.journal in
@@ -91,25 +90,9 @@ returns-in-Ok-open-clause-ok g c =
     is_opened ghost_state first (handed_disk c.counts-handed.result g.D.Disk.tells) c.in-Ok-read_rows.rows.base opened
     c.read_rows.new.journal
     (g.met.D.Disk.counted c.args.disk) c.counts-handed.ensures.ticks c.counts-handed.ensures.faults
-    (sym (g.met.D.Disk.as_typed c.args.disk)) c.requires new rows.reads rows.faultless rows.ok c.in-Ok-open.log
-    c.in-Ok-open.ensures.ok
+    (sym (g.met.D.Disk.as_typed c.args.disk)) c.requires new rows.reads rows.faultless rows.ok c.open-2.result
+    c.open-2.ensures
     (g.met.D.Disk.counted c.read_rows.new.journal.disk)
-
-pub returns-in-Err-open-clause-err : goal.returns-in-Err-open-clause-err
-returns-in-Err-open-clause-err g c =
-    let ghost_state = g.D.Disk.ghost_state in
-    let first = ghost_state c.args.disk in
-    let opened = c.in-Ok.journal in
-    let read = c.read_rows.new.journal in
-    let begins = c.in-Ok.ensures.begins in
-    let new = new_on ghost_state first opened c.in-Ok.ensures.list begins.4 begins.1 c.in-Ok.ensures.moves c.in-Ok.ensures.files
-    c.in-Ok.ensures.counts in
-    subst (λ disk. FailsToOpen first causes.NoMemory (ghost_state disk)) (sym (c.into_disk-in-Err-open.ensures
-    ∙ ap (λ journal. journal.disk) c.in-Err-open.ensures.err))
-    (fails_to_open first (ghost_state read.disk) causes.NoMemory (g.met.D.Disk.counted c.args.disk) c.requires
-    (keeps_first ghost_state first opened read new c.in-Ok-read_rows.ensures.reads)
-    (files_first ghost_state first opened read new c.in-Ok-read_rows.ensures.reads) (c.in-Ok-read_rows.ensures.faultless
-    ∙ new.counts.1))
 
 pub returns-in-Err-clause-once : goal.returns-in-Err-clause-once
 returns-in-Err-clause-once g c = modeled_once_idle _ _ c.in-Err.ensures.modeled
@@ -123,22 +106,12 @@ returns-in-Err-read_rows-clause-once g c =
     (stopped_since ghost_state first c.in-Err-read_rows.cause c.in-Ok.journal c.read_rows.new.journal begins.0 begins.5
     c.in-Ok.ensures.modeled c.in-Err-read_rows.ensures.until)
 
-pub returns-in-Ok-open-clause-once : goal.returns-in-Ok-open-clause-once
-returns-in-Ok-open-clause-once g c =
+pub returns-clause-once : goal.returns-clause-once
+returns-clause-once g c =
     let ghost_state = g.D.Disk.ghost_state in
     let first = ghost_state c.args.disk in
     let begins = c.in-Ok.ensures.begins in
     subst (λ (s : DiskState). Both ReadsOnce first.modeled s.modeled) (sym (ap (λ (l : Logged). l.ghost_state)
-    c.in-Ok-open.ensures.ok))
-    (once_since ghost_state first c.in-Ok.journal c.read_rows.new.journal begins.0 begins.5 c.in-Ok.ensures.modeled
-    c.in-Ok-read_rows.ensures.forth)
-
-pub returns-in-Err-open-clause-once : goal.returns-in-Err-open-clause-once
-returns-in-Err-open-clause-once g c =
-    let ghost_state = g.D.Disk.ghost_state in
-    let first = ghost_state c.args.disk in
-    let begins = c.in-Ok.ensures.begins in
-    subst (λ disk. Both ReadsOnce first.modeled (ghost_state disk).modeled) (sym (c.into_disk-in-Err-open.ensures
-    ∙ ap (λ journal. journal.disk) c.in-Err-open.ensures.err))
+    c.open-2.ensures))
     (once_since ghost_state first c.in-Ok.journal c.read_rows.new.journal begins.0 begins.5 c.in-Ok.ensures.modeled
     c.in-Ok-read_rows.ensures.forth)

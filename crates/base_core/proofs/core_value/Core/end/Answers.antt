@@ -6,7 +6,6 @@ use Rattle.legal_history.specs.Stories.Steps.{state_of}
 use Rattle.clearmake.specs.Going.{Finishes}
 use Rattle.base_core.specs.Keeping.CoreInvariants.{CoreInvariant}
 use Rattle.story_log.specs.Logging.Logs.{with_step}
-use Rattle.base_core.proofs.Story.Counts.{log_stays}
 use Rattle.base_core.proofs.Building.EndSteps.{preserved_ended, ended_finishes}
 use Rattle.base_core.proofs.Building.FoundBuilds.{build_preserved}
 use Rattle.base_core.proofs.Keeping.Rooms.{build_has_room}
@@ -33,7 +32,7 @@ close-requires-clause-room g c = (build_has_room c.self.inside.log c.self.inside
 
 pub invariant_of-self-2 : goal.invariant_of-self-2
 invariant_of-self-2 g c =
-    subst (λ log. CoreInvariant log c.close.new.self c.self.inside.moment) (sym c.in_ok-tell.ensures.ok)
+    subst (λ log. CoreInvariant log c.close.new.self c.self.inside.moment) (sym c.tell.ensures)
     (subst (λ lanes. CoreInvariant (with_step c.self.inside.log (steps.End c.tag-tag.result)) lanes c.self.inside.moment)
     (sym c.close.ensures)
     (preserved_ended c.self.inside.log c.self.inside.lanes c.self.inside.moment c.args.lane c.args.self.now.story c.rows.result
@@ -41,12 +40,8 @@ invariant_of-self-2 g c =
     (ap (λ v. v.story) c.self.view_is) c.self.invariant c.requires c.build_at.ensures.active (sym c.rows.ensures)
     c.tag-tag.ensures c.in_ok-reply.ensures))
 
-pub returns-in_err-tell-clause-counted : goal.returns-in_err-tell-clause-counted
-returns-in_err-tell-clause-counted g c = log_stays c.self.inside.log c.tell.new.self c.args.self.now c.self.view_is
-    c.in_err-tell.ensures.err
-
 pub returns-clause-ok : goal.returns-clause-ok
 returns-clause-ok g c =
-    subst (λ log. Finishes c.args.self.now.story log.story c.args.lane) (sym c.in_ok-tell.ensures.ok)
+    subst (λ log. Finishes c.args.self.now.story log.story c.args.lane) (sym c.tell.ensures)
     (ended_finishes c.self.inside.log c.args.self.now.story c.args.lane c.tag-tag.result (ap (λ v. v.story) c.self.view_is)
     c.tag-tag.ensures)

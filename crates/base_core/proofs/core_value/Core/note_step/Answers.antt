@@ -8,7 +8,6 @@ use Rattle.base_core.specs.Keeping.CoreInvariants.{CoreInvariant}
 use Rattle.story_log.proofs.Cases.{some_same}
 use Rattle.base_core.proofs.Keeping.LaneSlots.{lane_slot, slot_there}
 use Rattle.base_core.proofs.Building.UnitNotes.{preserved_noted, noted_so, shown_note}
-use Rattle.base_core.proofs.Story.Counts.{log_stays}
 use Rattle.base_core.proofs.core_value.Core.note_step.Goals as goal
 
 pub note-requires-clause-from : goal.note-requires-clause-from
@@ -44,18 +43,14 @@ note-requires-clause-unit g c =
 
 pub invariant_of-self-2 : goal.invariant_of-self-2
 invariant_of-self-2 g c =
-    subst (λ log. CoreInvariant log c.note.new.self c.self.inside.moment) (sym c.in_ok-tell.ensures.ok)
+    subst (λ log. CoreInvariant log c.note.new.self c.self.inside.moment) (sym c.tell.ensures)
     (preserved_noted c.self.inside.log c.self.inside.lanes c.note.new.self c.self.inside.moment c.args.self.now.story c.args.lane
     c.args.unit c.args.step (came_of c.args.came)
     (ap (λ v. v.story) c.self.view_is) c.self.invariant c.requires (λ build e. c.note.ensures build e))
 
-pub returns-clause-ok : goal.returns-clause-ok
-returns-clause-ok g c =
+pub returns-clause-noted : goal.returns-clause-noted
+returns-clause-noted g c =
     subst (λ log. Noted c.args.self.now.story log.story c.args.lane c.args.unit (came_of c.args.came))
-    (sym c.in_ok-tell.ensures.ok)
+    (sym c.tell.ensures)
     (noted_so c.self.inside.log c.args.self.now.story c.args.lane c.args.unit c.args.step (came_of c.args.came)
     (ap (λ v. v.story) c.self.view_is) c.requires)
-
-pub returns-in_err-tell-clause-counted : goal.returns-in_err-tell-clause-counted
-returns-in_err-tell-clause-counted g c = log_stays c.self.inside.log c.tell.new.self c.args.self.now c.self.view_is
-    c.in_err-tell.ensures.err

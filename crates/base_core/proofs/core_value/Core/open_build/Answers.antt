@@ -7,25 +7,20 @@ use Rattle.clearmake.specs.Going.{GoesOn}
 use Rattle.base_core.specs.Keeping.CoreInvariants.{CoreInvariant}
 use Rattle.story_log.specs.Logging.Logs.{with_step}
 use Rattle.base_core.proofs.Building.OpenSteps.{preserved_opened, opened_so}
-use Rattle.base_core.proofs.Story.Counts.{log_stays}
 use Rattle.base_core.proofs.core_value.Core.open_build.Goals as goal
 
 pub invariant_of-self-2 : goal.invariant_of-self-2
 invariant_of-self-2 g c =
-    subst (λ log. CoreInvariant log c.open.new.self c.self.inside.moment) (sym c.in_ok-tell.ensures.ok)
+    subst (λ log. CoreInvariant log c.open.new.self c.self.inside.moment) (sym c.tell.ensures)
     (subst (λ lanes. CoreInvariant (with_step c.self.inside.log (steps.Begin c.tag-tag.result c.rows.result
     (length c.units.result.now))) lanes c.self.inside.moment) (sym c.open.ensures)
     (preserved_opened c.self.inside.log c.self.inside.lanes c.self.inside.moment c.rows.result (length c.units.result.now)
     c.args.self.now.story c.tag-tag.result c.args.build
     (ap (λ v. v.story) c.self.view_is) c.self.invariant c.requires c.tag-tag.ensures c.rows.ensures (ap length c.units.ensures)))
 
-pub returns-clause-ok : goal.returns-clause-ok
-returns-clause-ok g c =
+pub returns-clause-begins : goal.returns-clause-begins
+returns-clause-begins g c =
     let so = opened_so c.self.inside.log c.rows.result (length c.units.result.now) c.args.self.now.story c.tag-tag.result
     c.args.build (ap (λ v. v.story) c.self.view_is) c.requires c.tag-tag.ensures in
     subst (λ log. GoesOn c.args.self.now.story log.story c.args.build.tag.lane
-    × IsBuilding (state_of log.story) c.args.build.tag.lane (length c.args.build.units)) (sym c.in_ok-tell.ensures.ok) so
-
-pub returns-in_err-tell-clause-counted : goal.returns-in_err-tell-clause-counted
-returns-in_err-tell-clause-counted g c = log_stays c.self.inside.log c.tell.new.self c.args.self.now c.self.view_is
-    c.in_err-tell.ensures.err
+    × IsBuilding (state_of log.story) c.args.build.tag.lane (length c.args.build.units)) (sym c.tell.ensures) so

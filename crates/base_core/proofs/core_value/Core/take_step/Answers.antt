@@ -6,11 +6,11 @@ use Rattle.base_core.proofs.Building.FoundBuilds.{carried_tries, concludes_waiti
 use Rattle.base_core.proofs.Building.Goings.{goes_nowhere}
 use Rattle.base_core.proofs.core_value.Core.take_step.Goals as goal
 
-pub returns-in_ok-start-in-Start-clause-ok : goal.returns-in_ok-start-in-Start-clause-ok
-returns-in_ok-start-in-Start-clause-ok g c =
+pub returns-in-Start-clause-ok : goal.returns-in-Start-clause-ok
+returns-in-Start-clause-ok g c =
     let may = subst (StepsTo (state_of c.args.self.now.story) c.args.lane c.args.unit) c.in-Start.is c.in_ok-step.ensures in
     started_has c.args.self.now.story c.start.new.self.story c.args.lane c.args.unit c.in-Start.script c.in-Start.targets may.0
-    may.1 c.in_ok-start-in-Start.ensures.ok
+    may.1 c.start-in-Start.ensures.noted
 
 pub returns-in-Run-clause-ok : goal.returns-in-Run-clause-ok
 returns-in-Run-clause-ok g c = (
@@ -44,12 +44,12 @@ returns-in_ok-wink-in-Wink-clause-concluded g c = λ has.
     let may = subst (StepsTo (state_of c.args.self.now.story) c.args.lane c.args.unit) c.in-Wink.is c.in_ok-step.ensures in
     absurd (winks_waiting (state_of c.args.self.now.story) c.args.lane c.args.unit _ may has)
 
-pub returns-in_ok-start-in-Start-clause-concluded : goal.returns-in_ok-start-in-Start-clause-concluded
-returns-in_ok-start-in-Start-clause-concluded g c = λ has.
+pub returns-in-Start-clause-concluded : goal.returns-in-Start-clause-concluded
+returns-in-Start-clause-concluded g c = λ has.
     let may = subst (StepsTo (state_of c.args.self.now.story) c.args.lane c.args.unit) c.in-Start.is c.in_ok-step.ensures in
     absurd (starts_waiting (state_of c.args.self.now.story) c.args.lane c.args.unit _ may.0 has)
 
-pub returns-in_ok-start-in-Unreadable-clause-concluded : goal.returns-in_ok-start-in-Unreadable-clause-concluded
-returns-in_ok-start-in-Unreadable-clause-concluded g c = λ has.
+pub returns-in-Unreadable-clause-concluded : goal.returns-in-Unreadable-clause-concluded
+returns-in-Unreadable-clause-concluded g c = λ has.
     let may = subst (StepsTo (state_of c.args.self.now.story) c.args.lane c.args.unit) c.in-Unreadable.is c.in_ok-step.ensures in
     absurd (starts_waiting (state_of c.args.self.now.story) c.args.lane c.args.unit _ may has)

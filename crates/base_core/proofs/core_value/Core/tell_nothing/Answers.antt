@@ -6,7 +6,6 @@ use Rattle.cc_names.specs.declared.steps.Step.TheVariants as steps
 use Rattle.base_core.specs.Calls.Acting.{IsNextAnswer}
 use Rattle.base_core.specs.Keeping.CoreInvariants.{CoreInvariant}
 use Rattle.story_log.specs.Logging.Logs.{with_step}
-use Rattle.base_core.proofs.Story.Counts.{log_stays}
 use Rattle.base_core.proofs.Acting.Finishing.{preserved_next_answer}
 use Rattle.base_core.proofs.Keeping.Rooms.{answer_has_room}
 use Rattle.base_core.proofs.core_value.Core.tell_nothing.Goals as goal
@@ -15,13 +14,9 @@ pub reply-requires-clause-room : goal.reply-requires-clause-room
 reply-requires-clause-room g c = (answer_has_room c.self.inside.log c.self.inside.lanes c.self.inside.moment c.args.self.now.story
     c.args.tag [] (replies.Count 0) (ap (λ v. v.story) c.self.view_is) c.self.invariant c.requires).room
 
-pub returns-in_err-tell-clause-counted : goal.returns-in_err-tell-clause-counted
-returns-in_err-tell-clause-counted g c = log_stays c.self.inside.log c.tell.new.self c.args.self.now c.self.view_is
-    c.in_err-tell.ensures.err
-
 pub invariant_of-self-2 : goal.invariant_of-self-2
 invariant_of-self-2 g c =
-    subst (λ log. CoreInvariant log c.reply.new.self c.self.inside.moment) (sym c.in_ok-tell.ensures.ok)
+    subst (λ log. CoreInvariant log c.reply.new.self c.self.inside.moment) (sym c.tell.ensures)
     (subst (λ lanes. CoreInvariant (with_step c.self.inside.log (steps.Answer c.args.tag c.of-text.result)) lanes
     c.self.inside.moment) (sym c.reply.ensures)
     (preserved_next_answer c.self.inside.log c.self.inside.lanes c.self.inside.moment c.args.self.now.story c.args.tag

@@ -23,8 +23,7 @@ invariant_of-self-in-Ok g c =
     let ghost_state = g.D.Disk.ghost_state in
     let log = c.self.inside in
     let commit = steps.Commit c.tag-tag.result c.size-number.result c.in-Ok.tick in
-    let kept : c.push_reserved.new.self.items ≡ log.steps.items ++ commit ∷ [] = c.push_reserved.ensures.items
-    ∙ ap (λ xs. xs ++ commit ∷ []) c.reserve-2.ensures.items in
+    let kept : c.tell.new.self.items ≡ log.steps.items ++ commit ∷ [] = c.tell.ensures in
     let rows : c.push.new.self.base ≡ c.args.row ∷ log.rows.base = c.push.ensures
     ∙ ap (λ b. c.args.row ∷ b) c.reserve.ensures.same in
     let took : TakesRow c.args.row (ghost_state log.journal.disk) (ghost_state c.append.new.self.disk)
@@ -41,7 +40,7 @@ invariant_of-self-in-Ok g c =
       settled = c.in-Ok.ensures.settled;
     } in
     logged_row (handed_disk log.handed g.D.Disk.tells) log.steps.items log.rows.base log.phases.items log.left
-    (ghost_state log.journal.disk) (journal_state log.journal) c.self.invariant c.push_reserved.new.self.items
+    (ghost_state log.journal.disk) (journal_state log.journal) c.self.invariant c.tell.new.self.items
     c.push.new.self.base c.tag-tag.result c.size-number.result c.in-Ok.tick c.args.row (ghost_state c.append.new.self.disk)
     (journal_state c.append.new.self) kept rows (sym c.tag-tag.ensures) (omega (
       arith,
@@ -57,14 +56,13 @@ returns-in-Ok-clause-ok g c =
     let log = c.self.inside in
     let on = handed_disk log.handed g.D.Disk.tells in
     let commit = steps.Commit c.tag-tag.result c.size-number.result c.in-Ok.tick in
-    let kept : c.push_reserved.new.self.items ≡ log.steps.items ++ commit ∷ [] = c.push_reserved.ensures.items
-    ∙ ap (λ xs. xs ++ commit ∷ []) c.reserve-2.ensures.items in
+    let kept : c.tell.new.self.items ≡ log.steps.items ++ commit ∷ [] = c.tell.ensures in
     let rows : c.push.new.self.base ≡ c.args.row ∷ log.rows.base = c.push.ensures
     ∙ ap (λ b. c.args.row ∷ b) c.reserve.ensures.same in
-    subst (λ old. IsCommitted old (shown on c.push_reserved.new.self.items c.push.new.self.base log.phases.items
+    subst (λ old. IsCommitted old (shown on c.tell.new.self.items c.push.new.self.base log.phases.items
     (ghost_state c.append.new.self.disk)) c.args.row) c.self.view_is
     (is_committed on log.steps.items log.rows.base log.phases.items log.left (ghost_state log.journal.disk)
-    (ghost_state c.append.new.self.disk) (journal_state log.journal) c.self.invariant c.push_reserved.new.self.items
+    (ghost_state c.append.new.self.disk) (journal_state log.journal) c.self.invariant c.tell.new.self.items
     c.push.new.self.base c.tag-tag.result c.size-number.result c.in-Ok.tick _ c.args.row kept rows c.in-Ok.ensures.tick
     c.in-Ok.ensures.costs.0 (some_calls log.journal.settled) c.in-Ok.ensures.costs.1 c.deed.ensures.formed
     (g.met.D.Disk.counted c.append.new.self.disk) c.in-Ok.ensures.writes
@@ -90,8 +88,7 @@ invariant_of-self-2 g c =
       faults = c.counts-counts.result.faults;
       tick = c.counts-counts.result.ticks;
     } in
-    let kept : c.push_both.new.steps.items ≡ log.steps.items ++ fault_step fault ∷ option_to_list c.args.ending =
-    c.push_both.ensures ∙ ap (λ xs. xs ++ fault_step fault ∷ option_to_list c.args.ending) c.reserve-2.ensures.items in
+    let kept : c.tell_both.new.self.items ≡ log.steps.items ++ fault_step fault ∷ option_to_list c.args.ending = c.tell_both.ensures in
     let left : LeftSo log.left c.args.row c.append.new.self.left c.match-left_by_last_call.left =
     elim c.match-left_by_last_call.branch [
       | in-Nothing w ↦ subst (λ l. LeftSo log.left c.args.row l c.match-left_by_last_call.left)
@@ -113,12 +110,12 @@ invariant_of-self-2 g c =
       settled = c.in_default.ensures.settled;
       ajar = earlier_unsettled log.journal.settled c.append.new.self.left _ _ c.in_default.ensures.fails;
     } in
-    subst (λ rows. IsLogged on c.push_both.new.steps.items rows log.phases.items c.match-left_by_last_call.left
+    subst (λ rows. IsLogged on c.tell_both.new.self.items rows log.phases.items c.match-left_by_last_call.left
     (ghost_state c.append.new.self.disk) (journal_state c.append.new.self)) (sym c.reserve.ensures.same)
-    (subst (λ left. IsLogged on c.push_both.new.steps.items log.rows.base log.phases.items left
+    (subst (λ left. IsLogged on c.tell_both.new.self.items log.rows.base log.phases.items left
     (ghost_state c.append.new.self.disk) (journal_state c.append.new.self)) c.of.ensures
     (logged_faulted on log.steps.items log.rows.base log.phases.items log.left (ghost_state log.journal.disk)
-    (ghost_state c.append.new.self.disk) (journal_state log.journal) c.self.invariant c.push_both.new.steps.items c.args.row fault
+    (ghost_state c.append.new.self.disk) (journal_state log.journal) c.self.invariant c.tell_both.new.self.items c.args.row fault
     c.args.ending (journal_state c.append.new.self) c.requires.ending kept missed
     (subst (LeftSo log.left c.args.row c.append.new.self.left) (sym c.of.ensures) left)
     c.counts-counts.ensures.ticks c.counts-counts.ensures.faults
@@ -137,8 +134,7 @@ returns-clause-ok g c =
       faults = c.counts-counts.result.faults;
       tick = c.counts-counts.result.ticks;
     } in
-    let kept : c.push_both.new.steps.items ≡ log.steps.items ++ fault_step fault ∷ option_to_list c.args.ending =
-    c.push_both.ensures ∙ ap (λ xs. xs ++ fault_step fault ∷ option_to_list c.args.ending) c.reserve-2.ensures.items in
+    let kept : c.tell_both.new.self.items ≡ log.steps.items ++ fault_step fault ∷ option_to_list c.args.ending = c.tell_both.ensures in
     let left : LeftSo log.left c.args.row c.append.new.self.left c.match-left_by_last_call.left =
     elim c.match-left_by_last_call.branch [
       | in-Nothing w ↦ subst (λ l. LeftSo log.left c.args.row l c.match-left_by_last_call.left)
@@ -148,13 +144,13 @@ returns-clause-ok g c =
       | in-InFlight w ↦ subst (λ l. LeftSo log.left c.args.row l c.match-left_by_last_call.left)
           (sym w.in-InFlight.is ∙ c.left_by_last_call.ensures) w.left-is
     ] in
-    subst (λ old. IsFaulted old (shown on c.push_both.new.steps.items c.reserve.new.self.base log.phases.items
+    subst (λ old. IsFaulted old (shown on c.tell_both.new.self.items c.reserve.new.self.base log.phases.items
     (ghost_state c.append.new.self.disk)) c.args.row c.args.ending) c.self.view_is
     (subst (λ rows. IsFaulted (shown on log.steps.items log.rows.base log.phases.items (ghost_state log.journal.disk))
-    (shown on c.push_both.new.steps.items rows log.phases.items (ghost_state c.append.new.self.disk)) c.args.row c.args.ending)
+    (shown on c.tell_both.new.self.items rows log.phases.items (ghost_state c.append.new.self.disk)) c.args.row c.args.ending)
     (sym c.reserve.ensures.same)
     (is_faulted on log.steps.items log.rows.base log.phases.items log.left (ghost_state log.journal.disk)
-    (ghost_state c.append.new.self.disk) (journal_state log.journal) c.self.invariant c.push_both.new.steps.items c.args.row fault
+    (ghost_state c.append.new.self.disk) (journal_state log.journal) c.self.invariant c.tell_both.new.self.items c.args.row fault
     c.args.ending c.append.new.self.left c.tag-tag.ensures c.requires.ending kept
     (subst (LeftSo log.left c.args.row c.append.new.self.left) (sym c.of.ensures) left)
     c.counts-counts.ensures.ticks c.counts-counts.ensures.faults c.counts-before.ensures.faults c.in_default.ensures.costs.0

@@ -14,7 +14,7 @@ invariant_of-self-2 g c =
     ∙ ap (λ xs. xs ++ c.args.phase ∷ []) c.reserve.ensures.items in
     logged_phase (handed_disk log.handed g.D.Disk.tells) log.steps.items log.rows.base log.phases.items log.left
     (g.D.Disk.ghost_state log.journal.disk) (journal_state log.journal) c.self.invariant _ _ (c.len.result + 1) c.args.moment
-    c.args.phase c.in_ok-push_step.ensures.ok phases (omega (arith, ap length c.reserve.ensures.items))
+    c.args.phase c.tell.ensures phases (omega (arith, ap length c.reserve.ensures.items))
 
 pub returns-clause-ok : goal.returns-clause-ok
 returns-clause-ok g c =
@@ -22,5 +22,5 @@ returns-clause-ok g c =
     let phases : c.push_reserved.new.self.items ≡ log.phases.items ++ c.args.phase ∷ [] = c.push_reserved.ensures.items
     ∙ ap (λ xs. xs ++ c.args.phase ∷ []) c.reserve.ensures.items in
     shown_phase (handed_disk log.handed g.D.Disk.tells) log.steps.items log.rows.base log.phases.items c.self.invariant.modeled
-    _ _ (c.len.result + 1) c.args.moment c.args.phase _ c.in_ok-push_step.ensures.ok phases
+    _ _ (c.len.result + 1) c.args.moment c.args.phase _ c.tell.ensures phases
     ∙ ap (λ log. with_phase log c.args.phase c.args.moment) c.self.view_is

@@ -9,16 +9,16 @@ use Rattle.story_log.proofs.Logging.Logged.{logged_step, quiet_shown}
 use Rattle.story_log.proofs.Logging.LogSteps.{shown_step}
 use Rattle.story_log.proofs.logs.Log.tell.Goals as goal
 
-pub invariant_of-self-2 : goal.invariant_of-self-2
-invariant_of-self-2 g c =
+pub invariant_of-self : goal.invariant_of-self
+invariant_of-self g c =
     let log = c.self.inside in
     logged_step (handed_disk log.handed g.D.Disk.tells) log.steps.items log.rows.base log.phases.items log.left
-    (g.D.Disk.ghost_state log.journal.disk) (journal_state log.journal) c.self.invariant _ c.args.step c.requires.quiet
-    c.in_ok-push_step.ensures.ok
+    (g.D.Disk.ghost_state log.journal.disk) (journal_state log.journal) c.self.invariant _ c.args.step.now c.requires.quiet
+    c.tell.ensures
 
-pub returns-clause-ok : goal.returns-clause-ok
-returns-clause-ok g c =
+pub returns : goal.returns
+returns g c =
     let log = c.self.inside in
     shown_step (handed_disk log.handed g.D.Disk.tells) log.steps.items log.rows.base log.phases.items c.self.invariant.modeled _
-    c.args.step _ (ap is_some (quiet_shown (shown_as c.args.step) c.requires.quiet).1) c.in_ok-push_step.ensures.ok
-    ∙ ap (λ log. with_step log c.args.step) c.self.view_is
+    c.args.step.now _ (ap is_some (quiet_shown (shown_as c.args.step.now) c.requires.quiet).1) c.tell.ensures
+    ∙ ap (λ log. with_step log c.args.step.now) c.self.view_is
