@@ -30,8 +30,8 @@ pub close-requires-clause-room : goal.close-requires-clause-room
 close-requires-clause-room g c = (build_has_room c.self.inside.log c.self.inside.lanes c.self.inside.moment c.args.self.now.story
     c.args.lane c.requires.build (ap (λ v. v.story) c.self.view_is) c.self.invariant c.requires.active).room
 
-pub invariant_of-self-2 : goal.invariant_of-self-2
-invariant_of-self-2 g c =
+pub invariant_of-self : goal.invariant_of-self
+invariant_of-self g c =
     subst (λ log. CoreInvariant log c.close.new.self c.self.inside.moment) (sym c.tell.ensures)
     (subst (λ lanes. CoreInvariant (with_step c.self.inside.log (steps.End c.tag-tag.result)) lanes c.self.inside.moment)
     (sym c.close.ensures)

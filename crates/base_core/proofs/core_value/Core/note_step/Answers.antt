@@ -12,21 +12,21 @@ use Rattle.base_core.proofs.core_value.Core.note_step.Goals as goal
 
 pub note-requires-clause-from : goal.note-requires-clause-from
 note-requires-clause-from g c =
-    let here = (shown_note (state_of c.args.self.now.story) c.args.lane c.args.unit c.args.step (came_of c.args.came)
+    let here = (shown_note (state_of c.args.self.now.story) c.args.lane c.args.unit c.args.step.now (came_of c.args.came)
     c.requires).notes in
     (lane_slot c.self.inside.log c.self.inside.lanes c.self.inside.moment c.args.lane here.build
     c.self.invariant (ap (λ v. build_of (state_of v.story).active c.args.lane) c.self.view_is ∙ here.active)).from
 
 pub note-requires-clause-upto : goal.note-requires-clause-upto
 note-requires-clause-upto g c =
-    let here = (shown_note (state_of c.args.self.now.story) c.args.lane c.args.unit c.args.step (came_of c.args.came)
+    let here = (shown_note (state_of c.args.self.now.story) c.args.lane c.args.unit c.args.step.now (came_of c.args.came)
     c.requires).notes in
     (lane_slot c.self.inside.log c.self.inside.lanes c.self.inside.moment c.args.lane here.build
     c.self.invariant (ap (λ v. build_of (state_of v.story).active c.args.lane) c.self.view_is ∙ here.active)).upto
 
 pub note-requires-clause-build : goal.note-requires-clause-build
 note-requires-clause-build g c =
-    let here = (shown_note (state_of c.args.self.now.story) c.args.lane c.args.unit c.args.step (came_of c.args.came)
+    let here = (shown_note (state_of c.args.self.now.story) c.args.lane c.args.unit c.args.step.now (came_of c.args.came)
     c.requires).notes in
     slot_there c.self.inside.lanes c.args.lane here.build
     (lane_slot c.self.inside.log c.self.inside.lanes c.self.inside.moment c.args.lane here.build
@@ -34,23 +34,23 @@ note-requires-clause-build g c =
 
 pub note-requires-clause-unit : goal.note-requires-clause-unit
 note-requires-clause-unit g c =
-    let here = (shown_note (state_of c.args.self.now.story) c.args.lane c.args.unit c.args.step (came_of c.args.came)
+    let here = (shown_note (state_of c.args.self.now.story) c.args.lane c.args.unit c.args.step.now (came_of c.args.came)
     c.requires).notes in
     λ build e. subst (λ b. c.args.unit < length b.units) (some_same here.build build
     (sym (lane_slot c.self.inside.log c.self.inside.lanes c.self.inside.moment c.args.lane here.build
     c.self.invariant (ap (λ v. build_of (state_of v.story).active c.args.lane) c.self.view_is ∙ here.active)).held ∙ e))
     here.within
 
-pub invariant_of-self-2 : goal.invariant_of-self-2
-invariant_of-self-2 g c =
+pub invariant_of-self : goal.invariant_of-self
+invariant_of-self g c =
     subst (λ log. CoreInvariant log c.note.new.self c.self.inside.moment) (sym c.tell.ensures)
     (preserved_noted c.self.inside.log c.self.inside.lanes c.note.new.self c.self.inside.moment c.args.self.now.story c.args.lane
-    c.args.unit c.args.step (came_of c.args.came)
+    c.args.unit c.args.step.now (came_of c.args.came)
     (ap (λ v. v.story) c.self.view_is) c.self.invariant c.requires (λ build e. c.note.ensures build e))
 
 pub returns-clause-noted : goal.returns-clause-noted
 returns-clause-noted g c =
     subst (λ log. Noted c.args.self.now.story log.story c.args.lane c.args.unit (came_of c.args.came))
     (sym c.tell.ensures)
-    (noted_so c.self.inside.log c.args.self.now.story c.args.lane c.args.unit c.args.step (came_of c.args.came)
+    (noted_so c.self.inside.log c.args.self.now.story c.args.lane c.args.unit c.args.step.now (came_of c.args.came)
     (ap (λ v. v.story) c.self.view_is) c.requires)

@@ -9,8 +9,8 @@ use Rattle.story_log.specs.Logging.Logs.{with_step}
 use Rattle.base_core.proofs.Building.OpenSteps.{preserved_opened, opened_so}
 use Rattle.base_core.proofs.core_value.Core.open_build.Goals as goal
 
-pub invariant_of-self-2 : goal.invariant_of-self-2
-invariant_of-self-2 g c =
+pub invariant_of-self : goal.invariant_of-self
+invariant_of-self g c =
     subst (λ log. CoreInvariant log c.open.new.self c.self.inside.moment) (sym c.tell.ensures)
     (subst (λ lanes. CoreInvariant (with_step c.self.inside.log (steps.Begin c.tag-tag.result c.rows.result
     (length c.units.result.now))) lanes c.self.inside.moment) (sym c.open.ensures)

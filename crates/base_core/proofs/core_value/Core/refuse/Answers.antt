@@ -13,8 +13,8 @@ pub reply-requires-clause-room : goal.reply-requires-clause-room
 reply-requires-clause-room g c = (refusal_has_room c.self.inside.log c.self.inside.lanes c.self.inside.moment
     c.args.self.now.story c.args.tag c.args.refusal (ap (λ v. v.story) c.self.view_is) c.self.invariant c.requires).room
 
-pub invariant_of-self-2 : goal.invariant_of-self-2
-invariant_of-self-2 g c =
+pub invariant_of-self : goal.invariant_of-self
+invariant_of-self g c =
     subst (λ log. CoreInvariant log c.reply.new.self c.self.inside.moment) (sym c.tell.ensures)
     (subst (λ lanes. CoreInvariant (with_step c.self.inside.log (steps.Refused c.args.tag c.args.refusal)) lanes
     c.self.inside.moment) (sym (c.reply.ensures ∙ ap (λ replied. with_reply c.self.inside.lanes c.args.tag.lane

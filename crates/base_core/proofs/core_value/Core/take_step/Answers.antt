@@ -10,7 +10,7 @@ pub returns-in-Start-clause-ok : goal.returns-in-Start-clause-ok
 returns-in-Start-clause-ok g c =
     let may = subst (StepsTo (state_of c.args.self.now.story) c.args.lane c.args.unit) c.in-Start.is c.in_ok-step.ensures in
     started_has c.args.self.now.story c.start.new.self.story c.args.lane c.args.unit c.in-Start.script c.in-Start.targets may.0
-    may.1 c.start-in-Start.ensures.noted
+    may.1 c.start.ensures.noted
 
 pub returns-in-Run-clause-ok : goal.returns-in-Run-clause-ok
 returns-in-Run-clause-ok g c = (

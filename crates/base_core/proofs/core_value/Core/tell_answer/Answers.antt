@@ -14,8 +14,8 @@ pub reply-requires-clause-room : goal.reply-requires-clause-room
 reply-requires-clause-room g c = (answer_has_room c.self.inside.log c.self.inside.lanes c.self.inside.moment c.args.self.now.story
     c.args.tag c.args.text (replies.Answer c.args.text) (ap (λ v. v.story) c.self.view_is) c.self.invariant c.requires).room
 
-pub invariant_of-self-2 : goal.invariant_of-self-2
-invariant_of-self-2 g c =
+pub invariant_of-self : goal.invariant_of-self
+invariant_of-self g c =
     subst (λ log. CoreInvariant log c.reply.new.self c.self.inside.moment) (sym c.tell.ensures)
     (subst (λ lanes. CoreInvariant (with_step c.self.inside.log (steps.Answer c.args.tag c.of-kept.result)) lanes
     c.self.inside.moment) (sym c.reply.ensures)
