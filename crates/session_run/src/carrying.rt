@@ -5,6 +5,7 @@ ghost use Rattle.std.specs.Io.KnownBytes.{Appends};
 ghost use Rattle.cc_outside.specs.Feeds.{AppendsPrefix};
 ghost use Rattle.base_core.specs.Story.Counted.{KeepsCount};
 ghost use Rattle.large_session.specs.Summaries.{summary};
+ghost use Rattle.session_run.specs.Calls.Causes.{SinkRests};
 ghost use Rattle.session_run.specs.Running.Forms.{HasDone, IsGivenUp};
 ghost use Rattle.session_run.specs.Running.Runs.{outside_of, IsJustOpened, IsRunnable, CountsWriteFaults};
 ghost use Rattle.session_run.specs.Story.Begun.{first_step};
@@ -38,6 +39,7 @@ fn write_summary<K: Sink>(
         (summary transcripts.now)) }
     ensures fault { CountsWriteFaults result (K.ghost_state sink.old).faults
         (K.ghost_state sink.new).faults }
+    ensures rests { SinkRests (K.ghost_state sink.old) (K.ghost_state sink.new) }
 {
     let text = summary(alloc, transcripts)?;
     match write_whole(sink, text.as_bytes()) {
@@ -72,6 +74,7 @@ fn run_summed<R: Threads + Wait + Sync, G: Hook + Sync, K: Sink, D: Disk + Send,
     ensures counted { KeepsCount core result.0 }
     ensures fault { CountsWriteFaults result.1 (K.ghost_state sink.old).faults
         (K.ghost_state sink.new).faults }
+    ensures rests { SinkRests (K.ghost_state sink.old) (K.ghost_state sink.new) }
 {
     let Ok(mut transcripts) = MemorySink::new(host.alloc, &[]) else {
         return (core, Err(Or::NoMemory));
@@ -120,6 +123,7 @@ pub(crate) fn carry_out<
     ensures counted { KeepsCount core result.0 }
     ensures fault { CountsWriteFaults result.1 (K.ghost_state sink.old).faults
         (K.ghost_state sink.new).faults }
+    ensures rests { SinkRests (K.ghost_state sink.old) (K.ghost_state sink.new) }
 {
     match form {
         Form::Run => run_phases(host, core, phases, sink, clock),

@@ -3,6 +3,7 @@
 ghost use Rattle.std.specs.Prelude.{◌≡◌, IfOk, OnOk, OnErr};
 ghost use Rattle.std.specs.Io.KnownBytes.{Appends};
 ghost use Rattle.cc_outside.specs.Feeds.{AppendsPrefix};
+ghost use Rattle.session_run.specs.Calls.Causes.{SinkRests};
 ghost use Rattle.session_run.specs.Running.Checks.{is_unsound, verdict_line};
 ghost use Rattle.session_run.specs.Running.Runs.{CountsWriteFaults};
 ghost use Rattle.session_run.specs.Story.Modeled.{tells_failure, text_modeled};
@@ -56,6 +57,7 @@ pub(crate) fn write_check<K: Sink, D: Disk>(
         (text_modeled forms.Verify core.now.story)) }
     ensures fault { CountsWriteFaults result (K.ghost_state sink.old).faults
         (K.ghost_state sink.new).faults }
+    ensures rests { SinkRests (K.ghost_state sink.old) (K.ghost_state sink.new) }
 {
     let verdict = core.verify(alloc)?;
     match write_whole(sink, verdict_line(verdict).as_str().as_bytes()) {

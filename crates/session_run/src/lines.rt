@@ -3,7 +3,7 @@
 ghost use Rattle.std.specs.Prelude.{◌≡◌, ◌≤◌, length};
 ghost use Rattle.story_log.specs.declared.opening.OpenCause.TheVariants as opens;
 ghost use Rattle.session_run.specs.declared.sessions.Unstarted.TheVariants as why;
-ghost use Rattle.session_run.specs.Calls.Causes.{sink_faults};
+ghost use Rattle.session_run.specs.Calls.Causes.{SinkRests, sink_faults};
 ghost use Rattle.session_run.specs.Calls.Statuses.{cause_word};
 ghost use Rattle.session_run.specs.Running.Unstarted.{unstarted_status, unstarted_line, WritesUnstarted};
 
@@ -95,9 +95,10 @@ fn line_of(unstarted: Unstarted) -> ArrayString<80>
 /// Writes the line that says why no session was started, and answers the status. Want of memory has no line. Takes no memory.
 #[tactic(auto, using(crate::proofs::Calls::UnstartedStatuses::only_memory, crate::proofs::Calls::UnstartedStatuses::has_line))]
 pub(crate) fn write_unstarted<K: Sink>(unstarted: Unstarted, sink: &mut K) -> Status
-    ensures { WritesUnstarted unstarted result (K.ghost_state sink.old).held
+    ensures writes { WritesUnstarted unstarted result (K.ghost_state sink.old).held
         (K.ghost_state sink.new).held
         (sink_faults (K.ghost_state sink.old) (K.ghost_state sink.new)) }
+    ensures rests { SinkRests (K.ghost_state sink.old) (K.ghost_state sink.new) }
 {
     if matches!(unstarted, Unstarted::Unopened(OpenCause::NoMemory)) {
         return Status::NoMemory;

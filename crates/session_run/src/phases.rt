@@ -10,6 +10,7 @@ ghost use Rattle.legal_history.specs.Stories.Steps.{state_of};
 ghost use Rattle.legal_history.specs.Stories.Lawful.{last_moment};
 ghost use Rattle.base_core.specs.Story.Counted.{KeepsCount};
 ghost use Rattle.base_core.specs.Story.Replying.{replies_of};
+ghost use Rattle.session_run.specs.Calls.Causes.{SinkRests};
 ghost use Rattle.session_run.specs.Running.Phases.{RunsPhase, LeavesPhase};
 ghost use Rattle.session_run.specs.Running.Runs.{outside_of, IsJustOpened, IsReadyPhase, IsRunnable, HasRunPhases, IsRunGivenUp, CountsWriteFaults};
 ghost use Rattle.session_run.specs.Story.Begun.{first_step, is_opened};
@@ -82,6 +83,9 @@ fn write_transcript<K: Sink, D: Disk>(
         (transcript number (state_of core.now.story).phase (replies_of core.now.story))) }
     ensures fault { CountsWriteFaults result (K.ghost_state sink.old).faults
         (K.ghost_state sink.new).faults }
+    ensures goes_on { OnOk result
+        ((K.ghost_state sink.new).ended ≡ (K.ghost_state sink.old).ended) }
+    ensures rests { SinkRests (K.ghost_state sink.old) (K.ghost_state sink.new) }
 {
     let text = transcript(alloc, core, number)?;
     match write_whole(sink, text.as_bytes()) {
@@ -120,6 +124,7 @@ pub(crate) fn run_phases<
     ensures counted { KeepsCount core result.0 }
     ensures fault { CountsWriteFaults result.1 (K.ghost_state sink.old).faults
         (K.ghost_state sink.new).faults }
+    ensures rests { SinkRests (K.ghost_state sink.old) (K.ghost_state sink.new) }
 {
     let mut core = core;
     let mut failed = false;

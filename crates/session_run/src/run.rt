@@ -9,7 +9,7 @@ ghost use Rattle.story_log.specs.Stopping.Backed.{may_be_open};
 ghost use Rattle.cc_names.specs.Counts.{rises};
 ghost use Rattle.disk_model.specs.DiskStates.{IfModeled, Both, IsCounted};
 ghost use Rattle.session_run.specs.Calls.Asked.{form_of};
-ghost use Rattle.session_run.specs.Calls.Causes.{disk_ghost_states, intake_of, sink_faults, FindsDamage, HasCause, KeepsSink, LeavesAlone, TakesNoMore};
+ghost use Rattle.session_run.specs.Calls.Causes.{disk_ghost_states, intake_of, sink_faults, FindsDamage, HasCause, KeepsSink, LeavesAlone, SinkRests, TakesNoMore};
 ghost use Rattle.session_run.specs.Faults.Accounted.{IsAccountedFor, KeepsFiles, SettlesJournal};
 ghost use Rattle.session_run.specs.Faults.Stopped.{IsHandedIn, IsMended, IsStopped};
 ghost use Rattle.session_run.specs.Promises.Checked.{TellsSoundness};
@@ -112,11 +112,12 @@ fn run_opened<R: Threads + Wait + Sync, G: Hook + Sync, K: Sink, D: Disk + Send,
     requires runnable { IsRunnable given.phases.items }
     requires none { given.form ≡ forms.Verify → given.phases.items ≡ [] }
     requires base { given.form ≢ forms.Sites }
-    ensures { RunsOpened given.form given.phases.items result.status (first_step core.story)
+    ensures runs { RunsOpened given.form given.phases.items result.status (first_step core.story)
         result.history before (disk_ghost_states core.ghost_state (D.ghost_state result.disk))
         (outside_of (K.ghost_state sink.old) (K.ghost_state sink.new) (C.ghost_state clock.old)
         (C.ghost_state clock.new))
         (sink_faults (K.ghost_state sink.old) (K.ghost_state sink.new)) }
+    ensures rests { SinkRests (K.ghost_state sink.old) (K.ghost_state sink.new) }
 {
     let GivenSession { form, phases } = given;
     let (core, run) = carry_out(host, form, core, phases, sink, clock);
@@ -144,11 +145,12 @@ fn run_session<R: Threads + Wait + Sync, G: Hook + Sync, K: Sink, D: Disk + Send
     requires none { given.form ≡ forms.Verify → given.phases.items ≡ [] }
     requires base { given.form ≢ forms.Sites }
     requires synced { IfModeled (D.ghost_state disk).modeled AreSynced }
-    ensures { RunsSession given.form given.phases.items result.status result.history
+    ensures runs { RunsSession given.form given.phases.items result.status result.history
         (outside_of (K.ghost_state sink.old) (K.ghost_state sink.new) (C.ghost_state clock.old)
         (C.ghost_state clock.new))
         (sink_faults (K.ghost_state sink.old) (K.ghost_state sink.new))
         (disk_ghost_states (D.ghost_state disk) (D.ghost_state result.disk)) }
+    ensures rests { SinkRests (K.ghost_state sink.old) (K.ghost_state sink.new) }
 {
     let before = disk.counts().faults;
     match Core::open(host.alloc, host.hashing, disk) {
@@ -169,8 +171,7 @@ fn run_session<R: Threads + Wait + Sync, G: Hook + Sync, K: Sink, D: Disk + Send
 /// does so with the large session of these two numbers, and writes in place of the transcripts their summary, once all phases are
 /// run. FILE `verify` opens the base, runs the record of each live object again, and writes how many are live, or the first that
 /// is not what its record gives. FILE `sites` reads a text of sites from the source, and writes the replies to it. `run` and
-/// `sites`
-/// alone read the source.
+/// `sites` alone read the source. After a call of the sink that failed none is made on it.
 ///
 /// The disk comes back in every case, and unless a base was to be opened no call was made on it. Names in the base are found by
 /// hashing them so: with random keys nobody can choose names that make a look-up there slow, and the answers are the same with
@@ -235,6 +236,7 @@ pub fn run_words<
         (disk_ghost_states (D.ghost_state disk) (D.ghost_state result.disk)) result.history }
     ensures sink { KeepsSink result.status
         (sink_faults (K.ghost_state sink.old) (K.ghost_state sink.new)) }
+    ensures rests { SinkRests (K.ghost_state sink.old) (K.ghost_state sink.new) }
     ensures accounted { is_opened result.history ≡ true
         → IsAccountedFor
         (disk_ghost_states (D.ghost_state disk) (D.ghost_state result.disk)) result.history }

@@ -2,7 +2,7 @@
 
 ghost use Rattle.std.specs.Prelude.{◌≡◌, ◌≤◌, length, Ok};
 ghost use Rattle.session_run.specs.Calls.Asked.{text_limit};
-ghost use Rattle.session_run.specs.Calls.Causes.{sink_faults};
+ghost use Rattle.session_run.specs.Calls.Causes.{SinkRests, sink_faults};
 ghost use Rattle.session_run.specs.Calls.Sites.{session_cause, session_error, status_of_sites};
 ghost use Rattle.session_run.specs.Running.Unstarted.{IsShort, WritesReplies, WritesResult, WritesWithoutBase};
 
@@ -50,9 +50,10 @@ fn status_of(replies: &Replies) -> Status
 
 /// Writes replies, and answers the status.
 fn write_replies<K: Sink>(replies: &Replies, sink: &mut K) -> Status
-    ensures { WritesResult (Ok replies.now) result (K.ghost_state sink.old).held
+    ensures writes { WritesResult (Ok replies.now) result (K.ghost_state sink.old).held
         (K.ghost_state sink.new).held
         (sink_faults (K.ghost_state sink.old) (K.ghost_state sink.new)) }
+    ensures rests { SinkRests (K.ghost_state sink.old) (K.ghost_state sink.new) }
 {
     match write_whole(sink, replies.text.as_bytes()) {
         Ok(()) => status_of(replies),
@@ -64,8 +65,10 @@ fn write_replies<K: Sink>(replies: &Replies, sink: &mut K) -> Status
 /// the time and the memory of `vob_replica::run`.
 fn reply<K: Sink>(alloc: Global, hashing: RandomState, text: Text, sink: &mut K) -> Status
     requires { length text ≤ text_limit }
-    ensures { WritesReplies text result (K.ghost_state sink.old).held (K.ghost_state sink.new).held
+    ensures writes { WritesReplies text result (K.ghost_state sink.old).held
+        (K.ghost_state sink.new).held
         (sink_faults (K.ghost_state sink.old) (K.ghost_state sink.new)) }
+    ensures rests { SinkRests (K.ghost_state sink.old) (K.ghost_state sink.new) }
 {
     match run(alloc, hashing, text.as_bytes()) {
         Ok(replies) => write_replies(&replies, sink),
@@ -82,9 +85,10 @@ pub(crate) fn write_without_base<K: Sink>(
     sink: &mut K,
 ) -> Status
     requires { IsShort without }
-    ensures { WritesWithoutBase without result (K.ghost_state sink.old).held
+    ensures writes { WritesWithoutBase without result (K.ghost_state sink.old).held
         (K.ghost_state sink.new).held
         (sink_faults (K.ghost_state sink.old) (K.ghost_state sink.new)) }
+    ensures rests { SinkRests (K.ghost_state sink.old) (K.ghost_state sink.new) }
 {
     match without {
         WithoutBase::Line(unstarted) => write_unstarted(unstarted, sink),

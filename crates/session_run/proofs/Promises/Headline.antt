@@ -1,7 +1,7 @@
 -- The promises of the headline, from what a run left, or a session that was not started.
 use Rattle.std.proofs.Common.{◌≡◌, ℕ, inl, inr, option_map, Bool, true, false, Option, Some, None, Result, Ok, Err, List, []}
-use Rattle.std.proofs.Common.{◌++◌, length, refl, ap, sym, subst, ◌∙◌, arith}
-use Rattle.std.specs.Prelude.{◌&&◌, if◌then◌else◌, option_and_then, IfSome, IfOk, IfErr}
+use Rattle.std.proofs.Common.{◌+◌, ◌<◌, ◌++◌, length, refl, ap, sym, subst, ◌∙◌, arith}
+use Rattle.std.specs.Prelude.{◌&&◌, ◌⊎◌, if◌then◌else◌, option_and_then, IfSome, IfOk, IfErr}
 use Rattle.std.specs.Io.KnownBytes.{Appends}
 use Rattle.std.proofs.lemmas.List.{append-nil}
 use Rattle.cc_names.specs.declared.commands.Phase.{Phase}
@@ -42,10 +42,10 @@ use Rattle.session_run.specs.Faults.Accounted.{CountsFrom, IsAccountedFor, Keeps
 use Rattle.session_run.specs.Faults.Stopped.{AllOpenAgain, IsHandedIn, IsMended, IsStopped}
 use Rattle.session_run.specs.Promises.Checked.{TellsSoundness}
 use Rattle.session_run.specs.Promises.Headline.{BeginsOn, IsCutAtLast, IsSession, ReadsClock, IsOneHistory, ArePrinted}
-use Rattle.session_run.specs.Promises.Headline.{clock_moments}
+use Rattle.session_run.specs.Promises.Headline.{IsLeftToBegin, ReadsTimes, clock_moments}
 use Rattle.session_run.specs.Running.Forms.{HasDone, HasRunSo, IsCutSo, IsGivenUp, IsRunThrough}
 use Rattle.session_run.specs.Running.Outcomes.{RunsOpened, RunsSession}
-use Rattle.session_run.specs.Running.Runs.{CountsWriteFaults, IsJustOpened, Outside, run_status}
+use Rattle.session_run.specs.Running.Runs.{CountsWriteFaults, IsJustOpened, Outside, ReadsBy, run_status}
 use Rattle.session_run.specs.Running.Unstarted.{GivesPhases, GivesSites, IsUnstarted, IsWithoutBase, WritesReplies}
 use Rattle.session_run.specs.Running.Unstarted.{WritesUnstarted, WritesWithoutBase}
 use Rattle.session_run.specs.Running.Unstarted.{of_unopened, unstarted_line, unstarted_status}
@@ -106,7 +106,7 @@ session_run status story form phases intake outside failed gives ran = record {
 
 session_cut : (status : Status) (cut : Or WriteFault) (story : List StoryStep) (form : Form) (phases : List Phase)
     (intake : Intake) (outside : Outside) → (is_through intake.form status story ≡ true → phases_begun story ≡ phases)
-    → GivesPhases intake form phases → IsGivenUp form cut phases story outside → ReadsClock status story (readings_of outside)
+    → GivesPhases intake form phases → IsGivenUp form cut phases story outside → ReadsClock status story intake (readings_of outside)
     → IsSession status story intake outside.moments (readings_of outside)
 session_cut status cut story form phases intake outside whole gives left read = record {
   begun = modeled_so (session_text intake) _ (λ bytes. IsPrefixOf (phases_begun story) (phases_spelled bytes)) gives.spelled
@@ -132,6 +132,18 @@ session_none status intake outside not unread = record {
       record { once = λ other. times; most = inl times; none = λ closed. times };
 }
 
+-- where memory ran out the clock was read once more only for a phase that did not begin
+most_read : (form : Form) (phases : List Phase) (story : List StoryStep) (intake : Intake) (outside : Outside)
+    → GivesPhases intake form phases → ReadsBy NoMemory (length phases) (length (phases_begun story)) outside
+    → ReadsTimes (length (phases_begun story)) (readings_of outside)
+    ⊎ (IsLeftToBegin story intake × ReadsTimes (length (phases_begun story) + 1) (readings_of outside))
+most_read form phases story intake outside gives (inl once) = inl once
+most_read form phases story intake outside gives (inr more) = inr (
+  modeled_so (session_text intake) _ (λ bytes. length (phases_begun story) < length (phases_spelled bytes)) gives.spelled
+      (λ bytes e. subst (λ spelled. length (phases_begun story) < length spelled) (sym e) more.0),
+  more.1,
+)
+
 -- a form that writes after its session had run it through where the sink failed
 behind : (form : Form) (fault : WriteFault) (phases : List Phase) (story : List StoryStep) (outside : Outside)
     → IsCutSo form (Is fault) phases story outside → (writes_behind (Some form) && is_opened story) ≡ true
@@ -156,7 +168,7 @@ run_session (Err NoMemory) rose story form phases intake outside gives left =
     session_cut _ NoMemory story form phases intake outside (λ through. absurd (cc)) gives left
     (record {
       once = λ other. absurd (other refl);
-      most = left.reading_is;
+      most = most_read form phases story intake outside gives left.reading_is;
       none = λ closed. absurd (let opened = left.opened in cc);
     })
 run_session (Err (Is fault)) rose story form phases intake outside gives left =

@@ -23,7 +23,7 @@ use Rattle.session_run.specs.Story.Rendered.{text_of_story}
 use Rattle.session_run.specs.Story.Modeled.{tells_failure, text_modeled}
 use Rattle.session_run.specs.declared.words.Form.{Form}
 use Rattle.session_run.specs.declared.words.Form.TheVariants as forms
-use Rattle.session_run.proofs.Running.Runs.{clock_length, raised_none}
+use Rattle.session_run.proofs.Running.Runs.{clock_length, raised_none, read_by}
 
 -- `run`: its text is that of the phases
 pub run_done : (phases : List Phase) (story : List StoryStep) (outside : Outside) (failed : Bool)
@@ -97,16 +97,13 @@ module _ (seed size : ℕ) (phases : List Phase) (story : List StoryStep) (outsi
     opened = ran.opened;
     begun = ([], sym ran.phases_are ∙ sym (append-nil (phases_begun story)));
     moments_are = modeled_again outside.moments story outside.first (length phases) ran.moments_are;
-    reading_is = reads cut;
+    reading_is = read_by cut (length phases) (length (phases_begun story)) (moved outside held holds)
+        (ran.reading_is ∙ ap (raised_count outside.first) (sym (ap length ran.phases_are)));
     written = written;
     cut_at = cut_so cut;
     alone = λ check. absurd (cc);
   }
     where
-      reads : (cut : Or WriteFault) → ReadsBy cut (length (phases_begun story)) (moved outside held holds)
-      reads NoMemory = inl (ran.reading_is ∙ ap (raised_count outside.first) (sym (ap length ran.phases_are)))
-      reads (Is fault) = ran.reading_is ∙ ap (raised_count outside.first) (sym (ap length ran.phases_are))
-
       cut_so : (cut : Or WriteFault) → IsCutSo (forms.Big seed size) cut phases story (moved outside held holds)
       cut_so NoMemory = tt
       cut_so (Is fault) = record { phases_are = ran.phases_are; finished = ran.finished }
@@ -124,8 +121,8 @@ module _ (seed size : ℕ) (phases : List Phase) (story : List StoryStep) (outsi
     alone = λ check. absurd (cc);
   }
     where
-      reads : (cut : Or WriteFault) → ReadsBy cut (length (phases_begun story)) outside
-          → ReadsBy NoMemory (length (phases_begun story)) (moved outside held held)
+      reads : (cut : Or WriteFault) → ReadsBy cut (length phases) (length (phases_begun story)) outside
+          → ReadsBy NoMemory (length phases) (length (phases_begun story)) (moved outside held held)
       reads NoMemory h = h
       reads (Is fault) h = inl h
 
@@ -207,23 +204,18 @@ check_cut cut story phases held holds moments first just none written =
       opened = begun.0;
       begun = ([], none ∙ sym begun.1 ∙ sym (append-nil (phases_begun story)));
       moments_are = no_moments moments story first (length (moments_begun story)) begun.2 (ap length begun.2);
-      reading_is = reads cut times;
+      reading_is = read_by cut (length phases) (length (phases_begun story)) (record {
+        held = held;
+        holds = holds;
+        moments = moments;
+        first = first;
+        reading = first;
+      }) times;
       written = written;
       cut_at = cut_so cut begun.1 begun.3;
       alone = λ check. begun.4;
     }
   where
-    reads : (cut : Or WriteFault) → first ≡ raised_count first (length (phases_begun story))
-        → ReadsBy cut (length (phases_begun story)) (record {
-          held = held;
-          holds = holds;
-          moments = moments;
-          first = first;
-          reading = first;
-        })
-    reads NoMemory h = inl h
-    reads (Is fault) h = h
-
     cut_so : (cut : Or WriteFault) → phases_begun story ≡ [] → all_done (state_of story) ≡ true
         → IsCutSo forms.Verify cut phases story (record {
           held = held;

@@ -207,10 +207,10 @@ read_once_more : (first before reading count begun : ℕ) → before ≡ raised_
 read_once_more first before reading count begun was reads is = read_for_it first before reading count (begun + 1) was reads
     (omega (arith, is))
 
-read_by : (cut : Or WriteFault) (count : ℕ) (outside : Outside) → outside.reading ≡ raised_count outside.first count
-    → ReadsBy cut count outside
-read_by NoMemory count outside is = inl is
-read_by (Is fault) count outside is = is
+pub read_by : (cut : Or WriteFault) (all count : ℕ) (outside : Outside) → outside.reading ≡ raised_count outside.first count
+    → ReadsBy cut all count outside
+read_by NoMemory all count outside is = inl is
+read_by (Is fault) all count outside is = is
 
 cut_in : (cut : Or WriteFault) (story : List StoryStep) (old new : Option (List ℕ))
     → IsCutAtLast story (transcripts (earlier_phases story)) old new → IsCutBy cut story old new
@@ -266,8 +266,13 @@ module _ (phases : List Phase) (phase : Phase) (old new : List StoryStep) (outsi
         both_modeled outside.moments _ _ (λ modeled. moments_begun new ≡ clock_moments modeled outside.first
         (length (moments_begun new))) so_far.moments_are modeled
         (λ modeled before now. moments_kept modeled new outside.first (length phases) (ap moments_begun is ∙ before));
-    reading_is = inr (read_once_more outside.first outside.reading reading (length phases) (length (phases_begun new))
-        so_far.reading_is reads (ap length (ap phases_begun is ∙ so_far.phases_are)));
+    reading_is =
+        let count : length (phases_begun new) ≡ length phases = ap length (ap phases_begun is ∙ so_far.phases_are) in
+        inr (
+          omega (arith, count, ap length whole, length-append phases (phase ∷ rest)),
+          read_once_more outside.first outside.reading reading (length phases) (length (phases_begun new)) so_far.reading_is reads
+              count,
+        );
     written =
         subst (AppendsPrefix outside.held outside.holds) (append-nil (transcripts (ended_phases old))
         ∙ sym (ap (λ s. transcripts (ended_phases s)) is))
@@ -315,7 +320,7 @@ module _ (phases : List Phase) (phase : Phase) (old new : List StoryStep) (outsi
             (moments_on modeled old new outside.first outside.reading (length phases) moment runs.goes.moments before
             so_far.reading_is now));
         reading_is =
-            read_by cut (length (phases_begun new)) (record outside { holds = holds; reading = reading })
+            read_by cut (length all) (length (phases_begun new)) (record outside { holds = holds; reading = reading })
             (read_for_it outside.first outside.reading reading (length phases) (length (phases_begun new)) so_far.reading_is reads
             (ap length begun ∙ one_more phases phase));
         written =

@@ -157,11 +157,10 @@ abbrev pub HasReplied : Intake → Change DiskState → List StoryStep → Statu
 HasReplied intake disk story status = IsReplied intake status × IsUntouched disk story
 
 -- *The cause of each status*, for words of every form. Those of `sites` open no base: the text of sites alone says whether it is
--- 0,
--- 1 or 3. Memory may run out anywhere, but where no base was opened it hides no
--- fault of the disk. The other causes exclude one another, a failed source and a failed sink aside, so each status but those
--- comes exactly where its cause does, unless the sink fails or memory runs out. Where the disk failed and a base was opened, each
--- command is finished. Of a damaged journal nothing was read after the damaged frame.
+-- 0, 1 or 3. Memory may run out anywhere, but where no base was opened it hides no fault of the disk. The other causes exclude one
+-- another, a failed source and a failed sink aside, so each status but those comes exactly where its cause does, unless the sink
+-- fails or memory runs out. Where the disk failed and a base was opened, each command is finished. Where the status names a
+-- damaged frame, nothing of the journal was read after it.
 abbrev pub HasCause : Status → Intake → Change ℕ → Change DiskState → List StoryStep → Type 0
 HasCause statuses.Good intake sink_faults disk story = RanWhole intake disk story false
     ⊎ HasReplied intake disk story statuses.Good
@@ -189,6 +188,10 @@ pub record IsToOpen (intake : Intake) : Type 0 where
 -- *The sink*: unless the status says that it failed, its count of faults is as it was.
 abbrev pub KeepsSink : Status → Change ℕ → Type 0
 KeepsSink status faults = status ≢ statuses.WriteFault → faults.after ≡ faults.before
+
+-- *The sink, once it ended*: where it had not ended before, no call was made on it after the first one that failed.
+abbrev pub SinkRests : SinkState → SinkState → Type 0
+SinkRests before after = RestsOnceEnded before.ended after.ended after.calls
 
 -- *A damaged journal*, the other way. Where the base was to be opened on a disk that tells a damaged journal, and the count of
 -- the disk's faults did not rise, the status says so with the frame's number, unless the sink fails or memory runs out.

@@ -66,11 +66,17 @@ clock_readings before after = record { before = before.readings; after = after.r
 abbrev pub ReadsTimes : ℕ → Change ℕ → Type 0
 ReadsTimes count readings = readings.after ≡ raised_count readings.before count
 
+-- a phase of the session that the words ask for did not begin
+abbrev pub IsLeftToBegin : List StoryStep → Intake → Type 0
+IsLeftToBegin story intake = IfSome (session_text intake)
+    (λ bytes. length (phases_begun story) < length (phases_spelled bytes))
+
 -- The clock was read once for each phase that began, and not where no base was opened. Where memory ran out it may have been read
 -- once more, for a phase that did not begin.
-pub record ReadsClock (status : Status) (story : List StoryStep) (readings : Change ℕ) : Type 0 where
+pub record ReadsClock (status : Status) (story : List StoryStep) (intake : Intake) (readings : Change ℕ) : Type 0 where
   pub once : status ≢ statuses.NoMemory → ReadsTimes (length (phases_begun story)) readings
-  pub most : ReadsTimes (length (phases_begun story)) readings ⊎ ReadsTimes (length (phases_begun story) + 1) readings
+  pub most : ReadsTimes (length (phases_begun story)) readings
+      ⊎ (IsLeftToBegin story intake × ReadsTimes (length (phases_begun story) + 1) readings)
   pub none : is_opened story ≡ false → ReadsTimes 0 readings
 
 -- *The session*: the phases of the history are the first of the session that the words ask for, and all of them where it was run
@@ -83,7 +89,7 @@ pub record IsSession (status : Status) (story : List StoryStep) (intake : Intake
   pub none : IfSome (session_text intake) (λ bytes. is_session bytes ≡ false → story ≡ [])
   pub moments : IfSome clock (λ modeled. moments_begun story ≡ clock_moments modeled readings.before
       (length (moments_begun story)))
-  pub read : ReadsClock status story readings
+  pub read : ReadsClock status story intake readings
 
 -- a sink that failed took the transcripts of all phases but the last, and each command of these phases is finished
 pub record IsCutAtLast (story : List StoryStep) (earlier : List ℕ) (old new : Option (List ℕ)) : Type 0 where

@@ -53,7 +53,7 @@ pub record IsGivenUp (form : Form) (cut : Or WriteFault) (phases : List Phase) (
   pub begun : IsPrefixOf (phases_begun story) phases
   pub moments_are : IfSome outside.moments (λ modeled. moments_begun story
       ≡ clock_moments modeled outside.first (length (moments_begun story)))
-  pub reading_is : ReadsBy cut (length (phases_begun story)) outside
+  pub reading_is : ReadsBy cut (length phases) (length (phases_begun story)) outside
   pub written : AppendsPrefix outside.held outside.holds (text_modeled form story)
   pub cut_at : IsCutSo form cut phases story outside
   pub alone : IsAlone form story

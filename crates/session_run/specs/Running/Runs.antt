@@ -1,5 +1,5 @@
 -- What running the phases of a session does to the story, to the sink and to the clock.
-use Rattle.std.specs.Prelude.{◌≡◌, ◌⊎◌, ℕ, ◌+◌, ◌≤◌, Bool, true, false, Option, IfSome, Result, Ok, Err, List, [], ◌∷◌, length}
+use Rattle.std.specs.Prelude.{◌≡◌, ◌⊎◌, ℕ, ◌+◌, ◌<◌, ◌≤◌, Bool, true, false, Option, IfSome, Result, Ok, Err, List, [], ◌∷◌, length}
 use Rattle.std.specs.List.{AllByRecursion}
 use Rattle.std.specs.Io.KnownBytes.{Appends}
 use Rattle.cc_names.specs.Formed.{Plain}
@@ -74,11 +74,12 @@ abbrev pub IsCutBy : Or WriteFault → List StoryStep → Option (List ℕ) → 
 IsCutBy NoMemory story old new = Unit {0}
 IsCutBy (Is fault) story old new = IsCutAtLast story (earlier_text story) old new
 
--- how often the clock was read where so many phases had begun: once for each, or where memory ran out perhaps once more
-abbrev pub ReadsBy : Or WriteFault → ℕ → Outside → Type 0
-ReadsBy NoMemory count outside = (outside.reading ≡ raised_count outside.first count)
-    ⊎ (outside.reading ≡ raised_count outside.first (count + 1))
-ReadsBy (Is fault) count outside = outside.reading ≡ raised_count outside.first count
+-- how often the clock was read where so many of all phases had begun: once for each, or where memory ran out before the next one
+-- began, perhaps once more
+abbrev pub ReadsBy : Or WriteFault → ℕ → ℕ → Outside → Type 0
+ReadsBy NoMemory all count outside = (outside.reading ≡ raised_count outside.first count)
+    ⊎ ((count < all) × (outside.reading ≡ raised_count outside.first (count + 1)))
+ReadsBy (Is fault) all count outside = outside.reading ≡ raised_count outside.first count
 
 -- the run of these phases was given up
 pub record IsRunGivenUp (cut : Or WriteFault) (phases : List Phase) (story : List StoryStep) (outside : Outside) : Type 0 where
@@ -86,7 +87,7 @@ pub record IsRunGivenUp (cut : Or WriteFault) (phases : List Phase) (story : Lis
   pub begun : IsPrefixOf (phases_begun story) phases
   pub moments_are : IfSome outside.moments (λ modeled. moments_begun story
       ≡ clock_moments modeled outside.first (length (moments_begun story)))
-  pub reading_is : ReadsBy cut (length (phases_begun story)) outside
+  pub reading_is : ReadsBy cut (length phases) (length (phases_begun story)) outside
   pub written : AppendsPrefix outside.held outside.holds (text_of_story story)
   pub cut_at : IsCutBy cut story outside.held outside.holds
 

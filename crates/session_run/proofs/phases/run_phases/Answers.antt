@@ -9,6 +9,7 @@ use Rattle.base_core.proofs.Story.Counts.{keeps_count, keeps_further}
 use Rattle.session_run.specs.Calls.Asked.{text_limit}
 use Rattle.session_run.specs.Running.Phases.{LeavesPhase, RunsPhase}
 use Rattle.session_run.specs.Running.Runs.{CountsCut, IsReadyPhase, Outside}
+use Rattle.session_run.proofs.Calls.Resting.{went_on, rests_after}
 use Rattle.session_run.proofs.Running.Runs.{run_goes_on, run_leaves, run_is_cut, run_starts, in_hand}
 use Rattle.session_run.proofs.phases.run_phases.Goals as goal
 
@@ -38,6 +39,7 @@ loop-phase-init g c =
       few = subst (λ phases. length phases ≤ text_limit) items c.requires.runnable.few;
       number = refl;
       faults = refl;
+      ended = refl;
       counted = keeps_count c.args.core;
       clock = refl;
     }
@@ -96,6 +98,7 @@ loop-phase-preserved g c =
       few = at.invariant.few;
       number = omega (arith, at.invariant.number, length-append at.yielded (c.in-Some.phase ∷ []));
       faults = c.in_default-write_transcript.ensures.fault ∙ at.invariant.faults;
+      ended = c.in_default-write_transcript.ensures.goes_on ∙ at.invariant.ended;
       counted = keeps_further c.args.core at.core c.run_commands-next.result.0 at.invariant.counted
           c.run_commands-next.ensures.counted;
       clock = c.moment_of-moment.ensures.list ∙ at.invariant.clock;
@@ -139,3 +142,13 @@ pub returns-in-Err-write_transcript-clause-counted : goal.returns-in-Err-write_t
 returns-in-Err-write_transcript-clause-counted g c =
     keeps_further c.args.core c.loop-phase.core c.run_commands-next.result.0 c.loop-phase.invariant.counted
     c.run_commands-next.ensures.counted
+
+pub returns-clause-rests : goal.returns-clause-rests
+returns-clause-rests g c = went_on _ _ _ c.loop-phase.invariant.ended
+
+pub returns-in-Err-clause-rests : goal.returns-in-Err-clause-rests
+returns-in-Err-clause-rests g c = went_on _ _ _ c.loop-phase.invariant.ended
+
+pub returns-in-Err-write_transcript-clause-rests : goal.returns-in-Err-write_transcript-clause-rests
+returns-in-Err-write_transcript-clause-rests g c =
+    rests_after _ _ _ _ c.loop-phase.invariant.ended c.write_transcript.ensures.rests

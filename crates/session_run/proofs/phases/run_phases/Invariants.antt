@@ -23,6 +23,7 @@ invariant-loop-phase g l = record {
   few : length (into_iter_items l.initial.phase-iterator) ≤ text_limit;
   number : l.number ≡ length l.yielded;
   faults : (g.K.Sink.ghost_state l.sink).faults ≡ (g.K.Sink.ghost_state l.initial.sink).faults;
+  ended : (g.K.Sink.ghost_state l.sink).ended ≡ (g.K.Sink.ghost_state l.initial.sink).ended;
   counted : KeepsCount l.fn.core l.core;
   clock : (g.C.Clock.ghost_state l.clock).modeled ≡ (g.C.Clock.ghost_state l.initial.clock).modeled;
 }

@@ -4,8 +4,8 @@ use Rattle.session_run.specs.Running.Runs.{run_status}
 use Rattle.session_run.proofs.Promises.Headline.{runs_opened}
 use Rattle.session_run.proofs.run.run_opened.Goals as goal
 
-pub returns : goal.returns
-returns g c =
+pub returns-clause-runs : goal.returns-clause-runs
+returns-clause-runs g c =
     let core = c.settle.new.core in
     runs_opened c.args.core c.carry_out-core.result.0 core.story core.ghost_state c.settle.ensures.same c.settle.ensures.settles
     c.settle.ensures.calls c.carry_out-core.result.1 c.args.given.form c.args.given.phases.items c.status_of-status.result _ _

@@ -11,8 +11,8 @@ use Rattle.session_run.proofs.run.run_session.Goals as goal
 pub run_opened-requires-clause-opened : goal.run_opened-requires-clause-opened
 run_opened-requires-clause-opened g c κs within = just_opened _ _ c.in-Ok.core.story c.in-Ok.ensures.ok
 
-pub returns-in-Ok : goal.returns-in-Ok
-returns-in-Ok g c =
+pub returns-in-Ok-clause-runs : goal.returns-in-Ok-clause-runs
+returns-in-Ok-clause-runs g c =
     let core = c.in-Ok.core in
     let ended = c.run_opened.result in
     let outside : Outside = record {
@@ -30,7 +30,7 @@ returns-in-Ok g c =
     } in
     inl (record {
       begins = begins_on (g.D.Disk.ghost_state c.args.disk) core.ghost_state core.story ended.history (first_step core.story)
-          c.in-Ok.ensures.ok refl c.run_opened.ensures.first_is;
+          c.in-Ok.ensures.ok refl c.run_opened.ensures.runs.first_is;
       first = first_step core.story;
       opened = core.ghost_state;
       faultless = c.in-Ok.ensures.ok.faultless;
@@ -40,11 +40,11 @@ returns-in-Ok g c =
       runs =
           subst (λ n. RunsOpened c.args.given.form c.args.given.phases.items ended.status (first_step core.story) ended.history n
           (record { before = core.ghost_state; after = g.D.Disk.ghost_state ended.disk }) outside faults)
-          c.counts-before.ensures.faults c.run_opened.ensures;
+          c.counts-before.ensures.faults c.run_opened.ensures.runs;
     })
 
-pub returns-in-Err : goal.returns-in-Err
-returns-in-Err g c =
+pub returns-in-Err-clause-runs : goal.returns-in-Err-clause-runs
+returns-in-Err-clause-runs g c =
     let cause = c.in-Err.field-0.cause in
     let rose = c.has_risen.ensures ∙ ap₂ rises c.counts-before.ensures.faults c.counts.ensures.faults in
     let faults : Change _ = record {
@@ -59,5 +59,5 @@ returns-in-Err g c =
       unread = refl;
       wrote = subst (λ unstarted. WritesUnstarted unstarted c.write_unstarted.result (g.K.Sink.ghost_state c.args.sink.now).held
           (g.K.Sink.ghost_state c.write_unstarted.new.sink).held faults) (c.of_unopened-unstarted.ensures
-          ∙ ap (of_unopened cause) rose) c.write_unstarted.ensures;
+          ∙ ap (of_unopened cause) rose) c.write_unstarted.ensures.writes;
     })

@@ -26,7 +26,7 @@ pub returns-in-Ok : goal.returns-in-Ok
 returns-in-Ok g c =
     let all = promised_run c.in-Ok.given.form c.in-Ok.given.phases.items c.run_session.result.status c.run_session.result.history
     _ _ _ _ (c.a_disk_is_counted.ensures c.args.disk) (c.a_disk_is_counted.ensures c.run_session.result.disk)
-    c.in-Ok.ensures.gives c.run_session.ensures in
+    c.in-Ok.ensures.gives c.run_session.ensures.runs in
     record {
       session = all.session;
       history = all.history;
@@ -53,6 +53,7 @@ returns-in-Ok g c =
       cause =
           all.cause;
       sink = all.sink;
+      rests = c.run_session.ensures.rests;
       accounted = all.accounted;
       files = all.files;
       damaged = finds_damage _ _ _ _ _ all.cause;
@@ -83,7 +84,7 @@ returns-in-Err g c =
     let all = subst (λ story. Promised c.write_without_base.result story intake outside faults
     (record { before = disk; after = disk })) (sym c.empty.ensures)
     (promised_without c.in-Err.without c.write_without_base.result intake outside faults disk refl
-    (c.a_disk_is_counted.ensures c.args.disk) c.requires c.in-Err.ensures.why c.write_without_base.ensures) in
+    (c.a_disk_is_counted.ensures c.args.disk) c.requires c.in-Err.ensures.why c.write_without_base.ensures.writes) in
     record {
       session = all.session;
       history = all.history;
@@ -110,6 +111,7 @@ returns-in-Err g c =
       cause =
           all.cause;
       sink = all.sink;
+      rests = c.write_without_base.ensures.rests;
       accounted = all.accounted;
       files = all.files;
       damaged = finds_damage _ _ _ _ _ all.cause;

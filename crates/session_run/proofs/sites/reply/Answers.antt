@@ -28,8 +28,8 @@ wrong_line run error said status old new faults is same h =
       kept = written.kept;
     })
 
-pub returns-in-Err-Is : goal.returns-in-Err-Is
-returns-in-Err-Is g c = wrong_line (run_of c.args.text) c.in-Err-Is.error c.session_error.result c.write_unstarted.result _ _ _
+pub returns-in-Err-Is-clause-writes : goal.returns-in-Err-Is-clause-writes
+returns-in-Err-Is-clause-writes g c = wrong_line (run_of c.args.text) c.in-Err-Is.error c.session_error.result c.write_unstarted.result _ _ _
     (ap run_of (sym c.as_bytes.ensures)
     ∙ subst (λ fault. FaultIs fault (run_of c.as_bytes.result.now)) c.in-Err-Is.field-0-is c.in-Err-Is.ensures)
-    c.session_error.ensures c.write_unstarted.ensures
+    c.session_error.ensures c.write_unstarted.ensures.writes
