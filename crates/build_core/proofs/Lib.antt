@@ -1,6 +1,7 @@
 pub mod Cames
 mod ChosenObjects
 mod Early
+mod KeptClosures
 mod Members
 mod NeededUnits
 mod ReleasedUnits

@@ -1,8 +1,10 @@
--- The slot of the unit is filled.
-use Rattle.std.proofs.Common.{◌≡◌, ◌<◌, length, ap, arith}
+-- The slot of the unit is filled, and its closure is kept or let go.
+use Rattle.std.proofs.Common.{◌≡◌, ◌<◌, ◌∙◌, length, ap, Some, arith}
+use Rattle.std.proofs.lemmas.List.{length-set}
 use Rattle.legal_history.specs.Builds.Active.{Build}
 use Rattle.build_core.specs.Comes.{came_of}
 use Rattle.build_core.proofs.Cames.{noted_in_slot, with_comes}
+use Rattle.build_core.proofs.KeptClosures.{kept_more}
 use Rattle.build_core.proofs.active.ActiveBuild.note.Goals as goal
 
 pub returns : goal.returns
@@ -17,3 +19,13 @@ returns c =
     ) in
     with_comes _ _ _ c.args.unit (came_of c.args.came) (noted_in_slot inside.comes.items c.args.unit c.args.came within)
     c.self.view_is
+
+pub invariant_of-self : goal.invariant_of-self
+invariant_of-self c =
+    let inside = c.self.inside in
+    record {
+      each = length-set inside.comes.items c.args.unit (Some c.args.came) ∙ c.self.invariant.each;
+      in_order = c.self.invariant.in_order;
+      kept = kept_more c.args.self.now inside.graph inside.closures.items c.args.unit c.needs_to_keep-needs.result
+          (ap (λ (build : Build). build.units) c.self.view_is) c.self.invariant.kept c.needs_to_keep-needs.ensures;
+    }
