@@ -1,7 +1,6 @@
 pub mod Cames
 mod ChosenObjects
 mod Early
-mod KeptClosures
 mod Members
 mod NeededUnits
 mod ReleasedUnits

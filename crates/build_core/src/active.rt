@@ -1,6 +1,6 @@
 //! The active builds: which units a build has, and what they have come to.
 
-ghost use Rattle.std.specs.Prelude.{◌≡◌, ◌<◌, [], List, Bool, true, false, Some, None, length, option_copied, option_map, replicate, IfOk, IfSome};
+ghost use Rattle.std.specs.Prelude.{◌≡◌, ◌<◌, [], true, false, Some, None, length, option_copied, option_map, replicate, IfOk, IfSome};
 ghost use Rattle.legal_history.specs.Builds.Active.{came_to, is_outcome, object_of, unit_with};
 ghost use Rattle.legal_history.specs.Stories.Steps.{with_came};
 ghost use Rattle.legal_history.specs.Builds.Consistency.{InOrder};
@@ -194,9 +194,7 @@ impl ActiveBuild {
 
     /// The units that a unit stands on whose script was started, if they are kept, in constant time.
     pub(crate) fn kept_needs(&self, unit: u32) -> Option<&Closure>
-        ensures { (marks : List Bool)
-            → option_copied result ≡ Some marks
-            → AreNeeds self.now unit marks }
+        ensures { IfSome (option_copied result) (AreNeeds self.now unit) }
     {
         self.closures.get(unit as usize)?.as_ref()
     }
