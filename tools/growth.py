@@ -66,7 +66,6 @@ KNOWN = {
     "version-trees": {"seconds": 2.1},
     "suffix-rules": {"seconds": 1.95},
     "prerequisites": {"seconds": 2.0, "memory": 1.8},
-    "late-units": {"seconds": 2.2},
     "group-readers": {"seconds": 1.6},
     "group-readers-opening": {"seconds": 1.75},
     "config-rules": {"seconds": 1.9},

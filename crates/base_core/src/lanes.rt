@@ -82,7 +82,7 @@ impl Lane {
         self.build = build;
     }
 
-    /// Notes what a unit of the lane's build has come to. Takes no memory.
+    /// Notes what a unit of the lane's build has come to. Takes what `ActiveBuild::note` takes.
     fn note(&mut self, unit: u32, came: Came)
         requires build { IsSome self.old.build }
         requires unit { (build : Build) → self.old.build ≡ Some build
@@ -262,7 +262,7 @@ impl Lanes {
         self.lanes[lane as usize - 1].set_build(Some(build));
     }
 
-    /// Notes what a unit of a lane's build has come to. Takes no memory.
+    /// Notes what a unit of a lane's build has come to. Takes what `ActiveBuild::note` takes.
     pub(crate) fn note(&mut self, lane: u32, unit: u32, came: Came)
         requires from { 1 ≤ lane }
         requires upto { lane ≤ length self.old }

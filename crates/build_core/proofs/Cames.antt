@@ -12,7 +12,7 @@ use Rattle.build_core.specs.Slots.{numbered_slots, held_in}
 use Rattle.build_core.specs.declared.active.Came.{Came}
 use Rattle.build_core.proofs.SlotLaws.{find_numbered, put_numbered}
 
-held_in_read : {A : Type 0} (slots : List (Option A)) (n : ℕ) (slot : Option A) → n < length slots → slot ≡ get_or slots n slot
+pub held_in_read : {A : Type 0} (slots : List (Option A)) (n : ℕ) (slot : Option A) → n < length slots → slot ≡ get_or slots n slot
     → held_in slots n ≡ slot
 held_in_read [] n slot h e = absurd (omega arith)
 held_in_read (x ∷ slots) zero slot h e = sym e

@@ -1,6 +1,6 @@
 -- Look-ups and changes of a table by number, in its slots: the number n has slot i, where the first is numbered k.
 use Rattle.std.proofs.Common.{◌≡◌, ℕ, zero, suc, ◌+◌, ◌<◌, true, false, not, ◌==◌, Option, Some, None, List, [], ◌∷◌, length}
-use Rattle.std.proofs.Common.{refl, ap, ◌∙◌, arith}
+use Rattle.std.proofs.Common.{IfSome, replicate, refl, ap, ◌∙◌, arith}
 use Rattle.std.proofs.Math.ListN.{set}
 use Rattle.std.proofs.lemmas.Bool.Decides.{nat_tests}
 use Rattle.std.specs.Ordering.{nat_cmp}
@@ -77,3 +77,19 @@ without_numbered n k zero (Some b ∷ slots) e = rw (same n k (omega arith)) (wi
 without_numbered n k (suc i) (None ∷ slots) e = without_numbered n (k + 1) i slots (omega arith)
 without_numbered n k (suc i) (Some b ∷ slots) e =
     rw (apart_above n k (omega arith)) (ap (λ rest. (k, b) ∷ rest) (without_numbered n (k + 1) i slots (omega arith)))
+
+-- nothing is held in empty slots
+pub none_held : {A : Type 0} (P : ℕ → A → Type 0) (size k : ℕ) → IfSome (held_in (replicate size None) k) (P k)
+none_held P zero k = tt
+none_held P (suc size) zero = tt
+none_held P (suc size) (suc k) = none_held (λ j. P (suc j)) size k
+
+-- what is so of all that is held, once a slot was set
+pub set_held : {A : Type 0} (P : ℕ → A → Type 0) (slots : List (Option A)) (n : ℕ) (slot : Option A) →
+    ((k : ℕ) → IfSome (held_in slots k) (P k)) → IfSome slot (P n) → (k : ℕ) → IfSome (held_in (set slots n slot) k) (P k)
+set_held P [] n slot before new k = before k
+set_held P (x ∷ slots) zero slot before new zero = new
+set_held P (x ∷ slots) zero slot before new (suc k) = before (suc k)
+set_held P (x ∷ slots) (suc n) slot before new zero = before zero
+set_held P (x ∷ slots) (suc n) slot before new (suc k) =
+    set_held (λ j. P (suc j)) slots n slot (λ j. before (suc j)) new k

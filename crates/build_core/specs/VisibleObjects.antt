@@ -1,5 +1,6 @@
 -- The objects that the script of a unit sees.
 use Rattle.std.specs.Prelude.{◌≡◌, ℕ, Bool, Option, option_and_then, List}
+use Rattle.cc_names.specs.declared.units.Unit.{Unit}
 use Rattle.make_graph.specs.Waits.{closure_of, is_in, is_marked}
 use Rattle.base_model.specs.Rows.{only_where}
 use Rattle.legal_history.specs.Builds.Active.{Build, came_to, object_of, unit_with}
@@ -11,10 +12,14 @@ use Rattle.legal_history.specs.Builds.Serials.{needed_units}
 abbrev pub object_before : Build → List (List ℕ) → ℕ → List ℕ → Option ℕ
 object_before build paths n path = object_among path (needed_units unit_of_member paths (members_before build n))
 
+-- the units that unit n stands on are marked
+abbrev pub AreMarked : List Unit → ℕ → List Bool → Type 0
+AreMarked units n marks = (m : ℕ) → is_marked marks m ≡ is_in (closure_of units n) m
+
 -- the units that unit n of a build stands on are marked, and the build's units are in order
 pub record AreNeeds (build : Build) (n : ℕ) (marks : List Bool) : Type 0 where
   pub in_order : InOrder build.units
-  pub needed : (m : ℕ) → is_marked marks m ≡ is_in (closure_of build.units n) m
+  pub needed : AreMarked build.units n marks
 
 -- the object that the unit of a path was given or kept, where that unit is marked
 abbrev pub object_marked : Build → List Bool → List ℕ → Option ℕ

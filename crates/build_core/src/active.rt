@@ -1,6 +1,6 @@
 //! The active builds: which units a build has, and what they have come to.
 
-ghost use Rattle.std.specs.Prelude.{◌≡◌, ◌<◌, [], true, false, Some, length, option_copied, option_map, IfOk, IfSome};
+ghost use Rattle.std.specs.Prelude.{◌≡◌, ◌<◌, [], true, false, Some, None, length, option_copied, option_map, replicate, IfOk, IfSome};
 ghost use Rattle.legal_history.specs.Builds.Active.{came_to, is_outcome, object_of, unit_with};
 ghost use Rattle.legal_history.specs.Stories.Steps.{with_came};
 ghost use Rattle.legal_history.specs.Builds.Consistency.{InOrder};
@@ -40,7 +40,10 @@ pub struct ActiveBuild {
     rebuild: bool,
     graph: Graph,
     comes: Vec<Option<Came>>,
+    /// What each unit stands on whose script was started, until it has its outcome: its script may read many paths.
+    closures: Vec<Option<Closure>>,
     faulted: bool,
+    alloc: Global,
 }
 
 impl Model for ActiveBuild {
@@ -62,7 +65,8 @@ impl Model for ActiveBuild {
       faulted = build.faulted;
     } };
 
-    ghost invariant = { λ build. AreSlotsOf build.graph build.comes.items };
+    ghost invariant = { λ build.
+        AreSlotsOf build.graph build.comes.items build.closures.items };
 }
 
 /// An empty slot for each unit.
@@ -75,6 +79,17 @@ fn slots_for(alloc: Global, units: &[Unit]) -> Result<Vec<Option<Came>>, NoMemor
         slots.push(None)?;
     }
     Ok(slots)
+}
+
+/// No closure for each of so many units.
+fn no_closures(alloc: Global, count: usize) -> Result<Vec<Option<Closure>>, NoMemory>
+    ensures { IfOk result (λ closures. closures.items ≡ replicate count None) }
+{
+    let mut closures = Vec::with_capacity(alloc, count)?;
+    for _unit in 0..count {
+        closures.push(None)?;
+    }
+    Ok(closures)
 }
 
 impl ActiveBuild {
@@ -104,6 +119,7 @@ impl ActiveBuild {
             }) }
     {
         let comes = slots_for(alloc, graph.units())?;
+        let closures = no_closures(alloc, graph.units().len())?;
         Ok(ActiveBuild {
             tag,
             view,
@@ -112,7 +128,9 @@ impl ActiveBuild {
             rebuild,
             graph,
             comes,
+            closures,
             faulted: false,
+            alloc,
         })
     }
 
@@ -174,6 +192,24 @@ impl ActiveBuild {
         self.graph.closure(alloc, unit)
     }
 
+    /// The units that a unit stands on whose script was started, if they are kept, in constant time.
+    pub(crate) fn kept_needs(&self, unit: u32) -> Option<&Closure>
+        ensures { IfSome (option_copied result) (AreNeeds self.now unit) }
+    {
+        self.closures.get(unit as usize)?.as_ref()
+    }
+
+    /// What to keep of the units that a unit stands on, once it has come to this.
+    fn needs_to_keep(&self, unit: u32, came: &Came) -> Option<Closure>
+        requires { unit < length self.now.units }
+        ensures { IfSome result (λ closure. AreNeeds self.now unit closure) }
+    {
+        match came {
+            Came::Started => self.needs(self.alloc, unit).ok(),
+            Came::Concluded(_) | Came::Given(_) => None,
+        }
+    }
+
     /// The units one of whose prerequisites a unit makes, by their numbers, in order and each once, in constant time.
     pub(crate) fn dependants(&self, unit: u32) -> &[u32]
         requires { unit < length self.now.units }
@@ -210,11 +246,14 @@ impl ActiveBuild {
         }
     }
 
-    /// Notes what a unit has come to. Takes no memory.
+    /// Notes what a unit has come to. Of one that was started it takes what `needs` takes, and fails nowhere: where there is no
+    /// memory for that, each read of its script takes it instead.
     pub fn note(&mut self, unit: u32, came: Came)
         requires { unit < length self.old.units }
         ensures { self.new ≡ with_came self.old (Some unit) (came_of came) }
     {
+        let needs = self.needs_to_keep(unit, &came);
+        self.closures[unit as usize] = needs;
         self.comes[unit as usize] = Some(came);
     }
 }

@@ -98,7 +98,8 @@ fn fetch(
     }
 }
 
-/// What a unit finds at a path, as `fetch` answers it, or want of memory. Takes what `needs` takes, and the time of `fetch`.
+/// What a unit finds at a path, as `fetch` answers it, or want of memory. Takes the time of `fetch`; and what `needs` takes,
+/// where the unit was not started or there was no memory for what it stands on then.
 pub fn fetch_for_unit(
     alloc: Global,
     rows: &FirstRows<'_>,
@@ -109,6 +110,9 @@ pub fn fetch_for_unit(
     requires unit { unit < length build.now.units }
     ensures { IsFetched result (standing_at rows.now build.now unit path.now) }
 {
+    if let Some(closure) = build.kept_needs(unit) {
+        return fetch(alloc, rows, build, unit, closure, path);
+    }
     match build.needs(alloc, unit) {
         Ok(closure) => fetch(alloc, rows, build, unit, &closure, path),
         Err(NoMemory) => Got::NoMemory,

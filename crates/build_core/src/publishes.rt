@@ -6,6 +6,7 @@ ghost use Rattle.cc_names.specs.declared.units.Unit as units;
 ghost use Rattle.legal_history.specs.Builds.Active.{unit_at};
 ghost use Rattle.legal_history.specs.Builds.Choices.{as_entry, in_order, visible};
 ghost use Rattle.build_core.specs.Publishing.{CanPublish, RunGave, IsPublishOf};
+ghost use Rattle.build_core.specs.VisibleObjects.{AreNeeds};
 
 use crate::active::ActiveBuild;
 use crate::fetches::visible;
@@ -16,11 +17,38 @@ use cc_names::memory::NoMemory;
 use cc_names::paths::Path;
 use cc_names::rows::{Deed, ReadOf, Row};
 use cc_names::texts::Text;
+use make_graph::closures::Closure;
 use std::alloc::Global;
 use std::collections::BTreeMap;
 use view_lookup::FirstRows;
 
-/// The row that a unit sees at each of these paths, 0 where it sees none, in byte order of the paths.
+/// The row that a unit sees at each of these paths, 0 where it sees none, in byte order of the paths. The closure is that of the
+/// unit.
+fn rows_seen(
+    alloc: Global,
+    rows: &FirstRows<'_>,
+    build: &ActiveBuild,
+    unit: u32,
+    closure: &Closure,
+    reads: &[Path],
+) -> Result<BTreeMap<Path, u64>, NoMemory>
+    requires needs { AreNeeds build.now unit closure.now }
+    ensures { (it : units.Unit)
+        → unit_at build.now unit ≡ Some it
+        → IfOk result
+        (λ found. found.entries ≡ in_order (visible rows.now build.now unit it) reads.now) }
+{
+    let mut found = BTreeMap::new(alloc);
+    // From the last read to the first, as the record of reads is defined.
+    for index in (0..reads.len()).rev() {
+        let path = &reads[index];
+        let row = visible(rows, build, unit, closure, path).unwrap_or(0);
+        found.insert(path.copy(alloc)?, row)?;
+    }
+    Ok(found)
+}
+
+/// The row that a unit sees at each of these paths, as `rows_seen` has it.
 fn rows_read(
     alloc: Global,
     rows: &FirstRows<'_>,
@@ -34,15 +62,11 @@ fn rows_read(
         → IfOk result
         (λ found. found.entries ≡ in_order (visible rows.now build.now unit it) reads.now) }
 {
-    let closure = build.needs(alloc, unit)?;
-    let mut found = BTreeMap::new(alloc);
-    // From the last read to the first, as the record of reads is defined.
-    for index in (0..reads.len()).rev() {
-        let path = &reads[index];
-        let row = visible(rows, build, unit, &closure, path).unwrap_or(0);
-        found.insert(path.copy(alloc)?, row)?;
+    if let Some(closure) = build.kept_needs(unit) {
+        return rows_seen(alloc, rows, build, unit, closure, reads);
     }
-    Ok(found)
+    let closure = build.needs(alloc, unit)?;
+    rows_seen(alloc, rows, build, unit, &closure, reads)
 }
 
 /// The record of reads.
@@ -59,7 +83,8 @@ fn record_of_reads(alloc: Global, found: BTreeMap<Path, u64>) -> Result<List<Rea
 /// The row that a unit of an active build publishes at this moment: its run gave these
 /// outputs, and asked for these paths. Fails only where memory runs out.
 ///
-/// Takes what `needs` takes, for each read the time of `visible`, and time linear in what it copies.
+/// Takes for each read the time of `visible`, and time linear in what it copies; and what `needs` takes, where the unit was not
+/// started or there was no memory for what it stands on then.
 pub fn publish_row(
     alloc: Global,
     rows: &FirstRows<'_>,

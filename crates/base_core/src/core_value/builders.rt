@@ -33,7 +33,8 @@ impl<D: Disk> Core<D> {
     /// What a unit of a lane's build that was started finds at a path, which is the same at every moment since its start, or
     /// want of memory. Never broken.
     ///
-    /// Takes what the closure of the unit takes, one look-up of the path, and a copy of the text.
+    /// Takes one look-up of the path, and a copy of the text; and what the closure of the unit takes, where there was no memory
+    /// for it at the unit's start.
     pub fn fetch(&self, alloc: Global, lane: u32, unit: u32, path: &Path) -> Got
         requires { WasStarted (state_of self.now.story) lane unit }
         ensures { IsFetched result (sees (state_of self.now.story) lane unit path.now) }

@@ -2,7 +2,7 @@
 use Rattle.std.proofs.Common.{arith}
 use Rattle.legal_history.specs.Builds.Choices.{visible}
 use Rattle.build_core.proofs.RunsOrdered.{one_more}
-use Rattle.build_core.proofs.publishes.rows_read.Goals as goal
+use Rattle.build_core.proofs.publishes.rows_seen.Goals as goal
 
 pub loop-index-preserved : goal.loop-index-preserved
 loop-index-preserved c = λ it is.
