@@ -1,5 +1,5 @@
 -- What becomes of a unit that is driven to its outcome.
-use Rattle.std.proofs.Common.{◌≡◌, sym, subst, ℕ, ◌+◌, Bool, true, false, not, Result, Ok, Err, List}
+use Rattle.std.proofs.Common.{◌≡◌, ◌≤◌, sym, subst, arith, ℕ, ◌+◌, Bool, true, false, not, Result, Ok, Err, List}
 use Rattle.std.specs.Bool.{OnTrue}
 use Rattle.std.specs.Prelude.{IfOk, OnErr, OnOk, is_ok}
 use Rattle.std.specs.Result.{result_eq}
@@ -14,12 +14,14 @@ use Rattle.clearmake.specs.Building.{IsSwept}
 use Rattle.clearmake.specs.Calls.{IsCarried, IsOver, IsRunOfUnit, Tries, WaitsFor}
 use Rattle.clearmake.specs.Driving.{IsDriven, IsTried}
 use Rattle.clearmake.specs.Going.{Finishes, HasOutcome}
-use Rattle.clearmake.specs.Passes.{AreDone, Builds, IsCommandPast}
+use Rattle.clearmake.specs.Passes.{AreDone, BuilderState, Builds, IsCommandPast, IsLaterOfBuilder, WereDone}
 use Rattle.clearmake.specs.contracts.turns.TurnEndPartialEq.TheImpl.{eq-value}
 use Rattle.clearmake.specs.declared.turns.TurnEnd.{TurnEnd}
 use Rattle.clearmake.specs.declared.turns.TurnEnd.TheVariants as turn_ends
 use Rattle.clearmake.specs.declared.turns.UnitTurn.{UnitTurn}
 use Rattle.clearmake.specs.declared.turns.UnitTurn.TheVariants as turns
+use Rattle.turn_lock.proofs.Prefixes.{begins_itself, begins_on}
+use Rattle.clearmake.proofs.Begun.{of_builder}
 use Rattle.clearmake.proofs.Later.{run_stays}
 use Rattle.clearmake.proofs.Steps.{builds_on, done_later, done_more, finished_past, finishes_begins, goes_begins, is_over}
 use Rattle.clearmake.proofs.Steps.{same_begins, waits_for_none}
@@ -69,6 +71,29 @@ pub one_more : (was now : List StoryStep) (tag : Tag) (count n : ℕ) → AreDon
     × Builds now tag count × HasOutcome (state_of now) tag.lane n → AreDone now tag count (n + 1)
 one_more was now tag count n h p settled = done_more now tag count n (done_later was now tag count n h p settled.0 settled.1.next)
     settled.1 settled.2
+
+-- the first units had their outcomes, in this story or one before it: so it is in every longer story, of fewer units, and of one
+-- more that has its outcome
+pub were_here : (story : List StoryStep) (tag : Tag) (count n : ℕ) → AreDone story tag count n → WereDone story tag count n
+were_here story tag count n done = record { seen = story; begins = begins_itself story; done = done }
+
+pub were_on : (one two : List StoryStep) (tag : Tag) (count n : ℕ) → WereDone one tag count n → IsPrefix one two
+    → WereDone two tag count n
+were_on one two tag count n h p = record { seen = h.seen; begins = begins_on h.seen one two h.begins p; done = h.done }
+
+pub were_fewer : (story : List StoryStep) (tag : Tag) (count m n : ℕ) → m ≤ n → WereDone story tag count n
+    → WereDone story tag count m
+were_fewer story tag count m n few h = record { seen = h.seen; begins = h.begins; done = λ k below. h.done k (omega arith) }
+
+pub were_more : (one two : List StoryStep) (tag : Tag) (count n : ℕ) → WereDone one tag count n → IsPrefix one two → Legal two
+    × Builds two tag count × HasOutcome (state_of two) tag.lane n → WereDone two tag count (n + 1)
+were_more one two tag count n h p settled = were_here two tag count (n + 1)
+    (one_more h.seen two tag count n h.done (begins_on h.seen one two h.begins p) settled)
+
+pub builder_were : (old new : BuilderState) (n : ℕ) → IsLaterOfBuilder old new → WereDone old.pass.seen old.tag old.count n
+    → WereDone new.pass.seen new.tag new.count n
+builder_were old new n later h = of_builder (λ t k. WereDone new.pass.seen t k n) old new later
+    (were_on old.pass.seen new.pass.seen old.tag old.count n h later.later.begins)
 
 pub none_waits : (was now : List StoryStep) (tag : Tag) (count n m : ℕ) → AreDone was tag count n → IsPrefix was now → Legal now
     × Builds now tag count × WaitsFor (state_of now) tag.lane n m → ⊥

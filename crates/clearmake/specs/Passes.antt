@@ -55,6 +55,12 @@ pub record IsLaterOfBuilder (old new : BuilderState) : Type 0 where
 abbrev pub AreDone : List StoryStep → Tag → ℕ → ℕ → Type 0
 AreDone seen tag count n = (m : ℕ) → m < n → Builds seen tag count × HasOutcome (state_of seen) tag.lane m
 
+-- this story goes on from one in which the first n units of the build had their outcomes
+pub record WereDone (story : List StoryStep) (tag : Tag) (count n : ℕ) : Type 0 where
+  pub seen : List StoryStep
+  pub begins : IsPrefix seen story
+  pub done : AreDone seen tag count n
+
 -- a lane has nothing left to do
 abbrev pub HasNothingLeft : State → ℕ → Type 0
 HasNothingLeft s lane = next_of_lane s lane ≡ nexts.Done

@@ -21,9 +21,8 @@ impl<R: Wait, T: BuildService, G: Hook> BuilderPass<'_, R, T, G> {
         let rt = self.context.rt;
         let mut pass = self;
         for _ in rt.forever() {
-            if let Some(unit) = queues.find_task(rt, builder) {
-                pass = pass.do_task(queues, builder, unit);
-                queues.end_task();
+            if queues.has_task(rt, builder) {
+                pass = pass.do_tasks(queues, builder);
             } else if queues.is_done() {
                 break;
             }

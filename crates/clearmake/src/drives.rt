@@ -1,5 +1,5 @@
-//! A unit of a build is driven to its outcome: a turn at the service to try it, its run outside the lock, and a turn to finish
-//! it.
+//! A unit of a build is driven to its outcome: it is tried in a turn at the service, its script runs outside the lock, and in a
+//! further turn it is finished.
 
 ghost use Rattle.std.specs.Prelude.{◌<◌, IfOk};
 ghost use mathlib.Core.List.{IsPrefix};
@@ -70,20 +70,6 @@ fn finish_at<R, T: BuildService, G>(
 }
 
 impl<R: Wait, T: BuildService, G: Hook> BuilderPass<'_, R, T, G> {
-    /// Takes a turn to try a unit.
-    fn try_once(self, unit: u32) -> (Self, Result<UnitTurn, NoMemory>)
-        requires { unit < self.count }
-        ensures pass { IsLaterOfBuilder self.entry result.0 }
-        ensures tried { IfOk result.1
-            (λ turn. IsTried turn result.0.pass.seen result.0.tag result.0.count unit) }
-    {
-        let BuilderPass { context, pass } = self;
-        let (held, mut service) = context.lock.take(context.rt, pass);
-        let turn = try_at(context, &mut service, unit);
-        let pass = context.lock.give(held, service);
-        (BuilderPass { context, pass }, turn)
-    }
-
     /// Takes a turn to finish a unit.
     fn finish_once(
         self,
@@ -128,23 +114,6 @@ impl<R: Wait, T: BuildService, G: Hook> BuilderPass<'_, R, T, G> {
             Ok(ended) => pass.finish_once(&start, unit, ended),
             Err(Or::Is(GivenUp::Broken)) => (pass, Ok(TurnEnd::Over)),
             Err(Or::NoMemory) => (pass, Err(NoMemory)),
-        }
-    }
-
-    /// Drives a unit as far as it goes by itself.
-    pub(crate) fn drive(self, unit: u32) -> (Self, Result<TurnEnd, NoMemory>)
-        requires { unit < self.count }
-        ensures pass { IsLaterOfBuilder self.entry result.0 }
-        ensures driven { IfOk result.1
-            (λ end. IsDriven end result.0.pass.seen result.0.tag result.0.count unit) }
-    {
-        let (pass, turn) = self.try_once(unit);
-        match turn {
-            Ok(UnitTurn::Run(script, targets)) => {
-                pass.run_started(unit, &script, targets.as_slice(), None)
-            }
-            Ok(UnitTurn::End(end)) => (pass, Ok(end)),
-            Err(NoMemory) => (pass, Err(NoMemory)),
         }
     }
 }

@@ -158,9 +158,16 @@ impl TaskQueues {
     /// Lays a task into a builder's deque, unless there is no memory for it.
     pub(crate) fn push(&self, builder: &mut Builder, unit: u32) {
         self.pending.fetch_add(1, Ordering::SeqCst);
-        if builder.worker.push(unit).is_err() {
-            self.pending.fetch_sub(1, Ordering::SeqCst);
+        self.keep(builder, unit);
+    }
+
+    /// Lays a task that is pending into a builder's deque. False where there is no memory for it: then it is done no more.
+    fn keep(&self, builder: &mut Builder, unit: u32) -> bool {
+        let kept = builder.worker.push(unit).is_ok();
+        if !kept {
+            self.end_task();
         }
+        kept
     }
 
     /// Notes that a task is done, and what came of it lies in a deque.
@@ -221,12 +228,22 @@ impl TaskQueues {
         None
     }
 
-    /// The next task of a builder: its own, or else one that it steals. None after a while where it finds none.
-    pub(crate) fn find_task<R: Wait>(&self, rt: &R, builder: &mut Builder) -> Option<u32> {
-        match builder.worker.pop() {
-            Some(unit) => Some(unit),
-            None => self.steal(rt, builder),
+    /// Whether a builder has a task: of its own, or else one that it steals. Not after a while where it finds none.
+    pub(crate) fn has_task<R: Wait>(&self, rt: &R, builder: &mut Builder) -> bool {
+        if !builder.worker.is_empty() {
+            return true;
         }
+        match self.steal(rt, builder) {
+            Some(unit) => self.keep(builder, unit),
+            None => false,
+        }
+    }
+}
+
+impl Builder {
+    /// The next of its own tasks.
+    pub(crate) fn next_task(&mut self) -> Option<u32> {
+        self.worker.pop()
     }
 }
 

@@ -1,6 +1,6 @@
 use Rattle.turn_lock.proofs.Prefixes.{begins_itself}
 use Rattle.clearmake.proofs.Begun.{turn_later}
-use Rattle.clearmake.proofs.builder_passes.BuilderPass.released_once.Goals as goal
+use Rattle.clearmake.proofs.builder_passes.BuilderPass.push_released.Goals as goal
 
 pub returns : goal.returns
 returns g c =
