@@ -61,7 +61,6 @@ KNOWN = {
     "opening": {"bytes_each": 386},
     "lanes": {"ratio": 2.3},
     "lanes-busy": {"ratio": 8.0},
-    "group-listing": {"seconds": 2.8},
     "descriptions": {"seconds": 1.95},
     "version-trees": {"seconds": 2.1},
     "suffix-rules": {"seconds": 1.95},
