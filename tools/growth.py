@@ -53,7 +53,6 @@ KNOWN = {
     "links": {"seconds": 1.8},
     "links-opening": {"seconds": 1.85},
     "shared-inputs": {"seconds": 2.1, "memory": 1.9},
-    "histories": {"seconds": 2.1},
     "config-labels": {"bytes_each": 155},
     "specs": {"bytes_each": 12},
     "view-lives": {"bytes_each": 1434},
