@@ -60,8 +60,6 @@ KNOWN = {
     "opening": {"bytes_each": 386},
     "lanes": {"ratio": 2.3},
     "lanes-busy": {"ratio": 8.0},
-    "descriptions": {"seconds": 1.95},
-    "version-trees": {"seconds": 2.1},
     "suffix-rules": {"seconds": 1.95},
     "prerequisites": {"seconds": 2.0, "memory": 1.8},
     "late-units": {"seconds": 2.2},

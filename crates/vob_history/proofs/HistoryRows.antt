@@ -81,7 +81,7 @@ no_line b e n moment (deeds.Unlabel label f) none = ap (λ is. line_where is (da
 no_line b e n moment (deeds.Labels label placed) none = no_placed b e moment label placed none
 no_line b e n moment deed none = refl
 
-pub older_row : (row : Plain) (older : Base) (n : ℕ) → n ≤ length older → row_at (row ∷ older) n ≡ row_at older n
+older_row : (row : Plain) (older : Base) (n : ℕ) → n ≤ length older → row_at (row ∷ older) n ≡ row_at older n
 older_row row older n low =
     let apart : (size older == n) ≡ false = grind (arith, nat_tests, low) in
     ap (λ is. elim is [ true ↦ Some row | false ↦ row_at older n ]) apart
