@@ -1,4 +1,4 @@
--- The labels on a version, found among those that stand on versions of its element, are those of the label types that stand on it.
+-- The labels on a version, found among those that stand on its element's versions, are those of the label types that stand on it.
 use Rattle.std.proofs.Common.{◌≡◌, ℕ, ◌==◌, Bool, true, false, cond, T, ◌&&◌, ◌||◌, List, [], ◌∷◌, map, filter}
 use Rattle.std.proofs.Common.{Option, Some, None, refl, ap, ap₂, sym, subst, ◌∙◌, arith, bytes_eq}
 use Rattle.std.specs.Prelude.{is_some}

@@ -15,7 +15,8 @@ loop-one-preserved c = λ version.
     let rest = map plain (drop (i + 1) found) in
     ap (with_standing version rest) (c.in_ok-add_to.ensures version)
     ∙ ap (λ (at : Standing). with_standing version rest (with_label_if (version == at.version) at.label.now labels)) c.one-item.is
-    ∙ sym (at_drop_more (λ (left : List Standing). with_standing version (map plain left) labels) found i one c.loop-one-test.true)
+    ∙ sym (at_drop_more (λ (left : List Standing). with_standing version (map plain left) labels)
+    found i one c.loop-one-test.true)
     ∙ c.loop-one.invariant version
 
 pub returns : goal.returns
