@@ -1,12 +1,13 @@
 //! The changes of labels that rows make, and where a label stood at the first rows.
 
-ghost use Rattle.std.specs.Prelude.{◌≡◌, ℕ, List, OnOk, map};
+ghost use Rattle.std.specs.Prelude.{◌≡◌, ℕ, List, IfOk, OnOk, map};
 ghost use Rattle.std.specs.List.Sorted.{IsStrictlySortedBy};
 ghost use Rattle.std.specs.Ordering.{nat_cmp};
 ghost use Rattle.cc_names.specs.Falling.{IsAbove};
 ghost use Rattle.cc_names.specs.Formed.{IsDeedFormed, element_of};
 ghost use Rattle.cc_names.specs.Labels.{holder};
 ghost use Rattle.label_book.specs.Marks.{KeepsMarks, rows_of_pair};
+ghost use Rattle.label_book.specs.Standings.{AreStanding};
 ghost use Rattle.base_model.specs.Changes.{all_placed, labels, labels_after};
 ghost use Rattle.base_model.specs.Conditions.{has_label};
 ghost use Rattle.base_rows.specs.Labelling.{AreLabels, AreReady, HasLabelRoom};
@@ -15,7 +16,7 @@ use crate::bases::FirstRows;
 use cc_names::memory::NoMemory;
 use cc_names::names::Name;
 use cc_names::rows::{Deed, Placed};
-use label_book::Book;
+use label_book::{Book, Standing};
 use std::alloc::Global;
 
 /// Makes room to put a label on each of these versions.
@@ -87,6 +88,19 @@ pub fn holder(rows: &FirstRows<'_>, label: &Name, element: u64) -> Option<u64>
     ensures { result ≡ holder (labels rows.now) label.now element }
 {
     rows.labels().at(label, element, rows.size())
+}
+
+/// The labels that stand on versions of the element, each with its version. Takes for each label that was ever put on the element
+/// the time of `holder`.
+pub fn standing_labels<'a>(
+    alloc: Global,
+    rows: &FirstRows<'a>,
+    element: u64,
+) -> Result<Vec<Standing<'a>>, NoMemory>
+    ensures { IfOk result
+        (λ found. AreStanding (λ l. holder (labels rows.now) l element) found.items) }
+{
+    rows.labels().standing(alloc, element, rows.size())
 }
 
 /// Whether the label stands on a version of the element. Takes the time of `holder`.

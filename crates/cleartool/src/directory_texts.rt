@@ -1,6 +1,6 @@
 //! The query for the names of a directory.
 
-ghost use Rattle.std.specs.Prelude.{◌≡◌, ◌++◌, None, Some, IfOk, OnOk};
+ghost use Rattle.std.specs.Prelude.{◌≡◌, ◌++◌, true, None, Some, IfOk, OnOk};
 ghost use Rattle.cc_names.specs.Names.{IsName};
 ghost use Rattle.cc_names.specs.Paths.{join_of};
 ghost use Rattle.cc_names.specs.References.{held_at};
@@ -47,6 +47,28 @@ fn push_rule(alloc: Global, text: &mut Vec<u8>, number: u32) -> Result<(), NoMem
     Ok(())
 }
 
+/// Adds the line of a name whose element the view has out.
+fn push_checked_out(
+    alloc: Global,
+    text: &mut Vec<u8>,
+    rows: &FirstRows<'_>,
+    view: &Name,
+    name: &[u8],
+    element: u64,
+    picked: Picked,
+) -> Result<(), NoMemory>
+    ensures { OnOk result
+        (text.new.items
+        ≡ text.old.items ++ line (picked_line rows.now view.now name.now element picked true)) }
+{
+    let origin = origin_name(alloc, rows, view, element)?;
+    text.extend_from_slice(name)?;
+    text.extend_from_slice(b" checkedout from ")?;
+    text.extend_from_slice(origin.as_bytes())?;
+    push_rule(alloc, text, picked.line)?;
+    Ok(())
+}
+
 /// Adds the line of a name whose element is selected, by a version or by the view's checkout.
 fn push_picked(
     alloc: Global,
@@ -63,12 +85,7 @@ fn push_picked(
         ++ line (picked_line rows.now view.now name.now element picked picked.out)) }
 {
     if picked.out {
-        let origin = origin_name(alloc, rows, view, element)?;
-        text.extend_from_slice(name)?;
-        text.extend_from_slice(b" checkedout from ")?;
-        text.extend_from_slice(origin.as_bytes())?;
-        push_rule(alloc, text, picked.line)?;
-        Ok(())
+        push_checked_out(alloc, text, rows, view, name, element, picked)
     } else {
         let version = version_name(alloc, rows, picked.row)?;
         push_at_version(text, name, version.as_bytes())?;

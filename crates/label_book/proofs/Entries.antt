@@ -1,14 +1,17 @@
 -- The entries of a book as labels on elements with their moves.
 use Rattle.std.proofs.Common.{◌≡◌, ℕ, zero, suc, ◌<◌, List, [], ◌∷◌, ◌++◌, length, get_or, set, map, reverse, slice_get, Some}
-use Rattle.std.proofs.Common.{refl, ap, ◌∙◌, arith}
+use Rattle.std.proofs.Common.{true, ◌&&◌, refl, ap, ◌∙◌, arith}
 use Rattle.std.specs.Str.{bytes_eq}
 use Rattle.std.specs.List.{IsDistinct}
 use Rattle.std.specs.Map.{values_of}
+use Rattle.std.proofs.lemmas.Bool.{and_parts}
 use Rattle.std.proofs.lemmas.List.{get_or-map, length-map}
+use Rattle.std.proofs.lemmas.List.Folds.{list_all-append}
 use Rattle.indexmap.specs.IndexMap.{set_value_at}
 use Rattle.cc_names.specs.Falling.{Falls}
 use Rattle.label_book.specs.Holding.{MovesByPlace, Held, MoveList, row_of_move, held_among, all_held, AreNamed, HasGrown}
 use Rattle.label_book.specs.BookFields.{BookInStep}
+use Rattle.label_book.specs.Listed.{KeepsListed, LabelLists, are_listed, is_listed}
 
 -- the same label on the same element
 abbrev pub SameHead : Held → Held → Type 0
@@ -90,15 +93,41 @@ module _ (P : MovesByPlace → Type 0) where
   all_set moves carries (entry ∷ entries) (suc p) all (suc q) d within =
       all_set moves carries entries p (λ i f in_range. all (suc i) f (omega arith)) q d (omega arith)
 
+  -- where one more comes last
+  at_end : (last : MovesByPlace) → P last → (entries : List MovesByPlace)
+      → ((q : ℕ) (d : MovesByPlace) → q < length entries → P (get_or entries q d)) → (q : ℕ) (d : MovesByPlace)
+      → q < length (entries ++ last ∷ []) → P (get_or (entries ++ last ∷ []) q d)
+  at_end last is [] all zero d within = is
+  at_end last is [] all (suc q) d within = absurd (omega arith)
+  at_end last is (entry ∷ entries) all zero d within = all 0 d (omega arith)
+  at_end last is (entry ∷ entries) all (suc q) d within = at_end last is entries (λ i f in_range. all (suc i) f (omega arith)) q d
+      (omega arith)
+
+-- other moves leave the labels of elements
+set_listed : (lists : LabelLists) (entries : List MovesByPlace) (p : ℕ) (moves : MoveList)
+    → are_listed lists (set_value_at entries p moves) ≡ are_listed lists entries
+set_listed lists [] p moves = refl
+set_listed lists (entry ∷ entries) zero moves = refl
+set_listed lists (entry ∷ entries) (suc p) moves = ap (λ rest. is_listed lists entry && rest)
+    (set_listed lists entries p moves)
+
+all_kept : (old new : LabelLists) → KeepsListed old new → (entries : List MovesByPlace) → are_listed old entries ≡ true
+    → are_listed new entries ≡ true
+all_kept old new keeps [] all = refl
+all_kept old new keeps (entry ∷ entries) all =
+    let (here, rest) = and_parts (is_listed old entry) (are_listed old entries) all in
+    rw (keeps entry.0.element entry.0.label here) (all_kept old new keeps entries rest)
+
 -- the fields of a book stay in step
-module _ (names : List (List ℕ)) (entries : List MovesByPlace) (step : BookInStep names entries) where
+module _ (names : List (List ℕ)) (entries : List MovesByPlace) {lists : LabelLists} (step : BookInStep names entries lists) where
   -- as there are other moves at a place
   pub step_set : (p : ℕ) (moves : MoveList) → Falls (map row_of_move (reverse moves.items))
-      → BookInStep names (set_value_at entries p moves)
+      → BookInStep names (set_value_at entries p moves) lists
   step_set p moves falls = record {
     apart = step.apart;
     named = all_set (λ entry. entry.0.label < length names) moves (λ entry named. named) entries p step.named;
     fall = all_set (λ entry. Falls (map row_of_move (reverse entry.1.items))) moves (λ entry fall. falls) entries p step.fall;
+    listed = set_listed lists entries p moves ∙ step.listed;
   }
 
   -- the moves that an index lends are in order
@@ -110,13 +139,33 @@ module _ (names : List (List ℕ)) (entries : List MovesByPlace) (step : BookInS
 
   -- as the same moves get more room
   pub step_same : (p : ℕ) (old new : MoveList) → slice_get (values_of entries) p ≡ Some old → p < length (all_held names entries)
-      → new.items ≡ old.items → BookInStep names (set_value_at entries p new)
+      → new.items ≡ old.items → BookInStep names (set_value_at entries p new) lists
   step_same p old new is within items = step_set p new (rw items (fall_at p old is within))
 
   -- as there are more names
-  pub step_grown : (more : List (List ℕ)) → HasGrown names more → IsDistinct bytes_eq more → BookInStep more entries
+  pub step_grown : (more : List (List ℕ)) → HasGrown names more → IsDistinct bytes_eq more → BookInStep more entries lists
   step_grown more grown apart = record {
     apart = apart;
     named = λ p d within. omega (arith, step.named p d within, grown.more);
     fall = step.fall;
+    listed = step.listed;
+  }
+
+  -- as elements have more labels
+  pub step_listed : (more : LabelLists) → KeepsListed lists more → BookInStep names entries more
+  step_listed more keeps = record {
+    apart = step.apart;
+    named = step.named;
+    fall = step.fall;
+    listed = all_kept lists more keeps entries step.listed;
+  }
+
+  -- as there is one label on an element more, which has no change
+  pub step_push : (entry : MovesByPlace) → entry.0.label < length names → entry.1.items ≡ [] → is_listed lists entry ≡ true
+      → BookInStep names (entries ++ entry ∷ []) lists
+  step_push entry named empty is = record {
+    apart = step.apart;
+    named = at_end (λ one. one.0.label < length names) entry named entries step.named;
+    fall = at_end (λ one. Falls (map row_of_move (reverse one.1.items))) entry (rw empty tt) entries step.fall;
+    listed = list_all-append (is_listed lists) entries (entry ∷ []) ∙ rw (step.listed, is) refl;
   }

@@ -26,7 +26,7 @@ alone_at xs p k d differ p_within k_within same apart = elim (cases_lt p k) [
 ]
 
 -- where no item passes a test, each fails it
-each_fails : {X : Type 0} (test : X → Bool) (xs : List X) → list_any test xs ≡ false → (k : ℕ) (d : X) → k < length xs
+pub each_fails : {X : Type 0} (test : X → Bool) (xs : List X) → list_any test xs ≡ false → (k : ℕ) (d : X) → k < length xs
     → test (get_or xs k d) ≡ false
 each_fails test [] none k d within = absurd (omega arith)
 each_fails test (x ∷ xs) none zero d within = (neither (test x) (list_any test xs) none).0

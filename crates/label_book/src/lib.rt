@@ -9,17 +9,21 @@
 //! What it stands on: `cc_names`, and `indexmap` of the kit, which finds a label by its name and then on an element.
 #![tactic(auto)]
 
-ghost use Rattle.std.specs.Prelude.{◌≡◌, ℕ, ◌<◌, ◌∷◌, [], IsTrue, IfOk, OnOk, length, slice_index};
+ghost use Rattle.std.specs.Prelude.{◌≡◌, ℕ, ◌<◌, ◌∷◌, [], IsTrue, IfOk, OnOk, length, map, slice_index};
 ghost use Rattle.cc_names.specs.Labels.{labels_of_first_rows, holder};
 ghost use Rattle.cc_names.specs.Falling.{IsAbove};
 ghost use Rattle.cc_names.specs.declared.changes.LabelChange.TheVariants as changes;
 ghost use Rattle.label_book.specs.Marks.{rows_of_pair, has_label_room, AddsLabelChange, KeepsMarks};
+ghost use Rattle.label_book.specs.Standings.{AreStanding, placements, plain};
 
+mod element_labels;
 mod held;
 pub mod laws;
 
 use cc_names::memory::NoMemory;
 use cc_names::names::Name;
+pub use element_labels::Standing;
+use element_labels::{ElementLabels, add_standing, labels_listed, list_label};
 use held::{LabelOn, Labels, Move, Moves, find_label, place_of_label, put_last, version_at};
 use indexmap::{IndexMap, IndexSet};
 use std::alloc::Global;
@@ -31,6 +35,8 @@ use std::marker::Model;
 pub struct Book {
     labels: Labels,
     moves: Moves,
+    // The labels that were ever put on each element. One may come twice after memory ran out.
+    lists: ElementLabels,
 }
 
 impl Model for Book {
@@ -55,6 +61,7 @@ impl Book {
         Ok(Book {
             labels: IndexSet::with_hasher(alloc, hashing),
             moves: IndexMap::with_hasher(alloc, hashing),
+            lists: IndexMap::with_hasher(alloc, hashing),
         })
     }
 
@@ -86,6 +93,7 @@ impl Book {
         // Most labels are put once and stay: the first change has room for itself alone.
         let moves = Vec::with_capacity(alloc, 1)?;
         let label = place_of_label(alloc, &mut self.labels, label)?;
+        list_label(alloc, &mut self.lists, element, label)?;
         put_last(&mut self.moves, LabelOn { label, element }, moves)?;
         Ok(())
     }
@@ -140,5 +148,44 @@ impl Book {
     {
         let place = find_label(&self.labels, &self.moves, label, element)?;
         version_at(&self.moves[place], rows)
+    }
+
+    /// The labels that stood on versions of an element in the first `rows` rows. Takes for each label that was ever put on the
+    /// element the time of `at`.
+    pub fn standing(
+        &self,
+        alloc: Global,
+        element: u64,
+        rows: u64,
+    ) -> Result<Vec<Standing<'_>>, NoMemory>
+        ensures { IfOk result
+            (λ found. AreStanding
+            (λ l. holder (labels_of_first_rows rows self.now.changes) l element) found.items) }
+    {
+        let places = labels_listed(&self.lists, element);
+        self.standing_at(alloc, &self.labels, places, element, rows)
+    }
+
+    // Those of the labels at these places that stood on versions of the element in the first `rows` rows.
+    fn standing_at<'a>(
+        &self,
+        alloc: Global,
+        labels: &'a Labels,
+        places: &[usize],
+        element: u64,
+        rows: u64,
+    ) -> Result<Vec<Standing<'a>>, NoMemory>
+        ensures { IfOk result
+            (λ found. map plain found.items
+            ≡ placements labels.now.keys
+            (λ l. holder (labels_of_first_rows rows self.now.changes) l element) places.now) }
+    {
+        let mut found = Vec::new(alloc);
+        for place in places {
+            if let Some(label) = labels.get_index(*place) {
+                add_standing(&mut found, label, self.at(label, element, rows))?;
+            }
+        }
+        Ok(found)
     }
 }

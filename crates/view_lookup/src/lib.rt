@@ -41,7 +41,7 @@ mod version_names;
 
 pub use base_rows::bases::{FirstRows, Rows, first_rows, row_at};
 pub use base_rows::checkouts::{Checkout, checked_out, has_out, making};
-pub use base_rows::labels::{has_label, holder};
+pub use base_rows::labels::{has_label, holder, standing_labels};
 pub use base_rows::listings::{is_publish, placed_by};
 pub use base_rows::objects::{held_at_all, held_object, live_row, targets_of};
 pub use base_rows::prepared::Prepared;

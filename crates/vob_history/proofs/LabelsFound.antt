@@ -1,12 +1,12 @@
--- The labels on a version, found along the history of its element, are those of the label types that stand on it.
-use Rattle.std.proofs.Common.{◌≡◌, ℕ, ◌≤◌, ◌==◌, Bool, true, false, cond, T, ◌&&◌, ◌||◌, List, [], ◌∷◌, length, map, filter}
+-- The labels on a version, found among those that stand on its element's versions, are those of the label types that stand on it.
+use Rattle.std.proofs.Common.{◌≡◌, ℕ, ◌==◌, Bool, true, false, cond, T, ◌&&◌, ◌||◌, List, [], ◌∷◌, map, filter}
 use Rattle.std.proofs.Common.{Option, Some, None, refl, ap, ap₂, sym, subst, ◌∙◌, arith, bytes_eq}
-use Rattle.std.specs.Prelude.{is_some, option_and_then}
+use Rattle.std.specs.Prelude.{is_some}
 use Rattle.std.specs.BTreeSet.{insert_key}
 use Rattle.std.specs.Cmp.Lexicographic.{slice_cmp}
 use Rattle.std.specs.FinMap.Entries.{put, by_order, find, where_key, below_all, is_sorted, is_sorted-put, is_sorted-where_key}
 use Rattle.std.specs.FinMap.Entries.{find-put, find-where_key}
-use Rattle.std.specs.List.{list_any}
+use Rattle.std.specs.List.{list_all, list_any}
 use Rattle.std.specs.Ordering.{nat_cmp, is_eq, is_lt, match_ordering, ordering_reverse}
 use Rattle.std.specs.declared.cmp.Ordering.{Ordering}
 use Rattle.std.specs.declared.cmp.Ordering.TheVariants.{Less, Equal, Greater}
@@ -17,7 +17,7 @@ use Rattle.std.proofs.lemmas.Slice.Eq.{bytes_eq-Decides}
 use Rattle.std.proofs.lemmas.Bool.{or_right, or_left}
 use Rattle.cc_names.specs.Labels.{holder}
 use Rattle.cc_names.specs.Last.{Ends, Sets, only_if, value_after}
-use Rattle.cc_names.specs.Versions.{put_if}
+use Rattle.cc_names.specs.Versions.{is_number}
 use Rattle.cc_names.specs.declared.changes.LabelChange.{LabelChange}
 use Rattle.cc_names.specs.declared.changes.LabelChange.TheVariants.{Put, Taken}
 use Rattle.cc_names.specs.declared.rows.Deed.{Deed}
@@ -27,17 +27,15 @@ use Rattle.cc_names.specs.declared.rows.TypeKind.{TypeKind}
 use Rattle.cc_names.specs.declared.rows.TypeKind.TheVariants as type_kinds
 use Rattle.cc_names.proofs.Common.{test_first, test_second, less_by_test, texts_tied, number_found, and_first, and_second}
 use Rattle.cc_names.proofs.Common.{bytes_swapped}
-use Rattle.base_model.specs.Rows.{Base, size, row_at, deed_of}
+use Rattle.base_model.specs.Rows.{Base, size}
 use Rattle.base_model.specs.Changes.{labels, labels_after, all_placed, kind_of_type, type_effect}
 use Rattle.base_model.specs.Conditions.{is_label_type, is_label_kind}
 use Rattle.base_model.specs.Fits.{is_base, deed_fits}
 use Rattle.legal_history.specs.Queries.ElementTexts.{NameSet, entry_key, label_types, labels_on, with_label_type}
 use Rattle.base_model.proofs.Owned.{row_fits, rows_below}
-use Rattle.base_model.proofs.VersionRows.{newest_row}
-use Rattle.base_rows.specs.Histories.{history_of, is_placed_on, tells_of}
-use Rattle.vob_history.specs.LabelSets.{label_put, label_at, stands_on, with_label_if, with_label, labels_among}
-use Rattle.vob_history.proofs.HistoryRows.{older_row}
-use Rattle.base_rows.specs.LookUps.{update_by_row}
+use Rattle.label_book.specs.Standings.{AreStanding, Placement, is_placement, plain, stands}
+use Rattle.label_book.specs.declared.element_labels.Standing.{Standing}
+use Rattle.vob_history.specs.LabelSets.{stands_on, with_label_if, with_standing}
 
 -- ---- sets of names
 
@@ -265,204 +263,111 @@ labels_typed (row ∷ older) h =
     row_typed (row ∷ older) older row.deed (labels older) stays (row_fits row older h)
     (record { typed = λ name e r held. stays name (before.typed name e r held) })
 
--- ---- the labels of a history
-
--- whether it is this label
-abbrev is_label : List ℕ → Option (List ℕ) → Bool
-is_label name None = false
-is_label name (Some label) = bytes_eq name label
-
--- whether one of the rows of these numbers puts a label of this name
-abbrev is_put : Base → List ℕ → List ℕ → Bool
-is_put b name [] = false
-is_put b name (n ∷ ns) = is_label name (label_at b n) || is_put b name ns
-
-more_put : (b : Base) (name : List ℕ) (test : Bool) (n : ℕ) (ns : List ℕ) → is_put b name ns ≡ true
-    → is_put b name (put_if test n ns) ≡ true
-more_put b name true n ns h = or_right (is_label name (label_at b n)) (is_put b name ns) h
-more_put b name false n ns h = h
-
-turned_number : (one two : ℕ) → (one == two) ≡ true → (two == one) ≡ true
-turned_number one two is = grind (arith, nat_tests, is)
-
--- what a list of versions adds: the label is held before, or the row puts it on the element
-put_or_before : (P : Type 0) (n : ℕ) (label : List ℕ) (placed : List Placed) (changes : List LabelChange) (name : List ℕ)
-    (e r : ℕ) → holder (all_placed n label placed changes) name e ≡ Some r →
-    (holder changes name e ≡ Some r → P) → (bytes_eq name label ≡ true → list_any (is_placed_on e) placed ≡ true → P) → P
-put_or_before P n label [] changes name e r held before here = before held
-put_or_before P n label (one ∷ more) changes name e r held before here =
-    put_or_before P n label more (Put n label one.element one.version ∷ changes) name e r held
-    (λ held. by (bytes_eq name label && (e == one.element)) refl held)
-    (λ same any. here same (or_right (one.element == e) (list_any (is_placed_on e) more) any))
-  where
-    by : (x : Bool) → (bytes_eq name label && (e == one.element)) ≡ x → value_after (only_if x (Sets one.version))
-        (holder changes name e) ≡ Some r → P
-    by true test held =
-        let at : (one.element == e) ≡ true = turned_number e one.element
-        (and_second (bytes_eq name label) (e == one.element) test) in
-        here (and_first (bytes_eq name label) (e == one.element) test)
-        (or_left (one.element == e) (list_any (is_placed_on e) more) at)
-    by false test held = before held
-
--- where row n puts the label on the element it is put by the history
-put_here : (b : Base) (name label : List ℕ) (n : ℕ) (ns : List ℕ) (test : Bool) → label_at b n ≡ Some label
-    → bytes_eq name label ≡ true → test ≡ true → is_put b name (put_if (is_some (update_by_row n (only_if test (Sets n)))) n ns)
-    ≡ true
-put_here b name label n ns true at same is =
-    ap (λ found. is_label name found || is_put b name ns) at ∙ or_left (bytes_eq name label) (is_put b name ns) same
-put_here b name label n ns false at same is = absurd (cc)
-
--- a label that is held was put by a row of the element's history
-row_put : (b older : Base) (deed : Deed) (e : ℕ) (name : List ℕ) (r : ℕ) → label_at b (size older) ≡ label_put deed
-    → holder (labels_after (size older) deed (labels older)) name e ≡ Some r →
-    (holder (labels older) name e ≡ Some r → is_put b name (history_of older e) ≡ true) →
-    is_put b name (put_if (is_some (update_by_row (size older) (only_if (tells_of e (size older) deed) (Sets (size older)))))
-    (size older) (history_of older e)) ≡ true
-row_put b older (deeds.Label label f version) e name r at held before = by (bytes_eq name label && (e == f)) refl held
-  where
-    by : (x : Bool) → (bytes_eq name label && (e == f)) ≡ x → value_after (only_if x (Sets version))
-        (holder (labels older) name e) ≡ Some r →
-        is_put b name (put_if (is_some (update_by_row (size older) (only_if (f == e) (Sets (size older))))) (size older)
-        (history_of older e)) ≡ true
-    by true test held = put_here b name label (size older) (history_of older e) (f == e) at (and_first _ _ test)
-        (turned_number e f (and_second (bytes_eq name label) (e == f) test))
-    by false test held = more_put b name (is_some (update_by_row (size older) (only_if (f == e) (Sets (size older)))))
-        (size older) (history_of older e) (before held)
-row_put b older (deeds.Unlabel label f) e name r at held before = by (bytes_eq name label && (e == f)) held
-  where
-    by : (x : Bool) → value_after (only_if x Ends) (holder (labels older) name e) ≡ Some r →
-        is_put b name (put_if (is_some (update_by_row (size older) (only_if (f == e) (Sets (size older))))) (size older)
-        (history_of older e)) ≡ true
-    by true held = absurd (cc)
-    by false held = more_put b name (is_some (update_by_row (size older) (only_if (f == e) (Sets (size older))))) (size older)
-        (history_of older e) (before held)
-row_put b older (deeds.Labels label placed) e name r at held before =
-    put_or_before (is_put b name (put_if (is_some (update_by_row (size older)
-    (only_if (list_any (is_placed_on e) placed) (Sets (size older))))) (size older) (history_of older e)) ≡ true)
-    (size older) label placed (labels older) name e r held
-    (λ held. more_put b name (is_some (update_by_row (size older) (only_if (list_any (is_placed_on e) placed)
-    (Sets (size older))))) (size older) (history_of older e) (before held))
-    (λ same any. put_here b name label (size older) (history_of older e) (list_any (is_placed_on e) placed) at same any)
-row_put b older deed e name r at held before =
-    more_put b name (is_some (update_by_row (size older) (only_if (tells_of e (size older) deed) (Sets (size older)))))
-    (size older) (history_of older e) (before held)
-
-held_put : (b : Base) (e : ℕ) (name : List ℕ) (r : ℕ) (rows : Base) → ((n : ℕ) → n ≤ length rows → row_at b n ≡ row_at rows n)
-    → holder (labels rows) name e ≡ Some r → is_put b name (history_of rows e) ≡ true
-held_put b e name r [] agree held = absurd (cc)
-held_put b e name r (row ∷ older) agree held =
-    let at : label_at b (size older) ≡ label_put row.deed = ap (λ found. option_and_then label_put (deed_of found))
-    (agree (size older) (omega arith) ∙ newest_row row older) in
-    row_put b older row.deed e name r at held (held_put b e name r older (λ n low. agree n (omega (arith, low))
-    ∙ older_row row older n low))
-
 -- ---- the labels that stand on a version
 
--- the labels of a history with themselves
-abbrev put_label : Base → ℕ → ℕ → Option (List ℕ) → NameSet → NameSet
-put_label b e version None set = set
-put_label b e version (Some label) set = put_one (stands_on b e version label) label set
+-- the labels that stand on it with themselves
+abbrev put_standing : ℕ → List Placement → NameSet → NameSet
+put_standing version [] set = set
+put_standing version (one ∷ more) set = put_standing version more (put_one (version == one.1) one.0 set)
 
-abbrev put_among : Base → ℕ → ℕ → List ℕ → NameSet → NameSet
-put_among b e version [] set = set
-put_among b e version (n ∷ ns) set = put_among b e version ns (put_label b e version (label_at b n) set)
+names_one : (is : Bool) (label : List ℕ) (set : NameSet)
+    → map entry_key (put_one is label set) ≡ with_label_if is label (map entry_key set)
+names_one true label set = names_put label set
+names_one false label set = refl
 
-names_label : (b : Base) (e version : ℕ) (found : Option (List ℕ)) (set : NameSet)
-    → map entry_key (put_label b e version found set) ≡ with_label b e version found (map entry_key set)
-names_label b e version None set = refl
-names_label b e version (Some label) set = by (stands_on b e version label)
-  where
-    by : (is : Bool) → map entry_key (put_one is label set) ≡ with_label_if is label (map entry_key set)
-    by true = names_put label set
-    by false = refl
+names_standing : (version : ℕ) (found : List Placement) (set : NameSet)
+    → map entry_key (put_standing version found set) ≡ with_standing version found (map entry_key set)
+names_standing version [] set = refl
+names_standing version (one ∷ more) set =
+    names_standing version more (put_one (version == one.1) one.0 set)
+    ∙ ap (with_standing version more) (names_one (version == one.1) one.0 set)
 
-names_among : (b : Base) (e version : ℕ) (ns : List ℕ) (set : NameSet)
-    → map entry_key (put_among b e version ns set) ≡ labels_among b e version ns (map entry_key set)
-names_among b e version [] set = refl
-names_among b e version (n ∷ ns) set =
-    names_among b e version ns (put_label b e version (label_at b n) set)
-    ∙ ap (labels_among b e version ns) (names_label b e version (label_at b n) set)
+one_sorted : (is : Bool) (label : List ℕ) (set : NameSet) → T (is_sorted (slice_cmp nat_cmp) set)
+    → T (is_sorted (slice_cmp nat_cmp) (put_one is label set))
+one_sorted true label set h = is_sorted-put (slice_cmp nat_cmp) nat_list_cmp_total label label set h
+one_sorted false label set h = h
 
-label_sorted : (b : Base) (e version : ℕ) (found : Option (List ℕ)) (set : NameSet) → T (is_sorted (slice_cmp nat_cmp) set)
-    → T (is_sorted (slice_cmp nat_cmp) (put_label b e version found set))
-label_sorted b e version None set h = h
-label_sorted b e version (Some label) set h = by (stands_on b e version label)
-  where
-    by : (is : Bool) → T (is_sorted (slice_cmp nat_cmp) (put_one is label set))
-    by true = is_sorted-put (slice_cmp nat_cmp) nat_list_cmp_total label label set h
-    by false = h
-
-among_sorted : (b : Base) (e version : ℕ) (ns : List ℕ) (set : NameSet) → T (is_sorted (slice_cmp nat_cmp) set)
-    → T (is_sorted (slice_cmp nat_cmp) (put_among b e version ns set))
-among_sorted b e version [] set h = h
-among_sorted b e version (n ∷ ns) set h = among_sorted b e version ns (put_label b e version (label_at b n) set)
-    (label_sorted b e version (label_at b n) set h)
+standing_sorted : (version : ℕ) (found : List Placement) (set : NameSet) → T (is_sorted (slice_cmp nat_cmp) set)
+    → T (is_sorted (slice_cmp nat_cmp) (put_standing version found set))
+standing_sorted version [] set h = h
+standing_sorted version (one ∷ more) set h = standing_sorted version more (put_one (version == one.1) one.0 set)
+    (one_sorted (version == one.1) one.0 set h)
 
 -- what the set has once a label was looked at
-has_label : (b : Base) (e version : ℕ) (found : Option (List ℕ)) (name : List ℕ) (set : NameSet)
-    → has name (put_label b e version found set) ≡ ((is_label name found && stands_on b e version name) || has name set)
-has_label b e version None name set = refl
-has_label b e version (Some label) name set = by (bytes_eq name label) refl (stands_on b e version label) refl
+has_one : (name label : List ℕ) (is : Bool) (set : NameSet)
+    → has name (put_one is label set) ≡ ((bytes_eq name label && is) || has name set)
+has_one name label true set = has_put name label set ∙ ap (λ x. x || has name set) (sym (and_true (bytes_eq name label)))
   where
-    by : (same : Bool) → bytes_eq name label ≡ same → (is : Bool) → stands_on b e version label ≡ is
-        → has name (put_one is label set) ≡ ((bytes_eq name label && stands_on b e version name) || has name set)
-    by true at true stands =
-        has_put name label set ∙ or_left _ _ at
-        ∙ sym (or_left (bytes_eq name label && stands_on b e version name) (has name set)
-        (ap₂ (λ (x y : Bool). x && y) at (ap (stands_on b e version) ((bytes_eq-Decides name label).0 at) ∙ stands)))
-    by true at false stands =
-        sym (ap₂ (λ (x y : Bool). (x && y) || has name set) at (ap (stands_on b e version) ((bytes_eq-Decides name label).0 at)
-        ∙ stands))
-    by false apart true stands = has_put name label set ∙ ap (λ x. x || has name set) apart
-        ∙ sym (ap (λ x. (x && stands_on b e version name) || has name set) apart)
-    by false apart false stands = sym (ap (λ x. (x && stands_on b e version name) || has name set) apart)
-
-has_among : (b : Base) (e version : ℕ) (ns : List ℕ) (name : List ℕ) (set : NameSet)
-    → has name (put_among b e version ns set) ≡ ((is_put b name ns && stands_on b e version name) || has name set)
-has_among b e version [] name set = refl
-has_among b e version (n ∷ ns) name set =
-    has_among b e version ns name (put_label b e version (label_at b n) set)
-    ∙ ap (λ rest. (is_put b name ns && stands_on b e version name) || rest) (has_label b e version (label_at b n) name set)
-    ∙ joined (is_label name (label_at b n)) (is_put b name ns) (stands_on b e version name) (has name set)
+    and_true : (x : Bool) → (x && true) ≡ x
+    and_true true = refl
+    and_true false = refl
+has_one name label false set = sym (ap (λ x. x || has name set) (and_false (bytes_eq name label)))
   where
-    joined : (one more stands before : Bool) → ((more && stands) || ((one && stands) || before))
-        ≡ (((one || more) && stands) || before)
-    joined true true true before = refl
-    joined true true false before = refl
-    joined true false true before = refl
-    joined true false false before = refl
-    joined false true true before = refl
-    joined false true false before = refl
-    joined false false stands before = refl
+    and_false : (x : Bool) → (x && false) ≡ false
+    and_false true = refl
+    and_false false = refl
 
-same_labels : (b : Base) (e version : ℕ) (name : List ℕ) → is_base b ≡ true →
-    has name (put_among b e version (history_of b e) []) ≡ has name (where_key (slice_cmp nat_cmp) (stands_on b e version)
+has_standing : (version : ℕ) (found : List Placement) (name : List ℕ) (set : NameSet)
+    → has name (put_standing version found set) ≡ (list_any (is_placement name version) found || has name set)
+has_standing version [] name set = refl
+has_standing version (one ∷ more) name set =
+    has_standing version more name (put_one (version == one.1) one.0 set)
+    ∙ ap (λ rest. list_any (is_placement name version) more || rest) (has_one name one.0 (version == one.1) set)
+    ∙ joined (list_any (is_placement name version) more) (is_placement name version one) (has name set)
+  where
+    joined : (more one before : Bool) → (more || (one || before)) ≡ ((one || more) || before)
+    joined true true before = refl
+    joined true false before = refl
+    joined false true before = refl
+    joined false false before = refl
+
+-- a label that is among those that stand stands there
+stands_there : (b : Base) (e version : ℕ) (name : List ℕ) (found : List Placement)
+    → list_all (stands (λ label. holder (labels b) label e)) found ≡ true → list_any (is_placement name version) found ≡ true
+    → stands_on b e version name ≡ true
+stands_there b e version name [] all any = absurd (cc)
+stands_there b e version name (one ∷ more) all any = by (is_placement name version one) refl any
+    (stands_there b e version name more (and_second _ _ all))
+  where
+    by : (is : Bool) → is_placement name version one ≡ is → (is || list_any (is_placement name version) more) ≡ true
+        → (list_any (is_placement name version) more ≡ true → stands_on b e version name ≡ true)
+        → stands_on b e version name ≡ true
+    by true is any rest =
+        let label : name ≡ one.0 = (bytes_eq-Decides name one.0).0 (and_first _ _ is) in
+        let number : version ≡ one.1 = same_number version one.1 (and_second (bytes_eq name one.0) (version == one.1) is) in
+        ap₂ (λ n l. is_number n (holder (labels b) l e)) number label ∙ and_first _ _ all
+      where
+        same_number : (m n : ℕ) → (m == n) ≡ true → m ≡ n
+        same_number m n is = grind (arith, nat_tests, is)
+    by false is any rest = rest any
+
+same_labels : (b : Base) (e version : ℕ) (name : List ℕ) (found : List Standing) → is_base b ≡ true
+    → AreStanding (λ label. holder (labels b) label e) found →
+    has name (put_standing version (map plain found) []) ≡ has name (where_key (slice_cmp nat_cmp) (stands_on b e version)
     (label_types b))
-same_labels b e version name fits =
-    has_among b e version (history_of b e) name []
-    ∙ by (stands_on b e version name) refl
+same_labels b e version name found fits standing =
+    has_standing version (map plain found) name []
+    ∙ by (stands_on b e version name) refl (list_any (is_placement name version) (map plain found)) refl
     ∙ sym (has_where (stands_on b e version) name (label_types b))
   where
-    none : (x : Bool) → ((x && false) || false) ≡ false
-    none true = refl
-    none false = refl
+    by : (is : Bool) → stands_on b e version name ≡ is → (any : Bool) → list_any (is_placement name version) (map plain found)
+        ≡ any → (any || false) ≡ (is && has name (label_types b))
+    by true on true any =
+        let held = number_found version (holder (labels b) name e) on in
+        sym ((labels_typed b fits).typed name e version held)
+    by true on false any =
+        let held = number_found version (holder (labels b) name e) on in
+        absurd (cc (any, standing.all name version held))
+    by false on true any = absurd (cc (on, stands_there b e version name (map plain found) standing.stand any))
+    by false on false any = refl
 
-    by : (is : Bool) → stands_on b e version name ≡ is → ((is_put b name (history_of b e) && is) || false)
-        ≡ (is && has name (label_types b))
-    by true stands =
-        let held = number_found version (holder (labels b) name e) stands in
-        let put : is_put b name (history_of b e) ≡ true = held_put b e name version b (λ n low. refl) held in
-        let typed : has name (label_types b) ≡ true = (labels_typed b fits).typed name e version held in
-        ap (λ x. (x && true) || false) put ∙ sym typed
-    by false stands = none (is_put b name (history_of b e))
-
-pub labels_found : (b : Base) (e version : ℕ) → is_base b ≡ true → labels_among b e version (history_of b e) []
-    ≡ labels_on b e version
-labels_found b e version fits =
-    sym (names_among b e version (history_of b e) [])
-    ∙ same_sets (put_among b e version (history_of b e) []) (where_key (slice_cmp nat_cmp) (stands_on b e version)
+pub labels_found : (b : Base) (e version : ℕ) (found : List Standing) → is_base b ≡ true
+    → AreStanding (λ label. holder (labels b) label e) found → with_standing version (map plain found) [] ≡ labels_on b e version
+labels_found b e version found fits standing =
+    sym (names_standing version (map plain found) [])
+    ∙ same_sets (put_standing version (map plain found) []) (where_key (slice_cmp nat_cmp) (stands_on b e version)
     (label_types b))
-    (among_sorted b e version (history_of b e) [] tt) (is_sorted-where_key (slice_cmp nat_cmp) (stands_on b e version)
+    (standing_sorted version (map plain found) [] tt) (is_sorted-where_key (slice_cmp nat_cmp) (stands_on b e version)
     (label_types b) (types_sorted b))
-    (λ name. same_labels b e version name fits)
+    (λ name. same_labels b e version name found fits standing)
     ∙ names_where (stands_on b e version) (label_types b)

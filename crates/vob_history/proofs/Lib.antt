@@ -13,3 +13,4 @@ pub mod WalksBack
 pub mod CatalogsGiven
 pub mod ElementsBelow
 pub mod MergeTests
+mod WorkedLabels

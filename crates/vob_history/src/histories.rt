@@ -2,7 +2,10 @@
 
 ghost use Rattle.std.specs.Prelude.{◌≡◌, ◌≤◌, ◌++◌, codes, map, IfOk, OnOk};
 ghost use Rattle.std.specs.List.{concat};
-ghost use Rattle.legal_history.specs.Queries.HistoryTexts.{dated_line, history_line, line_where, lshistory_text, placed_lines};
+ghost use Rattle.std.specs.List.Sorted.{IsStrictlySortedBy};
+ghost use Rattle.std.specs.Ordering.{nat_cmp};
+ghost use Rattle.cc_names.specs.Formed.{IsDeedFormed, element_of};
+ghost use Rattle.legal_history.specs.Queries.HistoryTexts.{dated_line, history_line, lshistory_text, placed_lines};
 ghost use Rattle.legal_history.specs.Queries.QueryLines.{lshistory};
 ghost use Rattle.legal_history.specs.Queries.VersionNames.{branch_name, version_name};
 ghost use Rattle.view_lookup.specs.Answering.{AnswersAs};
@@ -17,28 +20,24 @@ use cc_names::rows::{Deed, Placed};
 use cc_names::texts::Text;
 use date_text::print;
 use std::alloc::Global;
-use view_lookup::{FirstRows, branch_name, history_of, row_at, version_name};
+use view_lookup::{FirstRows, branch_name, history_of, placed_on, row_at, version_name};
 
-/// Adds a line, where it tells of the element: the date of a moment, words and a name.
+/// Adds a line: the date of a moment, words and a name.
 fn push_history_line(
     text: &mut Vec<u8>,
-    tells: bool,
     moment: u64,
     words: &[u8],
     name: &[u8],
 ) -> Result<(), NoMemory>
     requires { moment ≤ 253402300799 }
     ensures { OnOk result
-        (text.new.items
-        ≡ text.old.items ++ line_where tells (dated_line moment (words.now ++ name.now))) }
+        (text.new.items ≡ text.old.items ++ dated_line moment (words.now ++ name.now)) }
 {
-    if tells {
-        text.extend_from_slice(print(moment).as_bytes())?;
-        text.push(b' ')?;
-        text.extend_from_slice(words)?;
-        text.extend_from_slice(name)?;
-        text.push(b'\n')?;
-    }
+    text.extend_from_slice(print(moment).as_bytes())?;
+    text.push(b' ')?;
+    text.extend_from_slice(words)?;
+    text.extend_from_slice(name)?;
+    text.push(b'\n')?;
     Ok(())
 }
 
@@ -58,12 +57,11 @@ fn label_text(
     Ok(text)
 }
 
-/// Adds the line of a label that was put on a version, where it tells of the element.
+/// Adds the line of a label that was put on a version.
 fn push_label(
     alloc: Global,
     text: &mut Vec<u8>,
     rows: &FirstRows<'_>,
-    tells: bool,
     moment: u64,
     label: &Name,
     version: u64,
@@ -72,17 +70,13 @@ fn push_label(
     ensures { OnOk result
         (text.new.items
         ≡ text.old.items
-        ++ line_where tells
-        (dated_line moment (codes "label " ++ label_text rows.now label.now version))) }
+        ++ dated_line moment (codes "label " ++ label_text rows.now label.now version)) }
 {
-    if !tells {
-        return Ok(());
-    }
     let name = label_text(alloc, rows, label, version)?;
-    push_history_line(text, tells, moment, b"label ", &name)
+    push_history_line(text, moment, b"label ", &name)
 }
 
-/// Adds the lines of the label that a row put on these versions, of those of the element.
+/// Adds the line of the label that a row put on these versions, where one is of the element.
 fn push_placed(
     alloc: Global,
     text: &mut Vec<u8>,
@@ -92,24 +86,23 @@ fn push_placed(
     label: &Name,
     placed: &[Placed],
 ) -> Result<(), NoMemory>
-    requires { moment ≤ 253402300799 }
+    requires moment { moment ≤ 253402300799 }
+    requires rising { IsStrictlySortedBy nat_cmp (map element_of placed.now) }
     ensures { OnOk result
         (text.new.items
         ≡ text.old.items ++ placed_lines rows.now element moment label.now placed.now) }
 {
-    for one in placed {
-        let tells = one.element == element;
-        push_label(alloc, text, rows, tells, moment, label, one.version)?;
+    match placed_on(element, placed) {
+        None => Ok(()),
+        Some(one) => push_label(alloc, text, rows, moment, label, one.version),
     }
-    Ok(())
 }
 
-/// Adds the line of a branch that a row made, where it tells of the element.
+/// Adds the line of a branch that a row made.
 fn push_branch(
     alloc: Global,
     text: &mut Vec<u8>,
     rows: &FirstRows<'_>,
-    tells: bool,
     moment: u64,
     branch: u64,
 ) -> Result<(), NoMemory>
@@ -117,22 +110,17 @@ fn push_branch(
     ensures { OnOk result
         (text.new.items
         ≡ text.old.items
-        ++ line_where tells
-        (dated_line moment (codes "create branch " ++ branch_name rows.now branch))) }
+        ++ dated_line moment (codes "create branch " ++ branch_name rows.now branch)) }
 {
-    if !tells {
-        return Ok(());
-    }
     let name = branch_name(alloc, rows, branch)?;
-    push_history_line(text, tells, moment, b"create branch ", &name)
+    push_history_line(text, moment, b"create branch ", &name)
 }
 
-/// Adds the line of a version that a row made, where it tells of the element.
+/// Adds the line of a version that a row made.
 fn push_version(
     alloc: Global,
     text: &mut Vec<u8>,
     rows: &FirstRows<'_>,
-    tells: bool,
     moment: u64,
     version: u64,
 ) -> Result<(), NoMemory>
@@ -140,14 +128,10 @@ fn push_version(
     ensures { OnOk result
         (text.new.items
         ≡ text.old.items
-        ++ line_where tells
-        (dated_line moment (codes "create version " ++ version_name rows.now version))) }
+        ++ dated_line moment (codes "create version " ++ version_name rows.now version)) }
 {
-    if !tells {
-        return Ok(());
-    }
     let name = version_name(alloc, rows, version)?;
-    push_history_line(text, tells, moment, b"create version ", name.as_bytes())
+    push_history_line(text, moment, b"create version ", name.as_bytes())
 }
 
 /// Adds what row `number` did to the element, by its deed.
@@ -160,32 +144,29 @@ fn push_deed(
     moment: u64,
     deed: &Deed,
 ) -> Result<(), NoMemory>
-    requires { moment ≤ 253402300799 }
+    requires moment { moment ≤ 253402300799 }
+    requires formed { IsDeedFormed deed.now }
     ensures { OnOk result
         (text.new.items
         ≡ text.old.items ++ history_line rows.now element number moment deed.now) }
 {
     match deed {
-        Deed::Mkelem { .. } => push_history_line(
-            text,
-            number == element,
-            moment,
-            b"create element",
-            b"",
-        ),
-        Deed::Branch { element: of, .. } => {
-            push_branch(alloc, text, rows, *of == element, moment, number)
+        Deed::Mkelem { .. } if number == element => {
+            push_history_line(text, moment, b"create element", b"")
         }
-        Deed::Checkin { element: of, .. } => {
-            push_version(alloc, text, rows, *of == element, moment, number)
+        Deed::Branch { element: of, .. } if *of == element => {
+            push_branch(alloc, text, rows, moment, number)
+        }
+        Deed::Checkin { element: of, .. } if *of == element => {
+            push_version(alloc, text, rows, moment, number)
         }
         Deed::Label {
             label,
             element: of,
             version,
-        } => push_label(alloc, text, rows, *of == element, moment, label, *version),
-        Deed::Unlabel { label, element: of } => {
-            push_history_line(text, *of == element, moment, b"unlabel ", label.as_bytes())
+        } if *of == element => push_label(alloc, text, rows, moment, label, *version),
+        Deed::Unlabel { label, element: of } if *of == element => {
+            push_history_line(text, moment, b"unlabel ", label.as_bytes())
         }
         Deed::Labels { label, placed } => {
             push_placed(alloc, text, rows, element, moment, label, placed.as_slice())
@@ -240,8 +221,8 @@ fn history_text(alloc: Global, rows: &FirstRows<'_>, element: u64) -> Result<Tex
 }
 
 /// The text of `lshistory V P`, what made the element, its branches and versions and moved its labels, or its first refusal.
-/// Takes the time of `at` and of `history_of`, for each line that of its version's name, and for each version on which a row of
-/// the history put a label constant time.
+/// Takes the time of `at` and of `history_of`, for each line that of its version's name, and for each row of the history that put
+/// a label on many versions that of `placed_on`.
 pub fn lshistory(
     alloc: Global,
     rows: &FirstRows<'_>,

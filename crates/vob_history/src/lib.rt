@@ -6,7 +6,7 @@
 //! What it promises: the answer is the model's line of the query. A query makes no row.
 //!
 //! What it stands on: `view_lookup` for what a view sees and for the names of versions, `base_model` and `legal_history` for the
-//! definitions, `date_text` for dates, and `cc_names` for plain data.
+//! definitions, `label_book` for the labels of an element, `date_text` for dates, and `cc_names` for plain data.
 #![tactic(auto)]
 
 mod bracketed;

@@ -1,36 +1,17 @@
 //! The labels that stand on the versions of an element.
 
 ghost use Rattle.std.specs.Prelude.{◌≡◌, ◌==◌, ℕ, [], IfOk, OnOk, map};
-ghost use Rattle.std.specs.Option.{option_copied};
+ghost use Rattle.label_book.specs.Standings.{plain};
 ghost use Rattle.legal_history.specs.Queries.ElementTexts.{labels_on};
-ghost use Rattle.vob_history.specs.LabelSets.{label_at, label_put, labels_among, labels_at, with_label, with_label_if};
+ghost use Rattle.vob_history.specs.LabelSets.{labels_at, with_label_if, with_standing};
 
 use cc_names::memory::NoMemory;
 use cc_names::names::Name;
-use cc_names::rows::Deed;
 use cc_names::texts::Text;
+use label_book::Standing;
 use std::alloc::Global;
 use std::collections::{BTreeSet, HashMap};
-use view_lookup::{FirstRows, history_of, holder, row_at};
-
-/// The label that a row of this deed puts on versions.
-fn label_put(deed: &Deed) -> Option<&Name>
-    ensures { option_copied result ≡ label_put deed.now }
-{
-    match deed {
-        Deed::Label { label, .. } => Some(label),
-        Deed::Labels { label, .. } => Some(label),
-        _ => None,
-    }
-}
-
-/// The label that the row of a number puts on versions.
-fn label_at<'a>(rows: &FirstRows<'a>, number: u64) -> Option<&'a Name>
-    ensures { option_copied result ≡ label_at rows.now number }
-{
-    let row = row_at(rows, number)?;
-    label_put(row.deed())
-}
+use view_lookup::{FirstRows, standing_labels};
 
 /// The labels of an element by the versions on which they stand, in byte order on each.
 pub(crate) type VersionLabels = HashMap<u64, BTreeSet<Text>>;
@@ -56,49 +37,21 @@ fn add_to(
     Ok(())
 }
 
-/// Adds the label that the row of a number puts to those of the version on which it stands.
-fn add_label(
-    alloc: Global,
-    labels: &mut VersionLabels,
-    rows: &FirstRows<'_>,
-    element: u64,
-    number: u64,
-) -> Result<(), NoMemory>
-    ensures { OnOk result
-        ((version : ℕ)
-        → labels_at labels.new version
-        ≡ with_label rows.now element version (label_at rows.now number)
-        (labels_at labels.old version)) }
-{
-    let Some(label) = label_at(rows, number) else {
-        return Ok(());
-    };
-    match holder(rows, label, element) {
-        None => Ok(()),
-        Some(version) => add_to(alloc, labels, version, label),
-    }
-}
-
-/// The labels that the rows of these numbers put, by the versions on which they stand.
-fn labels_among(
-    alloc: Global,
-    rows: &FirstRows<'_>,
-    element: u64,
-    numbers: &[u64],
-) -> Result<VersionLabels, NoMemory>
+/// These labels, by the versions on which they stand. Takes for each time logarithmic in those on its version.
+fn by_versions(alloc: Global, standing: &[Standing<'_>]) -> Result<VersionLabels, NoMemory>
     ensures { IfOk result
         (λ labels. (version : ℕ)
-        → labels_at labels version ≡ labels_among rows.now element version numbers.now []) }
+        → labels_at labels version ≡ with_standing version (map plain standing.now) []) }
 {
     let mut labels = HashMap::new(alloc);
-    for number in numbers {
-        add_label(alloc, &mut labels, rows, element, *number)?;
+    for one in standing {
+        add_to(alloc, &mut labels, one.version, one.label)?;
     }
     Ok(labels)
 }
 
-/// The labels that stand on versions of the element. Takes time linear in the rows of the element's history, and for each that
-/// puts a label the time of `holder`.
+/// The labels that stand on versions of the element. Takes the time of `standing_labels`, and for each of them time logarithmic
+/// in those on its version.
 pub(crate) fn labels_of(
     alloc: Global,
     rows: &FirstRows<'_>,
@@ -109,8 +62,8 @@ pub(crate) fn labels_of(
         → labels_at labels version ≡ labels_on rows.now element version) }
 {
     rows.are_base();
-    let numbers = history_of(alloc, rows, element)?;
-    Ok(labels_among(alloc, rows, element, &numbers)?)
+    let standing = standing_labels(alloc, rows, element)?;
+    Ok(by_versions(alloc, &standing)?)
 }
 
 /// The labels on one of these versions, in byte order. Takes time linear in them.

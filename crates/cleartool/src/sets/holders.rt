@@ -8,14 +8,18 @@ ghost use Rattle.base_model.specs.Changes.{objects_held};
 ghost use Rattle.base_model.specs.Closures.{is_path_among};
 ghost use Rattle.base_model.specs.Rows.{deed_at};
 ghost use Rattle.view_lookup.specs.GivenNames.{is_name};
+ghost use Rattle.cleartool.specs.HeldObjects.{AreHolders};
 ghost use Rattle.cleartool.specs.Owned.{maker_by, winker, winker_at};
 
 use cc_names::memory::NoMemory;
 use cc_names::names::Name;
 use cc_names::rows::Deed;
 use std::alloc::Global;
-use std::collections::BTreeSet;
+use std::collections::{BTreeMap, BTreeSet};
 use view_lookup::{FirstRows, add_name, holds_one, row_at, winks_of};
+
+/// Objects, and how many views hold each.
+pub(crate) type Holders = BTreeMap<u64, usize>;
 
 /// The view of the row that made an object, where it holds it.
 fn maker_of<'a>(rows: &FirstRows<'a>, object: u64) -> Option<&'a Name>
@@ -75,11 +79,7 @@ fn add_winkers(
 
 /// How many views hold the object. Takes for each of its targets the time of `held_object`: once for the view that made it, and
 /// once for each wink of it.
-pub(crate) fn count_holders(
-    alloc: Global,
-    rows: &FirstRows<'_>,
-    object: u64,
-) -> Result<usize, NoMemory>
+fn count_holders(alloc: Global, rows: &FirstRows<'_>, object: u64) -> Result<usize, NoMemory>
     ensures { IfOk result (λ views. views ≡ count (objects_held rows.now) object) }
 {
     let mut views = BTreeSet::new(alloc);
@@ -87,4 +87,24 @@ pub(crate) fn count_holders(
     let winks = winks_of(alloc, rows, object)?;
     add_winkers(alloc, &mut views, rows, &winks)?;
     Ok(views.len())
+}
+
+/// How many views hold the object, which is kept. Takes the time of `count_holders` the first time, then time logarithmic in the
+/// objects that are kept.
+pub(crate) fn kept_holders(
+    alloc: Global,
+    rows: &FirstRows<'_>,
+    kept: &mut Holders,
+    object: u64,
+) -> Result<usize, NoMemory>
+    requires { AreHolders rows.now kept.old }
+    ensures count { IfOk result (λ views. views ≡ count (objects_held rows.now) object) }
+    ensures kept { OnOk result (AreHolders rows.now kept.new) }
+{
+    if let Some(views) = kept.get(&object) {
+        return Ok(*views);
+    }
+    let views = count_holders(alloc, rows, object)?;
+    kept.insert(object, views)?;
+    Ok(views)
 }

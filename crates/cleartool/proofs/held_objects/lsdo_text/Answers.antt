@@ -10,10 +10,13 @@ loop-path-preserved c =
     let line = held_line_at c.args.rows.now c.args.view.now in
     let text = c.loop-path.text.items in
     let rest = concat (map line c.next.new.self) in
-    ap (λ (bytes : List ℕ). bytes ++ rest) c.in_ok-push_held_object.ensures
-    ∙ append_assoc text (line c.in-Some.path.now) rest
-    ∙ ap (λ (left : List (List ℕ)). text ++ concat (map line left)) (sym c.in-Some.ensures.steps)
-    ∙ c.loop-path.invariant
+    record {
+      lines = ap (λ (bytes : List ℕ). bytes ++ rest) c.in_ok-push_held_object.ensures.line
+          ∙ append_assoc text (line c.in-Some.path.now) rest
+          ∙ ap (λ (left : List (List ℕ)). text ++ concat (map line left)) (sym c.in-Some.ensures.steps)
+          ∙ c.loop-path.invariant.lines;
+      holders = c.in_ok-push_held_object.ensures.kept;
+    }
 
 pub returns : goal.returns
 returns c =
@@ -24,6 +27,6 @@ returns c =
     c.of.ensures
     ∙ sym (append-nil text)
     ∙ ap (λ (left : List (List ℕ)). text ++ concat (map line left)) (sym c.in-None.ensures.steps.0)
-    ∙ c.loop-path.invariant
+    ∙ c.loop-path.invariant.lines
     ∙ ap (λ (left : List (List ℕ)). concat (map line left)) c.into_iter-path-iterator.ensures.into_iter_gives.0
     ∙ lsdo_by_paths b v c.in_ok-paths.paths.keys c.into_iter-path-iterator.ensures.into_iter_gives.4 c.in_ok-paths.ensures.found

@@ -8,8 +8,8 @@ use Rattle.legal_history.specs.Queries.VersionNames.{at_version}
 use Rattle.cleartool.proofs.Behind.{four_behind}
 use Rattle.cleartool.proofs.held_objects.push_held_object.Goals as goal
 
-pub returns-in_ok-push-in-Some : goal.returns-in_ok-push-in-Some
-returns-in_ok-push-in-Some c =
+pub returns-in_ok-push-in-Some-clause-line : goal.returns-in_ok-push-in-Some-clause-line
+returns-in_ok-push-in-Some-clause-line c =
     let b = c.args.rows.now in
     let v = c.args.view.now in
     let path = c.args.path.now in
@@ -23,7 +23,7 @@ returns-in_ok-push-in-Some c =
     (c.in_ok-extend_from_slice-in-Some.ensures.items
     ∙ ap (λ (bytes : List ℕ). bytes ++ codes " references ") (c.in_ok-push_object-in-Some.ensures
     ∙ ap (λ (bytes : List ℕ). text ++ at_version bytes (decimal id)) c.as_bytes.ensures.bytes))
-    c.in_ok-holders-in-Some.ensures)
+    c.in_ok-holders-in-Some.ensures.count)
     ∙ four_behind text object (codes " references ") _ (10 ∷ [])
     ∙ ap (λ (found : Option ℕ). text ++ option_map_or (λ id. held_line (objects_held b) v true path id) found [])
     (sym c.in-Some.is ∙ c.held_object.ensures)

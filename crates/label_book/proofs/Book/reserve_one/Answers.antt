@@ -5,7 +5,7 @@ use Rattle.std.proofs.lemmas.Grind.{common_steps}
 use Rattle.label_book.specs.Marks.{is_that}
 use Rattle.label_book.specs.Holding.{MovesByPlace, MoveList, all_held, held_among, is_pair, ready_pairs, IsPlaceOf, HasNoPlace}
 use Rattle.label_book.proofs.Added.{same_pair}
-use Rattle.label_book.proofs.Entries.{held_grown, held_push, step_grown, step_same, writes}
+use Rattle.label_book.proofs.Entries.{held_grown, held_push, step_grown, step_listed, step_push, step_same, writes}
 use Rattle.label_book.proofs.Found.{no_key}
 use Rattle.label_book.proofs.StoredMoves.{stored_set, stored_grown, stored_push}
 use Rattle.label_book.proofs.Newest.{is_itself}
@@ -76,6 +76,44 @@ returns-in_err-put_last-clause-kept c =
     rw (← c.self.view_is, c.in_err-put_last.ensures.unchanged)
     (stored_grown c.self.inside.labels.keys c.place_of_label.new.labels.keys c.self.inside.moves.entries
     c.place_of_label.ensures.grown c.self.invariant.named)
+
+-- nor where the element has the label already
+pub invariant_of-self-in_err-list_label : goal.invariant_of-self-in_err-list_label
+invariant_of-self-in_err-list_label c =
+    let names = c.self.inside.labels.keys in
+    let entries = c.self.inside.moves.entries in
+    let more = c.place_of_label.new.labels.keys in
+    step_listed more entries
+    (step_grown names entries c.self.invariant more c.place_of_label.ensures.grown c.place_of_label.ensures.apart)
+    c.list_label.new.lists.entries c.list_label.ensures.kept
+
+pub returns-in_err-list_label-clause-kept : goal.returns-in_err-list_label-clause-kept
+returns-in_err-list_label-clause-kept c =
+    rw (← c.self.view_is) (stored_grown c.self.inside.labels.keys c.place_of_label.new.labels.keys c.self.inside.moves.entries
+    c.place_of_label.ensures.grown c.self.invariant.named)
+
+pub invariant_of-self-in_err-put_last : goal.invariant_of-self-in_err-put_last
+invariant_of-self-in_err-put_last c =
+    let names = c.self.inside.labels.keys in
+    let entries = c.self.inside.moves.entries in
+    let more = c.place_of_label.new.labels.keys in
+    rw c.in_err-put_last.ensures.unchanged
+    (step_listed more entries
+    (step_grown names entries c.self.invariant more c.place_of_label.ensures.grown c.place_of_label.ensures.apart)
+    c.list_label.new.lists.entries c.list_label.ensures.kept)
+
+pub invariant_of-self-2 : goal.invariant_of-self-2
+invariant_of-self-2 c =
+    let names = c.self.inside.labels.keys in
+    let entries = c.self.inside.moves.entries in
+    let more = c.place_of_label.new.labels.keys in
+    let entry : MovesByPlace = (record { label = c.in_ok-label.label; element = c.args.element }, c.in_ok-moves.moves) in
+    rw c.in_ok-put_last.ensures.put
+    (step_push more entries
+    (step_listed more entries
+    (step_grown names entries c.self.invariant more c.place_of_label.ensures.grown c.place_of_label.ensures.apart)
+    c.list_label.new.lists.entries c.list_label.ensures.kept)
+    entry c.in_ok-label.ensures.place.within c.in_ok-moves.ensures.items c.in_ok-list_label.ensures.listed)
 
 -- what stands nowhere has no key
 pub put_last-requires : goal.put_last-requires

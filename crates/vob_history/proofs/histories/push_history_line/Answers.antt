@@ -1,7 +1,6 @@
 -- The parts of the line are written one after the other.
 use Rattle.std.proofs.Common.{◌≡◌, ℕ, List, [], ◌∷◌, ◌++◌, append_assoc, ap, sym, ◌∙◌}
 use Rattle.date_text.specs.Dates.{date_as_text}
-use Rattle.legal_history.specs.Queries.HistoryTexts.{dated_line, line_where}
 use Rattle.vob_history.proofs.histories.push_history_line.Goals as goal
 
 joined : (text date words name : List ℕ) → (((((text ++ date) ++ 32 ∷ []) ++ words) ++ name) ++ 10 ∷ []) ≡ text
@@ -14,8 +13,8 @@ joined text date words name =
     ∙ ap (λ (rest : List ℕ). text ++ rest) (sym (append_assoc date (32 ∷ (words ++ name)) (10 ∷ [])
     ∙ ap (λ (rest : List ℕ). date ++ 32 ∷ rest) (append_assoc words name (10 ∷ []))))
 
-pub returns-in_ok-push-2 : goal.returns-in_ok-push-2
-returns-in_ok-push-2 c =
+pub returns : goal.returns
+returns c =
     let text = c.args.text.now.items in
     let words = c.args.words.now in
     let name = c.args.name.now in
@@ -30,4 +29,3 @@ returns-in_ok-push-2 c =
     ∙ ap (λ (bytes : List ℕ). bytes ++ 32 ∷ []) (c.in_ok-extend_from_slice.ensures.items
     ∙ ap (λ (bytes : List ℕ). text ++ bytes) date))))
     ∙ joined text (date_as_text c.args.moment) words name
-    ∙ sym (ap (λ tells. text ++ line_where tells (dated_line c.args.moment (words ++ name))) c.if-tells.true)

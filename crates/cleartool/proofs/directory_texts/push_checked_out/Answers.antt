@@ -1,14 +1,14 @@
 -- The name, the version from which and the rule are written one after the other.
-use Rattle.std.proofs.Common.{ℕ, Bool, List, [], ◌∷◌, ◌++◌, append_assoc, ap, sym, ◌∙◌}
+use Rattle.std.proofs.Common.{ℕ, List, [], ◌∷◌, ◌++◌, append_assoc, ap, sym, ◌∙◌}
 use Rattle.std.specs.Prelude.{codes}
 use Rattle.base_model.specs.Views.{out}
-use Rattle.legal_history.specs.Queries.DirectoryTexts.{by_rule, origin_name, picked_line}
+use Rattle.legal_history.specs.Queries.DirectoryTexts.{by_rule, origin_name}
 use Rattle.legal_history.specs.Queries.VersionNames.{line}
 use Rattle.cleartool.proofs.Behind.{five_behind}
-use Rattle.cleartool.proofs.directory_texts.push_picked.Goals as goal
+use Rattle.cleartool.proofs.directory_texts.push_checked_out.Goals as goal
 
-pub returns-in_ok-push_rule : goal.returns-in_ok-push_rule
-returns-in_ok-push_rule c =
+pub returns : goal.returns
+returns c =
     let b = c.args.rows.now in
     let v = c.args.view.now in
     let e = c.args.element in
@@ -27,4 +27,3 @@ returns-in_ok-push_rule c =
     ∙ c.in_ok-origin.ensures))
     ∙ sym (append_assoc prefix rule (10 ∷ []))
     ∙ five_behind text name (codes " checkedout from ") origin rule (10 ∷ [])
-    ∙ ap (λ (own : Bool). text ++ line (picked_line b v name e c.args.picked own)) (sym c.if-picked.true)
