@@ -114,8 +114,8 @@ impl<D: Disk> Journal<D> {
     }
 
     /// The next payload, or None at the end of the list, after which no call is made. Reads a piece only where the bytes at
-    /// hand do not say what comes next: 64 KiB, or the whole frame where that is longer. So all payloads take time linear
-    /// in the journal. Whatever it answers, both files are as they were.
+    /// hand do not have the first five bytes of what comes next, or not the whole frame: 64 KiB, or the whole frame where
+    /// that is longer. So all payloads take time linear in the journal. Whatever it answers, both files are as they were.
     pub fn next(&mut self, alloc: Global) -> Result<Option<Text>, Or<DiskFault>>
         ensures gives { IfOk result
             (λ found.
