@@ -9,8 +9,8 @@ use Rattle.vob_journal.specs.Shown.{Shown, frames_read}
 use Rattle.vob_journal.specs.declared.reading.Found.{Found}
 use Rattle.vob_journal.specs.declared.reading.Found.TheVariants.{Payload, End}
 
--- How many bytes say what stands at the head of the rest of a journal: those of the whole frame, else the first five, or all where
--- there are fewer. The five are read also where the first is a gate that is shut.
+-- How many bytes say what stands at the head of the rest of a journal: those of the whole frame, else the first five, or all
+-- where there are fewer. The five are read also where the first is a gate that is shut.
 abbrev pub needed_by : Option (List ℕ) → List ℕ → ℕ
 needed_by (Some payload) rest = 5 + length payload
 needed_by None rest = min 5 (length rest)
