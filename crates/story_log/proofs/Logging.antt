@@ -5,4 +5,5 @@ pub mod LogSteps
 pub mod Logged
 pub mod Logging
 pub mod Rising
+mod WorkedLeaving
 mod WorkedSettling

@@ -4,10 +4,11 @@ use Rattle.std.proofs.Common.{inl, inr}
 use Rattle.std.proofs.lemmas.List.{append-nil}
 use Rattle.disk_model.specs.Devices.{Device, file_of}
 use Rattle.vob_journal.specs.declared.left.Left.TheVariants.{Nothing, Earlier, InFlight}
-use Rattle.vob_journal.specs.Calls.{FailsToPut, put_down, KeepsFrames, Settles, LeavesLeftover, CommitsFrame, FailsToAppend}
+use Rattle.vob_journal.specs.Calls.{FailsToPut, put_down, settled_first, KeepsFrames, Settles, LeavesLeftover, CommitsFrame}
+use Rattle.vob_journal.specs.Calls.{FailsToAppend}
 use Rattle.vob_journal.specs.Frames.{frames, frame_after_gate}
 use Rattle.vob_journal.specs.Moves.{Stands, Between, Passes, Moves}
-use Rattle.vob_journal.specs.Phases.{PutsDown, IsStaged, IsStagedAt, Stages, OpensGate, MayOpen}
+use Rattle.vob_journal.specs.Phases.{PutsDown, IsStaged, IsStagedAt, Stages, FailsToStage, OpensGate, MayOpen}
 use Rattle.vob_journal.specs.Tails.{IsShut, IsAjar, IsTail, list_at, leftover_at}
 use Rattle.vob_journal.specs.Added.{Adds, may_write}
 use Rattle.vob_journal.proofs.Adding.{adds_none, adds_then, put_adds, failed_adds}
@@ -99,15 +100,19 @@ stages_put tail payload d e shut did =
     })
 
 -- staging that failed
-pub staging_failed : (tail : ℕ) (piece : List ℕ) (d e : Device) → IsTail true tail d → FailsToPut (tail + 1) piece d e
-    → KeepsFrames true true tail d e
-staging_failed tail piece d e shut did =
+staging_failed : (tail : ℕ) (payload : List ℕ) (d e : Device) → IsTail true tail d
+    → FailsToPut (tail + 1) (frame_after_gate payload) d e → FailsToStage tail payload d e
+staging_failed tail payload d e shut did =
     let list = list_at tail d in
+    let piece = frame_after_gate payload in
     let size = length piece in
     let failed = failed_put (IsShut list tail) (λ image. frames image ≡ list) (tail + 1) size (shut_image list tail)
     (shut_torn list tail size) d e piece refl shut did in
-    keeps_shut true tail d e (failed_adds (tail + 1) piece d e did) (passes_weaker d e (λ image. frames image ≡ list)
-    (Stands list []) (λ image h. inl h) failed.0) failed.1
+    record {
+      keeps = keeps_shut true tail d e (failed_adds (tail + 1) piece d e did) (passes_weaker d e (λ image. frames image ≡ list)
+          (Stands list []) (λ image h. inl h) failed.0) failed.1;
+      calls = did;
+    }
 
 -- a gate that was opened
 pub opens_put : (tail : ℕ) (payload : List ℕ) (d e : Device) → length payload < 2 ^ 32 → IsStagedAt tail payload d
@@ -133,7 +138,7 @@ opening_failed tail payload d e short staged did =
     let ajar = staged_ajar list payload tail (file_of 0 d) short staged in
     let failed = failed_put (IsAjar list leftover tail) (Stands list leftover) tail 1 (ajar_image list leftover tail)
     (ajar_torn list leftover tail) d e (1 ∷ []) refl ajar did in
-    record { passes = failed.0; ajar = failed.1; adds = failed_adds tail (1 ∷ []) d e did }
+    record { passes = failed.0; ajar = failed.1; calls = did }
 
 -- where a phase left the tail settled, the next begins so
 pub settles_ends : (settled : Bool) (tail : ℕ) (d e : Device) → Settles settled tail d e → IsTail true tail e
@@ -148,6 +153,7 @@ pub fails_settling : (settled : Bool) (tail : ℕ) (payload : List ℕ) (d e : D
 fails_settling settled tail payload d e stays = record {
   keeps = subst (λ b. KeepsFrames b false tail d e) (sym stays.was_unsettled) stays.keeps;
   leftover = stays.same_leftover ∙ ap (λ b. leftover_at b tail d) (sym stays.was_unsettled);
+  calls = (stays.was_unsettled, stays.calls);
 }
 
 module _ (settled : Bool) (tail : ℕ) (payload : List ℕ) (d e : Device) (settles : Settles settled tail d e) where
@@ -162,8 +168,9 @@ module _ (settled : Bool) (tail : ℕ) (payload : List ℕ) (d e : Device) (sett
       ]) settles.keeps.moves.passes
 
   -- staging failed within a commit
-  pub fails_staging : (f : Device) → KeepsFrames true true tail e f → FailsToAppend settled tail payload Nothing d f
-  fails_staging f keeps =
+  pub fails_staging : (f : Device) → FailsToStage tail payload e f → FailsToAppend settled tail payload Nothing d f
+  fails_staging f fails =
+      let keeps = fails.keeps in
       let P = Stands (list_at tail d) (leftover_at settled tail d) in
       let more : Passes e f P = passes_weaker e f (Between (list_at tail e) [] (list_at tail f) []) P
       (λ image h. elim h [
@@ -179,6 +186,7 @@ module _ (settled : Bool) (tail : ℕ) (payload : List ℕ) (d e : Device) (sett
             (passes_then d e f P (settling P (λ image h. h)) more)
             (subst (λ l. IsShut l tail (file_of 0 f)) (keeps.same_list ∙ settles.keeps.same_list) keeps.ends);
         leftover = refl;
+        calls = subst (λ s. FailsToPut (tail + 1) (frame_after_gate payload) s f) settles.calls fails.calls;
       }
 
   -- what stops within the staging leave
@@ -190,6 +198,10 @@ module _ (settled : Bool) (tail : ℕ) (payload : List ℕ) (d e : Device) (sett
 
   staged_list : (f : Device) → Stages tail payload e f → list_at tail f ≡ list_at tail d
   staged_list f stages = stages.staged.shut.prefix.lists ∙ settles.keeps.same_list
+
+  staged_calls : (f : Device) → Stages tail payload e f
+      → f ≡ put_down (tail + 1) (frame_after_gate payload) (settled_first settled tail d)
+  staged_calls f stages = stages.calls ∙ ap (put_down (tail + 1) (frame_after_gate payload)) settles.calls
 
   -- opening the gate failed within a commit
   pub fails_opening : (f g : Device) → Stages tail payload e f → MayOpen tail payload f g
@@ -205,9 +217,10 @@ module _ (settled : Bool) (tail : ℕ) (payload : List ℕ) (d e : Device) (sett
       record {
         keeps = keeps_ajar settled tail (payload ∷ []) d g
             (adds_then may_write d e g settles.keeps.adds (adds_then may_write e f g
-            (put_adds (tail + 1) (frame_after_gate payload) e f stages.calls) may.adds))
+            (put_adds (tail + 1) (frame_after_gate payload) e f stages.calls) (failed_adds tail (1 ∷ []) f g may.calls)))
             (passes_then d f g P (staging f P (λ image h. inl h) stages) more) ajar;
         leftover = ajar.behind;
+        calls = subst (λ s. FailsToPut tail (1 ∷ []) s g) (staged_calls f stages) may.calls;
       }
 
   -- a commit
@@ -231,11 +244,15 @@ module _ (settled : Bool) (tail : ℕ) (payload : List ℕ) (d e : Device) (sett
         };
         ends = subst (λ l. IsShut l behind (file_of 0 g)) (sym opens.shut.prefix.lists) opens.shut;
         list = list;
-        calls = opens.calls ∙ ap (put_down tail (1 ∷ [])) (stages.calls
-            ∙ ap (put_down (tail + 1) (frame_after_gate payload)) settles.calls);
+        calls = opens.calls ∙ ap (put_down tail (1 ∷ [])) (staged_calls f stages);
       }
 
 -- the phases by the piece that is written
 pub stages_piece : (tail : ℕ) (payload piece : List ℕ) → piece ≡ frame_after_gate payload → (d e : Device) → IsTail true tail d
     → PutsDown (tail + 1) piece d e → Stages tail payload d e
 stages_piece tail payload piece is d e shut did = stages_put tail payload d e shut (subst (λ p. PutsDown (tail + 1) p d e) is did)
+
+pub staging_piece_failed : (tail : ℕ) (payload piece : List ℕ) → piece ≡ frame_after_gate payload → (d e : Device)
+    → IsTail true tail d → FailsToPut (tail + 1) piece d e → FailsToStage tail payload d e
+staging_piece_failed tail payload piece is d e shut did =
+    staging_failed tail payload d e shut (subst (λ p. FailsToPut (tail + 1) p d e) is did)

@@ -9,7 +9,7 @@ use Rattle.disk_model.specs.DiskStates.{IfModeled, Both}
 use Rattle.vob_journal.specs.Frames.{head, place_after, size_before}
 use Rattle.vob_journal.specs.Pieces.{IsPiece, IsReadForth, IsReadUntil, IsSought, OpensBy, ReadsAt, ReadsForth}
 use Rattle.vob_journal.specs.Pieces.{ReadsFrame, ReadsOnce, ReadsOnceTo, ReadsPiece, ReadsUntil}
-use Rattle.vob_journal.specs.Pieces.{but_failed, needed, needed_by, piece}
+use Rattle.vob_journal.specs.Pieces.{but_failed, first_five, needed, needed_by, piece}
 use Rattle.vob_journal.specs.Windows.{reach_of}
 use Rattle.vob_journal.specs.declared.window.Window.{Window}
 use Rattle.vob_journal.specs.declared.reading.Found.{Found}
@@ -43,17 +43,18 @@ sought_needed : (count : ℕ) (rest : List ℕ) → IsSought count rest → coun
 sought_needed count rest (inl five) = omega (arith, five, least_needed (head rest) rest)
 sought_needed count rest (inr whole) = omega (arith, whole)
 
-sought_long : (count : ℕ) (rest : List ℕ) → IsSought count rest
-    → (max (piece rest) count ≡ piece rest) ⊎ (max (piece rest) count ≡ max (piece rest) (needed rest))
-sought_long count rest (inl five) = inl (omega (arith, five))
-sought_long count rest (inr whole) = inr (ap (λ n. max (piece rest) n) whole)
+sought_long : (had place count : ℕ) (rest : List ℕ) → IsSought count rest → had < place + count
+    → (max (piece rest) count ≡ max (piece rest) (needed rest))
+    ⊎ ((max (piece rest) count ≡ piece rest) × (had < place + first_five rest))
+sought_long had place count rest (inl five) further = inr (omega (arith, five), omega (arith, five, further))
+sought_long had place count rest (inr whole) further = inl (ap (λ n. max (piece rest) n) whole)
 
 is_piece : (bytes : List ℕ) (had place count : ℕ) → IsSought count (drop place bytes) → had < place + count
     → IsPiece bytes had place (max (piece (drop place bytes)) count)
 is_piece bytes had place count sought further = record {
   unread = omega (arith, further, sought_needed count (drop place bytes) sought);
   further = omega (arith, further);
-  long = sought_long count (drop place bytes) sought;
+  long = sought_long had place count (drop place bytes) sought further;
 }
 
 -- up to a later frame, and from an earlier one

@@ -3,7 +3,7 @@
 use Rattle.std.proofs.Common.{◌≡◌, ℕ, true, false, List, [], ◌∷◌, ◌++◌, refl, ap, inl, inr, arith}
 use Rattle.std.specs.Prelude.{codes}
 use Rattle.disk_model.specs.Devices.{Device, Failed, Synced, Wrote, bytes_now, new_device, with_call}
-use Rattle.vob_journal.specs.Calls.{FailsToPut, device_after_commit}
+use Rattle.vob_journal.specs.Calls.{FailsToCommit, FailsToPut, device_after_commit, put_down}
 use Rattle.vob_journal.specs.Frames.{frame_after_gate, frames}
 use Rattle.vob_journal.specs.Lefts.{FailsInPhase}
 use Rattle.vob_journal.specs.declared.left.Left.TheVariants.{Nothing, Earlier, InFlight}
@@ -133,3 +133,24 @@ not_a_seven (inr (inl missed)) = let calls = ap (λ (d : Device). d.calls) misse
 not_a_seven (inr (inr (inl tore))) = let calls = ap (λ (d : Device). d.calls) tore.2 in absurd (cc calls)
 not_a_seven (inr (inr (inr (inl wrote)))) = let calls = ap (λ (d : Device). d.calls) wrote in absurd (cc calls)
 not_a_seven (inr (inr (inr (inr missed)))) = let calls = ap (λ (d : Device). d.calls) missed in absurd (cc calls)
+
+-- A commit on an empty disk, whose tail is not settled: the shut gate was put down, and the write of the frame failed. Nothing is
+-- left.
+abbrev gate_alone : Device
+gate_alone = put_down 0 (0 ∷ []) (new_device [] [])
+
+frame_missed : FailsToCommit false 0 payload Nothing (new_device [] []) (with_call Failed gate_alone)
+frame_missed = inr (inl refl)
+
+-- not: these were calls that fail to open the gate of a settled tail, wherever it is
+not_its_gate : (tail : ℕ) → FailsToCommit true tail payload InFlight (new_device [] []) (with_call Failed gate_alone) → ⊥
+not_its_gate tail (inl same) = let calls = ap (λ (d : Device). d.calls) same in absurd (cc calls)
+not_its_gate tail (inr (inl missed)) = let calls = ap (λ (d : Device). d.calls) missed in absurd (cc calls)
+not_its_gate tail (inr (inr (inl tore))) = let calls = ap (λ (d : Device). d.calls) tore.2 in absurd (cc calls)
+not_its_gate tail (inr (inr (inr (inl wrote)))) = let calls = ap (λ (d : Device). d.calls) wrote in absurd (cc calls)
+not_its_gate tail (inr (inr (inr (inr missed)))) = let calls = ap (λ (d : Device). d.calls) missed in absurd (cc calls)
+
+-- the sync of the open gate failed: the row in flight is left
+gate_not_kept_open : FailsToCommit false 0 payload InFlight (new_device [] [])
+    (with_call Failed (with_call (Wrote 0 0 1 (1 ∷ behind_gate)) (put_down 1 behind_gate gate_alone)))
+gate_not_kept_open = inr (inr (inr (inr refl)))

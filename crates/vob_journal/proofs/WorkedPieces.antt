@@ -78,7 +78,7 @@ its_head : (bytes payload : List ℕ) → head bytes ≡ Some payload → length
 its_head bytes payload is long all = record {
   unread = omega (arith, long_frame bytes payload is long);
   further = omega arith;
-  long = inl (omega (arith, all));
+  long = inr (omega (arith, all), omega (arith, all));
 }
 
 all_of_it : (bytes payload : List ℕ) → head bytes ≡ Some payload → length payload ≡ 100000 → length bytes ≡ 300000
@@ -86,8 +86,16 @@ all_of_it : (bytes payload : List ℕ) → head bytes ≡ Some payload → lengt
 all_of_it bytes payload is long all = record {
   unread = omega (arith, long_frame bytes payload is long);
   further = omega arith;
-  long = inr (omega (arith, all, long_frame bytes payload is long));
+  long = inl (omega (arith, all, long_frame bytes payload is long));
 }
+
+-- where its first five bytes were read with what stands before it, it is read at once
+at_once : (bytes payload : List ℕ) (size : ℕ) → head bytes ≡ Some payload → length payload ≡ 100000 → length bytes ≡ 300000
+    → IsPiece bytes 5 0 size → size ≡ 100005
+at_once bytes payload size is long all piece = elim piece.long [
+  | inl whole ↦ whole ∙ omega (arith, all, long_frame bytes payload is long)
+  | inr short ↦ omega (arith, short.1, all)
+]
 
 -- not: a third one; less than all that is left; the second frame, or the gate after it, where these were read already
 not_a_third : (bytes payload : List ℕ) (size : ℕ) → head bytes ≡ Some payload → length payload ≡ 100000
@@ -96,8 +104,8 @@ not_a_third bytes payload size is long piece = omega (arith, piece.unread, long_
 
 not_less : IsPiece journal 0 0 7 → ⊥
 not_less piece = elim piece.long [
-  | inl all ↦ omega (arith, all)
-  | inr more ↦ omega (arith, more)
+  | inl more ↦ omega (arith, more)
+  | inr all ↦ omega (arith, all.0)
 ]
 
 not_the_second : (size : ℕ) → IsPiece journal 14 7 size → ⊥

@@ -4,6 +4,7 @@ use Rattle.disk_model.specs.Files.{overwritten, IsTorn}
 use Rattle.disk_model.specs.Devices.{Device, Wrote, Tore, Synced, Failed, with_call, bytes_now}
 use Rattle.vob_journal.specs.Added.{Adds, may_write}
 use Rattle.vob_journal.specs.declared.left.Left.{Left}
+use Rattle.vob_journal.specs.declared.left.Left.TheVariants.{Nothing, Earlier, InFlight}
 use Rattle.vob_journal.specs.Frames.{frame_after_gate}
 use Rattle.vob_journal.specs.Lefts.{settled_after, leftover_after}
 use Rattle.vob_journal.specs.Moves.{Moves}
@@ -36,6 +37,15 @@ abbrev pub device_after_commit : Bool → ℕ → List ℕ → Device → Device
 device_after_commit settled tail payload d = put_down tail (1 ∷ []) (put_down (tail + 1) (frame_after_gate payload)
     (settled_first settled tail d))
 
+-- The device calls of a commit that failed, by what it left: the shut gate of a tail that is not settled was not put down, or
+-- after that the frame was not, or after both the open gate was not.
+abbrev pub FailsToCommit : Bool → ℕ → List ℕ → Left → Device → Device → Type 0
+FailsToCommit settled tail payload Earlier d e = (settled ≡ false) × FailsToPut tail (0 ∷ []) d e
+FailsToCommit settled tail payload Nothing d e =
+    FailsToPut (tail + 1) (frame_after_gate payload) (settled_first settled tail d) e
+FailsToCommit settled tail payload InFlight d e =
+    FailsToPut tail (1 ∷ []) (put_down (tail + 1) (frame_after_gate payload) (settled_first settled tail d)) e
+
 -- a settling call, or a phase of it, keeps the list
 pub record KeepsFrames (settled settled' : Bool) (tail : ℕ) (d e : Device) : Type 0 where
   pub moves : Moves (list_at tail d) (leftover_at settled tail d) (list_at tail e) (leftover_at settled' tail e) d e
@@ -66,3 +76,4 @@ pub record CommitsFrame (settled : Bool) (tail : ℕ) (payload : List ℕ) (d e 
 pub record FailsToAppend (settled : Bool) (tail : ℕ) (payload : List ℕ) (left : Left) (d e : Device) : Type 0 where
   pub keeps : KeepsFrames settled (settled_after left) tail d e
   pub leftover : leftover_at (settled_after left) tail e ≡ leftover_after left (leftover_at settled tail d) payload
+  pub calls : FailsToCommit settled tail payload left d e

@@ -1,11 +1,10 @@
 -- The phases of a commit.
-use Rattle.std.specs.Prelude.{◌≡◌, ◌≤◌, ◌+◌, ℕ, Bool, if◌then◌else◌, Result, MatchResult, List, [], ◌∷◌, ◌++◌, length, drop}
+use Rattle.std.specs.Prelude.{◌≡◌, ◌≤◌, ◌+◌, ℕ, Bool, true, if◌then◌else◌, Result, MatchResult, List, [], ◌∷◌, ◌++◌, length, drop}
 use Rattle.disk_model.specs.Counting.{next_count}
 use Rattle.disk_model.specs.Files.{File, stable}
 use Rattle.disk_model.specs.Devices.{Device, file_of}
 use Rattle.disk_model.specs.DiskStates.{DiskState}
-use Rattle.vob_journal.specs.Added.{Adds, may_write}
-use Rattle.vob_journal.specs.Calls.{put_down}
+use Rattle.vob_journal.specs.Calls.{FailsToPut, KeepsFrames, put_down}
 use Rattle.vob_journal.specs.Frames.{frames, frame_after_gate}
 use Rattle.vob_journal.specs.Moves.{Passes, Stands}
 use Rattle.vob_journal.specs.Tails.{IsShut, IsAjar, list_at}
@@ -30,6 +29,11 @@ pub record Stages (tail : ℕ) (payload : List ℕ) (d e : Device) : Type 0 wher
   pub staged : IsStaged (list_at tail d) payload tail (file_of 0 e)
   pub calls : e ≡ put_down (tail + 1) (frame_after_gate payload) d
 
+-- a payload was not staged for certain
+pub record FailsToStage (tail : ℕ) (payload : List ℕ) (d e : Device) : Type 0 where
+  pub keeps : KeepsFrames true true tail d e
+  pub calls : FailsToPut (tail + 1) (frame_after_gate payload) d e
+
 -- the gate before a payload was opened
 pub record OpensGate (tail : ℕ) (payload : List ℕ) (d e : Device) : Type 0 where
   pub passes : Passes d e (Stands (list_at tail d) (payload ∷ []))
@@ -40,7 +44,7 @@ pub record OpensGate (tail : ℕ) (payload : List ℕ) (d e : Device) : Type 0 w
 pub record MayOpen (tail : ℕ) (payload : List ℕ) (d e : Device) : Type 0 where
   pub passes : Passes d e (Stands (list_at tail d) (payload ∷ []))
   pub ajar : IsAjar (list_at tail d) (payload ∷ []) tail (file_of 0 e)
-  pub adds : Adds may_write d e
+  pub calls : FailsToPut tail (1 ∷ []) d e
 
 -- After Ok the count of device calls is greater by exactly so many, and that of faults is as it was. After a fault the count of
 -- calls is greater by one or more, unless it stands at its last number, and by at most so many; one fault more is counted.

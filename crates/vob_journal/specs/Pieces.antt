@@ -9,7 +9,8 @@ use Rattle.vob_journal.specs.Shown.{Shown, frames_read}
 use Rattle.vob_journal.specs.declared.reading.Found.{Found}
 use Rattle.vob_journal.specs.declared.reading.Found.TheVariants.{Payload, End}
 
--- how many bytes say what stands at the head of the rest of a journal: those of the whole frame, else the first five
+-- How many bytes say what stands at the head of the rest of a journal: those of the whole frame, else the first five, or all
+-- where there are fewer. The five are read also where the first is a gate that is shut.
 abbrev pub needed_by : Option (List ℕ) → List ℕ → ℕ
 needed_by (Some payload) rest = 5 + length payload
 needed_by None rest = min 5 (length rest)
@@ -21,9 +22,13 @@ needed rest = needed_by (head rest) rest
 abbrev pub piece : List ℕ → ℕ
 piece rest = min 65536 (length rest)
 
+-- the first five bytes of the rest of a journal, in which a frame says its length, or all where there are fewer
+abbrev pub first_five : List ℕ → ℕ
+first_five rest = min 5 (length rest)
+
 -- so many bytes are sought at the head of the rest of a journal: the first five, or the whole frame
 abbrev pub IsSought : ℕ → List ℕ → Type 0
-IsSought count rest = (count ≡ min 5 (length rest)) ⊎ (count ≡ needed rest)
+IsSought count rest = (count ≡ first_five rest) ⊎ (count ≡ needed rest)
 
 -- No call, one that failed, or one that read the journal from this place on: 64 KiB, or all that is left; or so many bytes, where
 -- these are more.
@@ -33,11 +38,13 @@ ReadsPiece place count d e = (e ≡ d) ⊎ (e ≡ with_call Failed d)
 
 -- A piece of a journal of these bytes is read from a place on, where the journal had been read so far: only where that does not
 -- reach over all that says what stands at the place, and further than that. It has 64 KiB, or all that is left; or the whole
--- frame, where that is longer. So at most two are read from one place.
+-- frame, where that is longer, and less of it only where the first five bytes had not been read. So at most two are read from one
+-- place.
 pub record IsPiece (bytes : List ℕ) (had place size : ℕ) : Type 0 where
   pub unread : had < place + needed (drop place bytes)
   pub further : had < place + size
-  pub long : (size ≡ piece (drop place bytes)) ⊎ (size ≡ max (piece (drop place bytes)) (needed (drop place bytes)))
+  pub long : (size ≡ max (piece (drop place bytes)) (needed (drop place bytes)))
+      ⊎ ((size ≡ piece (drop place bytes)) × (had < place + first_five (drop place bytes)))
 
 -- By these calls, the newest first, a journal of these bytes was read on, whose first frames, so many, had been read, and which
 -- had been read so far, until it was known what stands after fewer frames than this number. Each reads a piece that begins where

@@ -61,7 +61,7 @@ impl<D: Disk> Journal<D> {
     ghost use Rattle.vob_journal.specs.declared.left.Left.TheVariants as lefts;
     ghost use Rattle.vob_journal.specs.Added.{Adds, WritesOn, may_read};
     ghost use Rattle.vob_journal.specs.Answered.{GivesNext, Ends, SettledAtEnd, OneMore, OneFault, MakesNoCall};
-    ghost use Rattle.vob_journal.specs.Calls.{FailsToPut, device_after_commit, settled_first};
+    ghost use Rattle.vob_journal.specs.Calls.{FailsToPut, FailsToCommit, device_after_commit, settled_first};
     ghost use Rattle.vob_journal.specs.Frames.{frames};
     ghost use Rattle.vob_journal.specs.Lefts.{FailsInPhase, leftover_after, settled_after};
     ghost use Rattle.vob_journal.specs.Moves.{Moves, Stands};
@@ -114,8 +114,8 @@ impl<D: Disk> Journal<D> {
     }
 
     /// The next payload, or None at the end of the list, after which no call is made. Reads a piece only where the bytes at
-    /// hand do not say what comes next: 64 KiB, or the whole frame where that is longer. So all payloads take time linear
-    /// in the journal. Whatever it answers, both files are as they were.
+    /// hand do not have the first five bytes of what comes next, or not the whole frame: 64 KiB, or the whole frame where
+    /// that is longer. So all payloads take time linear in the journal. Whatever it answers, both files are as they were.
     pub fn next(&mut self, alloc: Global) -> Result<Option<Text>, Or<DiskFault>>
         ensures gives { IfOk result
             (λ found.
@@ -162,14 +162,16 @@ impl<D: Disk> Journal<D> {
 
     /// Commits a frame after the list, and answers the tick at which it is acknowledged. It first settles a tail that
     /// is not settled: it writes one byte 0 at the tail and syncs. Then it makes four device calls: it writes length,
-    /// payload and the next frame's gate byte 0; syncs; writes this frame's gate byte 1; syncs. A fault leaves what
-    /// `left` says. Takes time linear in the frame.
+    /// payload and the next frame's gate byte 0; syncs; writes this frame's gate byte 1; syncs. A fault ends these calls,
+    /// and leaves what `left` says. Takes time linear in the frame.
     pub fn append(&mut self, frame: &Frame) -> Result<u64, DiskFault>
         requires { self.old.ended ≡ true }
         ensures moves { Both (Moves self.old.list self.old.leftover self.new.list self.new.leftover)
             (D.ghost_state self.old.disk).modeled (D.ghost_state self.new.disk).modeled }
-        ensures calls { OnOk result
-            (Both (λ d e. e ≡ device_after_commit self.old.settled self.old.tail frame.now d)
+        ensures calls { MatchResult result
+            (λ _. Both (λ d e. e ≡ device_after_commit self.old.settled self.old.tail frame.now d)
+            (D.ghost_state self.old.disk).modeled (D.ghost_state self.new.disk).modeled)
+            (λ _. Both (FailsToCommit self.old.settled self.old.tail frame.now self.new.left)
             (D.ghost_state self.old.disk).modeled (D.ghost_state self.new.disk).modeled) }
         ensures tick { IfOk result (λ tick. tick ≡ (D.ghost_state self.new.disk).ticks) }
         ensures ok { OnOk result

@@ -6,8 +6,8 @@ ghost use Rattle.disk_model.specs.DiskStates.{IfModeled, Both};
 ghost use Rattle.vob_journal.specs.Answered.{MakesNoCall};
 ghost use Rattle.vob_journal.specs.Lefts.{FailsInPhase};
 ghost use Rattle.vob_journal.specs.Tails.{IsTail};
-ghost use Rattle.vob_journal.specs.Calls.{FailsToPut, KeepsFrames, Settles, LeavesLeftover, CommitsFrame, FailsToAppend};
-ghost use Rattle.vob_journal.specs.Phases.{PutsDown, Stages, IsStagedAt, OpensGate, MayOpen, Spends, calls_of};
+ghost use Rattle.vob_journal.specs.Calls.{FailsToPut, Settles, LeavesLeftover, CommitsFrame, FailsToAppend};
+ghost use Rattle.vob_journal.specs.Phases.{PutsDown, Stages, FailsToStage, IsStagedAt, OpensGate, MayOpen, Spends, calls_of};
 
 use crate::frame::Frame;
 use crate::left::Left;
@@ -61,7 +61,7 @@ fn stage<D: Disk>(disk: &mut D, tail: u64, frame: &Frame) -> Result<(), DiskFaul
     ensures modeled { MatchResult result
         (λ _. Both (Stages tail frame.now) (D.ghost_state disk.old).modeled
         (D.ghost_state disk.new).modeled)
-        (λ _. Both (KeepsFrames true true tail) (D.ghost_state disk.old).modeled
+        (λ _. Both (FailsToStage tail frame.now) (D.ghost_state disk.old).modeled
         (D.ghost_state disk.new).modeled) }
     ensures counts { Spends 2 result (D.ghost_state disk.old) (D.ghost_state disk.new) }
 {

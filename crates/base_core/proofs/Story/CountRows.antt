@@ -40,7 +40,7 @@ fault_row tag = (
   refl,
   fit 10 3 (omega arith) (omega arith),
   tt,
-  (row tag, (true, InFlight, (λ shut some. refl), refl, (omega arith, omega arith))),
+  (row tag, (true, 0, InFlight, (λ shut some. refl), refl, (omega arith, omega arith), tt)),
 )
 
 -- the first one writes the frame after the shut gate, or settles the tail: no row of its own can be found
@@ -48,11 +48,11 @@ row_too_early : (tag : Tag) → CountsStep start (story_steps.Fault tag (Some (r
     (counted 8 3) → ⊥
 row_too_early tag (before, after, one, at, rose, fits, writes, left) = too_early left
   where
-    too_early : IsLeftByCalls [] (Some (row tag)) 7 8 → ⊥
-    too_early (other, (settled, Nothing, stands, found, calls)) = absurd (cc)
-    too_early (other, (settled, Earlier, stands, found, calls)) = absurd (cc)
-    too_early (other, (true, InFlight, stands, found, calls)) = absurd (omega (arith, calls.0))
-    too_early (other, (false, InFlight, stands, found, calls)) = absurd (omega (arith, calls.0))
+    too_early : IsLeftByCalls [] (Some (row tag)) (counted 7 2) (counted 8 3) → ⊥
+    too_early (other, (settled, tail, Nothing, stands, found, calls, made)) = absurd (cc)
+    too_early (other, (settled, tail, Earlier, stands, found, calls, made)) = absurd (cc)
+    too_early (other, (true, tail, InFlight, stands, found, calls, made)) = absurd (omega (arith, calls.0))
+    too_early (other, (false, tail, InFlight, stands, found, calls, made)) = absurd (omega (arith, calls.0))
 
 -- a fault is of one call: one that adds the failed call of the command after it is refused
 fault_of_two : (s : State) (tag : Tag) (left : Option Plain) → CountsStep s (story_steps.Fault tag left 2 4 10)
@@ -70,7 +70,7 @@ fault_last tag = (
   refl,
   fit 10 18446744073709551615 (omega arith) (omega arith),
   tt,
-  (row tag, (false, Nothing, (λ shut some. absurd (cc)), refl, (omega arith, omega arith))),
+  (row tag, (false, 0, Nothing, (λ shut some. absurd (cc)), refl, (omega arith, omega arith), tt)),
 )
 
 -- a refusal, a commit and a fault, one after the other: after the commit the tail is settled
@@ -92,7 +92,7 @@ three_rows tag refusal = (
         refl,
         fit 12 3 (omega arith) (omega arith),
         tt,
-        (row tag, (true, Nothing, (λ shut some. refl), refl, (omega arith, omega arith))),
+        (row tag, (true, 0, Nothing, (λ shut some. refl), refl, (omega arith, omega arith), tt)),
       ),
       refl,
     ),

@@ -12,8 +12,9 @@ use Rattle.vob_journal.specs.Added.{WritesOn}
 use Rattle.story_log.specs.Logging.Appending.{CommitsRow, LeavesByCalls}
 use Rattle.base_core.specs.Story.Shown.{Shown}
 
--- what a fault left after these commits and faults is what it can have left under some row, by how many calls were made
-abbrev pub IsLeftByCalls : List End → Option Plain → ℕ → ℕ → Type 0
+-- what a fault left after these commits and faults is what it can have left under some row, by how many calls were made, and
+-- where the disk models its device by which
+abbrev pub IsLeftByCalls : List End → Option Plain → DiskState → DiskState → Type 0
 IsLeftByCalls ends left old new = (row : Plain) × LeavesByCalls ends row left old new
 
 -- What a step says, in the state before it, of the disk as the call that added it began and ended. A commit's tick is where the
@@ -21,7 +22,7 @@ IsLeftByCalls ends left old new = (row : Plain) × LeavesByCalls ends row left o
 -- which is the next, so that it is the fault of one call alone, and the ticks at its end, which rose. Where the disk models its
 -- device, the calls of either are added to those that were made before, none of them reads, the file of objects is as it was, and
 -- the counts fit the calls. Those of a commit are just the ones that commit its row after a tail, which is not settled again
--- where it is settled by the commits and faults before. What a fault left is what it can have left by so many calls under some
+-- where it is settled by the commits and faults before. What a fault left is what it can have left by these calls under some
 -- row. At any other step no call was made, and the disk is as it was.
 abbrev pub CountsStep : State → StoryStep → DiskState → DiskState → Type 0
 CountsStep s (story_steps.Commit row tick) old new =
@@ -30,7 +31,7 @@ CountsStep s (story_steps.Commit row tick) old new =
 CountsStep s (story_steps.Fault tag left before faults tick) old new =
     (before ≡ old.faults) × (faults ≡ new.faults) × (faults ≡ next_count before)
     × (tick ≡ new.ticks) × (rises old.ticks tick ≡ true)
-    × IsCounted new × Both WritesOn old.modeled new.modeled × IsLeftByCalls s.ends left old.ticks tick
+    × IsCounted new × Both WritesOn old.modeled new.modeled × IsLeftByCalls s.ends left old new
 CountsStep s step old new = new ≡ old
 
 -- the steps of a list, one after the other, from a state on; beside them no call was made

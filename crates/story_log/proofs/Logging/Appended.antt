@@ -19,7 +19,7 @@ use Rattle.row_form.specs.Spelled.{spelling_of}
 use Rattle.vob_journal.specs.Lefts.{FailsInPhase}
 use Rattle.vob_journal.specs.Phases.{Spends, calls_of}
 use Rattle.vob_journal.specs.Added.{WritesOn, may_write}
-use Rattle.vob_journal.specs.Calls.{FailsToPut, device_after_commit, settled_first}
+use Rattle.vob_journal.specs.Calls.{FailsToCommit, FailsToPut, device_after_commit, settled_first}
 use Rattle.vob_journal.specs.declared.left.Left.{Left}
 use Rattle.vob_journal.specs.declared.left.Left.TheVariants as lefts
 use Rattle.story_log.specs.Logging.Appending.{CommitsRow, StandsSettled, IsQuiet, MayLeaveRow, IsCommitted, IsFaulted}
@@ -132,9 +132,11 @@ module _ (on : Handed) (kept : List Step) (base : Base) (phases : List Phase) (l
       → fault.tag ≡ row.tag → IfSome ending IsQuiet → more ≡ kept ++ fault_step fault ∷ option_to_list ending
       → LeftSo left row how fault.left.value → fault.tick ≡ new.ticks → fault.faults ≡ new.faults → fault.before ≡ old.faults
       → next_count old.ticks ≤ new.ticks → new.faults ≡ next_count old.faults → IsCounted old → IsCounted new → IsFormed row
-      → Both WritesOn old.modeled new.modeled → FailsInPhase journal.settled how old.ticks new.ticks
+      → Both WritesOn old.modeled new.modeled → FailsInPhase journal.settled how old.ticks new.ticks → (tail : ℕ) (frame : List ℕ)
+      → frame ≡ spelling_of row → Both (FailsToCommit journal.settled tail frame how) old.modeled new.modeled
       → IsFaulted (shown on kept base phases old) (shown on more base phases new) row ending
-  is_faulted more row fault ending how tagged quiet e so at counts was spent rose counted counted' formed writes fails =
+  is_faulted more row fault ending how tagged quiet e so at counts was spent rose counted counted' formed writes fails tail frame
+      is calls =
       let s = logged_state on kept base phases in
       let found : LeftSo (hanging s.ends) row how fault.left.value = subst (λ o. LeftSo o row how fault.left.value) h.hangs so in
       record {
@@ -151,7 +153,15 @@ module _ (on : Handed) (kept : List Step) (base : Base) (phases : List Phase) (l
             (omega (arith, counts, counted'.faults));
         later = omega (arith, h.backed.faults, was);
         leaves = may_leave_so s row how fault.left.value found;
-        calls = (journal.settled, how, h.backed.shut, found, subst (FailsInPhase journal.settled how old.ticks) (sym at) fails);
+        calls = (
+          journal.settled,
+          tail,
+          how,
+          h.backed.shut,
+          found,
+          fails,
+          subst (λ payload. Both (FailsToCommit journal.settled tail payload how) old.modeled new.modeled) is calls,
+        );
         ticked = rises_raised _ old.ticks fault.tick h.backed.ticks counted.ticks (omega (arith, at, spent))
             (omega (arith, at, counted'.ticks));
         counted = was;

@@ -12,7 +12,7 @@ use Rattle.legal_history.specs.Stories.Steps.{state_of}
 use Rattle.cc_names.specs.Counts.{rises}
 use Rattle.row_form.specs.Spelled.{spelling_of}
 use Rattle.vob_journal.specs.Added.{WritesOn}
-use Rattle.vob_journal.specs.Calls.{FailsToPut, device_after_commit, settled_first}
+use Rattle.vob_journal.specs.Calls.{FailsToCommit, FailsToPut, device_after_commit, settled_first}
 use Rattle.vob_journal.specs.Lefts.{FailsInPhase}
 use Rattle.vob_journal.specs.declared.left.Left.{Left}
 use Rattle.story_log.specs.Logging.Leaving.{LeftSo}
@@ -43,12 +43,14 @@ abbrev pub SettlesTail : List End → Device → Device → Type 0
 SettlesTail ends d e = (settled : Bool) × (tail : ℕ) × StandsSettled ends settled
     × ((e ≡ settled_first settled tail d) ⊎ ((settled ≡ false) × FailsToPut tail (0 ∷ []) d e))
 
--- what a fault under a row left after these commits and faults, by how many calls were made: the row only where its gate was to
--- be opened, and what an earlier fault had left only where the tail was to be settled
-abbrev pub LeavesByCalls : List End → Plain → Option Plain → ℕ → ℕ → Type 0
+-- What a fault under a row left after these commits and faults, by how many calls were made, and by which where the disk models
+-- its device: the row only where its gate was to be opened, and what an earlier fault had left only where the tail was to be
+-- settled.
+abbrev pub LeavesByCalls : List End → Plain → Option Plain → DiskState → DiskState → Type 0
 LeavesByCalls ends row left old new =
-    (settled : Bool) × (how : Left) × StandsSettled ends settled
-    × LeftSo (hanging ends) row how left × FailsInPhase settled how old new
+    (settled : Bool) × (tail : ℕ) × (how : Left) × StandsSettled ends settled
+    × LeftSo (hanging ends) row how left × FailsInPhase settled how old.ticks new.ticks
+    × Both (FailsToCommit settled tail (spelling_of row) how) old.modeled new.modeled
 
 -- the row was committed at a later tick than any end before
 pub record IsCommitted (old new : Logged) (row : Plain) : Type 0 where
@@ -85,7 +87,7 @@ pub record IsFaulted (old new : Logged) (row : Plain) (ending : Option Step) : T
   pub rose : rises before faults ≡ true
   pub later : faults_of (state_of old.story).opened (state_of old.story).ends ≤ before
   pub leaves : MayLeaveRow (state_of old.story) row left
-  pub calls : LeavesByCalls (state_of old.story).ends row left old.ghost_state.ticks tick
+  pub calls : LeavesByCalls (state_of old.story).ends row left old.ghost_state ghost_state
   pub ticked : rises (ticks_of (state_of old.story).opened (state_of old.story).ends) tick ≡ true
   pub counted : before ≡ old.ghost_state.faults
   pub one : faults ≡ next_count before

@@ -1,7 +1,7 @@
 use Rattle.std.proofs.Common.{true}
 use Rattle.vob_journal.specs.declared.left.Left.TheVariants.{Nothing, Earlier, InFlight}
-use Rattle.vob_journal.specs.Calls.{KeepsFrames, Settles, LeavesLeftover, CommitsFrame, FailsToAppend}
-use Rattle.vob_journal.specs.Phases.{Stages, OpensGate, MayOpen}
+use Rattle.vob_journal.specs.Calls.{Settles, LeavesLeftover, CommitsFrame, FailsToAppend}
+use Rattle.vob_journal.specs.Phases.{Stages, FailsToStage, OpensGate, MayOpen}
 use Rattle.vob_journal.proofs.Phasing.{fails_settling, fails_staging, fails_opening, commits}
 use Rattle.vob_journal.proofs.Telling.{both_map, both_then, both_three}
 use Rattle.vob_journal.proofs.tail.commit.Goals as goal
@@ -19,7 +19,7 @@ returns-in-Err-stage-clause-modeled g c =
     let settled = c.args.settled in
     let tail = c.args.tail in
     let payload = c.args.frame.now in
-    both_then (Settles settled tail) (KeepsFrames true true tail) (FailsToAppend settled tail payload Nothing) _ _ _
+    both_then (Settles settled tail) (FailsToStage tail payload) (FailsToAppend settled tail payload Nothing) _ _ _
     (λ d e f s k. fails_staging settled tail payload d e s f k)
     c.in_default.ensures.modeled c.in-Err-stage.ensures.modeled
 

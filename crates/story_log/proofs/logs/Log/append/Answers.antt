@@ -155,7 +155,8 @@ returns-clause-ok g c =
     (subst (LeftSo log.left c.args.row c.append.new.self.left) (sym c.of.ensures) left)
     c.counts-counts.ensures.ticks c.counts-counts.ensures.faults c.counts-before.ensures.faults c.in_default.ensures.costs.0
     c.in_default.ensures.costs.2 (g.met.D.Disk.counted log.journal.disk) (g.met.D.Disk.counted c.append.new.self.disk)
-    c.deed.ensures.formed c.in_default.ensures.writes c.in_default.ensures.fails))
+    c.deed.ensures.formed c.in_default.ensures.writes c.in_default.ensures.fails log.journal.tail c.in_ok-frame.frame
+    c.in_ok-frame.ensures c.in_default.ensures.calls))
 
 pub push-requires-clause-fits : goal.push-requires-clause-fits
 push-requires-clause-fits g c =
