@@ -11,6 +11,7 @@ pub mod LogLaws
 pub mod MakeLaws
 pub mod MasterLaws
 pub mod NeedLaws
+pub mod NumberLaws
 pub mod PeerLaws
 pub mod PlaceLaws
 pub mod ReplicaLaws

@@ -275,7 +275,7 @@ impl Table {
     /// each with each.
     pub fn raise_all(&mut self, alloc: Global, others: &[Identity]) -> Result<(), NoMemory>
         ensures ok { OnOk result (self.new ≡ raised_by self.old others.now) }
-        ensures risen { OnOk result (IsWithin self.old self.new) }
+        ensures risen { IsWithin self.old self.new }
     {
         for other in others {
             self.raise(alloc, other)?;
