@@ -40,7 +40,7 @@ fn name_fault(
 ) -> Result<Option<SiteFault>, NoMemory>
     ensures { IfOk result (λ fault. fault ≡ branch_name_fault branches.now element.now name.now) }
 {
-    match branches.named(element, name) {
+    match branches.named(alloc, element, name)? {
         None => Ok(None),
         Some(tree) => Ok(Some(SiteFault::BranchExists(tree.identity().copy(alloc)?))),
     }

@@ -11,7 +11,7 @@ use std::cmp::Ordering;
 
 /// What an operation is known by everywhere: the site that made it, and its number among that site's operations, from 1 on. An
 /// element and its branch `main` are named by the operation that made the element, any other branch by its own.
-#[derive(Debug, Drop)]
+#[derive(Debug, PartialEq, Eq, PartialOrd, Ord, Drop)]
 pub struct Identity {
     pub site: Name,
     pub number: u64,

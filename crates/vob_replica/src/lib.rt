@@ -12,11 +12,11 @@
 #![tactic(auto)]
 
 pub mod branch;
+mod branch_names;
 pub mod branches;
 mod changes;
 pub mod estimates;
 pub mod events;
-mod labels;
 pub mod laws;
 pub mod logs;
 mod masters;

@@ -187,8 +187,7 @@ impl Replica {
     }
 
     /// Makes a change, and answers the operation by which it did; or is refused, and changes nothing. Without memory it may have
-    /// made it or not. Takes time linear in the sites and logarithmic in the branches; for a new branch also a move of those
-    /// behind it.
+    /// made it or not. Takes time linear in the sites and logarithmic in the branches.
     pub fn make(&mut self, alloc: Global, change: &Change) -> Result<Identity, Or<SiteFault>>
         ensures { Comes result self.new (made self.old change.now) }
     {
