@@ -247,7 +247,7 @@ impl Branch {
         number == 0 || has_version_number(&self.versions, number)
     }
 
-    /// Puts one operation more after those that gave the mastership away. Takes time linear in the sites.
+    /// Puts one operation more after those that gave the mastership away. Takes the time of `Masters::push`.
     pub(crate) fn push_master(&mut self, operation: Shared) -> Result<(), NoMemory>
         ensures ok { OnOk result (self.new ≡ with_master self.old operation) }
         ensures err { OnErr result (self.new ≡ self.old) }

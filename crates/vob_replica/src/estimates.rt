@@ -68,8 +68,8 @@ pub(crate) fn put_peer(peers: &mut Vec<Peer>, peer: Peer)
     peers.push_reserved(Peer { estimate, exported });
 }
 
-/// Thinks that a site knows what a table holds, and the first `exported` operations. Takes time linear in the peers. An `Err`
-/// changes nothing.
+/// Sets what is thought that a site knows: what a table holds, and the first `exported` operations. Takes time linear in the
+/// peers. An `Err` changes nothing.
 pub fn set_peer(
     alloc: Global,
     peers: &mut Vec<Peer>,

@@ -96,7 +96,7 @@ pub enum Event {
     },
 }
 
-/// Why a line of a text of sites says nothing.
+/// Why a line of a text of sites cannot be read.
 #[derive(Clone, Copy, Debug, PartialEq, Eq)]
 pub enum SiteCause {
     /// Its first word is the word of no event.
@@ -105,7 +105,7 @@ pub enum SiteCause {
     BadWord,
 }
 
-/// The first line of a text of sites that says nothing.
+/// The first line of a text of sites that cannot be read.
 #[derive(Clone, Copy, Debug, PartialEq, Eq)]
 pub struct SiteError {
     /// The number of the line in the text, from 1 on.

@@ -62,7 +62,7 @@ impl Model for Replica {
         × IfSome replica.shared (λ shared. IsSharedBy replica.name replica.log shared.value) };
 }
 
-/// Takes the operations in that the branches are not of yet.
+/// Takes in the operations that the branches lack yet. An `Err` leaves them with some of these.
 fn catch_up(
     alloc: Global,
     branches: &mut Branches,
@@ -114,8 +114,8 @@ fn exported_to(peers: &[Peer], site: &Name) -> usize
     }
 }
 
-/// A table that the operations of a site share which it makes next. Where there is none yet, it takes time and memory linear in
-/// the sites.
+/// The table that the next operations of a site share as their needs. Where there is none yet, takes time and memory linear in the
+/// sites.
 fn shared_table(
     alloc: Global,
     name: &Name,
@@ -217,7 +217,7 @@ impl Replica {
 
     /// A packet for another site, with what that is not thought to know, which it is thought to know from then on. An `Err`
     /// changes nothing. Takes time linear in the sites and in the operations that were not exported to the site. Each of these
-    /// whose site is not that of the one before takes time linear in the sites.
+    /// whose site is not that of the one before takes time logarithmic in the sites.
     pub fn export(&mut self, alloc: Global, to: &Name) -> Result<Packet, NoMemory>
         ensures packet { IfOk result (λ packet. packet ≡ packet_for self.old to.now) }
         ensures ok { OnOk result (self.new ≡ thinking self.old to.now (table_of self.old.known)) }
@@ -270,7 +270,7 @@ impl Replica {
         set_peer(alloc, &mut self.peers, to, Table::new(alloc), 0)
     }
 
-    /// What it knows, as lines. There is no memory for it either where there was none for the last change or packet.
+    /// What it knows, as lines. Takes time linear in the text. It is an `Err` too while the branches lack operations.
     pub fn show(&self, alloc: Global) -> Result<Text, NoMemory>
         ensures { IfOk result (λ text. text ≡ show_text self.now) }
     {
