@@ -1,10 +1,9 @@
 -- Branches in order of their identities: where one stands, how one is put or changed there.
-use Rattle.std.proofs.Common.{◌≡◌, ℕ, zero, suc, ◌<◌, ◌≤◌, Bool, true, false, cond, eqb, Option, Some, None, List, [], ◌∷◌}
-use Rattle.std.proofs.Common.{length, get_or, set, slice_get, refl, sym, ap, ◌∙◌, subst, arith}
+use Rattle.std.proofs.Common.{◌≡◌, ℕ, suc, Bool, true, false, cond, eqb, Option, Some, None, List, [], ◌∷◌}
+use Rattle.std.proofs.Common.{refl, sym, ap, ◌∙◌, subst, arith}
 use Rattle.std.specs.Prelude.{insert, nat_le, nat_lt, not, ◌&&◌, Result, Ok, Err, OnOk, OnErr}
 use Rattle.std.specs.Cmp.{IsTotalOrder}
-use Rattle.std.specs.List.Sorted.{IsPartitionedBy, IsPartitionPoint}
-use Rattle.std.specs.Ordering.{nat_cmp, match_ordering, ordering_reverse, ordering_then, is_lt, is_eq, on, then_cmp}
+use Rattle.std.specs.Ordering.{nat_cmp, match_ordering, ordering_reverse, ordering_then, is_eq}
 use Rattle.std.specs.declared.cmp.Ordering.{Ordering}
 use Rattle.std.specs.declared.cmp.Ordering.TheVariants.{Less, Equal, Greater}
 use Rattle.std.specs.Cmp.Lexicographic.{slice_cmp}
@@ -12,7 +11,6 @@ use Rattle.std.specs.Str.{bytes_eq}
 use Rattle.std.proofs.lemmas.Cmp.{nat_list_cmp_total, nat_cmp_total, on_total, then_total}
 use Rattle.std.proofs.lemmas.Bool.Decides.{nat_tests}
 use Rattle.std.proofs.lemmas.Map.Text.{is_eq-slice_cmp}
-use Rattle.std.proofs.lemmas.Option.{slice_get-get_or}
 use Rattle.vob_replica.specs.declared.events.Identity.{Identity}
 use Rattle.vob_replica.specs.declared.operations.Operation.{Operation}
 use Rattle.vob_replica.specs.declared.operations.SiteDeed.{SiteDeed}

@@ -1,5 +1,5 @@
 -- Masters in turn, versions by number and branches by name, worked out by hand.
-use Rattle.std.proofs.Common.{◌≡◌, ℕ, true, false, None, Some, Ok, Err, List, [], ◌∷◌, refl}
+use Rattle.std.proofs.Common.{◌≡◌, ℕ, true, false, List, [], ◌∷◌, refl}
 use Rattle.std.specs.Prelude.{codes}
 use Rattle.std.specs.declared.cmp.Ordering.TheVariants.{Less, Greater}
 use Rattle.vob_replica.specs.declared.events.Identity.{Identity}

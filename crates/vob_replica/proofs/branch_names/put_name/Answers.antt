@@ -1,5 +1,4 @@
 use Rattle.std.proofs.Common.{◌≡◌, Option, Some, sym, ◌∙◌, subst, rules}
-use Rattle.vob_replica.specs.declared.branch_names.BranchName.{BranchName}
 use Rattle.vob_replica.specs.BranchNames.{Names, IsPut}
 use Rattle.vob_replica.proofs.NameLaws.{put-in}
 use Rattle.vob_replica.proofs.branch_names.put_name.Goals as goal

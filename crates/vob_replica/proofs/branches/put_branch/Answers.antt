@@ -1,7 +1,6 @@
 use Rattle.std.proofs.Common.{◌≡◌, List, ap, sym, ◌∙◌, subst, rules}
 use Rattle.std.specs.Prelude.{IfSome}
 use Rattle.std.specs.Map.{values_of}
-use Rattle.vob_replica.specs.declared.events.Identity.{Identity}
 use Rattle.vob_replica.specs.BranchNames.{Names, AreNamesOf}
 use Rattle.vob_replica.specs.Branches.{AreKeyed}
 use Rattle.vob_replica.specs.Trees.{Tree, with_tree}

@@ -1,5 +1,3 @@
-use Rattle.std.specs.Map.{values_of}
-use Rattle.std.proofs.Common.{rules, ap}
 use Rattle.vob_replica.proofs.KeptLaws.{order-of}
 use Rattle.vob_replica.proofs.branches.Branches.take_operation.Goals as goal
 

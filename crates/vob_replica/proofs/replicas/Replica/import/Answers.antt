@@ -1,4 +1,4 @@
-use Rattle.std.proofs.Common.{◌≡◌, ℕ, Ok, List, sym, ap, ◌∙◌, subst, rules}
+use Rattle.std.proofs.Common.{◌≡◌, Ok, List, sym, ap, ◌∙◌, subst, rules}
 use Rattle.vob_replica.specs.declared.estimates.Peer.{Peer}
 use Rattle.vob_replica.specs.declared.operations.Operation.{Operation}
 use Rattle.vob_replica.specs.Estimates.{estimates_of, exported_in, peer_by, with_peer, AreExported}
