@@ -71,7 +71,7 @@ grown-change true trees c branch f tree same keeps element name versions found =
 grown-change false trees c branch f tree differs keeps element name versions found =
     grown-same (with_branch_changed c f trees) branch tree (tree_at-other c branch f trees differs keeps ∙ found)
 
-grown-deed : (trees : List Tree) (operation : Operation) (deed : SiteDeed) (branch : Identity) (tree : Tree)
+pub grown-deed : (trees : List Tree) (operation : Operation) (deed : SiteDeed) (branch : Identity) (tree : Tree)
     → is_same_identity operation.identity branch ≡ false → tree_at trees branch ≡ Some tree
     → Grown (after_deed trees operation deed) branch tree
 grown-deed trees operation deeds.Element branch tree new found =

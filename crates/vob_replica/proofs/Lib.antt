@@ -5,12 +5,14 @@ pub mod GrowthLaws
 pub mod HistoryLaws
 pub mod HoldLaws
 pub mod ImportLaws
+pub mod KeptLaws
 pub mod KnowLaws
-pub mod LabelLaws
 pub mod LogLaws
 pub mod MakeLaws
 pub mod MasterLaws
+pub mod NameLaws
 pub mod NeedLaws
+pub mod NumberLaws
 pub mod PeerLaws
 pub mod PlaceLaws
 pub mod ReplicaLaws

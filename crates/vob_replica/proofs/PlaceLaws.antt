@@ -1,4 +1,4 @@
--- The entry of a site, or the branch of an identity, stands at one place alone.
+-- The entry of a site stands at one place alone.
 use Rattle.std.proofs.Common.{◌≡◌, ℕ, zero, suc, ◌<◌, ◌≤◌, Bool, true, false, cond, Option, Some, List, [], ◌∷◌, length}
 use Rattle.std.proofs.Common.{get_or, refl, sym, ap, ◌∙◌, subst, arith}
 use Rattle.std.specs.Prelude.{find}
@@ -13,11 +13,7 @@ use Rattle.vob_replica.specs.declared.events.Identity.{Identity}
 use Rattle.std.specs.List.Sorted.{IsPartitionedBy, IsPartitionPoint}
 use Rattle.std.proofs.lemmas.Cmp.{nat_list_cmp_total}
 use Rattle.vob_replica.specs.Tables.{is_below, number_in, entry_place_in, is_entry_at, IsBeforeSites, Ascends}
-use Rattle.vob_replica.specs.Trees.{Tree, identity_cmp}
-use Rattle.vob_replica.specs.Branches.{branch_place_in, is_branch_at, IsBeforeBranches, IsInOrder}
 use Rattle.vob_replica.proofs.TableLaws.{order, turned, IsBeforeSites-along}
-use Rattle.vob_replica.proofs.BranchLaws.{differs-below}
-use Rattle.vob_replica.proofs.Commuting.{same-is}
 use Rattle.vob_replica.proofs.ImportLaws.{number_in-before}
 
 is_lt-Less : (o : Ordering) → is_lt o ≡ true → o ≡ Less
@@ -133,26 +129,3 @@ pub number-missing : (site : List ℕ) (table : List Identity) → Ascends table
 number-missing site [] ascends missing = refl
 number-missing site (entry ∷ others) ascends missing =
     missing-by (order entry.site site) site entry others refl ascends missing (number-missing site others ascends.1)
-
--- what stands before all branches stands before the identity of one
-before-branch : (x identity : Identity) (trees : List Tree) (place : ℕ) → IsBeforeBranches x trees
-    → is_branch_at trees place identity ≡ true → identity_cmp x identity ≡ Less
-before-branch x identity [] place before is = cc is
-before-branch x identity (tree ∷ trees) zero before is =
-    subst (λ (i : Identity). identity_cmp x i ≡ Less) (same-is tree.identity identity is) before.0
-before-branch x identity (tree ∷ trees) (suc place) before is = before-branch x identity trees place before.1 is
-
--- a branch of an identity is at its place
-pub branch-place-of : (identity : Identity) (trees : List Tree) (place : ℕ) → IsInOrder trees
-    → is_branch_at trees place identity ≡ true → place ≡ branch_place_in identity trees
-branch-place-of identity [] place order is = cc is
-branch-place-of identity (tree ∷ trees) zero order is = by (identity_cmp tree.identity identity) refl
-  where
-    by : (o : Ordering) → identity_cmp tree.identity identity ≡ o → zero ≡ cond (is_lt o) (suc (branch_place_in identity trees)) 0
-    by Less less = let differs = differs-below tree.identity identity less in cc (differs, is)
-    by Equal equal = refl
-    by Greater greater = refl
-branch-place-of identity (tree ∷ trees) (suc place) order is =
-    ap suc (branch-place-of identity trees place order.1 is)
-    ∙ sym (ap (λ (o : Ordering). cond (is_lt o) (suc (branch_place_in identity trees)) 0)
-    (before-branch tree.identity identity trees place order.0 is))

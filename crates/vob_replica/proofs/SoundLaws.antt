@@ -55,7 +55,7 @@ site-first true made first rest site is later found = let same : first ≡ site 
 site-first false made first rest site is later found = later found
 
 -- the site of a name
-site-of : (made : List Made) (sites : List Site) (name : List ℕ) (site : Site) → AreSites made sites
+pub site-of : (made : List Made) (sites : List Site) (name : List ℕ) (site : Site) → AreSites made sites
     → site_in sites name ≡ Some site → IsSite made site
 site-of made [] name site are found = cc found
 site-of made (first ∷ sites) name site are found =
@@ -484,7 +484,7 @@ number-from table (first ∷ known) operation ascends (inl here) =
 number-from table (first ∷ known) operation ascends (inr is) = number-from (with_operation table first.identity) known operation
     (Ascends-with_operation table first.identity ascends) is
 
-are-in : (known : List Operation) (made : List Made) (operation : Operation) → AreMade known made → IsIn operation known
+pub are-in : (known : List Operation) (made : List Made) (operation : Operation) → AreMade known made → IsIn operation known
     → IsMade operation made
 are-in [] made operation are is = absurd is
 are-in (first ∷ known) made operation are (inl here) = subst (λ (o : Operation). IsMade o made) (sym here) are.0

@@ -1,13 +1,14 @@
 -- Masters in turn, versions by number and branches by name, worked out by hand.
-use Rattle.std.proofs.Common.{◌≡◌, ℕ, true, false, None, Some, Ok, Err, List, [], ◌∷◌, refl}
+use Rattle.std.proofs.Common.{◌≡◌, ℕ, true, false, List, [], ◌∷◌, refl}
 use Rattle.std.specs.Prelude.{codes}
+use Rattle.std.specs.declared.cmp.Ordering.TheVariants.{Less, Greater}
 use Rattle.vob_replica.specs.declared.events.Identity.{Identity}
 use Rattle.vob_replica.specs.declared.operations.Operation.{Operation}
 use Rattle.vob_replica.specs.declared.operations.SiteDeed.TheVariants as deeds
 use Rattle.vob_replica.specs.Branches.{is_number_below, count_passing, version_place, has_number_at}
-use Rattle.vob_replica.specs.Labels.{Label, label_in, label_place, is_label_at}
+use Rattle.vob_replica.specs.BranchNames.{name_order, is_named}
 use Rattle.vob_replica.specs.Masters.{follows_last, is_chain}
-use Rattle.vob_replica.specs.Trees.{VersionMade}
+use Rattle.vob_replica.specs.Trees.{Tree, VersionMade}
 
 abbrev a1 : Identity
 a1 = record { site = codes "a"; number = 1 }
@@ -63,20 +64,21 @@ is_there = refl
 is_missing : has_number_at versions 3 3 ≡ false
 is_missing = refl
 
-abbrev label : List ℕ → Identity → Label
-label name branch = record { element = a1; name = name; branch = branch }
+abbrev tree : Identity → List ℕ → Tree
+tree identity name = record { identity = identity; element = a1; name = name; masters = []; versions = [] }
 
-abbrev labels : List Label
-labels = label (codes "fix") a2 ∷ label (codes "main") a1 ∷ []
+by_element_and_name : is_named a1 (codes "fix") (tree a2 (codes "fix")) ≡ true
+by_element_and_name = refl
 
-by_name : label_in labels a1 (codes "main") ≡ Some (label (codes "main") a1)
-by_name = refl
+other_name : is_named a1 (codes "main") (tree a2 (codes "fix")) ≡ false
+other_name = refl
 
-other_element : label_in labels b1 (codes "main") ≡ None
+other_element : is_named b1 (codes "fix") (tree a2 (codes "fix")) ≡ false
 other_element = refl
 
-between : label_place a1 (codes "gap") labels ≡ 1
-between = refl
+-- names stand by element, then in byte order
+by_name : name_order (record { element = a1; name = codes "main" }) (record { element = a1; name = codes "fix" }) ≡ Greater
+by_name = refl
 
-not_that : is_label_at labels 1 a1 (codes "gap") ≡ false
-not_that = refl
+by_element : name_order (record { element = a1; name = codes "main" }) (record { element = a2; name = codes "fix" }) ≡ Less
+by_element = refl

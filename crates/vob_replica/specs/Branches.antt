@@ -1,13 +1,16 @@
 -- Branches as a site keeps them: by identity, each once. A branch and a version are read off the operations that made them.
 use Rattle.std.specs.Prelude.{◌≡◌, ℕ, suc, ◌≤◌, Bool, false, ◌==◌, nat_le, nat_lt, List, [], ◌∷◌, ◌++◌, codes, slice_get, if◌then◌else◌}
 use Rattle.std.specs.Option.{option_map_or}
-use Rattle.std.specs.Ordering.{is_lt}
+use Rattle.std.specs.Cmp.Lexicographic.{slice_cmp}
+use Rattle.std.specs.Map.{values_of}
+use Rattle.std.specs.Ordering.{nat_cmp, on, then_cmp}
+use Rattle.std.specs.declared.cmp.Ordering.{Ordering}
 use Rattle.std.specs.declared.cmp.Ordering.TheVariants.{Less}
 use Rattle.vob_replica.specs.declared.events.Identity.{Identity}
 use Rattle.vob_replica.specs.declared.operations.Operation.{Operation}
 use Rattle.vob_replica.specs.declared.operations.SiteDeed.{SiteDeed}
 use Rattle.vob_replica.specs.declared.operations.SiteDeed.TheVariants as deeds
-use Rattle.vob_replica.specs.Trees.{Tree, VersionMade, is_same_identity, identity_cmp, with_version_put}
+use Rattle.vob_replica.specs.Trees.{Tree, VersionMade, identity_cmp, with_version_put}
 
 -- the name of the branch that a deed made
 abbrev pub name_in : SiteDeed → List ℕ
@@ -67,18 +70,14 @@ abbrev pub AreByNumber : List VersionMade → Type 0
 AreByNumber [] = Unit {0}
 AreByNumber (version ∷ versions) = IsBelowVersions version.number versions × AreByNumber versions
 
--- whether a branch stands before an identity
-abbrev pub is_branch_before : Identity → Tree → Bool
-is_branch_before identity tree = is_lt (identity_cmp tree.identity identity)
+-- the order of identities: by site in byte order, then by number
+abbrev pub identity_order : Identity → Identity → Ordering
+identity_order = then_cmp (on (λ (i : Identity). i.site) (slice_cmp nat_cmp)) (on (λ (i : Identity). i.number) nat_cmp)
 
--- how many branches stand before an identity, from the first on
-abbrev pub branch_place_in : Identity → List Tree → ℕ
-branch_place_in identity [] = 0
-branch_place_in identity (tree ∷ trees) = if is_branch_before identity tree then suc (branch_place_in identity trees) else 0
-
--- whether the branch at a place has an identity
-abbrev pub is_branch_at : List Tree → ℕ → Identity → Bool
-is_branch_at trees place identity = option_map_or (λ tree. is_same_identity tree.identity identity) (slice_get trees place) false
+-- each branch is kept by its identity
+abbrev pub AreKeyed : List (Identity × Tree) → Type 0
+AreKeyed [] = Unit {0}
+AreKeyed (entry ∷ others) = (entry.0 ≡ entry.1.identity) × AreKeyed others
 
 -- an identity stands before those of all branches
 abbrev pub IsBeforeBranches : Identity → List Tree → Type 0
@@ -89,3 +88,8 @@ IsBeforeBranches identity (tree ∷ trees) = (identity_cmp identity tree.identit
 abbrev pub IsInOrder : List Tree → Type 0
 IsInOrder [] = Unit {0}
 IsInOrder (tree ∷ trees) = IsBeforeBranches tree.identity trees × IsInOrder trees
+
+-- branches as they are kept: by identity
+pub record AreKept (entries : List (Identity × Tree)) : Type 0 where
+  pub keyed : AreKeyed entries
+  pub order : IsInOrder (values_of entries)

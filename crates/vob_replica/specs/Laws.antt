@@ -5,6 +5,7 @@ use Rattle.vob_replica.specs.declared.events.Event.{Event}
 use Rattle.vob_replica.specs.declared.events.Event.TheVariants as events
 use Rattle.vob_replica.specs.declared.events.Identity.{Identity}
 use Rattle.vob_replica.specs.declared.operations.Operation.{Operation}
+use Rattle.vob_replica.specs.declared.operations.SiteDeed.TheVariants as deeds
 use Rattle.vob_replica.specs.Tables.{number_in, table_of}
 use Rattle.vob_replica.specs.Trees.{Tree, VersionMade, tree_at, trees_of, master_of}
 use Rattle.vob_replica.specs.Replicas.{Site}
@@ -52,7 +53,19 @@ abbrev pub HasVersion : VersionMade → List VersionMade → Type 0
 HasVersion version [] = ⊥
 HasVersion version (first ∷ others) = (version ≡ first) ⊎ HasVersion version others
 
--- No two operations make the same number of a branch: whatever two sites know there by one number is one version.
+-- No two operations make the same number of a branch.
+abbrev pub NumbersAreMadeOnce : Type 0
+NumbersAreMadeOnce = (events : List Event) (one other : List ℕ) (here there : Site) (first second : Operation) (branch : Identity)
+    (number : ℕ) (word also : List ℕ)
+    → site_in (world_of events).sites one ≡ Some here
+    → site_in (world_of events).sites other ≡ Some there
+    → IsIn first here.known
+    → IsIn second there.known
+    → first.deed ≡ deeds.Version branch number word
+    → second.deed ≡ deeds.Version branch number also
+    → first ≡ second
+
+-- So whatever two sites know on a branch by one number is one version.
 abbrev pub VersionsAreMadeOnce : Type 0
 VersionsAreMadeOnce = (events : List Event) (one other : List ℕ) (here there : Site) (branch : Identity) (tree also : Tree)
     → site_in (world_of events).sites one ≡ Some here

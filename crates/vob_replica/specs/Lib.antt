@@ -1,6 +1,6 @@
+pub mod BranchNames
 pub mod Branches
 pub mod Estimates
-pub mod Labels
 pub mod Laws
 pub mod Logs
 pub mod Masters

@@ -83,7 +83,7 @@ abbrev pub is_skipped_line : List ℕ → Bool
 is_skipped_line [] = false
 is_skipped_line (b ∷ bs) = b == 35
 
--- these events before others, where those could be read
+-- these events before others, where the others could be read
 abbrev pub before_others : List Event → Result (List Event) SiteError → Result (List Event) SiteError
 before_others events (Ok others) = Ok (events ++ others)
 before_others events (Err error) = Err error
@@ -107,6 +107,6 @@ abbrev pub events_below : ℕ → List (List ℕ) → Result (List Event) SiteEr
 events_below above [] = Ok []
 events_below above (line ∷ lines) = before_events (above + 1) (event_of_line line) (events_below (above + 1) lines)
 
--- the events of a text, or its first line that says nothing
+-- the events of a text, or its first line that cannot be read
 abbrev pub events_of : List ℕ → Result (List Event) SiteError
 events_of text = events_below 0 (lines_of text)

@@ -158,11 +158,11 @@ pub record AreBranchesOf (trees : List Tree) (taken : ℕ) (known : List Operati
   pub within : taken ≤ length known
   pub same : trees ≡ trees_of (take taken known)
 
--- unless memory ran out, a call answered this and left this
-abbrev pub Comes : {X S : Type 0} → Result X (Or SiteFault) → S → Result X SiteFault × S → Type 0
-Comes (Ok x) after expected = expected ≡ (Ok x, after)
-Comes (Err NoMemory) after expected = Unit {0}
-Comes (Err (Is fault)) after expected = expected ≡ (Err fault, after)
+-- a call answered this and left this; where memory ran out, it changed nothing
+abbrev pub Comes : {X S : Type 0} → Result X (Or SiteFault) → S → S → Result X SiteFault × S → Type 0
+Comes (Ok x) before after expected = expected ≡ (Ok x, after)
+Comes (Err NoMemory) before after expected = after ≡ before
+Comes (Err (Is fault)) before after expected = expected ≡ (Err fault, after)
 
 -- the fault of a packet that was not added
 abbrev pub gap_fault : Or Identity → Or SiteFault

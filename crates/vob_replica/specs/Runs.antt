@@ -19,6 +19,6 @@ abbrev pub run_by : Result (List Event) SiteError → Result Replies SiteError
 run_by (Ok events) = Ok (record { text = event_replies events; refused = list_any is_refused (answers_behind no_sites events) })
 run_by (Err error) = Err error
 
--- what a text of sites comes to, or its first line that says nothing
+-- what a text of sites comes to, or its first line that cannot be read
 abbrev pub run_of : List ℕ → Result Replies SiteError
 run_of text = run_by (events_of text)

@@ -8,7 +8,7 @@ use Rattle.vob_replica.specs.declared.events.Identity.{Identity}
 use Rattle.vob_replica.specs.declared.events.SiteCause.{SiteCause}
 use Rattle.vob_replica.specs.declared.events.SiteCause.TheVariants.{BadWord}
 
--- what words say, or the cause where they say nothing
+-- what words say, or why they cannot be read
 abbrev pub Said : Type 0 → Type 0
 Said X = Result X SiteCause
 

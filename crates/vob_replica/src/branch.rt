@@ -3,11 +3,9 @@
 ghost use Rattle.std.specs.List.{list_any};
 ghost use Rattle.std.specs.Prelude.{◌≡◌, ◌==◌, ◌≤◌, [], length, IfOk, OnOk, OnErr};
 ghost use Rattle.vob_replica.specs.Branches.{branch_made_by, name_in, word_in, version_by, version_place, is_up_to, is_number_below, count_passing, has_number_at, with_master, with_version_by, AreByNumber};
-ghost use Rattle.vob_replica.specs.Labels.{label_of};
 ghost use Rattle.vob_replica.specs.Trees.{given_to, master_of, next_number, has_version};
 
 use crate::events::Identity;
-use crate::labels::Label;
 use crate::masters::Masters;
 use crate::operations::SiteDeed;
 use crate::shared::Shared;
@@ -210,13 +208,11 @@ impl Branch {
         name_in(&self.made.operation().deed)
     }
 
-    /// Its label.
-    pub(crate) fn label(&self, alloc: Global) -> Result<Label, NoMemory>
-        ensures { IfOk result (λ label. label ≡ label_of self.now) }
+    /// The operation that made it, shared once more.
+    pub(crate) fn made(&self) -> Result<Shared, NoMemory>
+        ensures { IfOk result (λ made. made.identity ≡ self.now.identity) }
     {
-        let made = self.made.copy()?;
-        let element = self.element.copy(alloc)?;
-        Ok(Label::new(made, element))
+        self.made.copy()
     }
 
     /// The versions after version 0, by number.
@@ -251,7 +247,7 @@ impl Branch {
         number == 0 || has_version_number(&self.versions, number)
     }
 
-    /// Puts one operation more after those that gave the mastership away. Takes time linear in the sites.
+    /// Puts one operation more after those that gave the mastership away. Takes the time of `Masters::push`.
     pub(crate) fn push_master(&mut self, operation: Shared) -> Result<(), NoMemory>
         ensures ok { OnOk result (self.new ≡ with_master self.old operation) }
         ensures err { OnErr result (self.new ≡ self.old) }

@@ -1,275 +1,215 @@
 //! The branches that a site knows.
 
-ghost use Rattle.std.specs.Prelude.{◌≡◌, ◌<◌, ◌≤◌, [], ◌&&◌, bytes_eq, length, vec_len, option_copied, slice_index_or, slice_set, IsTrue, IfOk, IfSome, OnOk, OnErr};
-ghost use Rattle.vob_replica.specs.Branches.{is_branch_before, branch_place_in, is_branch_at, with_master, with_version_by, IsInOrder};
-ghost use Rattle.vob_replica.specs.Labels.{AreLabelsOf, IsPut};
-ghost use Rattle.vob_replica.specs.Trees.{Tree, is_same_identity, tree_at, named_tree, element_of_branch, with_tree, with_branch_changed, after_operation};
+ghost use Rattle.std.specs.Prelude.{◌≡◌, [], ◌&&◌, bytes_eq, option_copied, IfOk, IfSome, OnOk, OnErr};
+ghost use Rattle.std.specs.Map.{values_of};
+ghost use Rattle.vob_replica.specs.BranchNames.{is_named, AreNamesOf};
+ghost use Rattle.vob_replica.specs.Branches.{with_master, with_version_by, AreKeyed, AreKept};
+ghost use Rattle.vob_replica.specs.Trees.{Tree, tree_at, named_tree, element_of_branch, with_tree, with_branch_changed, after_operation};
 
 use crate::branch::Branch;
-use crate::events::{Identity, identity_cmp, is_same_identity};
-use crate::labels::{Label, Labels};
+use crate::branch_names::{BranchNames, branch_told, put_name};
+use crate::events::{Identity, is_same_identity};
 use crate::operations::SiteDeed;
 use crate::shared::Shared;
 use cc_names::memory::NoMemory;
 use cc_names::names::Name;
 use std::alloc::Global;
+use std::collections::BTreeMap;
+use std::collections::btree_map::Values;
 use std::marker::Model;
+
+/// Branches by their identities.
+type BranchMap = BTreeMap<Identity, Branch>;
 
 /// The branches that a site knows. Contracts see them by identity, each once.
 #[derive(Drop)]
 pub struct Branches {
-    trees: Vec<Branch>,
+    branches: BranchMap,
     /// The branches by element and name. There are none where a branch took the place of another, or has the name of another of
     /// its element, as at no site of a world; or where memory ran out.
-    labels: Option<Labels>,
-    /// The place of the branch that was changed last: the next one is often the same.
-    near: usize,
+    names: Option<BranchNames>,
 }
 
 impl Model for Branches {
     ghost use Rattle.std.specs.Prelude.{List, IfSome};
-    ghost use Rattle.vob_replica.specs.Branches.{IsInOrder};
-    ghost use Rattle.vob_replica.specs.Labels.{AreLabelsOf};
+    ghost use Rattle.std.specs.Map.{values_of};
+    ghost use Rattle.vob_replica.specs.BranchNames.{AreNamesOf};
+    ghost use Rattle.vob_replica.specs.Branches.{AreKept};
     ghost use Rattle.vob_replica.specs.Trees.{Tree};
 
     ghost Value = { List Tree };
 
-    ghost view = { λ branches. branches.trees.items };
+    ghost view = { λ branches. values_of branches.branches.entries };
 
     ghost invariant = { λ branches.
-        IsInOrder branches.trees.items
-        × IfSome branches.labels (λ labels. AreLabelsOf labels branches.trees.items) };
+        AreKept branches.branches.entries
+        × IfSome branches.names
+        (λ names. AreNamesOf names (values_of branches.branches.entries)) };
 }
 
-fn is_branch_before(tree: &Branch, identity: &Identity) -> bool
-    ensures { result ≡ is_branch_before identity.now tree.now }
+/// The branch of an identity. Takes time logarithmic in the branches.
+fn find_in<'a>(branches: &'a BranchMap, identity: &Identity) -> Option<&'a Branch>
+    requires { AreKeyed branches.now.entries }
+    ensures { option_copied result ≡ tree_at (values_of branches.now.entries) identity.now }
 {
-    identity_cmp(tree.identity(), identity).is_lt()
+    branches.get(identity)
 }
 
-/// How many branches have an identity below another: these are the first ones. Takes time logarithmic in them.
-fn branch_place(trees: &[Branch], identity: &Identity) -> usize
-    requires { IsInOrder trees.now }
-    ensures place { result ≡ branch_place_in identity.now trees.now }
-    ensures within { result ≤ length trees.now }
-{
-    trees.partition_point(|tree| is_branch_before(tree, identity))
-}
-
-/// Whether the branch at a place has an identity.
-fn is_branch_at(trees: &[Branch], place: usize, identity: &Identity) -> bool
-    ensures at { result ≡ is_branch_at trees.now place identity.now }
-    ensures within { IsTrue result → place < length trees.now }
-{
-    match trees.get(place) {
-        Some(tree) => is_same_identity(tree.identity(), identity),
-        None => false,
-    }
-}
-
-/// The branch of an identity.
-fn find_in<'a>(trees: &'a [Branch], identity: &Identity) -> Option<&'a Branch>
-    requires { IsInOrder trees.now }
-    ensures { option_copied result ≡ tree_at trees.now identity.now }
-{
-    let place = branch_place(trees, identity);
-    if is_branch_at(trees, place, identity) {
-        return Some(&trees[place]);
-    }
-    None
-}
-
-/// Puts a label among others, where labels are kept and no label of its element and name is there; else none are kept on.
-fn put_label(labels: &mut Option<Labels>, label: Label)
-    ensures { IsPut label labels.old labels.new }
-{
-    let Some(kept) = labels else {
-        return;
-    };
-    match kept.put(label) {
-        Ok(true) => {}
-        _ => *labels = None,
-    }
-}
-
-/// Puts a branch among others, by identity.
-fn put_branch(
+/// Puts the name of a branch that is to be put among others. No names are kept on where a branch has its identity.
+fn put_name_of(
     alloc: Global,
-    trees: &mut Vec<Branch>,
-    labels: &mut Option<Labels>,
-    tree: Branch,
+    branches: &BranchMap,
+    names: &mut Option<BranchNames>,
+    tree: &Branch,
 ) -> Result<(), NoMemory>
-    requires order { IsInOrder trees.old.items }
-    requires labels { IfSome labels.old (λ labels. AreLabelsOf labels trees.old.items) }
-    ensures ok { OnOk result (trees.new.items ≡ with_tree tree trees.old.items) }
-    ensures err { OnErr result (trees.new.items ≡ trees.old.items) }
-    ensures labels { IfSome labels.new (λ labels. AreLabelsOf labels trees.new.items) }
+    requires kept { AreKept branches.now.entries }
+    requires names { IfSome names.old
+        (λ names. AreNamesOf names (values_of branches.now.entries)) }
+    ensures ok { OnOk result
+        (IfSome names.new
+        (λ names. AreNamesOf names (with_tree tree.now (values_of branches.now.entries)))) }
+    ensures err { OnErr result
+        (IfSome names.new (λ names. AreNamesOf names (values_of branches.now.entries))) }
 {
-    let place = branch_place(trees, tree.identity());
-    if is_branch_at(trees, place, tree.identity()) {
-        trees[place] = tree;
-        *labels = None;
+    if branches.contains_key(tree.identity()) {
+        *names = None;
         return Ok(());
     }
-    let label = tree.label(alloc)?;
-    trees.insert(place, tree)?;
-    put_label(labels, label);
-    Ok(())
+    put_name(alloc, names, tree)
 }
 
-/// Puts a version on the branch at a place.
-fn put_version_at(
-    trees: &mut Vec<Branch>,
-    place: usize,
-    number: u64,
-    made: Shared,
+/// Puts a branch among others, by identity. An `Err` changes nothing.
+fn put_branch(
+    alloc: Global,
+    branches: &mut BranchMap,
+    names: &mut Option<BranchNames>,
+    tree: Branch,
 ) -> Result<(), NoMemory>
-    requires { place < vec_len trees.old }
+    requires kept { AreKept branches.old.entries }
+    requires names { IfSome names.old
+        (λ names. AreNamesOf names (values_of branches.old.entries)) }
     ensures ok { OnOk result
-        ((d : Tree) → trees.new.items
-        ≡ slice_set trees.old.items place
-        (with_version_by (slice_index_or trees.old.items place d) number made)) }
-    ensures err { OnErr result (trees.new.items ≡ trees.old.items) }
+        (values_of branches.new.entries ≡ with_tree tree (values_of branches.old.entries)) }
+    ensures err { OnErr result (branches.new.entries ≡ branches.old.entries) }
+    ensures keyed { AreKeyed branches.new.entries }
+    ensures names { IfSome names.new
+        (λ names. AreNamesOf names (values_of branches.new.entries)) }
 {
-    trees[place].put_version(number, made)
+    let identity = tree.identity().copy(alloc)?;
+    put_name_of(alloc, branches, names, &tree)?;
+    match branches.insert(identity, tree) {
+        Ok(_) => Ok(()),
+        Err(_) => {
+            *names = None;
+            Err(NoMemory)
+        }
+    }
 }
 
-/// Puts one operation more after those that gave the mastership of the branch at a place away.
-fn push_master_at(trees: &mut Vec<Branch>, place: usize, operation: Shared) -> Result<(), NoMemory>
-    requires { place < vec_len trees.old }
-    ensures ok { OnOk result
-        ((d : Tree) → trees.new.items
-        ≡ slice_set trees.old.items place
-        (with_master (slice_index_or trees.old.items place d) operation)) }
-    ensures err { OnErr result (trees.new.items ≡ trees.old.items) }
-{
-    trees[place].push_master(operation)
-}
-
-/// Puts a version on a branch, where that is there. The place is that of the branch.
-fn put_on_branch(
-    trees: &mut Vec<Branch>,
-    place: usize,
+/// Puts a version on a branch, where that is there. Takes time logarithmic in the branches where the version is its last one. An
+/// `Err` changes nothing.
+fn put_version(
+    branches: &mut BranchMap,
     branch: &Identity,
     number: u64,
     made: Shared,
 ) -> Result<(), NoMemory>
-    requires order { IsInOrder trees.old.items }
-    requires place { place ≡ branch_place_in branch.now trees.old.items }
+    requires { AreKept branches.old.entries }
     ensures ok { OnOk result
-        (trees.new.items
+        (values_of branches.new.entries
         ≡ with_branch_changed branch.now
-        (λ tree. with_version_by tree number made) trees.old.items) }
-    ensures err { OnErr result (trees.new.items ≡ trees.old.items) }
+        (λ tree. with_version_by tree number made) (values_of branches.old.entries)) }
+    ensures err { OnErr result (branches.new.entries ≡ branches.old.entries) }
+    ensures keyed { AreKeyed branches.new.entries }
 {
-    if is_branch_at(trees, place, branch) {
-        return put_version_at(trees, place, number, made);
+    match branches.get_mut(branch) {
+        Some(tree) => tree.put_version(number, made),
+        None => Ok(()),
     }
-    Ok(())
 }
 
-/// Puts a version on a branch, where that is there. Takes constant time where the branch is at the place `near` and the version
-/// is its last one, else also time logarithmic in the branches. `near` is changed to what may be the place of the next branch.
-fn put_version_near(
-    trees: &mut Vec<Branch>,
-    near: &mut usize,
-    branch: &Identity,
-    number: u64,
-    made: Shared,
-) -> Result<(), NoMemory>
-    requires { IsInOrder trees.old.items }
-    ensures ok { OnOk result
-        (trees.new.items
-        ≡ with_branch_changed branch.now
-        (λ tree. with_version_by tree number made) trees.old.items) }
-    ensures err { OnErr result (trees.new.items ≡ trees.old.items) }
-{
-    if is_branch_at(trees, *near, branch) {
-        return put_version_at(trees, *near, number, made);
-    }
-    let place = branch_place(trees, branch);
-    *near = place;
-    put_on_branch(trees, place, branch, number, made)
-}
-
-/// Puts one operation more after those that gave the mastership of a branch away, where that is there.
+/// Puts one operation more after those that gave the mastership of a branch away, where that is there. An `Err` changes nothing.
 fn push_master(
-    trees: &mut Vec<Branch>,
+    branches: &mut BranchMap,
     branch: &Identity,
     operation: Shared,
 ) -> Result<(), NoMemory>
-    requires { IsInOrder trees.old.items }
+    requires { AreKept branches.old.entries }
     ensures ok { OnOk result
-        (trees.new.items
-        ≡ with_branch_changed branch.now (λ tree. with_master tree operation) trees.old.items) }
-    ensures err { OnErr result (trees.new.items ≡ trees.old.items) }
+        (values_of branches.new.entries
+        ≡ with_branch_changed branch.now
+        (λ tree. with_master tree operation) (values_of branches.old.entries)) }
+    ensures err { OnErr result (branches.new.entries ≡ branches.old.entries) }
+    ensures keyed { AreKeyed branches.new.entries }
 {
-    let place = branch_place(trees, branch);
-    if is_branch_at(trees, place, branch) {
-        return push_master_at(trees, place, operation);
+    match branches.get_mut(branch) {
+        Some(tree) => tree.push_master(operation),
+        None => Ok(()),
     }
-    Ok(())
 }
 
 /// The element of a branch.
 fn element_of_branch(
     alloc: Global,
-    trees: &[Branch],
+    branches: &BranchMap,
     branch: &Identity,
 ) -> Result<Identity, NoMemory>
-    requires { IsInOrder trees.now }
-    ensures { IfOk result (λ element. element ≡ element_of_branch trees.now branch.now) }
+    requires { AreKeyed branches.now.entries }
+    ensures { IfOk result
+        (λ element. element ≡ element_of_branch (values_of branches.now.entries) branch.now) }
 {
-    match find_in(trees, branch) {
+    match find_in(branches, branch) {
         Some(tree) => tree.element().copy(alloc),
         None => branch.copy(alloc),
     }
 }
 
-/// Takes one operation more in.
+/// Takes one operation more in. An `Err` changes nothing.
 fn take_operation(
     alloc: Global,
-    trees: &mut Vec<Branch>,
-    labels: &mut Option<Labels>,
-    near: &mut usize,
+    branches: &mut BranchMap,
+    names: &mut Option<BranchNames>,
     operation: &Shared,
 ) -> Result<(), NoMemory>
-    requires order { IsInOrder trees.old.items }
-    requires labels { IfSome labels.old (λ labels. AreLabelsOf labels trees.old.items) }
-    ensures ok { OnOk result (trees.new.items ≡ after_operation trees.old.items operation.now) }
-    ensures err { OnErr result (trees.new.items ≡ trees.old.items) }
-    ensures labels { IfSome labels.new (λ labels. AreLabelsOf labels trees.new.items) }
+    requires kept { AreKept branches.old.entries }
+    requires names { IfSome names.old
+        (λ names. AreNamesOf names (values_of branches.old.entries)) }
+    ensures ok { OnOk result
+        (values_of branches.new.entries
+        ≡ after_operation (values_of branches.old.entries) operation.now) }
+    ensures err { OnErr result (branches.new.entries ≡ branches.old.entries) }
+    ensures keyed { AreKeyed branches.new.entries }
+    ensures names { IfSome names.new
+        (λ names. AreNamesOf names (values_of branches.new.entries)) }
 {
     let made = operation.copy()?;
     match &operation.operation().deed {
         SiteDeed::Element => {
             let element = operation.operation().identity.copy(alloc)?;
-            put_branch(alloc, trees, labels, Branch::new(alloc, made, element))
+            put_branch(alloc, branches, names, Branch::new(alloc, made, element))
         }
         SiteDeed::Branch(branch, _, _) => {
-            let element = element_of_branch(alloc, trees, branch)?;
-            put_branch(alloc, trees, labels, Branch::new(alloc, made, element))
+            let element = element_of_branch(alloc, branches, branch)?;
+            put_branch(alloc, branches, names, Branch::new(alloc, made, element))
         }
-        SiteDeed::Version(branch, number, _) => {
-            put_version_near(trees, near, branch, *number, made)
-        }
-        SiteDeed::Master(branch, _) => push_master(trees, branch, made),
+        SiteDeed::Version(branch, number, _) => put_version(branches, branch, *number, made),
+        SiteDeed::Master(branch, _) => push_master(branches, branch, made),
     }
 }
 
 /// Whether a branch is that of an element that has a name.
 fn is_branch_named(tree: &Branch, element: &Identity, name: &Name) -> bool
-    ensures { result
-        ≡ (is_same_identity tree.now.element element.now && bytes_eq tree.now.name name.now) }
+    ensures { result ≡ is_named element.now name.now tree.now }
 {
     is_same_identity(tree.element(), element) && tree.name() == name.as_bytes()
 }
 
-/// The branch of an element that has a name.
-fn branch_named<'a>(trees: &'a [Branch], element: &Identity, name: &Name) -> Option<&'a Branch>
-    ensures { option_copied result ≡ named_tree trees.now element.now name.now }
+/// The branch of an element that has a name. Takes time linear in the branches.
+fn branch_named<'a>(branches: &'a BranchMap, element: &Identity, name: &Name) -> Option<&'a Branch>
+    ensures { option_copied result
+        ≡ named_tree (values_of branches.now.entries) element.now name.now }
 {
-    for tree in trees {
+    for tree in branches.values() {
         if is_branch_named(tree, element, name) {
             return Some(tree);
         }
@@ -277,20 +217,23 @@ fn branch_named<'a>(trees: &'a [Branch], element: &Identity, name: &Name) -> Opt
     None
 }
 
-/// The same, by the labels of the branches. Takes time logarithmic in them.
-fn branch_labelled<'a>(
-    trees: &'a [Branch],
-    labels: &Labels,
+/// The branch of an element that has a name, by the names of the branches. Takes time logarithmic in them.
+fn branch_by_name<'a>(
+    alloc: Global,
+    branches: &'a BranchMap,
+    names: &BranchNames,
     element: &Identity,
     name: &Name,
-) -> Option<&'a Branch>
-    requires order { IsInOrder trees.now }
-    requires labels { AreLabelsOf labels.now trees.now }
-    ensures { option_copied result ≡ named_tree trees.now element.now name.now }
+) -> Result<Option<&'a Branch>, NoMemory>
+    requires kept { AreKept branches.now.entries }
+    requires names { AreNamesOf names.now (values_of branches.now.entries) }
+    ensures { IfOk result
+        (λ branch. option_copied branch
+        ≡ named_tree (values_of branches.now.entries) element.now name.now) }
 {
-    match labels.find(element, name.as_bytes()) {
-        Some(branch) => find_in(trees, branch),
-        None => None,
+    match branch_told(alloc, names, element, name.as_bytes())? {
+        Some(branch) => Ok(find_in(branches, branch)),
+        None => Ok(None),
     }
 }
 
@@ -300,38 +243,43 @@ impl Branches {
         ensures { result ≡ [] }
     {
         Branches {
-            trees: Vec::new(alloc),
-            labels: Some(Labels::new(alloc)),
-            near: 0,
+            branches: BTreeMap::new(alloc),
+            names: Some(BTreeMap::new(alloc)),
         }
     }
 
     /// The branches, by identity.
-    pub fn as_slice(&self) -> &[Branch]
-        ensures { result.now ≡ self.now }
+    pub fn values(&self) -> Values<'_, Identity, Branch>
+        ensures { result ≡ self.now }
     {
-        self.trees.as_slice()
+        self.branches.values()
     }
 
     /// The branch of an identity. Takes time logarithmic in the branches.
     pub fn find(&self, identity: &Identity) -> Option<&Branch>
         ensures { option_copied result ≡ tree_at self.now identity.now }
     {
-        find_in(&self.trees, identity)
+        find_in(&self.branches, identity)
     }
 
     /// The branch of an element that has a name. Takes time logarithmic in the branches at all sites of a world, else linear in
     /// them.
-    pub fn named(&self, element: &Identity, name: &Name) -> Option<&Branch>
-        ensures { option_copied result ≡ named_tree self.now element.now name.now }
+    pub fn named(
+        &self,
+        alloc: Global,
+        element: &Identity,
+        name: &Name,
+    ) -> Result<Option<&Branch>, NoMemory>
+        ensures { IfOk result
+            (λ branch. option_copied branch ≡ named_tree self.now element.now name.now) }
     {
-        match &self.labels {
-            Some(labels) => branch_labelled(&self.trees, labels, element, name),
-            None => branch_named(&self.trees, element, name),
+        match &self.names {
+            Some(names) => branch_by_name(alloc, &self.branches, names, element, name),
+            None => Ok(branch_named(&self.branches, element, name)),
         }
     }
 
-    /// Takes one operation more in. An `Err` changes nothing.
+    /// Takes one operation more in. Takes time logarithmic in the branches. An `Err` changes nothing.
     pub(crate) fn take_operation(
         &mut self,
         alloc: Global,
@@ -340,12 +288,6 @@ impl Branches {
         ensures ok { OnOk result (self.new ≡ after_operation self.old operation.now) }
         ensures err { OnErr result (self.new ≡ self.old) }
     {
-        take_operation(
-            alloc,
-            &mut self.trees,
-            &mut self.labels,
-            &mut self.near,
-            operation,
-        )
+        take_operation(alloc, &mut self.branches, &mut self.names, operation)
     }
 }

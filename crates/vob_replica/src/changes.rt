@@ -40,7 +40,7 @@ fn name_fault(
 ) -> Result<Option<SiteFault>, NoMemory>
     ensures { IfOk result (λ fault. fault ≡ branch_name_fault branches.now element.now name.now) }
 {
-    match branches.named(element, name) {
+    match branches.named(alloc, element, name)? {
         None => Ok(None),
         Some(tree) => Ok(Some(SiteFault::BranchExists(tree.identity().copy(alloc)?))),
     }
@@ -151,7 +151,7 @@ fn own_before(alloc: Global, site: &Name, number: u64) -> Result<Option<Identity
 }
 
 /// The operation by which the site of a name, which knows these operations and branches, makes a change. Its needs are shared,
-/// but for its own operations. Takes time linear in the sites that it knows of.
+/// but for its own operations. Takes time logarithmic in the sites that it knows of.
 pub(crate) fn operation_of(
     alloc: Global,
     name: &Name,

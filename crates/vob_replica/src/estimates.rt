@@ -1,6 +1,6 @@
 //! What a site thinks that others know.
 
-ghost use Rattle.std.specs.Prelude.{◌≡◌, ◌≤◌, length, option_copied, OnOk, OnErr};
+ghost use Rattle.std.specs.Prelude.{◌≡◌, ◌<◌, ◌≤◌, length, vec_len, vec_capacity, option_copied, OnOk, OnErr};
 ghost use Rattle.vob_replica.specs.Estimates.{peer_in, peer_place_in, with_peer};
 
 use crate::tables::Table;
@@ -49,8 +49,27 @@ fn peer_place(peers: &[Peer], site: &Name) -> usize
     place
 }
 
-/// Thinks that a site knows what a table holds, and the first `exported` operations. Takes time linear in the peers, and memory
-/// for a new one. An `Err` changes nothing.
+/// Puts a peer in the place of the one of its site, or after all others. Takes time linear in the peers.
+pub(crate) fn put_peer(peers: &mut Vec<Peer>, peer: Peer)
+    requires { vec_len peers.old < vec_capacity peers.old }
+    ensures { peers.new.items
+        ≡ with_peer peers.old.items peer.estimate.site peer.estimate.table peer.exported }
+{
+    let Peer { estimate, exported } = peer;
+    let Estimate { site, table } = estimate;
+    let place = peer_place(peers, &site);
+    if place < peers.len() {
+        let there = &mut peers[place];
+        there.estimate.table = table;
+        there.exported = exported;
+        return;
+    }
+    let estimate = Estimate { site, table };
+    peers.push_reserved(Peer { estimate, exported });
+}
+
+/// Sets what is thought that a site knows: what a table holds, and the first `exported` operations. Takes time linear in the
+/// peers. An `Err` changes nothing.
 pub fn set_peer(
     alloc: Global,
     peers: &mut Vec<Peer>,
@@ -61,15 +80,9 @@ pub fn set_peer(
     ensures ok { OnOk result (peers.new.items ≡ with_peer peers.old.items site.now table exported) }
     ensures err { OnErr result (peers.new.items ≡ peers.old.items) }
 {
-    let place = peer_place(peers, site);
-    if place < peers.len() {
-        let peer = &mut peers[place];
-        peer.estimate.table = table;
-        peer.exported = exported;
-        return Ok(());
-    }
     let site = site.copy(alloc)?;
+    peers.reserve(1)?;
     let estimate = Estimate { site, table };
-    peers.push(Peer { estimate, exported })?;
+    put_peer(peers, Peer { estimate, exported });
     Ok(())
 }

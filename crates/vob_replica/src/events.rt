@@ -11,7 +11,7 @@ use std::cmp::Ordering;
 
 /// What an operation is known by everywhere: the site that made it, and its number among that site's operations, from 1 on. An
 /// element and its branch `main` are named by the operation that made the element, any other branch by its own.
-#[derive(Debug, Drop)]
+#[derive(Debug, PartialEq, Eq, PartialOrd, Ord, Drop)]
 pub struct Identity {
     pub site: Name,
     pub number: u64,
@@ -96,7 +96,7 @@ pub enum Event {
     },
 }
 
-/// Why a line of a text of sites says nothing.
+/// Why a line of a text of sites cannot be read.
 #[derive(Clone, Copy, Debug, PartialEq, Eq)]
 pub enum SiteCause {
     /// Its first word is the word of no event.
@@ -105,7 +105,7 @@ pub enum SiteCause {
     BadWord,
 }
 
-/// The first line of a text of sites that says nothing.
+/// The first line of a text of sites that cannot be read.
 #[derive(Clone, Copy, Debug, PartialEq, Eq)]
 pub struct SiteError {
     /// The number of the line in the text, from 1 on.

@@ -1,6 +1,6 @@
 //! What holds of every world of sites, for those who build on it.
 
-ghost use Rattle.vob_replica.specs.Laws.{EqualTablesShowTheSame, ImportsChangeNoOtherSite, ImportsOnlyRaise, MastersAreAlone, NamesAreMadeOnce, VersionsAreMadeOnce};
+ghost use Rattle.vob_replica.specs.Laws.{EqualTablesShowTheSame, ImportsChangeNoOtherSite, ImportsOnlyRaise, MastersAreAlone, NamesAreMadeOnce, NumbersAreMadeOnce, VersionsAreMadeOnce};
 
 /// Promises `ImportsChangeNoOtherSite`: an import leaves what every other site knows, and what it thinks that others know.
 pub fn imports_change_no_other_site()
@@ -22,7 +22,12 @@ pub fn masters_are_alone()
     ensures { MastersAreAlone }
 {}
 
-/// Promises `VersionsAreMadeOnce`: no two operations make the same number of a branch.
+/// Promises `NumbersAreMadeOnce`: no two operations make the same number of a branch.
+pub fn numbers_are_made_once()
+    ensures { NumbersAreMadeOnce }
+{}
+
+/// Promises `VersionsAreMadeOnce`: two sites show one version by one number of a branch.
 pub fn versions_are_made_once()
     ensures { VersionsAreMadeOnce }
 {}

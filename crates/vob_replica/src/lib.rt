@@ -1,22 +1,22 @@
 //! Replicas in the manner of ClearCase MultiSite.
 //!
 //! What it is for: sites that hold elements, branches, versions with a text of one word, and mastership, and that tell each other
-//! by packets of operations. The world of the sites is defined in `specs/World.antt`. A text of events is read here; epoch
-//! tables, the log of what a site knows, the branches in it and its estimates of others are what a site rests on. `showing`
-//! prints what a site knows.
+//! by packets of operations. `runs::run` reads a text of events (`reading`), lets each happen (`Sites::step`) and writes the
+//! replies (`showing`). A site (`replicas`) rests on epoch tables, the log of what it knows, the branches in it and its estimates
+//! of others.
 //!
-//! What it promises: the reader answers exactly the events of a text, or its first line that says nothing; a log takes a packet
-//! in as the definitions say, or answers the first operation that is missing. README.md says which contract promises what.
+//! What it promises: each event comes to what `specs/World.antt` defines, and the replies are those of that world. `laws` has
+//! what holds of every world, as that sites with equal epoch tables show the same. README.md says which contract promises what.
 //!
-//! What it stands on: `cc_names`.
+//! What it stands on: `cc_names`, and `indexmap` for the packets.
 #![tactic(auto)]
 
 pub mod branch;
+mod branch_names;
 pub mod branches;
 mod changes;
 pub mod estimates;
 pub mod events;
-mod labels;
 pub mod laws;
 pub mod logs;
 mod masters;

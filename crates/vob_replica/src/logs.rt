@@ -132,8 +132,8 @@ fn news_of_whole(
     Ok(news)
 }
 
-/// The same, where they need nothing that a floor, or an operation before them, lacks. Where the table holds the floor, no need
-/// is looked up.
+/// The new operations of a packet, as `news_of` gives them. They need nothing that a floor, or an operation before them, lacks, so
+/// no need is looked up where the table holds the floor.
 fn news_above(
     alloc: Global,
     table: &mut Table,
@@ -194,7 +194,7 @@ impl Log {
     }
 
     /// The operations that a table does not hold, in order, where it holds the first `from` ones. Takes time linear in those
-    /// after them, and for each whose site is not that of the one before also linear in the sites.
+    /// after them, and for each whose site is not that of the one before also logarithmic in the sites.
     pub fn above(&self, alloc: Global, from: usize, table: &Table) -> Result<Vec<Shared>, NoMemory>
         requires within { from ≤ length self.now }
         requires first { above table.now (take from self.now) ≡ [] }
@@ -205,14 +205,15 @@ impl Log {
         not_held(alloc, &self.operations[from..], table)
     }
 
-    /// The number of a site's next operation. Takes time linear in the sites.
+    /// The number of a site's next operation. Takes time logarithmic in the sites.
     pub fn next_number(&self, site: &Name) -> u64
         ensures { result ≡ number_in (table_of self.now) site.now + 1 }
     {
         self.table.number(site) + 1
     }
 
-    /// Puts one operation more, of which all needs are known, after the others. Takes time linear in the sites.
+    /// Puts one operation more, of which all needs are known, after the others. Takes the time of `Table::raise`. An
+    /// `Err` changes nothing.
     pub fn push(&mut self, alloc: Global, operation: Shared) -> Result<(), NoMemory>
         requires { first_gap operation.needs (table_of self.old) ≡ None }
         ensures ok { OnOk result (self.new ≡ self.old ++ operation ∷ []) }

@@ -31,7 +31,7 @@ impl Model for Needs {
     ghost view = { λ needs. needs_of needs.shared.value needs.own };
 }
 
-/// The number of a site in a table that an operation is taken into. Takes time linear in the sites.
+/// The number of a site in a table that an operation is taken into. Takes time logarithmic in the sites.
 fn number_with(table: &Table, own: &Identity, site: &Name) -> u64
     ensures { result ≡ number_in (with_operation table.now own.now) site.now }
 {
@@ -60,7 +60,7 @@ impl Needs {
         Needs { shared, own }
     }
 
-    /// The number of a site. Takes time linear in the sites.
+    /// The number of a site. Takes time logarithmic in the sites.
     fn number(&self, site: &Name) -> u64
         ensures { result ≡ number_in self.now site.now }
     {
@@ -70,7 +70,7 @@ impl Needs {
         }
     }
 
-    /// Whether an operation is needed. Takes time linear in the sites.
+    /// Whether an operation is needed. Takes time logarithmic in the sites.
     pub fn holds(&self, identity: &Identity) -> bool
         ensures { result ≡ holds self.now identity.now }
     {

@@ -233,7 +233,7 @@ fn event_of_line(alloc: Global, line: &[u8]) -> Result<Option<Event>, Or<SiteCau
     }
 }
 
-/// The events of a text, in order, or its first line that says nothing. Lines without words and lines that begin with `#` are
+/// The events of a text, in order, or its first line that cannot be read. Lines without words and lines that begin with `#` are
 /// skipped. Takes time linear in the text.
 pub fn read(alloc: Global, text: &[u8]) -> Result<Vec<Event>, Or<SiteError>>
     requires { length text.now < 2 ^ 32 }

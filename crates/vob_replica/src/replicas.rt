@@ -2,7 +2,7 @@
 
 ghost use Rattle.std.specs.Prelude.{◌≡◌, [], List, IfOk, IfSome, OnOk, OnErr};
 ghost use Rattle.vob_replica.specs.declared.operations.Operation.{Operation};
-ghost use Rattle.vob_replica.specs.Estimates.{estimates_of, exported_in, with_peer, AreExported};
+ghost use Rattle.vob_replica.specs.Estimates.{estimates_of, exported_in, peer_by, IsExported, AreExported};
 ghost use Rattle.vob_replica.specs.Logs.{IsWhole};
 ghost use Rattle.vob_replica.specs.Needs.{IsSharedBy};
 ghost use Rattle.vob_replica.specs.Replicas.{new_site, above, estimate_in, made, imported, packet_for, thinking, gap_fault, AreBranchesOf, Comes};
@@ -12,7 +12,7 @@ ghost use Rattle.vob_replica.specs.Showing.{show_text};
 
 use crate::branches::Branches;
 use crate::changes::{change_fault, operation_of};
-use crate::estimates::{Peer, peer_for, set_peer};
+use crate::estimates::{Estimate, Peer, peer_for, put_peer, set_peer};
 use crate::events::Identity;
 use crate::logs::Log;
 use crate::operations::{Change, SiteFault};
@@ -62,7 +62,7 @@ impl Model for Replica {
         × IfSome replica.shared (λ shared. IsSharedBy replica.name replica.log shared.value) };
 }
 
-/// Takes the operations in that the branches are not of yet.
+/// Takes in the operations that the branches lack yet. An `Err` leaves them with some of these.
 fn catch_up(
     alloc: Global,
     branches: &mut Branches,
@@ -114,8 +114,8 @@ fn exported_to(peers: &[Peer], site: &Name) -> usize
     }
 }
 
-/// A table that the operations of a site share which it makes next. Where there is none yet, it takes time and memory linear in
-/// the sites.
+/// The table that the next operations of a site share as their needs. Where there is none yet, takes time and memory linear in the
+/// sites.
 fn shared_table(
     alloc: Global,
     name: &Name,
@@ -132,26 +132,25 @@ fn shared_table(
     Ok(Rc::new(alloc, table)?)
 }
 
-/// Thinks that a site knows what a table holds too.
-fn raise_estimate(
-    alloc: Global,
-    peers: &mut Vec<Peer>,
-    site: &Name,
-    table: &Table,
-) -> Result<(), NoMemory>
-    ensures ok { OnOk result
-        (peers.new.items
-        ≡ with_peer peers.old.items site.now
-        (raised_by (estimate_in (estimates_of peers.old.items) site.now) table.now)
-        (exported_in peers.old.items site.now)) }
-    ensures exported { (known : List Operation) → AreExported known peers.old.items
-        → AreExported known peers.new.items }
-    ensures err { OnErr result (peers.new.items ≡ peers.old.items) }
+/// A peer of which is thought what is thought of a site, and that it knows what a table holds too.
+fn raised_peer(alloc: Global, peers: &[Peer], site: &Name, table: &Table) -> Result<Peer, NoMemory>
+    ensures peer { IfOk result
+        (λ peer. peer
+        ≡ peer_by site.now
+        (raised_by (estimate_in (estimates_of peers.now) site.now) table.now)
+        (exported_in peers.now site.now)) }
+    ensures exported { (known : List Operation) → AreExported known peers.now
+        → IfOk result (λ peer. IsExported known peer.estimate.table peer.exported) }
 {
-    let mut estimate = estimate_of(alloc, peers, site)?;
-    estimate.raise_all(alloc, table.entries())?;
+    let mut table_raised = estimate_of(alloc, peers, site)?;
+    table_raised.raise_all(alloc, table.entries())?;
     let exported = exported_to(peers, site);
-    set_peer(alloc, peers, site, estimate, exported)
+    let site = site.copy(alloc)?;
+    let estimate = Estimate {
+        site,
+        table: table_raised,
+    };
+    Ok(Peer { estimate, exported })
 }
 
 /// The fault of a packet that was not added.
@@ -186,11 +185,10 @@ impl Replica {
         &self.name
     }
 
-    /// Makes a change, and answers the operation by which it did; or is refused, and changes nothing. Without memory it may have
-    /// made it or not. Takes time linear in the sites and logarithmic in the branches; for a new branch also a move of those
-    /// behind it.
+    /// Makes a change, and answers the operation by which it did. An `Err` changes nothing. Takes time logarithmic in the branches
+    /// and in the sites; the first change after a packet was taken in also time and memory linear in the sites.
     pub fn make(&mut self, alloc: Global, change: &Change) -> Result<Identity, Or<SiteFault>>
-        ensures { Comes result self.new (made self.old change.now) }
+        ensures { Comes result self.old self.new (made self.old change.now) }
     {
         catch_up(
             alloc,
@@ -207,18 +205,19 @@ impl Replica {
         let identity = operation.operation().identity.copy(alloc)?;
         self.log.push(alloc, operation)?;
         self.shared = Some(next);
-        catch_up(
+        // Without memory the branches lack the change until the next call.
+        let _caught_up = catch_up(
             alloc,
             &mut self.branches,
             &mut self.taken,
             self.log.operations(),
-        )?;
+        );
         Ok(identity)
     }
 
     /// A packet for another site, with what that is not thought to know, which it is thought to know from then on. An `Err`
     /// changes nothing. Takes time linear in the sites and in the operations that were not exported to the site. Each of these
-    /// whose site is not that of the one before takes time linear in the sites.
+    /// whose site is not that of the one before takes time logarithmic in the sites.
     pub fn export(&mut self, alloc: Global, to: &Name) -> Result<Packet, NoMemory>
         ensures packet { IfOk result (λ packet. packet ≡ packet_for self.old to.now) }
         ensures ok { OnOk result (self.new ≡ thinking self.old to.now (table_of self.old.known)) }
@@ -235,13 +234,15 @@ impl Replica {
     }
 
     /// Takes in the operations of a packet that are not known yet, and answers how many; or answers the first operation that is
-    /// missing, and changes nothing. Without memory some may be added. Takes time linear in the sites, each with each, and in the
-    /// operations. An operation whose site is not that of the one before takes time linear in the sites. A new one on another
-    /// branch takes time logarithmic in the branches. Where the packet's floor is not known, each new one takes the time of
+    /// missing. An `Err` changes nothing. Takes time linear in the operations, and for each site of the packet's table time
+    /// logarithmic in the sites. An operation whose site is not that of the one before takes time logarithmic in the sites, and a
+    /// new one time logarithmic in the branches. Where the packet's floor is not known, each new one takes the time of
     /// `Table::first_gap`.
     pub fn import(&mut self, alloc: Global, packet: &Packet) -> Result<u64, Or<SiteFault>>
-        ensures { Comes result self.new (imported self.old packet.now) }
+        ensures { Comes result self.old self.new (imported self.old packet.now) }
     {
+        let peer = raised_peer(alloc, &self.peers, packet.sender(), packet.table())?;
+        self.peers.reserve(1)?;
         self.shared = None;
         let count = match self
             .log
@@ -250,13 +251,14 @@ impl Replica {
             Ok(count) => count,
             Err(fault) => return Err(gap_fault(fault)),
         };
-        catch_up(
+        put_peer(&mut self.peers, peer);
+        // Without memory the branches lack the last operations until the next call.
+        let _caught_up = catch_up(
             alloc,
             &mut self.branches,
             &mut self.taken,
             self.log.operations(),
-        )?;
-        raise_estimate(alloc, &mut self.peers, packet.sender(), packet.table())?;
+        );
         Ok(count)
     }
 
@@ -268,7 +270,7 @@ impl Replica {
         set_peer(alloc, &mut self.peers, to, Table::new(alloc), 0)
     }
 
-    /// What it knows, as lines. There is no memory for it either where there was none for the last change or packet.
+    /// What it knows, as lines. Takes time linear in the text. It is an `Err` too while the branches lack operations.
     pub fn show(&self, alloc: Global) -> Result<Text, NoMemory>
         ensures { IfOk result (λ text. text ≡ show_text self.now) }
     {

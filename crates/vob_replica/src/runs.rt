@@ -53,7 +53,8 @@ fn reply_all(
     Ok(refused)
 }
 
-/// The replies to the events of a text of sites, or its first line that says nothing.
+/// The replies to the events of a text of sites, or its first line that cannot be read. Takes the time of reading and of each
+/// event (`Sites::step`), and memory for the events, what the sites know, the packets and the replies.
 pub fn run(alloc: Global, hashing: RandomState, text: &[u8]) -> Result<Replies, Or<SiteError>>
     requires { length text.now < 2 ^ 32 }
     ensures { Gives result (run_of text.now) }

@@ -109,10 +109,10 @@ fn push_tree(alloc: Global, text: &mut Vec<u8>, tree: &Branch) -> Result<(), NoM
 }
 
 /// Writes the lines of branches.
-fn push_trees(alloc: Global, text: &mut Vec<u8>, trees: &[Branch]) -> Result<(), NoMemory>
-    ensures { OnOk result (text.new.items ≡ text.old.items ++ flat_map tree_lines trees.now) }
+fn push_trees(alloc: Global, text: &mut Vec<u8>, branches: &Branches) -> Result<(), NoMemory>
+    ensures { OnOk result (text.new.items ≡ text.old.items ++ flat_map tree_lines branches.now) }
 {
-    for tree in trees {
+    for tree in branches.values() {
         push_tree(alloc, text, tree)?;
     }
     Ok(())
@@ -134,7 +134,7 @@ pub(crate) fn show_text(alloc: Global, table: &Table, branches: &Branches) -> Re
 {
     let mut text = Vec::new(alloc);
     push_table(alloc, &mut text, table.entries())?;
-    push_trees(alloc, &mut text, branches.as_slice())?;
+    push_trees(alloc, &mut text, branches)?;
     Ok(Text::of(text))
 }
 

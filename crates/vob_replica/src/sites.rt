@@ -72,7 +72,7 @@ fn find(sites: &[Replica], name: &Name) -> Option<usize>
     }
 }
 
-/// There is no site of a name.
+/// The answer where there is no site of a name.
 fn no_site(alloc: Global, name: &Name) -> Result<Answer, NoMemory>
     ensures { IfOk result (λ answer. answer ≡ answers.Refused (faults.NoSite name.now)) }
 {

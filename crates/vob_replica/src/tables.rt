@@ -237,8 +237,8 @@ impl Table {
         identity.number > 0 && identity.number <= known
     }
 
-    /// Takes an operation in. Takes constant time where its site is the one that was raised last, else time linear in the sites,
-    /// and memory for a new one.
+    /// Takes an operation in. Takes constant time where its site is the one that was raised last, else time logarithmic in the
+    /// sites; a new site takes time linear in them, and memory.
     pub fn raise(&mut self, alloc: Global, identity: &Identity) -> Result<(), NoMemory>
         ensures ok { OnOk result (self.new ≡ with_operation self.old identity.now) }
         ensures risen { OnOk result (IsWithin self.old self.new) }
@@ -251,7 +251,8 @@ impl Table {
     }
 
     /// Takes an operation in unless it is known, and answers whether it was not. Takes constant time where its site is the one
-    /// that was raised last, else time linear in the sites, and memory for a new one. An `Err` changes nothing.
+    /// that was raised last, else time logarithmic in the sites; a new site takes time linear in them, and memory. An `Err`
+    /// changes nothing.
     pub(crate) fn take(&mut self, alloc: Global, identity: &Identity) -> Result<bool, NoMemory>
         ensures known { IfOk result (λ new. holds self.old identity.now ≡ not new) }
         ensures taken { IfOk result
@@ -271,11 +272,10 @@ impl Table {
         Ok(true)
     }
 
-    /// Takes the operations of another table in. An `Err` leaves it with some of them. Takes time linear in the sites of both,
-    /// each with each.
+    /// Takes the operations of another table in. An `Err` leaves it with some of them. Takes the time of `raise` for each.
     pub fn raise_all(&mut self, alloc: Global, others: &[Identity]) -> Result<(), NoMemory>
         ensures ok { OnOk result (self.new ≡ raised_by self.old others.now) }
-        ensures risen { OnOk result (IsWithin self.old self.new) }
+        ensures risen { IsWithin self.old self.new }
     {
         for other in others {
             self.raise(alloc, other)?;
@@ -305,7 +305,8 @@ impl Table {
         true
     }
 
-    /// The first operation that the table lacks of those that are needed. Takes time linear in the sites of both, each with each.
+    /// The first operation that the table lacks of those that are needed. Takes time linear in the needs, and logarithmic in the
+    /// sites for each.
     pub fn first_gap(&self, alloc: Global, needs: &[Identity]) -> Result<Option<Identity>, NoMemory>
         ensures { IfOk result (λ gap. gap ≡ first_gap needs.now self.now) }
     {

@@ -1,24 +1,36 @@
-use Rattle.std.proofs.Common.{◌≡◌, true, false, rules}
-use Rattle.vob_replica.specs.Branches.{branch_place_in, is_branch_at, with_master}
+use Rattle.std.proofs.Common.{refl, sym, ap, ◌∙◌, subst}
+use Rattle.std.specs.BTreeMap.{BTreeMap}
+use Rattle.std.specs.Map.{values_of}
+use Rattle.vob_replica.specs.declared.events.Identity.{Identity}
+use Rattle.vob_replica.specs.Branches.{with_master, AreKeyed}
 use Rattle.vob_replica.specs.Trees.{Tree}
-use Rattle.vob_replica.proofs.BranchLaws.{changed-there, kept-missing}
+use Rattle.vob_replica.proofs.KeptLaws.{missing-in, set-ok, set-err, set-keyed}
 use Rattle.vob_replica.proofs.branches.push_master.Goals as goal
 
 -- the branch is there
-pub returns-then-is_branch_at-clause-ok : goal.returns-then-is_branch_at-clause-ok
-returns-then-is_branch_at-clause-ok c =
-    let trees = c.args.trees.now.items in
-    let at : c.branch_place-place.result ≡ branch_place_in c.args.branch.now trees = search rules in
-    let there : is_branch_at trees c.branch_place-place.result c.args.branch.now ≡ true = search rules in
-    changed-there c.push_master_at.result c.args.branch.now (λ (tree : Tree). with_master tree c.args.operation) trees
-    c.push_master_at.new.trees.items c.branch_place-place.result c.requires
-    c.push_master_at.ensures.ok at there
+pub returns-in-Some-clause-ok : goal.returns-in-Some-clause-ok
+returns-in-Some-clause-ok c =
+    set-ok c.push_master.result c.args.branch.now (λ (tree : Tree). with_master tree c.args.operation) c.args.branches.now.entries _ c.in-Some.tree.now
+    c.push_master.new.self c.requires (sym c.in-Some.ensures.value) (c.get_mut.follows.holds c.push_master.new.self).0 c.push_master.ensures.ok
 
--- it is not
-pub returns-clause-ok : goal.returns-clause-ok
-returns-clause-ok c =
-    let trees = c.args.trees.now.items in
-    let at : c.branch_place-place.result ≡ branch_place_in c.args.branch.now trees = search rules in
-    let none : is_branch_at trees c.branch_place-place.result c.args.branch.now ≡ false = search rules in
-    kept-missing c.args.branch.now (λ (tree : Tree). with_master tree c.args.operation) trees c.branch_place-place.result
-    c.requires at none
+pub returns-in-Some-clause-err : goal.returns-in-Some-clause-err
+returns-in-Some-clause-err c =
+    set-err c.push_master.result c.args.branch.now c.args.branches.now.entries _ c.in-Some.tree.now c.push_master.new.self
+    (sym c.in-Some.ensures.value) (c.get_mut.follows.holds c.push_master.new.self).0 c.push_master.ensures.err
+
+pub returns-in-Some-clause-keyed : goal.returns-in-Some-clause-keyed
+returns-in-Some-clause-keyed c =
+    set-keyed c.push_master.result c.args.branch.now (λ (tree : Tree). with_master tree c.args.operation) c.args.branches.now.entries _ c.in-Some.tree.now
+    c.push_master.new.self (λ tree. refl) c.requires (sym c.in-Some.ensures.value) (c.get_mut.follows.holds c.push_master.new.self).0
+    c.push_master.ensures.ok c.push_master.ensures.err
+
+-- or it is not
+pub returns-in-None-clause-ok : goal.returns-in-None-clause-ok
+returns-in-None-clause-ok c =
+    ap (λ (m : BTreeMap Identity Tree). values_of m.entries) c.get_mut.follows.holds-at-none
+    ∙ missing-in c.args.branch.now (λ (tree : Tree). with_master tree c.args.operation) c.args.branches.now.entries c.requires.keyed
+    (sym c.in-None.ensures.value)
+
+pub returns-in-None-clause-keyed : goal.returns-in-None-clause-keyed
+returns-in-None-clause-keyed c =
+    subst (λ (m : BTreeMap Identity Tree). AreKeyed m.entries) (sym c.get_mut.follows.holds-at-none) c.requires.keyed

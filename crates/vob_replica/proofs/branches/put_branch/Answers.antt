@@ -1,28 +1,29 @@
-use Rattle.std.proofs.Common.{◌≡◌, ◌≤◌, length, true, false, refl, rules}
-use Rattle.vob_replica.specs.Branches.{branch_place_in, is_branch_at}
-use Rattle.vob_replica.proofs.BranchLaws.{put-there, put-new}
-use Rattle.vob_replica.proofs.LabelLaws.{kept-put}
+use Rattle.std.proofs.Common.{◌≡◌, List, ap, sym, ◌∙◌, subst, rules}
+use Rattle.std.specs.Prelude.{IfSome}
+use Rattle.std.specs.Map.{values_of}
+use Rattle.vob_replica.specs.BranchNames.{Names, AreNamesOf}
+use Rattle.vob_replica.specs.Branches.{AreKeyed}
+use Rattle.vob_replica.specs.Trees.{Tree, with_tree}
+use Rattle.vob_replica.proofs.KeptLaws.{put-in, keyed-put}
 use Rattle.vob_replica.proofs.branches.put_branch.Goals as goal
 
--- a branch of the same identity is there
-pub returns-then-is_branch_at-clause-ok : goal.returns-then-is_branch_at-clause-ok
-returns-then-is_branch_at-clause-ok c =
-    let trees = c.args.trees.now.items in
-    let at : c.branch_place-place.result ≡ branch_place_in c.args.tree.identity trees = cc in
-    let there : is_branch_at trees c.branch_place-place.result c.args.tree.identity ≡ true = cc in
-    put-there trees _ c.branch_place-place.result c.args.tree refl at there
+pub returns-in-Ok-clause-ok : goal.returns-in-Ok-clause-ok
+returns-in-Ok-clause-ok c =
+    let same : c.in_ok-identity.identity ≡ c.args.tree.identity = search rules in
+    ap values_of c.in-Ok.ensures.entries
+    ∙ put-in c.in_ok-identity.identity c.args.tree c.args.branches.now.entries same c.requires.kept.keyed
 
--- none is
-pub returns-clause-ok : goal.returns-clause-ok
-returns-clause-ok c =
-    let trees = c.args.trees.now.items in
-    let at : c.branch_place-place.result ≡ branch_place_in c.args.tree.identity trees = cc in
-    let none : is_branch_at trees c.branch_place-place.result c.args.tree.identity ≡ false = cc in
-    put-new trees c.insert.new.self.items c.branch_place-place.result c.args.tree c.in_ok-insert.ensures.items at none
+pub returns-in-Ok-clause-keyed : goal.returns-in-Ok-clause-keyed
+returns-in-Ok-clause-keyed c =
+    let same : c.in_ok-identity.identity ≡ c.args.tree.identity = search rules in
+    subst AreKeyed (sym c.in-Ok.ensures.entries)
+    (keyed-put c.in_ok-identity.identity c.args.tree c.args.branches.now.entries same c.requires.kept.keyed)
 
-pub returns-clause-labels : goal.returns-clause-labels
-returns-clause-labels c =
-    let within : c.branch_place-place.result ≤ length c.args.trees.now.items = search rules in
-    kept-put c.in_ok-label.label c.args.labels.now c.put_label.new.labels c.args.trees.now.items c.insert.new.self.items
-    c.branch_place-place.result c.args.tree c.requires.labels within c.in_ok-label.ensures
-    c.put_label.ensures c.in_ok-insert.ensures.items
+pub returns-in-Ok-clause-names : goal.returns-in-Ok-clause-names
+returns-in-Ok-clause-names c =
+    let same : c.in_ok-identity.identity ≡ c.args.tree.identity = search rules in
+    let more : values_of c.insert.new.self.entries ≡ with_tree c.args.tree (values_of c.args.branches.now.entries) =
+    ap values_of c.in-Ok.ensures.entries
+    ∙ put-in c.in_ok-identity.identity c.args.tree c.args.branches.now.entries same c.requires.kept.keyed in
+    subst (λ (l : List Tree). IfSome c.put_name_of.new.names (λ (n : Names). AreNamesOf n l)) (sym more)
+    c.in_ok-put_name_of.ensures.ok

@@ -17,15 +17,6 @@ push-requires c =
     ∙ first_gap-own (table_of c.self.inside.log) (ascends_of c.self.inside.log)
 
 -- the first ones stay exported to the site's peers
-pub invariant_of-self-in_err-catch_up-2 : goal.invariant_of-self-in_err-catch_up-2
-invariant_of-self-in_err-catch_up-2 c = (
-  search rules,
-  exported-pushed c.self.inside.log c.push.new.self c.in_ok-operation.operation c.self.inside.peers.items c.in_ok-push.ensures.ok
-      c.self.invariant.1,
-  shared-push c.self.inside.name c.self.inside.log c.push.new.self c.in_ok-operation.operation c.in_ok-next.next.value
-      (first_of (search rules, cc)) (ap (λ (o : Operation). o.identity) c.in_ok-operation.ensures) c.in_ok-push.ensures.ok,
-)
-
 pub invariant_of-self-2 : goal.invariant_of-self-2
 invariant_of-self-2 c = (
   search rules,
