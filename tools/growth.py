@@ -56,7 +56,6 @@ KNOWN = {
     "config-labels": {"bytes_each": 155},
     "specs": {"bytes_each": 12},
     "view-lives": {"bytes_each": 1434},
-    "answers": {"memory": 0.95},
     "opening": {"bytes_each": 386},
     "lanes": {"ratio": 2.3},
     "lanes-busy": {"ratio": 8.0},
