@@ -54,7 +54,7 @@ def saves(n):
 def check_quadratic(bench):
     """A made-up row that costs what the square of its size does, run by the program."""
     os.mkdir(bench.path("quadratic"))
-    row = Row("n squared saves", "linear", 60, saves)
+    row = Row("n squared saves", "linear", 120, saves)
     _, told, passes, words = growth.carried_out(growth.Bench(bench.program, bench.path("quadratic"), 100), "made-up", row, 1.0, 1)
     holds("a quadratic row fails", not passes and words.startswith("FAILED: seconds"), (told, words))
     # Memory is counted exactly. Seconds are not: fixed costs and the tick of the clock took their exponent down to 1.53.
