@@ -3,4 +3,5 @@ pub mod Checked
 pub mod HandedOn
 pub mod Headline
 pub mod Objects
+pub mod Promised
 pub mod Reused

@@ -16,6 +16,7 @@ ghost use Rattle.session_run.specs.Promises.Checked.{TellsSoundness};
 ghost use Rattle.session_run.specs.Promises.Headline.{clock_readings, IsSession, IsOneHistory, AreOfTheirCommands, AreFromNothing, ArePrinted};
 ghost use Rattle.session_run.specs.Promises.Objects.{HeldObjectsAreLive, ScrubsListWhatIsDue};
 ghost use Rattle.session_run.specs.Promises.Reused.{HaveTheirOutcomes, PassNothingOver, RecordWhatTheyRead, TakeWhatTheySee, WasSound};
+ghost use Rattle.session_run.specs.Promises.Promised.{Promised};
 ghost use Rattle.session_run.specs.Running.Outcomes.{RunsOpened, RunsSession};
 ghost use Rattle.session_run.specs.Running.Runs.{IsJustOpened, IsRunnable, outside_of, run_status};
 ghost use Rattle.session_run.specs.Running.Unstarted.{of_unopened};
@@ -166,6 +167,40 @@ fn run_session<R: Threads + Wait + Sync, G: Hook + Sync, K: Sink, D: Disk + Send
     }
 }
 
+/// Carries out what the words ask for, as `run_words` does.
+fn run_form<R: Threads + Wait + Sync, S: Source, K: Sink, D: Disk + Send, C: Clock, G: Hook + Sync>(
+    host: &Host<'_, R, G>,
+    words: &[Text],
+    source: &mut S,
+    sink: &mut K,
+    disk: D,
+    clock: &mut C,
+) -> SessionResult<D>
+    requires { IsHandedIn (D.ghost_state disk) }
+    ensures promised { Promised result.status result.history
+        (intake_of words.now (S.ghost_state source.old) (S.ghost_state source.new))
+        (outside_of (K.ghost_state sink.old) (K.ghost_state sink.new) (C.ghost_state clock.old)
+        (C.ghost_state clock.new))
+        (sink_faults (K.ghost_state sink.old) (K.ghost_state sink.new))
+        (disk_ghost_states (D.ghost_state disk) (D.ghost_state result.disk)) }
+    ensures rests { SinkRests (K.ghost_state sink.old) (K.ghost_state sink.new) }
+    ensures untouched { LeavesAlone
+        (intake_of words.now (S.ghost_state source.old) (S.ghost_state source.new))
+        (disk_ghost_states (D.ghost_state disk) (D.ghost_state result.disk)) result.history }
+    ensures taken { TakesNoMore
+        (intake_of words.now (S.ghost_state source.old) (S.ghost_state source.new)) }
+{
+    a_disk_is_counted::<D>();
+    match session_given(host.alloc, host.hashing, words, source) {
+        Ok(given) => run_session(host, given, sink, disk, clock),
+        Err(without) => SessionResult {
+            status: write_without_base(host.alloc, host.hashing, without, sink),
+            disk,
+            history: History::empty(host.alloc),
+        },
+    }
+}
+
 /// Carries out what the words ask for. FILE `run` reads a session from the source, opens the base that the disk stands for, runs
 /// the phases in order, writes the transcript of each when its lanes have ended, and settles the journal. FILE `big` SEED SIZE
 /// does so with the large session of these two numbers, and writes in place of the transcripts their summary, once all phases are
@@ -254,21 +289,11 @@ pub fn run_words<
     builds_are_as_from_nothing();
     objects_are_reused_well();
     objects_are_scrubbed_well();
-    a_disk_is_counted::<D>();
-    match session_given(alloc, hashing, words, source) {
-        Ok(given) => {
-            let host = Host {
-                rt,
-                alloc,
-                hashing,
-                hook,
-            };
-            run_session(&host, given, sink, disk, clock)
-        }
-        Err(without) => SessionResult {
-            status: write_without_base(alloc, hashing, without, sink),
-            disk,
-            history: History::empty(alloc),
-        },
-    }
+    let host = Host {
+        rt,
+        alloc,
+        hashing,
+        hook,
+    };
+    run_form(&host, words, source, sink, disk, clock)
 }

@@ -41,6 +41,7 @@ use Rattle.session_run.specs.Calls.Statuses.{is_cut}
 use Rattle.session_run.specs.Faults.Accounted.{CountsFrom, IsAccountedFor, KeepsFiles, SettlesJournal}
 use Rattle.session_run.specs.Faults.Stopped.{AllOpenAgain, IsHandedIn, IsMended, IsStopped}
 use Rattle.session_run.specs.Promises.Checked.{TellsSoundness}
+use Rattle.session_run.specs.Promises.Promised.{Promised, readings_of}
 use Rattle.session_run.specs.Promises.Headline.{BeginsOn, IsCutAtLast, IsSession, ReadsClock, IsOneHistory, ArePrinted}
 use Rattle.session_run.specs.Promises.Headline.{IsLeftToBegin, ReadsTimes, clock_moments}
 use Rattle.session_run.specs.Running.Forms.{HasDone, HasRunSo, IsCutSo, IsGivenUp, IsRunThrough}
@@ -81,9 +82,6 @@ not_false : (b : Bool) {A : Type 0} → b ≡ true → b ≡ false → A
 not_false b one two = absurd (cc)
 
 -- the clock's readings as a run began and as it ended
-abbrev readings_of : Outside → Change ℕ
-readings_of outside = record { before = outside.first; after = outside.reading }
-
 -- The session, where the phases were run
 session_run : (status : Status) (story : List StoryStep) (form : Form) (phases : List Phase) (intake : Intake) (outside : Outside)
     (failed : Bool) → GivesPhases intake form phases → HasDone form phases story outside failed
@@ -363,19 +361,6 @@ module _ (one ran : Shown) (settled : List StoryStep) (ghost_state : DiskState) 
           → IfErr r (λ cut. IsGivenUp form cut phases ran.story outside) → HasRunSo form r phases ran.story outside
       ran_so (Ok failed) one two = one
       ran_so (Err cut) one two = two
-
--- the promises of one call
-pub record Promised (status : Status) (story : List StoryStep) (intake : Intake) (outside : Outside) (faults : Change ℕ)
-    (disk : Change DiskState) : Type 0 where
-  pub session : IsSession status story intake outside.moments (readings_of outside)
-  pub history : IsOneHistory intake.form status story disk.before outside.held outside.holds
-  pub printed : ArePrinted status story intake faults disk outside.held outside.holds
-  pub stopped : IsStopped disk.before disk.after story
-  pub cause : HasCause status intake faults disk story
-  pub sink : KeepsSink status faults
-  pub checked : TellsSoundness intake.form status story
-  pub accounted : is_opened story ≡ true → IsAccountedFor disk story
-  pub files : KeepsFiles disk story
 
 pub untouched : (disk : DiskState) → IsUntouched (record { before = disk; after = disk }) []
 untouched disk = record { disk_is = refl; story_is = refl }
