@@ -7,7 +7,7 @@ ghost use Rattle.base_core.specs.Story.Counted.{KeepsCount};
 ghost use Rattle.large_session.specs.Summaries.{summary};
 ghost use Rattle.session_run.specs.Calls.Causes.{SinkRests};
 ghost use Rattle.session_run.specs.Running.Forms.{HasDone, IsGivenUp};
-ghost use Rattle.session_run.specs.Running.Runs.{outside_of, IsJustOpened, IsRunnable, CountsWriteFaults};
+ghost use Rattle.session_run.specs.Running.Runs.{outside_of, IsJustOpened, IsRunnable, CountsWriteFaults, WritesCut};
 ghost use Rattle.session_run.specs.Story.Begun.{first_step};
 ghost use Rattle.session_run.specs.declared.words.Form.TheVariants as forms;
 
@@ -34,8 +34,9 @@ fn write_summary<K: Sink>(
     ensures ok { OnOk result
         (Appends (K.ghost_state sink.old).held (K.ghost_state sink.new).held
         (summary transcripts.now)) }
-    ensures err { OnErr result
-        (AppendsPrefix (K.ghost_state sink.old).held (K.ghost_state sink.new).held
+    ensures err { IfErr result
+        (λ cut.
+        WritesCut cut (K.ghost_state sink.old).held (K.ghost_state sink.new).held
         (summary transcripts.now)) }
     ensures fault { CountsWriteFaults result (K.ghost_state sink.old).faults
         (K.ghost_state sink.new).faults }

@@ -1,11 +1,11 @@
 //! The check of a base, and its line. The line is made without memory.
 
-ghost use Rattle.std.specs.Prelude.{◌≡◌, IfOk, OnOk, OnErr};
+ghost use Rattle.std.specs.Prelude.{◌≡◌, IfOk, IfErr, OnOk};
 ghost use Rattle.std.specs.Io.KnownBytes.{Appends};
 ghost use Rattle.cc_outside.specs.Feeds.{AppendsPrefix};
 ghost use Rattle.session_run.specs.Calls.Causes.{SinkRests};
 ghost use Rattle.session_run.specs.Running.Checks.{is_unsound, verdict_line};
-ghost use Rattle.session_run.specs.Running.Runs.{CountsWriteFaults};
+ghost use Rattle.session_run.specs.Running.Runs.{CountsWriteFaults, WritesCut};
 ghost use Rattle.session_run.specs.Story.Modeled.{tells_failure, text_modeled};
 ghost use Rattle.session_run.specs.declared.words.Form.TheVariants as forms;
 
@@ -52,8 +52,9 @@ pub(crate) fn write_check<K: Sink, D: Disk>(
     ensures ok { OnOk result
         (Appends (K.ghost_state sink.old).held (K.ghost_state sink.new).held
         (text_modeled forms.Verify core.now.story)) }
-    ensures err { OnErr result
-        (AppendsPrefix (K.ghost_state sink.old).held (K.ghost_state sink.new).held
+    ensures err { IfErr result
+        (λ cut.
+        WritesCut cut (K.ghost_state sink.old).held (K.ghost_state sink.new).held
         (text_modeled forms.Verify core.now.story)) }
     ensures fault { CountsWriteFaults result (K.ghost_state sink.old).faults
         (K.ghost_state sink.new).faults }

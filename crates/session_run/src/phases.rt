@@ -12,7 +12,7 @@ ghost use Rattle.base_core.specs.Story.Counted.{KeepsCount};
 ghost use Rattle.base_core.specs.Story.Replying.{replies_of};
 ghost use Rattle.session_run.specs.Calls.Causes.{SinkRests};
 ghost use Rattle.session_run.specs.Running.Phases.{RunsPhase, LeavesPhase};
-ghost use Rattle.session_run.specs.Running.Runs.{outside_of, IsJustOpened, IsReadyPhase, IsRunnable, HasRunPhases, IsRunGivenUp, CountsWriteFaults};
+ghost use Rattle.session_run.specs.Running.Runs.{outside_of, IsJustOpened, IsReadyPhase, IsRunnable, HasRunPhases, IsRunGivenUp, CountsWriteFaults, WritesCut};
 ghost use Rattle.session_run.specs.Story.Begun.{first_step, is_opened};
 ghost use Rattle.session_run.specs.Story.Rendered.{transcript};
 
@@ -78,8 +78,9 @@ fn write_transcript<K: Sink, D: Disk>(
     ensures ok { OnOk result
         (Appends (K.ghost_state sink.old).held (K.ghost_state sink.new).held
         (transcript number (state_of core.now.story).phase (replies_of core.now.story))) }
-    ensures err { OnErr result
-        (AppendsPrefix (K.ghost_state sink.old).held (K.ghost_state sink.new).held
+    ensures err { IfErr result
+        (λ cut.
+        WritesCut cut (K.ghost_state sink.old).held (K.ghost_state sink.new).held
         (transcript number (state_of core.now.story).phase (replies_of core.now.story))) }
     ensures fault { CountsWriteFaults result (K.ghost_state sink.old).faults
         (K.ghost_state sink.new).faults }

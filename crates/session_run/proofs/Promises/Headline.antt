@@ -27,6 +27,7 @@ use Rattle.base_core.specs.Story.Shown.{Shown}
 use Rattle.base_rows.specs.Order.{oldest_first}
 use Rattle.story_log.specs.declared.opening.OpenCause.{OpenCause}
 use Rattle.story_log.specs.declared.opening.OpenCause.TheVariants as opens
+use Rattle.legal_history.specs.Stories.States.{all_done}
 use Rattle.legal_history.specs.Stories.Steps.{state_of}
 use Rattle.legal_history.specs.Stories.Lawful.{Legal}
 use Rattle.vob_replica.specs.Runs.{run_of}
@@ -38,11 +39,10 @@ use Rattle.session_run.specs.Calls.Causes.{HasCause, KeepsSink, disk_rose}
 use Rattle.session_run.specs.Calls.Causes.{session_text}
 use Rattle.session_run.specs.Calls.Sites.{sites_status, sites_text, status_of_sites, text_of_sites, text_unopened}
 use Rattle.session_run.specs.Calls.Statuses.{is_cut}
-use Rattle.session_run.specs.Faults.Accounted.{CountsFrom, IsAccountedFor, KeepsFiles, SettlesJournal}
+use Rattle.session_run.specs.Faults.Accounted.{CountsFrom, SettlesJournal}
 use Rattle.session_run.specs.Faults.Stopped.{AllOpenAgain, IsHandedIn, IsMended, IsStopped}
-use Rattle.session_run.specs.Promises.Checked.{TellsSoundness}
 use Rattle.session_run.specs.Promises.Promised.{Promised, readings_of}
-use Rattle.session_run.specs.Promises.Headline.{BeginsOn, IsCutAtLast, IsSession, ReadsClock, IsOneHistory, ArePrinted}
+use Rattle.session_run.specs.Promises.Headline.{BeginsOn, EndsAtTranscript, IsCutAtLast, IsSession, ReadsClock, IsOneHistory, ArePrinted}
 use Rattle.session_run.specs.Promises.Headline.{IsLeftToBegin, ReadsTimes, clock_moments}
 use Rattle.session_run.specs.Running.Forms.{HasDone, HasRunSo, IsCutSo, IsGivenUp, IsRunThrough}
 use Rattle.session_run.specs.Running.Outcomes.{RunsOpened, RunsSession}
@@ -132,14 +132,16 @@ session_none status intake outside not unread = record {
 
 -- where memory ran out the clock was read once more only for a phase that did not begin
 most_read : (form : Form) (phases : List Phase) (story : List StoryStep) (intake : Intake) (outside : Outside)
-    → GivesPhases intake form phases → ReadsBy NoMemory (length phases) (length (phases_begun story)) outside
+    → GivesPhases intake form phases → ReadsBy NoMemory (length phases) story outside
     → ReadsTimes (length (phases_begun story)) (readings_of outside)
-    ⊎ (IsLeftToBegin story intake × ReadsTimes (length (phases_begun story) + 1) (readings_of outside))
+    ⊎ (IsLeftToBegin story intake × (all_done (state_of story) ≡ true)
+    × ReadsTimes (length (phases_begun story) + 1) (readings_of outside))
 most_read form phases story intake outside gives (inl once) = inl once
 most_read form phases story intake outside gives (inr more) = inr (
   modeled_so (session_text intake) _ (λ bytes. length (phases_begun story) < length (phases_spelled bytes)) gives.spelled
       (λ bytes e. subst (λ spelled. length (phases_begun story) < length spelled) (sym e) more.0),
   more.1,
+  more.2,
 )
 
 -- a form that writes after its session had run it through where the sink failed
@@ -185,6 +187,12 @@ not_cut false true e = cc
 not_cut true false e = cc
 not_cut false false e = cc
 
+not_broken : (failed rose : Bool) → run_status (Ok failed) rose ≡ statuses.NoMemory → ⊥
+not_broken true true e = cc
+not_broken false true e = cc
+not_broken true false e = cc
+not_broken false false e = cc
+
 some_form : (asked : Option Form) (form one : Form) → asked ≡ Some form → asked ≡ Some one → form ≡ one
 some_form asked form one words other = cc
 
@@ -205,6 +213,7 @@ run_history (Ok failed) rose story form phases intake disk outside gives legal b
   base = λ opened. begins;
   complete = λ through. ran.finished;
   cut = λ run opened e. absurd (not_cut failed rose e);
+  unbroken = λ opened e. absurd (not_broken failed rose e);
   alone = λ check. ran.alone (some_form intake.form form forms.Verify gives.words check);
 }
 run_history (Err NoMemory) rose story form phases intake disk outside gives legal begins left = record {
@@ -212,6 +221,7 @@ run_history (Err NoMemory) rose story form phases intake disk outside gives lega
   base = λ opened. begins;
   complete = λ through. absurd (cc);
   cut = λ run opened e. absurd (cc);
+  unbroken = λ opened e. subst (λ asked. EndsAtTranscript asked story outside.held outside.holds) (sym gives.words) left.cut_at;
   alone = λ check. left.alone (some_form intake.form form forms.Verify gives.words check);
 }
 run_history (Err (Is fault)) rose story form phases intake disk outside gives legal begins left = record {
@@ -220,6 +230,7 @@ run_history (Err (Is fault)) rose story form phases intake disk outside gives le
   complete = λ through. (behind_words intake form fault phases story outside gives.words left.cut_at through).finished;
   cut = λ run opened e. cut_at_last form fault phases story outside left.cut_at
       (some_form intake.form form forms.Run gives.words run);
+  unbroken = λ opened e. absurd (cc);
   alone = λ check. left.alone (some_form intake.form form forms.Verify gives.words check);
 }
 
@@ -230,6 +241,7 @@ history_none form status disk old new not = record {
   base = λ opened. absurd (cc);
   complete = λ through. not_false (is_through form status []) through not;
   cut = λ run opened e. absurd (cc);
+  unbroken = λ opened e. absurd (cc);
   alone = λ check. omega arith;
 }
 
@@ -577,6 +589,7 @@ replied_history form status disk old new = record {
   base = λ opened. absurd (cc);
   complete = λ through. refl;
   cut = λ run opened e. absurd (cc);
+  unbroken = λ opened e. absurd (cc);
   alone = λ check. omega arith;
 }
 

@@ -1,7 +1,7 @@
 -- What each form does on a base that was just opened.
 use Rattle.std.proofs.Common.{◌≡◌, ℕ, ◌≤◌, inl, Bool, true, Option, Some, None, Result, Ok, Err, List, [], ◌++◌}
 use Rattle.std.proofs.Common.{length, refl, ap, sym, subst, ◌∙◌, arith}
-use Rattle.std.specs.Prelude.{IfOk, IfErr, IfSome, OnOk, OnErr}
+use Rattle.std.specs.Prelude.{IfOk, IfErr, IfSome, OnOk}
 use Rattle.std.specs.Io.KnownBytes.{Appends}
 use Rattle.std.proofs.lemmas.List.{append-nil}
 use Rattle.cc_names.specs.declared.commands.Phase.{Phase}
@@ -15,15 +15,15 @@ use Rattle.cc_outside.proofs.Flows.{Appends-none}
 use Rattle.large_session.specs.Summaries.{summary}
 use Rattle.legal_history.specs.Stories.States.{all_done}
 use Rattle.legal_history.specs.Stories.Steps.{state_of}
-use Rattle.session_run.specs.Promises.Headline.{clock_moments}
+use Rattle.session_run.specs.Promises.Headline.{EndsAtTranscript, clock_moments}
 use Rattle.session_run.specs.Running.Forms.{HasDone, IsCutSo, IsGivenUp}
-use Rattle.session_run.specs.Running.Runs.{HasRunPhases, IsJustOpened, IsRunGivenUp, Outside, ReadsBy}
+use Rattle.session_run.specs.Running.Runs.{HasRunPhases, IsJustOpened, IsRunGivenUp, Outside, ReadsBy, WritesCut}
 use Rattle.session_run.specs.Story.Begun.{is_opened, moments_begun, phases_begun}
 use Rattle.session_run.specs.Story.Rendered.{text_of_story}
 use Rattle.session_run.specs.Story.Modeled.{tells_failure, text_modeled}
 use Rattle.session_run.specs.declared.words.Form.{Form}
 use Rattle.session_run.specs.declared.words.Form.TheVariants as forms
-use Rattle.session_run.proofs.Running.Runs.{clock_length, raised_none, read_by}
+use Rattle.session_run.proofs.Running.Runs.{clock_length, cut_prefix, raised_none, read_by}
 
 -- `run`: its text is that of the phases
 pub run_done : (phases : List Phase) (story : List StoryStep) (outside : Outside) (failed : Bool)
@@ -47,7 +47,7 @@ run_given_up NoMemory phases story outside left = record {
   moments_are = left.moments_are;
   reading_is = left.reading_is;
   written = left.written;
-  cut_at = tt;
+  cut_at = left.cut_at;
   alone = λ check. absurd (cc);
 }
 run_given_up (Is fault) phases story outside left = record {
@@ -91,22 +91,23 @@ all_kept old new kept text old_is new_is written =
 module _ (seed size : ℕ) (phases : List Phase) (story : List StoryStep) (outside : Outside) where
   -- they have been run, but their summary was not written whole
   sum_cut : (cut : Or WriteFault) (failed : Bool) (held holds : Option (List ℕ)) → HasRunPhases phases story outside failed
-      → AppendsPrefix held holds (summary (text_of_story story))
+      → WritesCut cut held holds (summary (text_of_story story))
       → IsGivenUp (forms.Big seed size) cut phases story (moved outside held holds)
   sum_cut cut failed held holds ran written = record {
     opened = ran.opened;
     begun = ([], sym ran.phases_are ∙ sym (append-nil (phases_begun story)));
     moments_are = modeled_again outside.moments story outside.first (length phases) ran.moments_are;
-    reading_is = read_by cut (length phases) (length (phases_begun story)) (moved outside held holds)
+    reading_is = read_by cut (length phases) story (moved outside held holds)
         (ran.reading_is ∙ ap (raised_count outside.first) (sym (ap length ran.phases_are)));
-    written = written;
-    cut_at = cut_so cut;
+    written = cut_prefix cut held holds (summary (text_of_story story)) written;
+    cut_at = cut_so cut written;
     alone = λ check. absurd (cc);
   }
     where
-      cut_so : (cut : Or WriteFault) → IsCutSo (forms.Big seed size) cut phases story (moved outside held holds)
-      cut_so NoMemory = tt
-      cut_so (Is fault) = record { phases_are = ran.phases_are; finished = ran.finished }
+      cut_so : (cut : Or WriteFault) → WritesCut cut held holds (summary (text_of_story story))
+          → IsCutSo (forms.Big seed size) cut phases story (moved outside held holds)
+      cut_so NoMemory same = subst (λ o. Appends held o []) (sym same) (Appends-none held)
+      cut_so (Is fault) written = record { phases_are = ran.phases_are; finished = ran.finished }
 
   -- memory ran out as they were run
   sum_left : (cut : Or WriteFault) (held : Option (List ℕ)) → IsRunGivenUp cut phases story outside
@@ -117,12 +118,12 @@ module _ (seed size : ℕ) (phases : List Phase) (story : List StoryStep) (outsi
     moments_are = left.moments_are;
     reading_is = reads cut left.reading_is;
     written = nothing_written held (summary (text_of_story story));
-    cut_at = tt;
+    cut_at = Appends-none held;
     alone = λ check. absurd (cc);
   }
     where
-      reads : (cut : Or WriteFault) → ReadsBy cut (length phases) (length (phases_begun story)) outside
-          → ReadsBy NoMemory (length phases) (length (phases_begun story)) (moved outside held held)
+      reads : (cut : Or WriteFault) → ReadsBy cut (length phases) story outside
+          → ReadsBy NoMemory (length phases) story (moved outside held held)
       reads NoMemory h = h
       reads (Is fault) h = inl h
 
@@ -135,12 +136,30 @@ module _ (seed size : ℕ) (phases : List Phase) (story : List StoryStep) (outsi
 
   pub cut_in_memory : (r : Result Bool (Or WriteFault)) (failed : Bool) (cut : Or WriteFault) (held holds : Option (List ℕ))
       (kept text : List ℕ) → r ≡ Ok failed → IfOk r (HasRunPhases phases story outside) → outside.held ≡ Some []
-      → outside.holds ≡ Some kept → text ≡ kept → AppendsPrefix held holds (summary text)
+      → outside.holds ≡ Some kept → text ≡ kept → WritesCut cut held holds (summary text)
       → IsGivenUp (forms.Big seed size) cut phases story (moved outside held holds)
   cut_in_memory r failed cut held holds kept text is done old new text_is written =
       let ran : HasRunPhases phases story outside failed = subst (λ r. IfOk r (HasRunPhases phases story outside)) is done in
       let whole = text_is ∙ all_kept outside.held outside.holds kept (text_of_story story) old new ran.written in
-      sum_cut cut failed held holds ran (subst (λ bytes. AppendsPrefix held holds (summary bytes)) whole written)
+      sum_cut cut failed held holds ran (subst (λ bytes. WritesCut cut held holds (summary bytes)) whole written)
+
+  pub whole_in_memory : (r : Result Bool (Or WriteFault)) (failed : Bool) (held holds : Option (List ℕ)) (kept text : List ℕ)
+      → r ≡ Ok failed → IfOk r (HasRunPhases phases story outside) → outside.held ≡ Some [] → outside.holds ≡ Some kept
+      → text ≡ kept → Appends held holds (summary text)
+      → HasDone (forms.Big seed size) phases story (moved outside held holds) failed
+  whole_in_memory r failed held holds kept text is done old new text_is written =
+      let ran : HasRunPhases phases story outside failed = subst (λ r. IfOk r (HasRunPhases phases story outside)) is done in
+      let whole = text_is ∙ all_kept outside.held outside.holds kept (text_of_story story) old new ran.written in
+      record {
+        opened = ran.opened;
+        phases_are = ran.phases_are;
+        finished = ran.finished;
+        moments_are = ran.moments_are;
+        reading_is = ran.reading_is;
+        failures = ran.failures;
+        written = subst (λ bytes. Appends held holds (summary bytes)) whole written;
+        alone = λ check. absurd (cc);
+      }
 
 -- a story that was just opened: no phase began, and all is done
 just_begun : (story : List StoryStep) → IsJustOpened story → (is_opened story ≡ true) × (phases_begun story ≡ [])
@@ -165,9 +184,15 @@ not_begun form phases story held moments first just =
       moments_are = no_moments moments story first (length (moments_begun story)) begun.2 (ap length begun.2);
       reading_is = inl (sym (raised_none first) ∙ ap (raised_count first) (sym (ap length begun.1)));
       written = nothing_written held (text_modeled form story);
-      cut_at = tt;
+      cut_at = begun_none form;
       alone = λ check. begun.4;
     }
+  where
+    begun_none : (form : Form) → EndsAtTranscript (Some form) story held held
+    begun_none forms.Run = inl (subst (λ s. Appends held held (text_of_story s)) (sym just.is) (Appends-none held))
+    begun_none (forms.Big seed size) = Appends-none held
+    begun_none forms.Verify = Appends-none held
+    begun_none forms.Sites = Appends-none held
 
 -- `verify`: no phase is run, and the line is written
 pub check_done : (story : List StoryStep) (phases : List Phase) (failed : Bool) (held holds moments : Option (List ℕ)) (first : ℕ)
@@ -188,7 +213,7 @@ check_done story phases failed held holds moments first just none tells written 
     }
 
 pub check_cut : (cut : Or WriteFault) (story : List StoryStep) (phases : List Phase) (held holds moments : Option (List ℕ))
-    (first : ℕ) → IsJustOpened story → phases ≡ [] → AppendsPrefix held holds (text_modeled forms.Verify story)
+    (first : ℕ) → IsJustOpened story → phases ≡ [] → WritesCut cut held holds (text_modeled forms.Verify story)
     → IsGivenUp forms.Verify cut phases story (record {
       held = held;
       holds = holds;
@@ -204,19 +229,20 @@ check_cut cut story phases held holds moments first just none written =
       opened = begun.0;
       begun = ([], none ∙ sym begun.1 ∙ sym (append-nil (phases_begun story)));
       moments_are = no_moments moments story first (length (moments_begun story)) begun.2 (ap length begun.2);
-      reading_is = read_by cut (length phases) (length (phases_begun story)) (record {
+      reading_is = read_by cut (length phases) story (record {
         held = held;
         holds = holds;
         moments = moments;
         first = first;
         reading = first;
       }) times;
-      written = written;
-      cut_at = cut_so cut begun.1 begun.3;
+      written = cut_prefix cut held holds (text_modeled forms.Verify story) written;
+      cut_at = cut_so cut written begun.1 begun.3;
       alone = λ check. begun.4;
     }
   where
-    cut_so : (cut : Or WriteFault) → phases_begun story ≡ [] → all_done (state_of story) ≡ true
+    cut_so : (cut : Or WriteFault) → WritesCut cut held holds (text_modeled forms.Verify story) → phases_begun story ≡ []
+        → all_done (state_of story) ≡ true
         → IsCutSo forms.Verify cut phases story (record {
           held = held;
           holds = holds;
@@ -224,8 +250,8 @@ check_cut cut story phases held holds moments first just none written =
           first = first;
           reading = first;
         })
-    cut_so NoMemory begun done = tt
-    cut_so (Is fault) begun done = record { phases_are = begun ∙ sym none; finished = done }
+    cut_so NoMemory same begun done = subst (λ o. Appends held o []) (sym same) (Appends-none held)
+    cut_so (Is fault) written begun done = record { phases_are = begun ∙ sym none; finished = done }
 
 -- where a call succeeds, and where it fails
 pub run_ok : (r : Result Bool (Or WriteFault)) (phases : List Phase) (story : List StoryStep) (outside : Outside)
@@ -254,7 +280,7 @@ check_ok (Err cut) story phases held holds moments first just none tells written
 
 pub check_err : (r : Result Bool (Or WriteFault)) (story : List StoryStep) (phases : List Phase)
     (held holds moments : Option (List ℕ)) (first : ℕ) → IsJustOpened story → phases ≡ []
-    → OnErr r (AppendsPrefix held holds (text_modeled forms.Verify story))
+    → IfErr r (λ cut. WritesCut cut held holds (text_modeled forms.Verify story))
     → IfErr r (λ cut. IsGivenUp forms.Verify cut phases story (record {
       held = held;
       holds = holds;

@@ -24,7 +24,7 @@ use Rattle.legal_history.specs.Stories.Lawful.{last_moment}
 use Rattle.base_core.specs.Story.Replying.{replies_after, replies_from, replies_of, no_replies}
 use Rattle.session_run.specs.Promises.Headline.{IsCutAtLast, clock_moments}
 use Rattle.session_run.specs.Running.Phases.{GoesInPhase, RunsPhase, LeavesPhase}
-use Rattle.session_run.specs.Running.Runs.{IsJustOpened, Outside, HasRunPhases, IsCutBy, IsRunGivenUp, ReadsBy}
+use Rattle.session_run.specs.Running.Runs.{IsJustOpened, Outside, HasRunPhases, IsCutBy, IsRunGivenUp, ReadsBy, WritesCut}
 use Rattle.session_run.specs.Story.Begun.{phases_begun, moments_begun, is_opened}
 use Rattle.session_run.specs.Story.Rendered.{EndedPhase, Replies, earlier_phases, ended_phases, replies_over, last_ended_phase}
 use Rattle.session_run.specs.Story.Rendered.{phase_where, is_ended, transcript, transcript_of, transcripts, lanes_fail}
@@ -207,15 +207,27 @@ read_once_more : (first before reading count begun : ℕ) → before ≡ raised_
 read_once_more first before reading count begun was reads is = read_for_it first before reading count (begun + 1) was reads
     (omega (arith, is))
 
-pub read_by : (cut : Or WriteFault) (all count : ℕ) (outside : Outside) → outside.reading ≡ raised_count outside.first count
-    → ReadsBy cut all count outside
-read_by NoMemory all count outside is = inl is
-read_by (Is fault) all count outside is = is
+pub read_by : (cut : Or WriteFault) (all : ℕ) (story : List StoryStep) (outside : Outside)
+    → outside.reading ≡ raised_count outside.first (length (phases_begun story)) → ReadsBy cut all story outside
+read_by NoMemory all story outside is = inl is
+read_by (Is fault) all story outside is = is
 
 cut_in : (cut : Or WriteFault) (story : List StoryStep) (old new : Option (List ℕ))
+    → (cut ≡ NoMemory → Appends old new (transcripts (earlier_phases story)))
     → IsCutAtLast story (transcripts (earlier_phases story)) old new → IsCutBy cut story old new
-cut_in NoMemory story old new h = tt
-cut_in (Is fault) story old new h = h
+cut_in NoMemory story old new none h = inr (none refl)
+cut_in (Is fault) story old new none h = h
+
+-- a text that was cut short was written to some length
+pub cut_prefix : (cut : Or WriteFault) (old new : Option (List ℕ)) (text : List ℕ) → WritesCut cut old new text
+    → AppendsPrefix old new text
+cut_prefix NoMemory old new text same = subst (λ o. AppendsPrefix old o text) (sym same) (0, omega arith, Appends-none old)
+cut_prefix (Is fault) old new text h = h
+
+-- where memory ran out nothing of it was
+pub none_written : (cut : Or WriteFault) (old new : Option (List ℕ)) (text : List ℕ) → WritesCut cut old new text
+    → cut ≡ NoMemory → new ≡ old
+none_written cut old new text h is = subst (λ c. WritesCut c old new text) is h
 
 -- Some phases have been run, and the clock was read for one more.
 module _ (phases : List Phase) (phase : Phase) (old new : List StoryStep) (outside : Outside) (moment reading : ℕ) (failed : Bool)
@@ -270,6 +282,7 @@ module _ (phases : List Phase) (phase : Phase) (old new : List StoryStep) (outsi
         let count : length (phases_begun new) ≡ length phases = ap length (ap phases_begun is ∙ so_far.phases_are) in
         inr (
           omega (arith, count, ap length whole, length-append phases (phase ∷ rest)),
+          ap (λ s. all_done (state_of s)) is ∙ so_far.finished,
           read_once_more outside.first outside.reading reading (length phases) (length (phases_begun new)) so_far.reading_is reads
               count,
         );
@@ -277,7 +290,7 @@ module _ (phases : List Phase) (phase : Phase) (old new : List StoryStep) (outsi
         subst (AppendsPrefix outside.held outside.holds) (append-nil (transcripts (ended_phases old))
         ∙ sym (ap (λ s. transcripts (ended_phases s)) is))
         (is_prefix outside.held outside.holds (transcripts (ended_phases old)) [] so_far.written);
-    cut_at = tt;
+    cut_at = inl (subst (Appends outside.held outside.holds) (sym (ap (λ s. transcripts (ended_phases s)) is)) so_far.written);
   }
   run_leaves rest all (inr goes) whole = record {
     opened = goes.opened;
@@ -300,15 +313,17 @@ module _ (phases : List Phase) (phase : Phase) (old new : List StoryStep) (outsi
         (ap (λ prefix. prefix ++ transcripts (last_given new)) (ap transcripts (sym goes.earlier))
         ∙ sym (flat_map-append transcript_of (earlier_phases new) (last_given new)))
         (is_prefix outside.held outside.holds (transcripts (ended_phases old)) (transcripts (last_given new)) so_far.written);
-    cut_at = tt;
+    cut_at = inr (subst (Appends outside.held outside.holds) (ap transcripts (sym goes.earlier)) so_far.written);
   }
 
   -- the run was given up in its transcript
   pub run_is_cut : (cut : Or WriteFault) (rest all : List Phase) (holds : Option (List ℕ)) (number : ℕ)
       → RunsPhase phase moment old new → number ≡ length phases + 1 → phases ++ phase ∷ rest ≡ all
-      → AppendsPrefix outside.holds holds (transcript number (state_of new).phase (replies_of new))
+      → WritesCut cut outside.holds holds (transcript number (state_of new).phase (replies_of new))
       → IsRunGivenUp cut all new (record outside { holds = holds; reading = reading })
-  run_is_cut cut rest all holds number runs count whole wrote =
+  run_is_cut cut rest all holds number runs count whole cut_so =
+      let wrote = cut_prefix cut outside.holds holds (transcript number (state_of new).phase (replies_of new)) cut_so in
+      let none = none_written cut outside.holds holds (transcript number (state_of new).phase (replies_of new)) cut_so in
       let begun : phases_begun new ≡ phases ++ phase ∷ [] = runs.goes.phases ∙ ap (λ ps. ps ++ phase ∷ []) so_far.phases_are in
       record {
         opened = runs.goes.opened;
@@ -320,7 +335,7 @@ module _ (phases : List Phase) (phase : Phase) (old new : List StoryStep) (outsi
             (moments_on modeled old new outside.first outside.reading (length phases) moment runs.goes.moments before
             so_far.reading_is now));
         reading_is =
-            read_by cut (length all) (length (phases_begun new)) (record outside { holds = holds; reading = reading })
+            read_by cut (length all) new (record outside { holds = holds; reading = reading })
             (read_for_it outside.first outside.reading reading (length phases) (length (phases_begun new)) so_far.reading_is reads
             (ap length begun ∙ one_more phases phase));
         written =
@@ -328,17 +343,19 @@ module _ (phases : List Phase) (phase : Phase) (old new : List StoryStep) (outsi
             (omega (arith, count, so_far.number))))
             (prefix_more outside.held outside.holds holds (transcripts (ended_phases old))
             (transcript number (state_of new).phase (replies_of new)) so_far.written wrote);
-        cut_at = cut_in cut new outside.held holds (record {
-          begun = omega (arith, ap length begun, one_more phases phase);
-          finished = runs.finished;
-          written = (
-            take wrote.0 (transcript number (state_of new).phase (replies_of new)),
-            subst (λ prefix. Appends outside.held holds (prefix ++ take wrote.0
-                (transcript number (state_of new).phase (replies_of new)))) (sym (ap transcripts runs.goes.earlier))
-                (appends_more outside.held outside.holds holds (transcripts (ended_phases old))
-                (take wrote.0 (transcript number (state_of new).phase (replies_of new))) so_far.written wrote.2),
-          );
-        });
+        cut_at = cut_in cut new outside.held holds
+            (λ is. subst (λ o. Appends outside.held o (transcripts (earlier_phases new))) (sym (none is))
+            (subst (Appends outside.held outside.holds) (ap transcripts (sym runs.goes.earlier)) so_far.written)) (record {
+              begun = omega (arith, ap length begun, one_more phases phase);
+              finished = runs.finished;
+              written = (
+                take wrote.0 (transcript number (state_of new).phase (replies_of new)),
+                subst (λ prefix. Appends outside.held holds (prefix ++ take wrote.0
+                    (transcript number (state_of new).phase (replies_of new)))) (sym (ap transcripts runs.goes.earlier))
+                    (appends_more outside.held outside.holds holds (transcripts (ended_phases old))
+                    (take wrote.0 (transcript number (state_of new).phase (replies_of new))) so_far.written wrote.2),
+              );
+            });
       }
 
 -- the phases that have been taken, the one in hand and those after it are all

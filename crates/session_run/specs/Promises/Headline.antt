@@ -72,11 +72,12 @@ IsLeftToBegin story intake = IfSome (session_text intake)
     (λ bytes. length (phases_begun story) < length (phases_spelled bytes))
 
 -- The clock was read once for each phase that began, and not where no base was opened. Where memory ran out it may have been read
--- once more, for a phase that did not begin.
+-- once more, after the last of these had ended, for a phase that did not begin.
 pub record ReadsClock (status : Status) (story : List StoryStep) (intake : Intake) (readings : Change ℕ) : Type 0 where
   pub once : status ≢ statuses.NoMemory → ReadsTimes (length (phases_begun story)) readings
   pub most : ReadsTimes (length (phases_begun story)) readings
-      ⊎ (IsLeftToBegin story intake × ReadsTimes (length (phases_begun story) + 1) readings)
+      ⊎ (IsLeftToBegin story intake × (all_done (state_of story) ≡ true)
+      × ReadsTimes (length (phases_begun story) + 1) readings)
   pub none : is_opened story ≡ false → ReadsTimes 0 readings
 
 -- *The session*: the phases of the history are the first of the session that the words ask for, and all of them where it was run
@@ -97,6 +98,11 @@ pub record IsCutAtLast (story : List StoryStep) (earlier : List ℕ) (old new : 
   pub finished : all_done (state_of story) ≡ true
   pub written : (more : List ℕ) × Appends old new (earlier ++ more)
 
+-- where memory ran out the text ends after a whole transcript; that of a form that writes after its session was not begun
+abbrev pub EndsAtTranscript : Option Form → List StoryStep → Option (List ℕ) → Option (List ℕ) → Type 0
+EndsAtTranscript (Some forms.Run) story old new = Appends old new (text_of_story story) ⊎ Appends old new (earlier_text story)
+EndsAtTranscript form story old new = Appends old new []
+
 -- the story begins with the base that the disk stood for as it was handed in, and with the disk's counts then
 pub record BeginsOn (disk : DiskState) (story : List StoryStep) : Type 0 where
   pub base : Base
@@ -106,7 +112,7 @@ pub record BeginsOn (disk : DiskState) (story : List StoryStep) : Type 0 where
 
 -- *One legal history*: the story is legal, of the base that the disk stood for, so a phase begins where each command of the
 -- one before is finished. Each command of the last phase is finished too where the session was run through, and where the
--- sink failed. Of `verify` it has no step but the opening of the base.
+-- sink failed. Of `verify` it has no step but the opening of the base. Where memory ran out, no transcript is cut.
 pub record IsOneHistory (form : Option Form) (status : Status) (story : List StoryStep) (disk : DiskState)
     (old new : Option (List ℕ)) : Type 0 where
   pub legal : Legal story
@@ -114,6 +120,7 @@ pub record IsOneHistory (form : Option Form) (status : Status) (story : List Sto
   pub complete : is_through form status story ≡ true → all_done (state_of story) ≡ true
   pub cut : form ≡ Some forms.Run → is_opened story ≡ true → status ≡ statuses.WriteFault
       → IsCutAtLast story (earlier_text story) old new
+  pub unbroken : is_opened story ≡ true → status ≡ statuses.NoMemory → EndsAtTranscript form story old new
   pub alone : form ≡ Some forms.Verify → length story ≤ 1
 
 -- *Commanded*: each build of the history that ends is the one of its lane's clearmake, whose build from nothing at the reference

@@ -1,5 +1,5 @@
 -- What became of the form of a call on a base that was opened: it was carried out, or given up.
-use Rattle.std.specs.Prelude.{◌≡◌, ◌≤◌, Bool, true, IfSome, Result, Ok, Err, List, length}
+use Rattle.std.specs.Prelude.{◌≡◌, ◌≤◌, Bool, true, Some, IfSome, Result, Ok, Err, List, length}
 use Rattle.std.specs.Io.KnownBytes.{Appends}
 use Rattle.cc_names.specs.declared.commands.Phase.{Phase}
 use Rattle.cc_names.specs.declared.memory.Or.{Or}
@@ -10,7 +10,7 @@ use Rattle.cc_outside.specs.Feeds.{AppendsPrefix}
 use Rattle.cc_outside.specs.declared.sinks.WriteFault.{WriteFault}
 use Rattle.legal_history.specs.Stories.States.{all_done}
 use Rattle.legal_history.specs.Stories.Steps.{state_of}
-use Rattle.session_run.specs.Promises.Headline.{IsCutAtLast, clock_moments}
+use Rattle.session_run.specs.Promises.Headline.{EndsAtTranscript, IsCutAtLast, clock_moments}
 use Rattle.session_run.specs.Running.Runs.{Outside, ReadsBy}
 use Rattle.session_run.specs.Story.Begun.{IsPrefixOf, is_opened, moments_begun, phases_begun}
 use Rattle.session_run.specs.Story.Rendered.{earlier_text}
@@ -40,7 +40,7 @@ pub record IsRunThrough (phases : List Phase) (story : List StoryStep) : Type 0 
 
 -- where the sink failed: `run` writes as it goes, so its last transcript is cut; `big` and `verify` write after their session
 abbrev pub IsCutSo : Form → Or WriteFault → List Phase → List StoryStep → Outside → Type 0
-IsCutSo form NoMemory phases story outside = Unit {0}
+IsCutSo form NoMemory phases story outside = EndsAtTranscript (Some form) story outside.held outside.holds
 IsCutSo forms.Run (Is fault) phases story outside = IsCutAtLast story (earlier_text story) outside.held outside.holds
 IsCutSo (forms.Big seed size) (Is fault) phases story outside = IsRunThrough phases story
 IsCutSo forms.Verify (Is fault) phases story outside = IsRunThrough phases story
@@ -53,7 +53,7 @@ pub record IsGivenUp (form : Form) (cut : Or WriteFault) (phases : List Phase) (
   pub begun : IsPrefixOf (phases_begun story) phases
   pub moments_are : IfSome outside.moments (λ modeled. moments_begun story
       ≡ clock_moments modeled outside.first (length (moments_begun story)))
-  pub reading_is : ReadsBy cut (length phases) (length (phases_begun story)) outside
+  pub reading_is : ReadsBy cut (length phases) story outside
   pub written : AppendsPrefix outside.held outside.holds (text_modeled form story)
   pub cut_at : IsCutSo form cut phases story outside
   pub alone : IsAlone form story

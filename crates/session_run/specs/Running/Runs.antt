@@ -1,5 +1,5 @@
 -- What running the phases of a session does to the story, to the sink and to the clock.
-use Rattle.std.specs.Prelude.{◌≡◌, ◌⊎◌, ℕ, ◌+◌, ◌<◌, ◌≤◌, Bool, true, false, Option, IfSome, Result, Ok, Err, List, [], ◌∷◌, length}
+use Rattle.std.specs.Prelude.{◌≡◌, ◌⊎◌, ℕ, ◌+◌, ◌<◌, ◌≤◌, Bool, true, false, Option, Some, IfSome, Result, Ok, Err, List, [], ◌∷◌, length}
 use Rattle.std.specs.List.{AllByRecursion}
 use Rattle.std.specs.Io.KnownBytes.{Appends}
 use Rattle.cc_names.specs.Formed.{Plain}
@@ -17,11 +17,12 @@ use Rattle.session_text.specs.Formed.{IsPhase}
 use Rattle.legal_history.specs.Stories.States.{all_done}
 use Rattle.legal_history.specs.Stories.Steps.{state_of}
 use Rattle.session_run.specs.Calls.Asked.{text_limit}
-use Rattle.session_run.specs.Promises.Headline.{IsCutAtLast, clock_moments}
+use Rattle.session_run.specs.Promises.Headline.{EndsAtTranscript, IsCutAtLast, clock_moments}
 use Rattle.session_run.specs.Story.Begun.{IsPrefixOf, phases_begun, moments_begun, is_opened}
 use Rattle.session_run.specs.Story.Rendered.{earlier_text, text_of_story, has_failure}
 use Rattle.session_run.specs.declared.statuses.Status.{Status}
 use Rattle.session_run.specs.declared.statuses.Status.TheVariants as statuses
+use Rattle.session_run.specs.declared.words.Form.TheVariants as forms
 
 -- a base was opened, and nothing was done since
 pub record IsJustOpened (story : List StoryStep) : Type 0 where
@@ -69,17 +70,23 @@ pub record HasRunPhases (phases : List Phase) (story : List StoryStep) (outside 
   pub failures : has_failure story ≡ failed
   pub written : Appends outside.held outside.holds (text_of_story story)
 
+-- a text was cut short: where memory ran out nothing of it was written
+abbrev pub WritesCut : Or WriteFault → Option (List ℕ) → Option (List ℕ) → List ℕ → Type 0
+WritesCut NoMemory old new text = new ≡ old
+WritesCut (Is fault) old new text = AppendsPrefix old new text
+
 -- where the sink failed, its last transcript is cut
 abbrev pub IsCutBy : Or WriteFault → List StoryStep → Option (List ℕ) → Option (List ℕ) → Type 0
-IsCutBy NoMemory story old new = Unit {0}
+IsCutBy NoMemory story old new = EndsAtTranscript (Some forms.Run) story old new
 IsCutBy (Is fault) story old new = IsCutAtLast story (earlier_text story) old new
 
--- how often the clock was read where so many of all phases had begun: once for each, or where memory ran out before the next one
--- began, perhaps once more
-abbrev pub ReadsBy : Or WriteFault → ℕ → ℕ → Outside → Type 0
-ReadsBy NoMemory all count outside = (outside.reading ≡ raised_count outside.first count)
-    ⊎ ((count < all) × (outside.reading ≡ raised_count outside.first (count + 1)))
-ReadsBy (Is fault) all count outside = outside.reading ≡ raised_count outside.first count
+-- How often the clock was read in a story of some of so many phases: once for each that began, or where memory ran out before the
+-- next one began, perhaps once more.
+abbrev pub ReadsBy : Or WriteFault → ℕ → List StoryStep → Outside → Type 0
+ReadsBy NoMemory all story outside = (outside.reading ≡ raised_count outside.first (length (phases_begun story)))
+    ⊎ ((length (phases_begun story) < all) × (all_done (state_of story) ≡ true)
+    × (outside.reading ≡ raised_count outside.first (length (phases_begun story) + 1)))
+ReadsBy (Is fault) all story outside = outside.reading ≡ raised_count outside.first (length (phases_begun story))
 
 -- the run of these phases was given up
 pub record IsRunGivenUp (cut : Or WriteFault) (phases : List Phase) (story : List StoryStep) (outside : Outside) : Type 0 where
@@ -87,7 +94,7 @@ pub record IsRunGivenUp (cut : Or WriteFault) (phases : List Phase) (story : Lis
   pub begun : IsPrefixOf (phases_begun story) phases
   pub moments_are : IfSome outside.moments (λ modeled. moments_begun story
       ≡ clock_moments modeled outside.first (length (moments_begun story)))
-  pub reading_is : ReadsBy cut (length phases) (length (phases_begun story)) outside
+  pub reading_is : ReadsBy cut (length phases) story outside
   pub written : AppendsPrefix outside.held outside.holds (text_of_story story)
   pub cut_at : IsCutBy cut story outside.held outside.holds
 

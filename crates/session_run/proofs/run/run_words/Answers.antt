@@ -1,9 +1,6 @@
 use Rattle.session_run.proofs.Calls.Exactly.{finds_damage}
 use Rattle.session_run.proofs.run.run_words.Goals as goal
 
-pub run_form-requires : goal.run_form-requires
-run_form-requires g c κs within = c.requires
-
 pub returns : goal.returns
 returns g c =
     let all = c.run_form.ensures.promised in
