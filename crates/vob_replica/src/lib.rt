@@ -1,7 +1,7 @@
 //! Replicas in the manner of ClearCase MultiSite.
 //!
 //! What it is for: sites that hold elements, branches, versions with a text of one word, and mastership, and that tell each other
-//! by packets of operations. `runs::run` reads a text of events (`reading`), lets each happen (`Sites::step`) and writes the
+//! by packets of operations. `runs::run` reads a text of events (`Event::read`), lets each happen (`Sites::step`) and writes the
 //! replies (`showing`). A site (`replicas`) rests on epoch tables, the log of what it knows, the branches in it and its estimates
 //! of others.
 //!
@@ -23,7 +23,7 @@ mod masters;
 pub mod needs;
 pub mod operations;
 pub mod packets;
-pub mod reading;
+mod reading;
 pub mod replicas;
 pub mod runs;
 pub mod shared;

@@ -233,29 +233,31 @@ fn event_of_line(alloc: Global, line: &[u8]) -> Result<Option<Event>, Or<SiteCau
     }
 }
 
-/// The events of a text, in order, or its first line that cannot be read. Lines without words and lines that begin with `#` are
-/// skipped. Takes time linear in the text.
-pub fn read(alloc: Global, text: &[u8]) -> Result<Vec<Event>, Or<SiteError>>
-    requires { length text.now < 2 ^ 32 }
-    ensures ok { IfOk result (λ events. events_of text.now ≡ Ok events.items) }
-    ensures err { IfErr result (λ fault. FaultIs fault (events_of text.now)) }
-{
-    let mut events = Vec::new(alloc);
-    let mut lines = Lines::of(text);
-    let mut number: u32 = 0;
-    'lines: while let Some(line) = lines.next() {
-        number += 1;
-        match event_of_line(alloc, line) {
-            Ok(Some(event)) => events.push(event)?,
-            Ok(None) => {}
-            Err(Or::NoMemory) => return Err(Or::NoMemory),
-            Err(Or::Is(cause)) => {
-                return Err(Or::Is(SiteError {
-                    line: number,
-                    cause,
-                }));
+impl Event {
+    /// The events of a text, in order, or its first line that cannot be read. Lines without words and lines that begin with `#`
+    /// are skipped. Takes time linear in the text.
+    pub fn read(alloc: Global, text: &[u8]) -> Result<Vec<Event>, Or<SiteError>>
+        requires { length text.now < 2 ^ 32 }
+        ensures ok { IfOk result (λ events. events_of text.now ≡ Ok events.items) }
+        ensures err { IfErr result (λ fault. FaultIs fault (events_of text.now)) }
+    {
+        let mut events = Vec::new(alloc);
+        let mut lines = Lines::of(text);
+        let mut number: u32 = 0;
+        'lines: while let Some(line) = lines.next() {
+            number += 1;
+            match event_of_line(alloc, line) {
+                Ok(Some(event)) => events.push(event)?,
+                Ok(None) => {}
+                Err(Or::NoMemory) => return Err(Or::NoMemory),
+                Err(Or::Is(cause)) => {
+                    return Err(Or::Is(SiteError {
+                        line: number,
+                        cause,
+                    }));
+                }
             }
         }
+        Ok(events)
     }
-    Ok(events)
 }

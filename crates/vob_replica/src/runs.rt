@@ -8,7 +8,6 @@ ghost use Rattle.vob_replica.specs.World.{answers_behind, replies_behind};
 
 use crate::events::{Event, SiteError};
 use crate::operations::Answer;
-use crate::reading::read;
 use crate::showing::push_reply;
 use crate::sites::Sites;
 use cc_names::memory::{NoMemory, Or};
@@ -59,7 +58,7 @@ pub fn run(alloc: Global, hashing: RandomState, text: &[u8]) -> Result<Replies, 
     requires { length text.now < 2 ^ 32 }
     ensures { Gives result (run_of text.now) }
 {
-    let events = read(alloc, text)?;
+    let events = Event::read(alloc, text)?;
     let mut sites = Sites::new(alloc, hashing);
     let mut replies = Vec::new(alloc);
     let refused = reply_all(alloc, &mut sites, events.as_slice(), &mut replies)?;

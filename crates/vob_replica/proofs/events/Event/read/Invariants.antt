@@ -1,6 +1,6 @@
 use Rattle.std.proofs.Common.{◌≡◌, ◌+◌, ◌≤◌, length}
 use Rattle.vob_replica.specs.Reading.{before_others, events_below, events_of}
-use Rattle.vob_replica.proofs.reading.read.Given as goal
+use Rattle.vob_replica.proofs.events.Event.read.Given as goal
 
 abbrev pub invariant-lines : goal.invariant-lines
 invariant-lines l = record {

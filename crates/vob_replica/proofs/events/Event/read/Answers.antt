@@ -5,7 +5,7 @@ use Rattle.vob_replica.specs.declared.events.Event.{Event}
 use Rattle.vob_replica.specs.declared.events.SiteError.{SiteError}
 use Rattle.vob_replica.specs.Reading.{before_others, before_events, event_of_line, events_below}
 use Rattle.vob_replica.specs.Words.{Said}
-use Rattle.vob_replica.proofs.reading.read.Goals as goal
+use Rattle.vob_replica.proofs.events.Event.read.Goals as goal
 
 before_none : (read : Result (List Event) SiteError) → before_others [] read ≡ read
 before_none (Ok events) = refl
