@@ -2,8 +2,10 @@
 
 ghost use Rattle.std.specs.Prelude.{◌≡◌, IfOk, OnErr};
 ghost use Rattle.disk_model.specs.Counting.{next_count};
-ghost use Rattle.disk_model.specs.Devices.{Idles};
-ghost use Rattle.disk_model.specs.DiskStates.{Both, Counted};
+ghost use Rattle.disk_model.specs.Devices.{Idles, bytes_now, file_of};
+ghost use Rattle.disk_model.specs.DiskStates.{Both, Counted, IfModeled};
+ghost use Rattle.disk_model.specs.Files.{stable};
+ghost use Rattle.vob_journal.specs.Reads.{SameFiles};
 
 use cc_names::memory::Or;
 use disk_model::{Counts, Disk, DiskFault, FileDisk};
@@ -25,22 +27,37 @@ pub(crate) trait Look: Disk + Sized {
             (Counted result (Self.ghost_state self.old) (Self.ghost_state self.new)) };
 }
 
-/// How many rows the journal of a disk has, or nothing where memory runs out; and the disk, which is the error where it failed.
-/// Reads the journal once.
-fn count_rows<R: Files<File = File> + AllocGlobal>(
-    alloc: Global,
-    disk: FileDisk<R>,
-) -> Result<(Option<u64>, FileDisk<R>), FileDisk<R>> {
-    let mut journal = Journal::open(disk)?;
-    for rows in 0..u64::MAX {
+/// How many rows a journal has from here on, or nothing where memory runs out. Reads it to its end, and writes nothing.
+fn count_rest<D: Disk>(alloc: Global, journal: &mut Journal<D>) -> Result<Option<u64>, DiskFault>
+    ensures { Both SameFiles (D.ghost_state journal.old.disk).modeled
+        (D.ghost_state journal.new.disk).modeled }
+{
+    'rows: for rows in 0..u64::MAX {
         match journal.next(alloc) {
             Ok(Some(_)) => {}
-            Ok(None) => return Ok((Some(rows), journal.into_disk())),
-            Err(Or::NoMemory) => return Ok((None, journal.into_disk())),
-            Err(Or::Is(_)) => return Err(journal.into_disk()),
+            Ok(None) => return Ok(Some(rows)),
+            Err(Or::NoMemory) => return Ok(None),
+            Err(Or::Is(fault)) => return Err(fault),
         }
     }
-    Ok((None, journal.into_disk()))
+    Ok(None)
+}
+
+/// How many rows the journal of a disk has, or nothing where memory runs out; and the disk, which comes back in any case. Reads
+/// the journal once, and writes nothing.
+fn count_rows<D: Disk>(alloc: Global, disk: D) -> (D, Result<Option<u64>, DiskFault>)
+    requires { IfModeled (D.ghost_state disk).modeled
+        (λ d. file_of 0 d ≡ stable (bytes_now 0 d)) }
+    ensures { Both SameFiles (D.ghost_state disk).modeled (D.ghost_state result.0).modeled }
+{
+    match Journal::open(disk) {
+        Ok(journal) => {
+            let mut journal = journal;
+            let rows = count_rest(alloc, &mut journal);
+            (journal.into_disk(), rows)
+        }
+        Err(disk) => (disk, Err(DiskFault)),
+    }
 }
 
 /// Says that so many bytes after the last row of FILE are not rows, and the number of that row, if it is known.
@@ -55,6 +72,18 @@ fn tell_foreign(rt: &HostRuntime, file: &str, count: u64, rows: Option<u64>) -> 
     }
 }
 
+/// Says that so many bytes after the last row of FILE are not rows, where the rows could be read.
+fn tell_counted(
+    rt: &HostRuntime,
+    file: &str,
+    count: u64,
+    rows: Result<Option<u64>, DiskFault>,
+) -> Result<(), DiskFault> {
+    let rows = rows?;
+    let _ = tell_foreign(rt, file, count, rows);
+    Ok(())
+}
+
 /// Says that memory ran out before FILE was looked at.
 fn tell_no_look(rt: &HostRuntime, file: &str) -> io::Result<()> {
     eprintln!(rt;
@@ -62,26 +91,26 @@ fn tell_no_look(rt: &HostRuntime, file: &str) -> io::Result<()> {
     )
 }
 
-/// Says how many bytes after the last row of FILE are not rows, if they are more than a torn row can be. Answers
-/// the disk; it is the error where it failed.
-fn looked_at<R: Files<File = File> + AllocGlobal>(
-    rt: &HostRuntime,
-    file: &str,
-    disk: FileDisk<R>,
-) -> Result<FileDisk<R>, FileDisk<R>> {
+/// Says how many bytes after the last row of FILE are not rows, if they are more than a torn row can be. The disk comes back in
+/// any case, and both its files are as they were.
+fn looked_at<D: Disk>(rt: &HostRuntime, file: &str, disk: D) -> (D, Result<(), DiskFault>)
+    requires { IfModeled (D.ghost_state disk).modeled
+        (λ d. file_of 0 d ≡ stable (bytes_now 0 d)) }
+    ensures { Both SameFiles (D.ghost_state disk).modeled (D.ghost_state result.0).modeled }
+{
     let mut disk = disk;
     match foreign_bytes(rt.alloc(), &mut disk) {
-        Ok(0) => Ok(disk),
+        Ok(0) => (disk, Ok(())),
         Ok(count) => {
-            let (rows, disk) = count_rows(rt.alloc(), disk)?;
-            let _ = tell_foreign(rt, file, count, rows);
-            Ok(disk)
+            let (disk, rows) = count_rows(rt.alloc(), disk);
+            let told = tell_counted(rt, file, count, rows);
+            (disk, told)
         }
         Err(Or::NoMemory) => {
             let _ = tell_no_look(rt, file);
-            Ok(disk)
+            (disk, Ok(()))
         }
-        Err(Or::Is(_)) => Err(disk),
+        Err(Or::Is(fault)) => (disk, Err(fault)),
     }
 }
 
@@ -100,15 +129,11 @@ fn failing_call<R: Files<File = File> + AllocGlobal>(disk: &mut FileDisk<R>) -> 
 /// written is one file under one lock, and a failure that the system tells once is the run's.
 impl<R: Files<File = File> + AllocGlobal + Drop> Look for FileDisk<R> {
     fn look(&mut self, rt: &HostRuntime, file: &str, other: FileDisk<R>) -> Result<(), DiskFault> {
-        match looked_at(rt, file, other) {
-            Ok(disk) => {
-                self.take_over(disk);
-                Ok(())
-            }
-            Err(disk) => {
-                self.take_over(disk);
-                Err(failing_call(self))
-            }
+        let (disk, looked) = looked_at(rt, file, other);
+        self.take_over(disk);
+        match looked {
+            Ok(()) => Ok(()),
+            Err(_) => Err(failing_call(self)),
         }
     }
 }

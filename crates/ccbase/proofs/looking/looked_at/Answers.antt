@@ -1,0 +1,14 @@
+-- the look leaves both files as they were
+use Rattle.std.proofs.Common.{◌≡◌, ap, subst, sym, ◌∙◌}
+use Rattle.disk_model.specs.Devices.{bytes_now, file_of}
+use Rattle.disk_model.specs.Files.{File, stable}
+use Rattle.vob_journal.specs.Reads.{SameFiles}
+use Rattle.vob_journal.proofs.Staying.{modeled_then}
+use Rattle.vob_journal.proofs.Telling.{modeled_from}
+use Rattle.ccbase.proofs.looking.looked_at.Goals as goal
+
+pub count_rows-disk-requires : goal.count_rows-disk-requires
+count_rows-disk-requires g c =
+    modeled_from SameFiles (λ d. file_of 0 d ≡ stable (bytes_now 0 d)) (λ e. file_of 0 e ≡ stable (bytes_now 0 e)) _ _
+    (λ d e is same. same.journal ∙ is ∙ ap (λ (file : File). stable file.bytes) (sym same.journal)) c.requires
+    c.foreign_bytes.ensures.files
