@@ -50,9 +50,6 @@ LAWS = {
 # Rows that are still to be mended, with what they measure today.
 KNOWN = {
     "rebuilds": {"seconds": 1.8},
-    "links": {"seconds": 1.8},
-    "links-opening": {"seconds": 1.85},
-    "shared-inputs": {"seconds": 2.1, "memory": 1.9},
     "config-labels": {"bytes_each": 155},
     "specs": {"bytes_each": 12},
     "view-lives": {"bytes_each": 1434},
@@ -61,9 +58,6 @@ KNOWN = {
     "lanes-busy": {"ratio": 1.9},
     "suffix-rules": {"seconds": 1.95},
     "prerequisites": {"seconds": 2.0, "memory": 1.8},
-    "group-readers": {"seconds": 1.6},
-    "group-readers-opening": {"seconds": 1.75},
-    "config-rules": {"seconds": 1.9},
 }
 
 STEPS = 1, 2, 4

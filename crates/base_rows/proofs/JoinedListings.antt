@@ -2,16 +2,9 @@
 use Rattle.std.proofs.Common.{◌≡◌, refl, ap, sym, ◌∙◌, ℕ, Bool, true, false, cond, ◌==◌, max, Option, Some, None, List, [], ◌∷◌}
 use Rattle.std.proofs.Common.{arith}
 use Rattle.std.proofs.lemmas.Bool.Decides.{nat_tests, Decides-eqb}
-use Rattle.std.proofs.lemmas.Cmp.{nat_cmp_total}
-use Rattle.std.proofs.lemmas.Map.{lookup-none}
-use Rattle.std.proofs.lemmas.Map.Entries.{none_past_head}
-use Rattle.std.proofs.lemmas.Map.Keys.{IsDistinct-from_sorted, sorted_tail}
-use Rattle.std.specs.BTreeMap.{BTreeMap, IsOrdered, get, is_at}
-use Rattle.std.specs.Cmp.{eq_by_cmp_equiv, unsigned_tied}
+use Rattle.std.specs.Cmp.{unsigned_tied}
 use Rattle.std.specs.FinMap.Entries.{by_order, find, put}
-use Rattle.std.specs.List.Sorted.{IsStrictlySortedBy}
-use Rattle.std.specs.Map.{keys_of, lookup}
-use Rattle.std.specs.Ordering.{eq_by_cmp, is_eq, nat_cmp}
+use Rattle.std.specs.Ordering.{is_eq, nat_cmp}
 use Rattle.std.specs.declared.cmp.Ordering.{Ordering}
 use Rattle.std.specs.declared.cmp.Ordering.TheVariants.{Less, Equal, Greater}
 use Rattle.cc_names.specs.declared.changes.VersionId.{VersionId}
@@ -21,7 +14,7 @@ use Rattle.base_model.specs.Closures.{input_cmp, inputs_of, inputs_of_entry, ver
 use Rattle.base_model.specs.Rows.{Base, only_where}
 use Rattle.base_model.proofs.Covered.{Keyed, closure_keyed, entries_keyed, entry_keyed, one_input, put_keyed}
 use Rattle.base_model.proofs.Tables.{find_after_put}
-use Rattle.base_rows.specs.Listings.{greater, greatest_in}
+use Rattle.base_rows.specs.Listings.{greater, own_version, version_at}
 
 -- the greater of versions, in any order and each once
 pub greater_none : (a : Option ℕ) → greater a None ≡ a
@@ -44,15 +37,6 @@ pub greater_twice : (a b : Option ℕ) → greater a (greater a b) ≡ greater a
 greater_twice None b = refl
 greater_twice (Some m) None = let same : max m m ≡ m = grind arith in ap Some same
 greater_twice (Some m) (Some n) = let same : max m (max m n) ≡ max m n = grind arith in ap Some same
-
--- the version of an element with an id
-abbrev pub version_at : ℕ → ℕ → Option VersionId → Option ℕ
-version_at e row None = None
-version_at e row (Some version_id) = only_where (e == version_id.element) (Some row)
-
--- the version of an element that a row made, where it made one and is not row 0
-abbrev pub own_version : Base → ℕ → ℕ → Option ℕ
-own_version b e row = version_at e row (version_listed b row)
 
 by_element : (old : ℕ → Option ℕ) (e row element : ℕ) (t : Bool) → (e == element) ≡ t
     → cond t (Some (greater_of row (old element))) (old e) ≡ greater (only_where t (Some row)) (old e)
@@ -143,35 +127,3 @@ entry_put b e entry entries old new all put before =
     let others = find nat_cmp e (listing_of b (inputs_of b (closure b) entries)) in
     ap (greater others) put ∙ greater_swap others own old ∙ sym (greater_join own others old)
     ∙ ap (λ a. greater a old) (sym (first_entry b e entry entries)) ∙ before
-
--- one version more is put among versions: with the others they are still all
-pub version_put : (e : ℕ) (one : ℕ × ℕ) (others : List (ℕ × ℕ)) (old new all : Option ℕ)
-    → new ≡ greater (only_where (e == one.0) (Some one.1)) old →
-    greater (greatest_in e (one ∷ others)) old ≡ all → greater (greatest_in e others) new ≡ all
-version_put e one others old new all put before =
-    let own = only_where (e == one.0) (Some one.1) in
-    ap (greater (greatest_in e others)) put ∙ greater_swap (greatest_in e others) own old
-    ∙ sym (greater_join own (greatest_in e others) old) ∙ before
-
--- the greatest version of an element in a map is the one that stands there
-greatest_sorted : (e : ℕ) (entries : List (ℕ × ℕ)) → IsStrictlySortedBy nat_cmp (keys_of entries)
-    → greatest_in e entries ≡ lookup (is_at (nat_cmp e)) entries
-greatest_sorted e [] sorted = refl
-greatest_sorted e (one ∷ others) sorted = by (e == one.0) refl (greatest_sorted e others
-    (sorted_tail nat_cmp one.0 (keys_of others) sorted))
-  where
-    by : (t : Bool) → (e == one.0) ≡ t → greatest_in e others ≡ lookup (is_at (nat_cmp e)) others →
-        greater (only_where t (Some one.1)) (greatest_in e others) ≡ cond (is_eq (nat_cmp e one.0)) (Some one.1)
-        (lookup (is_at (nat_cmp e)) others)
-    by true same rest =
-        let tied : eq_by_cmp nat_cmp e one.0 ≡ true = unsigned_tied e one.0 ∙ same in
-        let none : lookup (is_at (nat_cmp e)) others ≡ None =
-        lookup-none (is_at (nat_cmp e)) others (none_past_head (eq_by_cmp_equiv nat_cmp_total) e one others
-        (IsDistinct-from_sorted nat_cmp (keys_of (one ∷ others)) sorted) tied) in
-        ap (greater (Some one.1)) (rest ∙ none) ∙ sym (ap (λ t. cond t (Some one.1) (lookup (is_at (nat_cmp e)) others)) tied)
-    by false apart rest = rest ∙ sym (ap (λ t. cond t (Some one.1) (lookup (is_at (nat_cmp e)) others)) (unsigned_tied e one.0
-        ∙ apart))
-
-pub greatest_is : (e : ℕ) (versions : BTreeMap ℕ ℕ) → IsOrdered nat_cmp versions
-    → greatest_in e versions.entries ≡ get nat_cmp versions e
-greatest_is e versions ordered = greatest_sorted e versions.entries ordered

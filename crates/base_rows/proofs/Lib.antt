@@ -12,6 +12,7 @@ pub mod Holdings
 pub mod JoinedListings
 pub mod StoredListings
 pub mod KeysAdded
+pub mod LeftListings
 pub mod Labellings
 pub mod ListingsStay
 pub mod MarksSink
@@ -19,8 +20,11 @@ pub mod Newest
 pub mod Oldest
 pub mod Parts
 pub mod PlacedForms
+pub mod RecordEntries
 pub mod RowTexts
 pub mod RowsSince
 pub mod SpecRows
 pub mod SpecsSet
+pub mod TargetOrders
 pub mod Walked
+mod WorkedListings

@@ -1,13 +1,12 @@
--- What the record of an object lists stays when rows are added, and is kept as one row more is.
+-- What the record of an object lists stays when rows are added, and so does what is kept of it.
 use Rattle.std.proofs.Common.{◌≡◌, refl, ap, sym, subst, ◌∙◌, ℕ, zero, suc, ◌<◌, ◌≤◌, Bool, true, false, cond, ◌==◌, nat_lt}
-use Rattle.std.proofs.Common.{Option, Some, None, List, [], ◌∷◌, arith}
+use Rattle.std.proofs.Common.{Option, Some, None, List, [], ◌∷◌, ◌++◌, arith}
 use Rattle.std.proofs.lemmas.Bool.Decides.{nat_tests, Decides-eqb}
 use Rattle.std.specs.Bool.{⊤}
-use Rattle.std.specs.BTreeMap.{BTreeMap}
 use Rattle.std.specs.FinMap.Entries.{by_order, find, put}
-use Rattle.std.specs.List.{list_all}
+use Rattle.std.specs.List.{AllByRecursion, list_all}
 use Rattle.std.specs.Ordering.{nat_cmp}
-use Rattle.std.specs.Prelude.{find as find_in, option_and_then, option_map}
+use Rattle.std.specs.Prelude.{IfSome, find as find_in, option_and_then, option_map}
 use Rattle.std.specs.declared.cmp.Ordering.{Ordering}
 use Rattle.std.specs.declared.cmp.Ordering.TheVariants.{Less, Equal, Greater}
 use Rattle.cc_names.specs.Formed.{Plain}
@@ -15,11 +14,12 @@ use Rattle.cc_names.specs.Versions.{Version, branch_of_change, change_at, elemen
 use Rattle.cc_names.specs.Versions.{version_id_of, row_of_change, versions_on}
 use Rattle.cc_names.specs.declared.changes.VersionId.{VersionId}
 use Rattle.cc_names.specs.declared.changes.TreeChange.{TreeChange}
+use Rattle.cc_names.specs.declared.rows.Deed.{Deed}
 use Rattle.cc_names.specs.declared.rows.ReadOf.{ReadOf}
-use Rattle.cc_names.proofs.Common.{and_first, and_second}
+use Rattle.cc_names.proofs.Common.{and_first, and_second, same_number}
 use Rattle.base_model.specs.Changes.{tree}
-use Rattle.base_model.specs.Closures.{Input, Inputs, closure, entries_of_deed, is_publish, joined_inputs, listing, listing_of}
-use Rattle.base_model.specs.Closures.{input_cmp, inputs_of, inputs_of_entry, version_listed, with_version_at}
+use Rattle.base_model.specs.Closures.{Input, Inputs, Listing, closure, entries_of_deed, is_publish, joined_inputs, listing}
+use Rattle.base_model.specs.Closures.{input_cmp, inputs_of, inputs_of_entry, listing_of, version_listed, with_version_at}
 use Rattle.base_model.specs.Conditions.{is_entry}
 use Rattle.base_model.specs.Fits.{deed_fits, is_base}
 use Rattle.base_model.specs.Rows.{Base, first_rows, size}
@@ -29,7 +29,9 @@ use Rattle.base_model.proofs.TreesStay.{Adds, Nothing, One, adds_row}
 use Rattle.base_model.proofs.VersionsStay.{apart_below, find_older}
 use Rattle.base_model.proofs.EntriesBelow.{entries_fit, entry_below}
 use Rattle.version_tree.proofs.FirstRows.{found_on}
-use Rattle.base_rows.specs.Listings.{AreListings, HasListing, Versions, listing_made, version_in, versions_of_map, with_listing}
+use Rattle.base_rows.specs.Listings.{AreListings, HasListing, IsListed, IsListedWith, IsMade, IsMadeWith, Listed, Versions}
+use Rattle.base_rows.specs.Listings.{listing_made, listing_with}
+use Rattle.base_rows.specs.declared.listings.MadeListing.{MadeListing}
 
 -- the version that a row made with its change, and where a version stands
 abbrev made_by : List TreeChange → ℕ → TreeChange → Option Version
@@ -218,47 +220,95 @@ listing_of_first (row ∷ older) t id base low = by (nat_lt (size older) t) refl
         let apart : (size older == id) ≡ false = grind (arith, nat_tests) in
         before ∙ sym (older_listing row older id (rows_below row older base) apart)
 
-newest_at : (row : Plain) (older : Base) (id e : ℕ) → is_base older ≡ true → deed_fits older row.deed ≡ true → size older ≡ id
-    → find nat_cmp e (listing_made older row.deed) ≡ find nat_cmp e (listing (row ∷ older) id)
-newest_at row older id e base fit number = ap (find nat_cmp e) (sym (newest_listing row older base fit)
-    ∙ ap (listing (row ∷ older)) number)
-
--- With what the record of a new row lists, each object of the longer base has its own.
-pub listings_more : (kept : ℕ → Option Versions) (made : Option Versions) (row : Plain) (older : Base) → is_base older ≡ true
-    → deed_fits older row.deed ≡ true → AreListings kept older → HasListing made (listing_made older row.deed) →
-    AreListings (with_listing (size older) made kept) (row ∷ older)
-listings_more kept made row older base fit before own id e = by made own (size older == id) refl
+-- with a row of this deed
+listing_added : (row : Plain) (older : Base) (id : ℕ) → is_base older ≡ true → deed_fits older row.deed ≡ true
+    → listing (row ∷ older) id ≡ listing_with older row.deed id
+listing_added row older id base fit = by (size older == id) refl
   where
-    by : (made : Option Versions) → HasListing made (listing_made older row.deed) → (is : Bool) → (size older == id) ≡ is
-        → version_in e (with_listing (size older) made kept id) ≡ find nat_cmp e (listing (row ∷ older) id)
-    by None own true same =
-        let number : size older ≡ id = (Decides-eqb (size older) id).0 same in
-        let past : size older ≤ id = omega arith in
-        before id e
-        ∙ ap (find nat_cmp e) (no_listing older id past)
-        ∙ own e
-        ∙ newest_at row older id e base fit number
-    by (Some versions) own true same =
-        let number : size older ≡ id = (Decides-eqb (size older) id).0 same in
-        ap (λ is. version_in e (elim is as (λ x. Option Versions) [ true ↦ Some versions | false ↦ kept id ])) same
-        ∙ own e
-        ∙ newest_at row older id e base fit number
-    by None own false apart = before id e ∙ ap (find nat_cmp e) (sym (older_listing row older id base apart))
-    by (Some versions) own false apart =
-        ap (λ is. version_in e (elim is as (λ x. Option Versions) [ true ↦ Some versions | false ↦ kept id ])) apart
-        ∙ before id e
-        ∙ ap (find nat_cmp e) (sym (older_listing row older id base apart))
+    by : (is : Bool) → (size older == id) ≡ is → listing (row ∷ older) id
+        ≡ elim is as (λ x. Listing) [ true ↦ listing_made older row.deed | false ↦ listing older id ]
+    by true same = ap (listing (row ∷ older)) (sym (same_number (size older) id same)) ∙ newest_listing row older base fit
+    by false apart = older_listing row older id base apart
 
--- as a map keeps them
-pub stored_with : (object : ℕ) (map : BTreeMap ℕ ℕ) (before : ℕ → Option (BTreeMap ℕ ℕ)) (q : ℕ)
-    → versions_of_map (cond (object == q) (Some map) (before q)) ≡ with_listing object (Some map.entries)
-    (λ id. versions_of_map (before id)) q
-stored_with object map before q = by (object == q)
+-- what is kept of an object stays
+listed_before : (row : Plain) (older : Base) (id : ℕ) (versions : Versions) → is_base older ≡ true → IsListed older id versions
+    → IsListed (row ∷ older) id versions
+listed_before row older id versions base own =
+    let low : id < size older = own.within in
+    let apart : (size older == id) ≡ false = grind (arith, nat_tests) in
+    record {
+      within = omega arith;
+      lists = λ e. own.lists e ∙ ap (find nat_cmp e) (sym (older_listing row older id base apart));
+    }
+
+pub listings_before : (kept : ℕ → Option Listed) (row : Plain) (older : Base) → is_base older ≡ true → AreListings kept older
+    → AreListings kept (row ∷ older)
+listings_before kept row older base before id = by (kept id) (before id)
   where
-    by : (is : Bool) → versions_of_map (cond is (Some map) (before q)) ≡ elim is as (λ x. Option Versions) [
-      | true ↦
-          Some map.entries
-      | false ↦ versions_of_map (before q)
-    ]
-    by true = refl
-    by false = refl
+    by : (o : Option Listed) → IfSome o (λ listed. IfSome listed (λ map. IsListed older id map.entries))
+        → IfSome o (λ listed. IfSome listed (λ map. IsListed (row ∷ older) id map.entries))
+    by None own = tt
+    by (Some None) own = tt
+    by (Some (Some map)) own = listed_before row older id map.entries base own
+
+-- what is kept of one of the first rows is what its record lists there
+pub listed_first : (b : Base) (t id : ℕ) (kept : Listed) → is_base b ≡ true → id < t
+    → IfSome kept (λ map. IsListed b id map.entries) → IfSome kept (λ map. HasListing map.entries (listing (first_rows t b) id))
+listed_first b t id None base low own = tt
+listed_first b t id (Some map) base low own = λ e. own.lists e ∙ ap (find nat_cmp e) (sym (listing_of_first b t id base low))
+
+-- what was made ahead of a row is what it is with the row
+listed_after : (row : Plain) (older : Base) (id : ℕ) (versions : Versions) → is_base older ≡ true
+    → deed_fits older row.deed ≡ true → IsListedWith older row.deed id versions → IsListed (row ∷ older) id versions
+listed_after row older id versions base fit made =
+    let low : id ≤ size older = made.within in
+    record {
+      within = omega arith;
+      lists = λ e. made.lists e ∙ ap (find nat_cmp e) (sym (listing_added row older id base fit));
+    }
+
+pub made_after : (row : Plain) (older : Base) (made : List MadeListing) → is_base older ≡ true
+    → deed_fits older row.deed ≡ true → AllByRecursion (IsMadeWith older row.deed) made
+    → AllByRecursion (IsMade (row ∷ older)) made
+made_after row older [] base fit h = tt
+made_after row older (one ∷ made) base fit h = (by one.versions h.0, made_after row older made base fit h.1)
+  where
+    by : (o : Listed) → IfSome o (λ map. IsListedWith older row.deed one.object map.entries)
+        → IfSome o (λ map. IsListed (row ∷ older) one.object map.entries)
+    by None own = tt
+    by (Some map) own = listed_after row older one.object map.entries base fit own
+
+-- the listing of one of the rows is the same before a row is added
+pub listing_older : (b : Base) (deed : Deed) (id : ℕ) → id < size b → listing_with b deed id ≡ listing b id
+listing_older b deed id low = let apart : (size b == id) ≡ false = grind (arith, nat_tests) in
+    ap (λ is. elim is as (λ x. Listing) [ true ↦ listing_made b deed | false ↦ listing b id ]) apart
+
+-- and that of the row itself is what its record lists
+pub listing_next : (b : Base) (deed : Deed) → listing_with b deed (size b) ≡ listing_made b deed
+listing_next b deed =
+    ap (λ is. elim is as (λ x. Listing) [ true ↦ listing_made b deed | false ↦ listing b (size b) ])
+    ((Decides-eqb (size b) (size b)).1 refl)
+
+-- with what was made of one object
+pub listings_with : (b : Base) (kept after : ℕ → Option Listed) (one : MadeListing)
+    → ((q : ℕ) → after q ≡ cond (one.object == q) (Some one.versions) (kept q))
+    → IsMade b one → AreListings kept b → AreListings after b
+listings_with b kept after one put made before id =
+    subst (λ o. IfSome o (λ listed. IfSome listed (λ map. IsListed b id map.entries))) (sym (put id))
+    (by (one.object == id) refl)
+  where
+    by : (is : Bool) → (one.object == id) ≡ is
+        → IfSome (cond is (Some one.versions) (kept id)) (λ listed. IfSome listed (λ map. IsListed b id map.entries))
+    by true same = subst (λ n. IfSome one.versions (λ map. IsListed b n map.entries)) (same_number one.object id same) made
+    by false apart = before id
+
+-- what holds of a list and of one more holds of both
+pub all_and_last : {A : Type 0} (P : A → Type 0) (xs : List A) (x : A) → AllByRecursion P xs → P x
+    → AllByRecursion P (xs ++ x ∷ [])
+all_and_last P [] x h g = (g, tt)
+all_and_last P (y ∷ xs) x h g = (h.0, all_and_last P xs x h.1 g)
+
+pub all_but_last : {A : Type 0} (P : A → Type 0) (xs : List A) (x : A) → AllByRecursion P (xs ++ x ∷ [])
+    → AllByRecursion P xs × P x
+all_but_last P [] x h = (tt, h.0)
+all_but_last P (y ∷ xs) x h = let rest = all_but_last P xs x h.1 in ((h.0, rest.0), rest.1)

@@ -1,10 +1,12 @@
 -- Rows by their numbers, and outputs by their targets.
-use Rattle.std.proofs.Common.{◌≡◌, ℕ, zero, suc, ◌+◌, ◌<◌, Bool, true, false, cond, ◌==◌, Option, Some, None, List, [], ◌∷◌}
-use Rattle.std.proofs.Common.{◌++◌, length, reverse, get_or, drop, refl, ap, sym, ◌∙◌, arith, bytes_eq}
-use Rattle.std.specs.List.{slice_get}
+use Rattle.std.proofs.Common.{◌≡◌, ℕ, zero, suc, Bool, true, false, cond, ◌==◌, Option, Some, None, List, [], ◌∷◌}
+use Rattle.std.proofs.Common.{◌++◌, length, reverse, refl, ap, sym, subst, ◌∙◌, arith, bytes_eq}
+use Rattle.std.specs.List.{AllByRecursion, IsDistinct, slice_get}
 use Rattle.std.proofs.lemmas.Bool.Decides.{nat_tests}
-use Rattle.std.proofs.lemmas.List.{length-reverse, reverse-append, reverse-reverse, drop_more, drop-drop}
+use Rattle.std.proofs.lemmas.List.{length-reverse, reverse-append, reverse-reverse}
 use Rattle.cc_names.specs.Formed.{Plain}
+use Rattle.cc_names.proofs.Common.{bytes_eq_swapped, bytes_equal_themselves, or_first_false, or_second_false}
+use Rattle.base_model.specs.Closures.{is_path_among}
 use Rattle.base_model.specs.Rows.{Base, size, row_at}
 use Rattle.base_model.specs.Texts.{output_at}
 
@@ -54,22 +56,35 @@ no_row (row ∷ older) =
     newest_or (size older == 0) row (row_at older 0) ∙ ap (λ same. cond same (Some row) (row_at older 0))
     (not_zero (length older)) ∙ no_row older
 
--- no output is at a place without a target
-output_nowhere : (path : List ℕ) (targets : List (List ℕ)) → output_at path targets [] ≡ None
-output_nowhere path [] = refl
-output_nowhere path (target ∷ targets) = refl
+-- where the targets differ, the output of a target is the one at its place
+pub output_there : (path : List ℕ) (targets outputs : List (List ℕ)) (place : ℕ) → IsDistinct bytes_eq targets
+    → slice_get targets place ≡ Some path → output_at path targets outputs ≡ slice_get outputs place
+unfolding IsDistinct
+output_there path [] outputs place apart there = absurd (cc)
+output_there path (target ∷ targets) [] zero apart there = refl
+output_there path (target ∷ targets) [] (suc place) apart there = refl
+output_there path (target ∷ targets) (output ∷ outputs) zero apart there =
+    let same : target ≡ path = cc in
+    ap (λ is. cond is (Some output) (output_at path targets outputs))
+    (subst (λ one. bytes_eq one path ≡ true) (sym same) (bytes_equal_themselves path))
+output_there path (target ∷ targets) (output ∷ outputs) (suc place) apart there =
+    ap (λ is. cond is (Some output) (output_at path targets outputs)) (apart_from targets place apart.0 there)
+    ∙ output_there path targets outputs place apart.1 there
+  where
+    apart_from : (others : List (List ℕ)) (place : ℕ) → AllByRecursion (λ other. bytes_eq target other ≡ false) others
+        → slice_get others place ≡ Some path → bytes_eq target path ≡ false
+    apart_from [] place apart there = absurd (cc)
+    apart_from (other ∷ others) zero apart there =
+        let same : other ≡ path = cc in
+        subst (λ one. bytes_eq target one ≡ false) same apart.0
+    apart_from (other ∷ others) (suc place) apart there = apart_from others place apart.1 there
 
--- a target that is not this one is passed with its output
-passed : (path target : List ℕ) (targets outputs : List (List ℕ)) → bytes_eq target path ≡ false
-    → output_at path (target ∷ targets) outputs ≡ output_at path targets (drop 1 outputs)
-passed path target targets [] other = sym (output_nowhere path targets)
-passed path target targets (output ∷ outputs) other = ap (λ same. cond same (Some output) (output_at path targets outputs)) other
-
-pub output_later : (path : List ℕ) (targets outputs : List (List ℕ)) (i : ℕ) (target : List ℕ) → i < length targets
-    → target ≡ get_or targets i target → bytes_eq target path ≡ false → output_at path (drop i targets) (drop i outputs)
-    ≡ output_at path (drop (i + 1) targets) (drop (i + 1) outputs)
-output_later path targets outputs i target within is other =
-    ap (λ rest. output_at path rest (drop i outputs)) (drop_more targets i target within
-    ∙ ap (λ t. t ∷ drop (i + 1) targets) (sym is))
-    ∙ passed path target (drop (i + 1) targets) (drop i outputs) other
-    ∙ ap (output_at path (drop (i + 1) targets)) (drop-drop 1 i outputs)
+-- a path that is no target has no output
+pub output_of_none : (path : List ℕ) (targets outputs : List (List ℕ)) → is_path_among path targets ≡ false
+    → output_at path targets outputs ≡ None
+output_of_none path [] outputs none = refl
+output_of_none path (target ∷ targets) [] none = refl
+output_of_none path (target ∷ targets) (output ∷ outputs) none =
+    ap (λ is. cond is (Some output) (output_at path targets outputs))
+    (bytes_eq_swapped target path ∙ or_first_false (bytes_eq path target) (is_path_among path targets) none)
+    ∙ output_of_none path targets outputs (or_second_false (bytes_eq path target) (is_path_among path targets) none)

@@ -4,7 +4,7 @@ use Rattle.std.proofs.Common.{ap, ap₂, sym, subst, ◌∙◌, arith}
 use Rattle.std.specs.Option.{option_or}
 use Rattle.std.specs.declared.random_state.RandomState.{RandomState}
 use Rattle.std.proofs.lemmas.Bool.Decides.{nat_tests}
-use Rattle.cc_names.specs.Last.{Effect, Keeps, Ends, Sets}
+use Rattle.cc_names.specs.Last.{Effect, Keeps}
 use Rattle.base_model.specs.Rows.{Base, size, first_rows}
 use Rattle.base_rows.specs.LookUps.{Deeds, Update, update_by_row, update_at, left_by, oldest, set_at, last_set, from_row}
 use Rattle.base_rows.specs.LookUps.{ActsBySubject}

@@ -1,5 +1,5 @@
--- What the record of an object lists is, as it is kept, the listing itself.
-use Rattle.std.proofs.Common.{◌≡◌, refl, ap, sym, subst, ◌∙◌, ℕ, cond, Some, None, [], ◌∷◌}
+-- What the record of an object lists is, as it is made, the listing itself.
+use Rattle.std.proofs.Common.{◌≡◌, refl, ap, sym, subst, ◌∙◌, ℕ, cond, Some, [], ◌∷◌}
 use Rattle.std.proofs.lemmas.Cmp.{nat_cmp_total}
 use Rattle.std.specs.BTreeMap.{is_at}
 use Rattle.std.specs.FinMap.Entries.{below_all, find, is_sorted, same_entries}
@@ -38,12 +38,8 @@ same_in_order : (versions : Versions) (b : Base) (id : ℕ) → T (is_sorted nat
 same_in_order versions b id sorted same = same_entries nat_cmp nat_cmp_total tied versions (listing b id) sorted
     (in_order b (closure b id)) same
 
--- what is kept of an object is what its record lists
+-- what is made of an object is what its record lists
 pub stored_listing : (versions : Versions) (b : Base) (id : ℕ) → IsStrictlySortedBy nat_cmp (keys_of versions)
-    → HasListing (Some versions) (listing b id) → versions ≡ listing b id
+    → HasListing versions (listing b id) → versions ≡ listing b id
 stored_listing versions b id ordered has = same_in_order versions b id (ascend versions ordered) (λ e. sym (found_same e versions)
     ∙ has e)
-
--- where nothing is kept of an object, its record lists nothing
-pub nothing_listed : (b : Base) (id : ℕ) → HasListing None (listing b id) → [] ≡ listing b id
-nothing_listed b id has = same_in_order [] b id tt has

@@ -16,6 +16,7 @@ pub mod Made
 pub mod MarkSteps
 pub mod Marked
 pub mod NumberKeys
+pub mod ObjectWalks
 pub mod Order
 pub mod Pool
 pub mod Preparing
@@ -23,4 +24,5 @@ pub mod SeenFiles
 pub mod SetSpecs
 pub mod Shown
 pub mod Subjects
+pub mod TargetOrders
 pub mod Walks

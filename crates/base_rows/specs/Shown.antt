@@ -11,7 +11,7 @@ use Rattle.base_rows.specs.Preparing.{IsPrepared}
 use Rattle.base_rows.specs.declared.prepared.Prepared.{Prepared}
 
 -- A base, and for how many more marks there is room; the trees of its versions and its labels with their room; for how many more
--- config specs and objects there is room; and by which hashing names are found.
+-- config specs and objects there is room, and for the targets of how many; and by which hashing names are found.
 pub record Shown : Type 0 where
   pub base : Base
   pub room : ℕ
@@ -19,6 +19,7 @@ pub record Shown : Type 0 where
   pub labels : Marks
   pub spec_room : ℕ
   pub listing_room : ℕ
+  pub order_room : ℕ
   pub hashing : RandomState
 
 -- This is at hand for one more row of this deed, and there is room for it.
@@ -29,4 +30,5 @@ pub record HasRoom (shown : Shown) (deed : Deed) (prepared : Prepared) : Type 0 
   pub place : HasPlace shown.trees prepared.growth
   pub labels : HasLabelRoom shown.labels deed
   pub spec_room : 1 ≤ shown.spec_room
-  pub listing_room : 1 ≤ shown.listing_room
+  pub listing_room : length prepared.listings.items ≤ shown.listing_room
+  pub order_room : 1 ≤ shown.order_room

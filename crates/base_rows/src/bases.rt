@@ -1,32 +1,34 @@
 //! The rows of a base, with the marks by which those that affect a subject are found, with the trees of versions, with the
-//! labels, with the config specs and with what the records of objects list.
+//! labels, with the config specs, with what the objects that these name list and with the places of objects' targets.
 
 ghost use Rattle.std.specs.Prelude.{◌≡◌, ◌≤◌, ◌∷◌, [], ℕ, List, length, true, IfOk, IfSome, OnOk};
 ghost use Rattle.std.specs.Option.{option_and_then, option_copied};
 ghost use Rattle.cc_names.specs.Labels.{holder, labels_of_first_rows};
 ghost use Rattle.cc_names.specs.Versions.{of_first_rows, version_id};
-ghost use Rattle.base_model.specs.Changes.{labels, tree};
+ghost use Rattle.base_model.specs.Changes.{labels, targets_of, tree};
 ghost use Rattle.base_model.specs.Closures.{listing};
 ghost use Rattle.base_model.specs.Rows.{deed_at, first_rows, row_at, size};
 ghost use Rattle.base_model.specs.Seen.{file_at};
 ghost use Rattle.base_model.specs.Fits.{fits, is_base, row_limit};
-ghost use Rattle.base_rows.specs.Listings.{HasListing, versions_of_map};
+ghost use Rattle.base_rows.specs.Listings.{HasListing};
 ghost use Rattle.base_rows.specs.LookUps.{from_row, last_of, newest, oldest};
 ghost use Rattle.base_rows.specs.Order.{oldest_first};
 ghost use Rattle.base_rows.specs.Preparing.{IsPrepared};
 ghost use Rattle.base_rows.specs.SeenFiles.{AreSeen, IsSeenAs};
 ghost use Rattle.base_rows.specs.SetSpecs.{rules_set};
 ghost use Rattle.base_rows.specs.Shown.{HasRoom};
+ghost use Rattle.base_rows.specs.TargetOrders.{AreOrdered};
 ghost use Rattle.base_rows.specs.Walks.{updating_rows};
 
 use crate::growth::{grow, reserve_growth};
 use crate::labels::{relabel, reserve_labels};
-use crate::listings::{Versions, keep_listing};
+use crate::listings::{Listings, Versions, keep_listings};
 use crate::look_ups::{LookUp, left_by, set_at, update_at};
 use crate::marks::{Link, mark_keys, reserve_marks};
 use crate::prepared::Prepared;
 use crate::seen_files::{SeenFiles, Views, put_seen, take_seen};
 use crate::skips::first_below;
+use crate::target_orders::{Places, keep_places};
 use crate::view_specs::{Parsed, keep_spec, spec_of};
 use crate::walks::add_updating_row;
 use cc_names::changes::VersionId;
@@ -42,7 +44,8 @@ use std::hash::RandomState;
 use std::marker::Model;
 use version_tree::Tree;
 
-/// A base, what affects what, the trees of versions, the labels, the config specs, and what the records of objects list.
+/// A base, what affects what, the trees of versions, the labels, the config specs, what the objects that these name list, and
+/// where the targets of objects with many stand.
 /// Contracts see the base as the model has it, its newest row first, and the room. That it is a base is part of the type.
 #[derive(Drop)]
 pub struct Rows {
@@ -54,7 +57,8 @@ pub struct Rows {
     tree: Tree,
     labels: Book,
     specs: Vec<Parsed>,
-    listings: HashMap<u64, Versions>,
+    listings: Listings,
+    orders: HashMap<u64, Places>,
     // Files that views were seen to have in some first rows.
     seen: Views,
 }
@@ -88,6 +92,7 @@ impl Rows {
             labels,
             specs: Vec::new(alloc),
             listings: HashMap::new(alloc),
+            orders: HashMap::new(alloc),
             seen: HashMap::with_hasher(alloc, hashing),
         })
     }
@@ -118,12 +123,14 @@ impl Rows {
         reserve_growth(&mut self.tree, &prepared.growth)?;
         reserve_labels(self.alloc, &mut self.labels, deed)?;
         self.specs.reserve(1)?;
-        self.listings.reserve(1)?;
+        self.listings.reserve(prepared.listings.len())?;
+        self.orders.reserve(1)?;
         Ok(())
     }
 
-    /// Adds a row that fits and is made ready. Takes time linear in its keys, for each label that it changes on an element the
-    /// time to find the label there, and time logarithmic in the branches; no memory.
+    /// Adds a row that fits and is made ready. Takes time linear in its keys and in the objects that its config spec names, for
+    /// each label that it changes on an element the time to find the label there, and time logarithmic in the branches; no
+    /// memory.
     pub fn push(&mut self, row: Row, prepared: Prepared)
         requires fits { fits self.old.base row.deed ≡ true }
         requires room { HasRoom self.old row.deed prepared }
@@ -133,14 +140,16 @@ impl Rows {
             keys,
             growth,
             rules,
-            listing,
+            listings,
+            places,
         } = prepared;
         let number = self.rows.len() as u64 + 1;
         grow(&mut self.tree, number, row.moment(), growth);
         mark_keys(&mut self.links, &mut self.newest, number, keys.as_slice());
         relabel(&mut self.labels, number, row.deed());
         keep_spec(&mut self.specs, number, rules);
-        keep_listing(&mut self.listings, number, listing);
+        keep_listings(&mut self.listings, listings);
+        keep_places(&mut self.orders, number, places);
         self.rows.push_reserved(row);
     }
 
@@ -191,6 +200,7 @@ impl Rows {
             labels: _,
             specs: _,
             listings: _,
+            orders: _,
             seen: _,
         } = self;
         rows
@@ -288,15 +298,35 @@ impl<'a> FirstRows<'a> {
         spec_of(base.specs.as_slice(), row)
     }
 
-    /// What the record of an object lists, where it is one of these rows. Takes constant time.
+    /// What the record of an object lists, where that is kept and it is one of these rows. Takes constant time.
     pub(crate) fn listing(&self, object: u64) -> Option<&'a Versions>
-        ensures { HasListing (versions_of_map (option_copied result)) (listing self.now object) }
+        ensures { IfSome (option_copied result)
+            (λ versions. HasListing versions.entries (listing self.now object)) }
     {
         if self.size() <= object {
             return None;
         }
         let base = self.base;
-        base.listings.get(&object)
+        let listed = base.listings.get(&object)?;
+        listed.as_ref()
+    }
+
+    /// Whether a config spec names the object of the row after these, which then has what it lists kept. Takes constant time.
+    pub(crate) fn names_next(&self) -> bool {
+        let base = self.base;
+        base.listings.contains_key(&self.size())
+    }
+
+    /// The places of an object's targets in byte order, where they are kept and it is one of these rows. Takes constant time.
+    pub(crate) fn target_places(&self, object: u64) -> Option<&'a [u32]>
+        ensures { IfSome result (λ places. AreOrdered (targets_of self.now object) places.now) }
+    {
+        if self.size() <= object {
+            return None;
+        }
+        let base = self.base;
+        let places = base.orders.get(&object)?;
+        Some(places.as_slice())
     }
 
     /// The row of the file that a view was seen to have at a path in these very rows, or that there is none; nothing where that

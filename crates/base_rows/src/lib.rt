@@ -1,5 +1,5 @@
 //! The base as a type, with all that is kept beside it to look things up: marks, trees of versions, labels, config specs, what
-//! records list, and files that views were seen to have.
+//! the objects that these name list, where the targets of large groups stand, and files that views were seen to have.
 //!
 //! What it is for: `Rows` is the base, `FirstRows` what its first rows were; `prepared` makes the next row ready, and a `LookUp`
 //! tells what rows do to a thing, so that `newest` finds it. What views select is looked up over these in `view_lookup`.
@@ -28,6 +28,7 @@ mod row_keys;
 pub mod seen_files;
 mod skips;
 pub mod subjects;
+mod target_orders;
 pub mod trees;
 pub mod view_specs;
 pub mod views;

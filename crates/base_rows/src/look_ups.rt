@@ -76,7 +76,9 @@ pub trait LookUp {
     type Item: Copy;
 
     ghost use Rattle.std.specs.Prelude.{◌≡◌};
+    ghost use Rattle.std.specs.Prelude.{Some};
     ghost use Rattle.cc_names.specs.Formed.{IsDeedFormed};
+    ghost use Rattle.base_model.specs.Rows.{deed_at, first_rows};
     ghost use Rattle.base_rows.specs.LookUps.{Deeds, ActsBySubject, effect_of};
     ghost use Rattle.base_rows.specs.Subjects as model;
 
@@ -88,6 +90,15 @@ pub trait LookUp {
     fn effect(&self, older: &FirstRows<'_>, deed: &Deed) -> Does<Self::Item>
         requires { IsDeedFormed deed.now }
         ensures { effect_of result ≡ effect self.now older.now deed.now };
+
+    /// What the row of this number does to it, which has this deed. Written where it takes less time by what is kept of the row.
+    fn effect_at(&self, rows: &FirstRows<'_>, number: u64, deed: &Deed) -> Does<Self::Item>
+        requires formed { IsDeedFormed deed.now }
+        requires deed { deed_at rows.now number ≡ Some deed.now }
+        ensures { effect_of result ≡ effect self.now (first_rows number rows.now) deed.now }
+    {
+        self.effect(&first_rows(rows, number), deed)
+    }
 
     /// Its subject.
     fn subject(&self) -> Subject<'_>
@@ -105,7 +116,7 @@ pub(crate) fn update_at<L: LookUp>(
     ensures { result ≡ update_at (L.effect look.now) rows.now number }
 {
     let row = row_at(rows, number)?;
-    match look.effect(&first_rows(rows, number), row.deed()) {
+    match look.effect_at(rows, number, row.deed()) {
         Does::Keeps => None,
         Does::Ends => Some((number, None)),
         Does::Sets(item) => Some((number, Some(item))),

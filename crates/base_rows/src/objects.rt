@@ -1,27 +1,31 @@
 //! The objects that a view holds, and which objects there are.
 
-ghost use Rattle.std.specs.Prelude.{◌≡◌, ◌==◌, option_map};
-ghost use Rattle.std.specs.List.{AllByRecursion, list_any};
+ghost use Rattle.std.specs.Prelude.{◌≡◌, ◌==◌, bytes_eq, option_map};
+ghost use Rattle.std.specs.List.{AllByRecursion, IsDistinct, list_any};
 ghost use Rattle.std.specs.List.Sorted.{IsStrictlySortedBy};
 ghost use Rattle.std.specs.Ordering.{nat_cmp};
 ghost use Rattle.cc_names.specs.Formed.{IsBelowRoot};
 ghost use Rattle.cc_names.specs.References.{held_at};
 ghost use Rattle.base_model.specs.Changes.{objects_held, live_row, targets_of};
-ghost use Rattle.base_model.specs.Objects.{held_at_all, held_at_each};
+ghost use Rattle.base_model.specs.Closures.{is_path_among};
+ghost use Rattle.base_model.specs.Objects.{held_at_all, held_at_each, record_of};
 ghost use Rattle.base_rows.specs.Effects.{gone_effect};
 ghost use Rattle.base_rows.specs.Lifetimes.{number_of};
 ghost use Rattle.base_rows.specs.LookUps.{newest};
 ghost use Rattle.base_rows.specs.Made.{is_target};
+ghost use Rattle.base_rows.specs.TargetOrders.{IsPlaceOf};
 
-use crate::bases::{FirstRows, row_at};
+use crate::bases::{FirstRows, first_rows, row_at};
 use crate::look_ups::{Does, LookUp, only_if, within};
 use crate::subjects::Subject;
+use crate::target_orders::place_among;
 use crate::views::{same_name, same_view_path};
 use cc_names::names::Name;
 use cc_names::paths::Path;
-use cc_names::rows::Deed;
+use cc_names::rows::{Deed, ReadOf};
 
-pub fn is_target(path: &Path, targets: &[Path]) -> bool
+/// Whether a path is one of these targets. Takes time linear in them.
+fn is_target(path: &Path, targets: &[Path]) -> bool
     ensures { result ≡ is_target path.now targets.now }
 {
     targets
@@ -29,10 +33,11 @@ pub fn is_target(path: &Path, targets: &[Path]) -> bool
         .any(|target| target.as_bytes() == path.as_bytes())
 }
 
-/// The targets of the object of this number. Takes constant time.
+/// The targets of the object of this number, which differ. Takes constant time.
 pub fn targets_of<'a>(rows: &FirstRows<'a>, object: u64) -> &'a [Path]
     ensures targets { result.now ≡ targets_of rows.now object }
     ensures below { AllByRecursion IsBelowRoot result.now }
+    ensures distinct { IsDistinct bytes_eq result.now }
 {
     match row_at(rows, object) {
         Some(row) => match row.deed() {
@@ -41,6 +46,51 @@ pub fn targets_of<'a>(rows: &FirstRows<'a>, object: u64) -> &'a [Path]
         },
         None => &[],
     }
+}
+
+/// The place of a path among targets. Takes time linear in them.
+fn first_place(targets: &[Path], path: &Path) -> Option<usize>
+    ensures { IsPlaceOf path.now targets.now result }
+{
+    for (place, target) in targets.iter().enumerate() {
+        if target.as_bytes() == path.as_bytes() {
+            return Some(place);
+        }
+    }
+    None
+}
+
+/// The entries of an object's record; any other row has none. Takes constant time.
+pub fn record_of<'a>(rows: &FirstRows<'a>, object: u64) -> &'a [ReadOf]
+    ensures { result.now ≡ record_of rows.now object }
+{
+    match row_at(rows, object) {
+        None => &[],
+        Some(row) => match row.deed() {
+            Deed::Publish { entries, .. } => entries.as_slice(),
+            _ => &[],
+        },
+    }
+}
+
+/// The place of a path among an object's targets, which differ. Takes time logarithmic in them.
+pub fn target_place(rows: &FirstRows<'_>, object: u64, path: &Path) -> Option<usize>
+    ensures place { IsPlaceOf path.now (targets_of rows.now object) result }
+    ensures distinct { IsDistinct bytes_eq (targets_of rows.now object) }
+{
+    let targets = targets_of(rows, object);
+    match rows.target_places(object) {
+        None => first_place(targets, path),
+        Some(places) => place_among(targets, places, path),
+    }
+}
+
+/// Whether an object has this target. Takes time logarithmic in its targets.
+pub fn has_target(rows: &FirstRows<'_>, object: u64, target: &Path) -> bool
+    ensures among { result ≡ is_path_among target.now (targets_of rows.now object) }
+    ensures target { result ≡ is_target target.now (targets_of rows.now object) }
+{
+    target_place(rows, object, target).is_some()
 }
 
 /// Where what a view holds ends.
@@ -99,13 +149,24 @@ impl LookUp for ObjectOf<'_> {
                 Does::Sets(older.size()),
             ),
             Deed::Wink { view, object } => only_if(
-                same_name(self.view, view) && is_target(self.path, targets_of(older, *object)),
+                same_name(self.view, view) && has_target(older, *object, self.path),
                 Does::Sets(*object),
             ),
             Deed::Drop { view, path } => {
                 only_if(same_view_path(self.view, self.path, view, path), Does::Ends)
             }
             _ => Does::Keeps,
+        }
+    }
+
+    fn effect_at(&self, rows: &FirstRows<'_>, number: u64, deed: &Deed) -> Does<u64> {
+        let older = first_rows(rows, number);
+        match deed {
+            Deed::Publish { view, .. } => only_if(
+                same_name(self.view, view) && has_target(rows, number, self.path),
+                Does::Sets(older.size()),
+            ),
+            _ => self.effect(&older, deed),
         }
     }
 
@@ -169,8 +230,8 @@ fn last_gone(rows: &FirstRows<'_>, view: &Name) -> Option<u64>
     Some(number)
 }
 
-/// The object that the view holds at the path. Takes the time of `newest`, twice, and time linear in the targets of the objects
-/// that are looked at.
+/// The object that the view holds at the path. Takes the time of `newest`, twice, and time logarithmic in the targets of the
+/// objects that are looked at.
 pub fn held_object(rows: &FirstRows<'_>, view: &Name, path: &Path) -> Option<u64>
     ensures { result ≡ held_at (objects_held rows.now) view.now path.now }
 {

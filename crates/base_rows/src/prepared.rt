@@ -6,8 +6,9 @@ ghost use Rattle.base_rows.specs.SetSpecs.{rules_set_if_short};
 
 use crate::bases::FirstRows;
 use crate::growth::{Growth, growth_of};
-use crate::listings::{Versions, listing_made};
+use crate::listings::{MadeListing, listings_made};
 use crate::row_keys::keys_of;
+use crate::target_orders::{Places, places_made};
 use cc_names::memory::NoMemory;
 use cc_names::rows::Deed;
 use cc_names::selection::Rules;
@@ -23,14 +24,16 @@ pub struct Prepared {
     pub(crate) growth: Growth,
     // The rules that it gives to its view.
     pub(crate) rules: Option<Rules>,
-    // What the record of its object lists.
-    pub(crate) listing: Option<Versions>,
+    // What is to be kept of what objects list.
+    pub(crate) listings: Vec<MadeListing>,
+    // The places of its object's targets in byte order, where they are many.
+    pub(crate) places: Option<Places>,
 }
 
-/// What the next row needs, where it is of this deed and gives these rules to its view. Takes time linear in what the
-/// operation names; for each entry of a record linear in the versions that the entry's object lists, times the
-/// logarithm of the record's; for each row that changed names in a checkout that it ends, a few look-ups; logarithmic in the
-/// branches.
+/// What the next row needs, where it is of this deed and gives these rules to its view. Takes time linear in what the operation
+/// names, with many targets times their logarithm; for each object that the rules name, and no config spec before, linear in the
+/// records on which it rests, times the logarithm of what they list; for each row that changed names in a checkout that it ends,
+/// a few look-ups; logarithmic in the branches.
 pub fn prepare_with(
     alloc: Global,
     hashing: RandomState,
@@ -43,11 +46,13 @@ pub fn prepare_with(
 {
     let keys = keys_of(alloc, hashing, rows, deed)?;
     let growth = growth_of(alloc, rows, deed)?;
-    let listing = listing_made(alloc, rows, deed)?;
+    let listings = listings_made(alloc, rows, deed, rules.as_ref())?;
+    let places = places_made(alloc, deed)?;
     Ok(Prepared {
         keys,
         growth,
         rules,
-        listing,
+        listings,
+        places,
     })
 }

@@ -23,7 +23,7 @@ use Rattle.legal_history.proofs.Builds.OrderedUnits.{same_number}
 use Rattle.build_core.specs.VisibleObjects.{object_before, object_marked, AreNeeds}
 use Rattle.build_core.proofs.Members.{passed, taken}
 
-nobody : Unit
+pub nobody : Unit
 nobody = record { targets = []; prerequisites = []; script = Bare }
 
 -- ---- the unit that makes a path is the one of its number

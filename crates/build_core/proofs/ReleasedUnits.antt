@@ -1,17 +1,20 @@
 -- The units that a unit has released are those of its dependants that can be driven.
 use Rattle.std.proofs.Common.{◌≡◌, ℕ, ◌==◌, Bool, true, false, not, ◌&&◌, ◌||◌, cond, Option, Some, None, List, [], ◌∷◌, length}
-use Rattle.std.proofs.Common.{refl, ap, ap₂, sym, ◌∙◌, arith}
+use Rattle.std.proofs.Common.{◌<◌, get_or, refl, ap, ap₂, sym, ◌∙◌, arith}
 use Rattle.std.specs.Prelude.{unwrap_or, option_map}
-use Rattle.std.specs.List.{filter, list_any, range_with_len}
+use Rattle.std.specs.List.{filter, list_all, list_any, range_with_len}
 use Rattle.std.proofs.lemmas.Bool.Decides.{nat_tests}
+use Rattle.std.proofs.lemmas.Option.{slice_get-get_or}
 use Rattle.cc_names.specs.Versions.{is_number}
 use Rattle.cc_names.specs.declared.units.Unit.{Unit}
-use Rattle.make_graph.specs.Waits.{makes_one, prerequisites_of, prerequisites_at, dependants_of}
+use Rattle.make_graph.specs.Waits.{makes_one, makers_of, prerequisites_of, prerequisites_at, dependants_of}
 use Rattle.legal_history.specs.Builds.Active.{Build, came_to, is_outcome, unit_at, unit_with}
 use Rattle.legal_history.specs.Builds.Turns.{is_unit_ready}
 use Rattle.legal_history.proofs.Builds.OrderedUnits.{same_number}
 use Rattle.clearmake.specs.Calls.{needs, is_released}
 use Rattle.build_core.specs.Releasing.{can_be_driven}
+use Rattle.build_core.proofs.NeededUnits.{nobody}
+use Rattle.build_core.proofs.Waiting.{makers_over}
 
 -- two tests one after the other are one
 filter_both : {A : Type 0} (one two both : A → Bool) → ((a : A) → (one a && two a) ≡ both a) → (list : List A)
@@ -73,3 +76,15 @@ pub released_are : (build : Build) (n : ℕ) → filter (can_be_driven build) (d
 released_are build n =
     filter_both (λ m. makes_one build.units (prerequisites_at build.units m) n) (can_be_driven build) (is_released build n)
     (released_one build n) (range_with_len 0 (length build.units))
+
+-- a unit is ready where those that make its prerequisites have their outcomes
+pub ready_by_makers : (build : Build) (n : ℕ) → n < length build.units
+    → list_all (λ m. is_outcome (came_to build m)) (makers_of build.units (prerequisites_at build.units n))
+    ≡ unwrap_or (option_map (is_unit_ready build) (unit_at build n)) false
+ready_by_makers build n within = by (unit_at build n) (slice_get-get_or build.units n nobody within)
+  where
+    by : (o : Option Unit) → o ≡ Some (get_or build.units n nobody)
+        → list_all (λ m. is_outcome (came_to build m)) (makers_of build.units (prerequisites_of o))
+        ≡ unwrap_or (option_map (is_unit_ready build) o) false
+    by None is = absurd (cc)
+    by (Some unit) is = makers_over build unit.prerequisites

@@ -1,5 +1,5 @@
 -- When a unit's run may publish: in a consistent build, at a base.
-use Rattle.std.proofs.Common.{◌≡◌, ℕ, ◌≤◌, Some, [], length, arith}
+use Rattle.std.proofs.Common.{◌≡◌, ℕ, ◌≤◌, Some, length, arith}
 use Rattle.std.specs.List.{AllByRecursion}
 use Rattle.cc_names.specs.Names.{IsName}
 use Rattle.cc_names.specs.declared.units.Unit.{Unit}

@@ -5,7 +5,7 @@ ghost use Rattle.legal_history.specs.Builds.Active.{came_to, is_outcome, object_
 ghost use Rattle.legal_history.specs.Stories.Steps.{with_came};
 ghost use Rattle.legal_history.specs.Builds.Consistency.{InOrder};
 ghost use Rattle.build_core.specs.Comes.{came_of, comes_of};
-ghost use Rattle.make_graph.specs.Waits.{dependants_of};
+ghost use Rattle.make_graph.specs.Waits.{dependants_of, makers_of, prerequisites_at};
 ghost use Rattle.build_core.specs.VisibleObjects.{AreNeeds};
 
 use cc_names::memory::NoMemory;
@@ -208,6 +208,14 @@ impl ActiveBuild {
             Came::Started => self.needs(self.alloc, unit).ok(),
             Came::Concluded(_) | Came::Given(_) => None,
         }
+    }
+
+    /// The units that make a unit's prerequisites, by their numbers, in the order of these, in constant time.
+    pub(crate) fn makers(&self, unit: u32) -> &[u32]
+        requires { unit < length self.now.units }
+        ensures { result.now ≡ makers_of self.now.units (prerequisites_at self.now.units unit) }
+    {
+        self.graph.makers(unit)
     }
 
     /// The units one of whose prerequisites a unit makes, by their numbers, in order and each once, in constant time.

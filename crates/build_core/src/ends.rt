@@ -1,11 +1,13 @@
 //! What a unit of a build comes to without a run.
 
-ghost use Rattle.std.specs.Prelude.{◌≡◌, ◌<◌, ◌^◌, Bool, true, length, find, option_copied, IfOk, IfSome};
+ghost use Rattle.std.specs.Prelude.{◌≡◌, ◌<◌, ◌^◌, Bool, true, Some, length, find, option_copied, IfOk, IfSome};
+ghost use Rattle.std.specs.List.{list_any};
 ghost use Rattle.make_grammar.specs.Graphs.{first_target};
 ghost use Rattle.legal_history.specs.Commands.FileLines.{parent};
 ghost use Rattle.legal_history.specs.Builds.Fresh.{sees_directory, sees_file};
 ghost use Rattle.legal_history.specs.Builds.Serials.{is_missing, is_bad, standing_or_file, no_directory, no_script, outside};
-ghost use Rattle.legal_history.specs.Builds.Turns.{standing_of_unit, early_in};
+ghost use Rattle.legal_history.specs.Builds.Active.{came_to, unit_at};
+ghost use Rattle.legal_history.specs.Builds.Turns.{standing_of_came, standing_of_unit, early_in};
 
 use crate::active::{ActiveBuild, Came};
 use cc_names::memory::NoMemory;
@@ -26,6 +28,16 @@ fn is_missing(rows: &FirstRows<'_>, build: &ActiveBuild, path: &Path) -> bool
     build.unit_with(path).is_none() && file_at(rows, build.view(), path).is_none()
 }
 
+/// Whether a unit failed or was blocked.
+fn is_bad_unit(build: &ActiveBuild, unit: u32) -> bool
+    ensures { result ≡ is_bad (standing_of_came (came_to build.now unit)) }
+{
+    matches!(
+        build.came_to(unit),
+        Some(Came::Concluded(UnitEnd::Failed(_) | UnitEnd::Blocked(_)))
+    )
+}
+
 /// Whether a path is that of a unit that failed or was blocked.
 fn is_bad(build: &ActiveBuild, path: &Path) -> bool
     ensures { (is_file : Bool)
@@ -34,12 +46,10 @@ fn is_bad(build: &ActiveBuild, path: &Path) -> bool
     let Some(number) = build.unit_with(path) else {
         return false;
     };
-    matches!(
-        build.came_to(number),
-        Some(Came::Concluded(UnitEnd::Failed(_) | UnitEnd::Blocked(_)))
-    )
+    is_bad_unit(build, number)
 }
 
+/// The first of these paths that is neither a unit's nor a file.
 fn first_missing<'a>(
     rows: &FirstRows<'_>,
     build: &ActiveBuild,
@@ -60,6 +70,7 @@ fn first_missing<'a>(
     None
 }
 
+/// The first of these paths that is that of a unit that failed or was blocked.
 fn first_bad<'a>(rows: &FirstRows<'_>, build: &ActiveBuild, paths: &'a [Path]) -> Option<&'a Path>
     ensures { option_copied result
         ≡ find
@@ -74,6 +85,62 @@ fn first_bad<'a>(rows: &FirstRows<'_>, build: &ActiveBuild, paths: &'a [Path]) -
         }
     }
     None
+}
+
+/// The first prerequisite of a unit that is neither a unit's nor a file. Where units make all of them, it looks up no path.
+fn missing_prerequisite<'a>(
+    rows: &FirstRows<'_>,
+    build: &ActiveBuild,
+    number: u32,
+    unit: &'a Unit,
+) -> Option<&'a Path>
+    requires unit { unit_at build.now number ≡ Some unit.now }
+    requires within { number < length build.now.units }
+    ensures { option_copied result
+        ≡ find
+        (λ path.
+        is_missing
+        (standing_or_file (sees_file rows.now build.now.view path)
+        (standing_of_unit build.now path))) unit.now.prerequisites }
+{
+    if build.makers(number).len() == unit.prerequisites.len() {
+        return None;
+    }
+    first_missing(rows, build, unit.prerequisites.as_slice())
+}
+
+/// Whether one of these units failed or was blocked.
+fn has_bad_unit(build: &ActiveBuild, units: &[u32]) -> bool
+    ensures { result ≡ list_any (λ n. is_bad (standing_of_came (came_to build.now n))) units.now }
+{
+    for unit in units {
+        if is_bad_unit(build, *unit) {
+            return true;
+        }
+    }
+    false
+}
+
+/// The first prerequisite of a unit that is that of a unit that failed or was blocked. Where there is none, it looks up no path.
+fn bad_prerequisite<'a>(
+    rows: &FirstRows<'_>,
+    build: &ActiveBuild,
+    number: u32,
+    unit: &'a Unit,
+) -> Option<&'a Path>
+    requires unit { unit_at build.now number ≡ Some unit.now }
+    requires within { number < length build.now.units }
+    ensures { option_copied result
+        ≡ find
+        (λ path.
+        is_bad
+        (standing_or_file (sees_file rows.now build.now.view path)
+        (standing_of_unit build.now path))) unit.now.prerequisites }
+{
+    if !has_bad_unit(build, build.makers(number)) {
+        return None;
+    }
+    first_bad(rows, build, unit.prerequisites.as_slice())
 }
 
 /// The directory in which a path lies.
@@ -148,23 +215,26 @@ fn no_script(alloc: Global, unit: &Unit) -> Result<Option<UnitEnd>, NoMemory>
     }
 }
 
-/// What the unit comes to without a run, where these are the rows that its build sees.
+/// What the unit of this number comes to without a run, where these are the rows that its build sees.
 pub(crate) fn early(
     alloc: Global,
     rows: &FirstRows<'_>,
     build: &ActiveBuild,
+    number: u32,
     unit: &Unit,
 ) -> Result<Option<UnitEnd>, NoMemory>
+    requires unit { unit_at build.now number ≡ Some unit.now }
+    requires within { number < length build.now.units }
     ensures { IfOk result (λ end. end ≡ early_in rows.now build.now unit.now) }
 {
     if let Some(end) = no_directory(alloc, rows, build, unit)? {
         return Ok(Some(end));
     }
-    if let Some(path) = first_missing(rows, build, unit.prerequisites.as_slice()) {
+    if let Some(path) = missing_prerequisite(rows, build, number, unit) {
         let path = path.copy(alloc)?;
         return Ok(Some(UnitEnd::Failed(UnitFault::NoRule(path))));
     }
-    if let Some(path) = first_bad(rows, build, unit.prerequisites.as_slice()) {
+    if let Some(path) = bad_prerequisite(rows, build, number, unit) {
         return Ok(Some(UnitEnd::Blocked(path.copy(alloc)?)));
     }
     no_script(alloc, unit)

@@ -2,39 +2,27 @@
 
 ghost use Rattle.std.specs.Prelude.{◌≡◌, ◌<◌, IfOk, filter, length};
 ghost use Rattle.std.specs.List.{list_all, range_with_len};
-ghost use Rattle.legal_history.specs.Builds.Active.{unit_with};
-ghost use Rattle.legal_history.specs.Builds.Turns.{is_over};
+ghost use Rattle.legal_history.specs.Builds.Active.{came_to, is_outcome};
 ghost use Rattle.clearmake.specs.Calls.{is_released};
 ghost use Rattle.build_core.specs.Releasing.{can_be_driven};
 
 use crate::active::ActiveBuild;
 use cc_names::memory::NoMemory;
-use cc_names::paths::Path;
 use std::alloc::Global;
 
-/// Whether the unit that makes a path, if one does, has its outcome.
-fn is_over(build: &ActiveBuild, path: &Path) -> bool
-    ensures { result ≡ is_over build.now (unit_with build.now path.now) }
-{
-    match build.unit_with(path) {
-        Some(unit) => build.has_outcome(unit),
-        None => true,
-    }
-}
-
-/// Whether the units that make these paths have their outcomes. The last path is looked at first: units come in the order of
-/// their prerequisites, so its unit is most often the last to have one, and the others need no look before.
+/// Whether these units have their outcomes. The last is looked at first: units come in the order of their prerequisites, so it is
+/// most often the last to have one, and the others need no look before.
 #[tactic(auto, using(crate::proofs::Waiting::one_is_not_over))]
-fn are_over(build: &ActiveBuild, paths: &[Path]) -> bool
-    ensures { result ≡ list_all (λ path. is_over build.now (unit_with build.now path)) paths.now }
+fn are_over(build: &ActiveBuild, units: &[u32]) -> bool
+    ensures { result ≡ list_all (λ n. is_outcome (came_to build.now n)) units.now }
 {
-    if let Some(path) = paths.last() {
-        if !is_over(build, path) {
+    if let Some(unit) = units.last() {
+        if !build.has_outcome(*unit) {
             return false;
         }
     }
-    for path in paths {
-        if !is_over(build, path) {
+    for unit in units {
+        if !build.has_outcome(*unit) {
             return false;
         }
     }
@@ -48,16 +36,16 @@ fn can_be_driven(build: &ActiveBuild, unit: u32) -> bool
     if build.has_outcome(unit) {
         return false;
     }
-    match build.units().get(unit as usize) {
-        Some(unit) => are_over(build, unit.prerequisites.as_slice()),
-        None => false,
+    if unit as usize >= build.units().len() {
+        return false;
     }
+    are_over(build, build.makers(unit))
 }
 
 /// The units that a unit has released, by their numbers, in order: those that need it and can be driven. Fails only where
 /// memory runs out.
 ///
-/// Takes time linear in the unit's dependants and in their prerequisites.
+/// Takes time linear in the unit's dependants and in their prerequisites, and looks up no path.
 pub fn released_units(alloc: Global, build: &ActiveBuild, unit: u32) -> Result<Vec<u32>, NoMemory>
     requires { unit < length build.now.units }
     ensures { IfOk result

@@ -1,12 +1,13 @@
 //! What comes next for a unit of an active build.
 
-ghost use Rattle.std.specs.Prelude.{◌≡◌, ◌<◌, ◌^◌, ℕ, true, false, Some, length, IfOk, IfSome};
+ghost use Rattle.std.specs.Prelude.{◌≡◌, ◌<◌, ◌^◌, ℕ, true, false, not, Some, find, length, IfOk, IfSome};
 ghost use Rattle.cc_names.specs.Answers.{Gives};
 ghost use Rattle.script_grammar.specs.Lines.{script_of};
 ghost use Rattle.base_model.specs.Rows.{Base, first_rows};
 ghost use Rattle.legal_history.specs.Builds.Active.{Build, Started, came_to, is_outcome, unit_at};
 ghost use Rattle.legal_history.specs.Builds.Fresh.{script_text};
 ghost use Rattle.legal_history.specs.Builds.Turns.{early_in};
+ghost use Rattle.make_graph.specs.Waits.{prerequisites_at};
 ghost use Rattle.build_core.specs.UnitSteps.{first_awaited, IsNextOfStarted, IsNextOfUnit, IsUnitOpen, IsUnitStep, IsToRun};
 
 use crate::active::{ActiveBuild, Came};
@@ -47,21 +48,28 @@ pub enum UnitStep {
     Fail(ScriptFault),
 }
 
-/// The first of the units that make these paths and have no outcome.
-fn first_awaited(build: &ActiveBuild, paths: &[Path]) -> Option<u32>
-    requires { length build.now.units < 2 ^ 32 }
-    ensures first { result ≡ first_awaited build.now paths.now }
-    ensures within { IfSome result (λ m. m < length build.now.units) }
+/// The first of these units that has no outcome.
+fn first_without_outcome(build: &ActiveBuild, units: &[u32]) -> Option<u32>
+    ensures first { result ≡ find (λ n. not (is_outcome (came_to build.now n))) units.now }
     ensures waits { IfSome result (λ m. is_outcome (came_to build.now m) ≡ false) }
 {
-    for path in paths {
-        if let Some(number) = build.unit_with(path) {
-            if !build.has_outcome(number) {
-                return Some(number);
-            }
+    for unit in units {
+        if !build.has_outcome(*unit) {
+            return Some(*unit);
         }
     }
     None
+}
+
+/// The first of the units that make a unit's prerequisites and have no outcome. Takes time linear in them, and looks up no path.
+fn first_awaited(build: &ActiveBuild, unit: u32) -> Option<u32>
+    requires { unit < length build.now.units }
+    ensures first { result
+        ≡ first_awaited build.now (prerequisites_at build.now.units unit) }
+    ensures within { IfSome result (λ m. m < length build.now.units) }
+    ensures waits { IfSome result (λ m. is_outcome (came_to build.now m) ≡ false) }
+{
+    first_without_outcome(build, build.makers(unit))
 }
 
 /// The text of the unit's script, nothing where it has none.
@@ -142,15 +150,18 @@ fn end_without_run(
     alloc: Global,
     rows: &FirstRows<'_>,
     build: &ActiveBuild,
+    number: u32,
     unit: &Unit,
 ) -> Result<Option<UnitEnd>, NoMemory>
+    requires unit { unit_at build.now number ≡ Some unit.now }
+    requires within { number < length build.now.units }
     ensures { IfOk result
         (λ end.
         end
         ≡ early_in (first_rows build.now.rows rows.now) build.now unit.now) }
 {
     let seen = first_rows(rows, build.rows());
-    early(alloc, &seen, build, unit)
+    early(alloc, &seen, build, number, unit)
 }
 
 /// What comes next for a unit that has come to nothing yet.
@@ -162,14 +173,14 @@ fn next(
     unit: &Unit,
 ) -> Result<UnitStep, NoMemory>
     requires unit { unit_at build.now number ≡ Some unit.now }
-    requires few { length build.now.units < 2 ^ 32 }
+    requires within { number < length build.now.units }
     requires fresh { came_to build.now number ≡ None }
     ensures { IfOk result (λ step. IsNextOfUnit rows.now build.now number unit.now step) }
 {
-    if let Some(other) = first_awaited(build, unit.prerequisites.as_slice()) {
+    if let Some(other) = first_awaited(build, number) {
         return Ok(UnitStep::NotReady(other));
     }
-    if let Some(end) = end_without_run(alloc, rows, build, unit)? {
+    if let Some(end) = end_without_run(alloc, rows, build, number, unit)? {
         return Ok(UnitStep::EndEarly(end));
     }
     reuse_or_start(alloc, rows, build, number, unit)
@@ -179,8 +190,9 @@ fn next(
 /// for another unit, the end without a run, the object that it keeps or that its view winks in, or its start with its script.
 /// Fails only where memory runs out.
 ///
-/// Takes look-ups by the paths of the unit's prerequisites and targets; what `reusable` takes; and where it may reuse no object
-/// time linear in the bytes of the script.
+/// Takes time linear in the unit's prerequisites, and look-ups by their paths where one of them is no unit's, or its unit failed
+/// or was blocked; look-ups by the paths of its targets; what `reusable` takes; and where it may reuse no object time linear in
+/// the bytes of the script.
 pub fn step(
     alloc: Global,
     rows: &FirstRows<'_>,

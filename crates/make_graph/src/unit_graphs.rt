@@ -130,8 +130,8 @@ impl Graph {
         number(&self.numbers, path)
     }
 
-    /// The units that make a unit's prerequisites, in the order of these, in constant time.
-    pub(crate) fn makers(&self, unit: u32) -> &[u32]
+    /// The units that make a unit's prerequisites, by their numbers, in the order of these, in constant time.
+    pub fn makers(&self, unit: u32) -> &[u32]
         requires { unit < length self.now }
         ensures { result.now ≡ makers_of self.now (prerequisites_at self.now unit) }
     {

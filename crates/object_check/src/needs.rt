@@ -4,27 +4,13 @@ ghost use Rattle.std.specs.Prelude.{◌≡◌, ◌||◌, ℕ, IfOk, OnOk, is_som
 ghost use Rattle.std.specs.BTreeSet.{contains};
 ghost use Rattle.std.specs.Ordering.{nat_cmp};
 ghost use Rattle.base_model.specs.Changes.{live_row};
-ghost use Rattle.base_model.specs.Objects.{record_of};
 ghost use Rattle.object_check.specs.Needed.{is_object_of, name_object, HasLive, IsClosed, NeedsFrom};
 
 use cc_names::memory::NoMemory;
-use cc_names::rows::{Deed, ReadOf};
+use cc_names::rows::ReadOf;
 use std::alloc::Global;
 use std::collections::BTreeSet;
-use view_lookup::{FirstRows, is_publish, live_row, row_at};
-
-/// The entries of an object's record; any other row has none.
-fn record_of<'a>(rows: &FirstRows<'a>, object: u64) -> &'a [ReadOf]
-    ensures { result.now ≡ record_of rows.now object }
-{
-    match row_at(rows, object) {
-        None => &[],
-        Some(row) => match row.deed() {
-            Deed::Publish { entries, .. } => entries.as_slice(),
-            _ => &[],
-        },
-    }
-}
+use view_lookup::{FirstRows, is_publish, live_row, record_of};
 
 /// Adds the object that an entry names, if it names one.
 fn add_object_of_entry(

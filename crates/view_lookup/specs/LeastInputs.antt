@@ -1,5 +1,5 @@
 -- The least path of what an object rests on, of which a test holds, object by object.
-use Rattle.std.specs.Prelude.{ℕ, suc, max, cond, Option, Some, None, List, [], ◌∷◌}
+use Rattle.std.specs.Prelude.{ℕ, cond, Option, Some, None, List, [], ◌∷◌}
 use Rattle.std.specs.Cmp.Lexicographic.{slice_cmp}
 use Rattle.std.specs.Ordering.{is_lt, nat_cmp}
 use Rattle.cc_names.specs.declared.rows.ReadOf.{ReadOf}
@@ -43,13 +43,3 @@ least_of_entry b passes entry = least_in passes (inputs_of_entry (is_publish b e
 abbrev pub least_of_entries : Base → PathTest → List ReadOf → Option (List ℕ)
 least_of_entries b passes [] = None
 least_of_entries b passes (entry ∷ entries) = lesser (least_of_entry b passes entry) (least_of_entries b passes entries)
-
--- a number above all of some numbers, the least one
-abbrev pub above : List ℕ → ℕ
-above [] = 0
-above (n ∷ ns) = max (suc n) (above ns)
-
--- a number above all rows of some entries, the least one
-abbrev pub above_entries : List ReadOf → ℕ
-above_entries [] = 0
-above_entries (entry ∷ entries) = max (suc entry.row) (above_entries entries)

@@ -2,15 +2,16 @@
 
 ghost use Rattle.std.specs.Prelude.{◌≡◌, ◌≤◌, max, suc, IfOk};
 ghost use Rattle.std.specs.Option.{option_copied};
-ghost use Rattle.base_model.specs.Objects.{record_of};
+ghost use Rattle.base_rows.specs.ObjectWalks.{above, above_entries};
 ghost use Rattle.view_lookup.specs.FirstInputs.{first_input};
-ghost use Rattle.view_lookup.specs.LeastInputs.{above, above_entries, least_of_all, least_of_entries, least_of_entry, lesser};
+ghost use Rattle.view_lookup.specs.LeastInputs.{least_of_all, least_of_entries, least_of_entry, lesser};
 
-use base_rows::bases::{FirstRows, row_at};
+use base_rows::bases::FirstRows;
 use base_rows::listings::is_publish;
+use base_rows::objects::record_of;
 use cc_names::memory::NoMemory;
 use cc_names::paths::Path;
-use cc_names::rows::{Deed, ReadOf};
+use cc_names::rows::ReadOf;
 use std::alloc::Global;
 use std::collections::BTreeSet;
 
@@ -24,19 +25,6 @@ pub trait InputTest {
     /// Whether a path passes with the row there; row 0 says that nothing was there.
     fn passes(&self, path: &Path, row: u64) -> bool
         ensures { result ≡ passes self.now path.now row };
-}
-
-/// The entries of an object's record; any other row has none. Takes constant time.
-pub(crate) fn record_of<'a>(rows: &FirstRows<'a>, object: u64) -> &'a [ReadOf]
-    ensures { result.now ≡ record_of rows.now object }
-{
-    match row_at(rows, object) {
-        None => &[],
-        Some(row) => match row.deed() {
-            Deed::Publish { entries, .. } => entries.as_slice(),
-            _ => &[],
-        },
-    }
 }
 
 /// The lesser of two paths, where there are two.

@@ -1,11 +1,9 @@
 //! When a row fits the rows before it.
 
-ghost use Rattle.std.specs.Prelude.{◌≡◌, ◌||◌, Some, true, IfErr, IfOk};
+ghost use Rattle.std.specs.Prelude.{◌≡◌, Some, true, IfErr, IfOk};
 ghost use Rattle.std.specs.List.{list_all};
 ghost use Rattle.cc_names.specs.Formed.{IsDeedFormed, IsText};
 ghost use Rattle.cc_names.specs.declared.rows.Deed.TheVariants as deeds;
-ghost use Rattle.base_model.specs.Changes.{targets_of_deed};
-ghost use Rattle.base_model.specs.Closures.{is_path_among};
 ghost use Rattle.base_model.specs.Conditions.{element_of_text, is_entry, is_some_file, makes_file_text, may_be_scrubbed};
 ghost use Rattle.base_model.specs.Rows.{Base};
 ghost use Rattle.base_model.specs.Fits.{deed_fits, fits};
@@ -16,11 +14,10 @@ use crate::scrubs::may_be_scrubbed;
 use crate::seen::kind_of;
 use crate::types::is_type_taken;
 use base_rows::bases::{FirstRows, row_at};
-use base_rows::objects::{held_object, is_target, live_row};
+use base_rows::objects::{has_target, held_object, live_row};
 use base_rows::views::{private, view_row};
 use cc_names::memory::{NoMemory, Or};
 use cc_names::names::Name;
-use cc_names::paths::Path;
 use cc_names::rows::{Deed, Kind, ReadOf, Row};
 use cc_names::texts::Text;
 use spec_text::read_rules;
@@ -53,20 +50,18 @@ fn is_some_file(rows: &FirstRows<'_>, element: Option<u64>) -> bool
     }
 }
 
-/// Whether a record may name a row of this deed as the one that made the text at a path.
-fn makes_text(rows: &FirstRows<'_>, path: &Path, row: u64, deed: &Deed) -> bool
-    ensures { result
-        ≡ (makes_file_text rows.now row (Some deed.now)
-        || is_path_among path.now (targets_of_deed (Some deed.now))) }
+/// Whether a row of this deed made the text of a file.
+fn makes_file_text(rows: &FirstRows<'_>, row: u64, deed: &Deed) -> bool
+    ensures { result ≡ makes_file_text rows.now row (Some deed.now) }
 {
     match deed {
         Deed::Put { .. } => true,
-        Deed::Publish { targets, .. } => is_target(path, targets.as_slice()),
         _ => is_some_file(rows, element_of_text(row, deed)),
     }
 }
 
-/// Whether an entry says that its path was absent, or names the text of a file or an output at its path.
+/// Whether an entry says that its path was absent, or names the text of a file or an output at its path. Takes time logarithmic
+/// in the targets of an object.
 fn is_entry(rows: &FirstRows<'_>, entry: &ReadOf) -> bool
     ensures { result ≡ is_entry rows.now entry.now }
 {
@@ -75,7 +70,9 @@ fn is_entry(rows: &FirstRows<'_>, entry: &ReadOf) -> bool
     }
     match row_at(rows, entry.row) {
         None => false,
-        Some(row) => makes_text(rows, &entry.path, entry.row, row.deed()),
+        Some(row) => {
+            makes_file_text(rows, entry.row, row.deed()) || has_target(rows, entry.row, &entry.path)
+        }
     }
 }
 
@@ -149,9 +146,9 @@ fn deed_fits(alloc: Global, rows: &FirstRows<'_>, deed: &Deed) -> Result<bool, N
     }
 }
 
-/// Whether a row may be the next of a base. Takes time linear in the names and the texts of the row, in its entries and in the
-/// targets of the objects that they name, and for each look-up the time of that. Memory is taken to read the config spec of a
-/// `Deed::Setcs`, by no other deed: `NoMemory` says nothing of the row, which may be asked of again.
+/// Whether a row may be the next of a base. Takes time linear in the names and the texts of the row and in its entries, times the
+/// logarithm of the targets of the objects that they name, and for each look-up the time of that. Memory is taken to read the
+/// config spec of a `Deed::Setcs`, by no other deed: `NoMemory` says nothing of the row, which may be asked of again.
 pub fn fits(alloc: Global, rows: &FirstRows<'_>, row: &Row) -> Result<bool, NoMemory>
     ensures fits { IfOk result (λ is. is ≡ fits rows.now row.now.deed) }
     ensures memory { IfErr result (λ _. sets_spec row.now.deed ≡ true) }

@@ -43,7 +43,7 @@ pub use base_rows::bases::{FirstRows, Rows, first_rows, row_at};
 pub use base_rows::checkouts::{Checkout, checked_out, has_out, making};
 pub use base_rows::labels::{has_label, holder, standing_labels};
 pub use base_rows::listings::{is_publish, placed_by};
-pub use base_rows::objects::{held_at_all, held_object, live_row, targets_of};
+pub use base_rows::objects::{held_at_all, held_object, live_row, record_of, targets_of};
 pub use base_rows::prepared::Prepared;
 pub use base_rows::trees::{
     branch_of_version, is_latest, is_version_of, latest_beside, latest_version, name_of_branch,
@@ -75,6 +75,6 @@ pub use scrubs::{holds_one, is_held, may_be_scrubbed, winks_of};
 pub use seeing::remember;
 pub use seen::{at, file_at, is_directory, kind_of};
 pub use standings::oldest_out;
-pub use texts::{text_at, text_of};
+pub use texts::{output_at, text_at, text_of};
 pub use types::{is_branch_type, is_label_type, is_type_taken, kind_of_type};
 pub use version_names::{branch_name, origin_name, push_at_version, replied_name, version_name};

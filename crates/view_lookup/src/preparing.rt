@@ -37,10 +37,10 @@ fn read_given(alloc: Global, deed: &Deed) -> Result<Option<Rules>, NoMemory>
     }
 }
 
-/// What the next row of a base needs, where it is of this deed. Takes the time of `read_rules` for a config spec. Takes time
-/// linear in what the operation names; for each entry of a record linear in the versions that the entry's object lists, times
-/// the logarithm of the record's; for each row that changed names in a checkout that it ends, a few look-ups; logarithmic in
-/// the branches.
+/// What the next row of a base needs, where it is of this deed. Takes the time of `read_rules` for a config spec, and for each
+/// object that it names, and none before, time linear in the records on which that rests, times the logarithm of what they list.
+/// Takes time linear in what the operation names; for each row that changed names in a checkout that it ends, a few look-ups;
+/// logarithmic in the branches.
 pub fn prepare(alloc: Global, base: &Rows, deed: &Deed) -> Result<Prepared, NoMemory>
     ensures { IfOk result
         (λ prepared. IsPrepared prepared base.now.hashing base.now.base deed.now) }

@@ -4,10 +4,10 @@ ghost use Rattle.std.specs.Prelude.{◌≡◌, IfOk, IfSome, OnOk};
 ghost use Rattle.base_model.specs.Rows.{size};
 ghost use Rattle.base_rows.specs.SeenFiles.{AreFiles, IsSeenIn};
 
-use crate::closures::record_of;
 use crate::pool::{RecordTest, newest_object};
 use crate::seen::find_file;
 use base_rows::bases::{FirstRows, Rows, first_rows};
+use base_rows::objects::record_of;
 use base_rows::seen_files::{FileRows, SeenFiles};
 use cc_names::memory::NoMemory;
 use cc_names::names::Name;

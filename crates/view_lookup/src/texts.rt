@@ -1,28 +1,36 @@
 //! The texts that rows made.
 
-ghost use Rattle.std.specs.Prelude.{◌≡◌};
+ghost use Rattle.std.specs.Prelude.{◌≡◌, Some};
 ghost use Rattle.std.specs.Option.{option_copied};
+ghost use Rattle.cc_names.specs.Formed.{IsDeedFormed};
+ghost use Rattle.base_model.specs.Changes.{targets_of};
+ghost use Rattle.base_model.specs.Rows.{deed_at, first_rows};
 ghost use Rattle.base_model.specs.Texts.{texts, of_making, of_output, output_at, source_of, text};
 ghost use Rattle.view_lookup.specs.Sources.{plain_source};
 
 use crate::seen::file_at;
 use base_rows::bases::{FirstRows, first_rows, row_at};
 use base_rows::checkouts::making;
+use base_rows::objects::target_place;
 use cc_names::names::Name;
 use cc_names::paths::Path;
 use cc_names::rows::Deed;
 use cc_names::texts::Text;
 
-/// The output at the place of the target with this path.
-fn output_at<'a>(path: &Path, targets: &[Path], outputs: &'a [Text]) -> Option<&'a [u8]>
-    ensures { option_copied result ≡ output_at path.now targets.now outputs.now }
+/// The output at the path of one of an object's targets, among outputs in the order of these. Takes time logarithmic in the
+/// targets.
+pub fn output_at<'a>(
+    rows: &FirstRows<'_>,
+    object: u64,
+    path: &Path,
+    outputs: &'a [Text],
+) -> Option<&'a [u8]>
+    ensures { option_copied result
+        ≡ output_at path.now (targets_of rows.now object) outputs.now }
 {
-    for (index, target) in targets.iter().enumerate() {
-        if target.as_bytes() == path.as_bytes() {
-            return Some(outputs.get(index)?.as_bytes());
-        }
-    }
-    None
+    let place = target_place(rows, object, path)?;
+    let output = outputs.get(place)?;
+    Some(output.as_bytes())
 }
 
 /// Where the text that a row makes comes from.
@@ -55,27 +63,29 @@ fn of_output(output: Option<&[u8]>) -> TextSource<'_>
     }
 }
 
-/// Where the text comes from of a row of this deed, which comes after the older rows; of an object, its output at the path.
-fn source_of<'a>(older: &FirstRows<'_>, path: &Path, deed: &'a Deed) -> TextSource<'a>
-    ensures { plain_source result ≡ source_of older.now path.now deed.now }
+/// Where the text comes from of the row of this number, which has this deed; of an object, its output at the path.
+fn source_of<'a>(rows: &FirstRows<'_>, number: u64, path: &Path, deed: &'a Deed) -> TextSource<'a>
+    requires deed { deed_at rows.now number ≡ Some deed.now }
+    requires formed { IsDeedFormed deed.now }
+    ensures { plain_source result ≡ source_of (first_rows number rows.now) path.now deed.now }
 {
     match deed {
         Deed::Mkelem { .. } => TextSource::Bytes(&[]),
         Deed::Checkout { origin, .. } => TextSource::OfRow(*origin),
         Deed::Branch { origin, .. } => TextSource::OfRow(*origin),
         Deed::Save { text, .. } => TextSource::Bytes(text.as_bytes()),
-        Deed::Checkin { view, element } => of_making(making(older, view, *element)),
+        Deed::Checkin { view, element } => {
+            of_making(making(&first_rows(rows, number), view, *element))
+        }
         Deed::Put { text, .. } => TextSource::Bytes(text.as_bytes()),
-        Deed::Publish {
-            targets,
-            outputs,
-            ..
-        } => of_output(output_at(path, targets.as_slice(), outputs.as_slice())),
+        Deed::Publish { outputs, .. } => {
+            of_output(output_at(rows, number, path, outputs.as_slice()))
+        }
         _ => TextSource::NoText,
     }
 }
 
-/// The text that a row made; of an object, its output at the path. Takes time linear in the targets of an object, and for a
+/// The text that a row made; of an object, its output at the path. Takes time logarithmic in the targets of an object, and for a
 /// version the time of `making` for each checkout and checkin back to the last save.
 pub fn text_of<'a>(rows: &FirstRows<'a>, row: u64, path: &Path) -> Option<&'a [u8]>
     ensures { option_copied result ≡ text rows.now row path.now }
@@ -83,8 +93,9 @@ pub fn text_of<'a>(rows: &FirstRows<'a>, row: u64, path: &Path) -> Option<&'a [u
     let mut older = first_rows(rows, rows.size());
     let mut number = row;
     while let Some(found) = row_at(&older, number) {
+        let source = source_of(&older, number, path, found.deed());
         older = first_rows(&older, number);
-        match source_of(&older, path, found.deed()) {
+        match source {
             TextSource::Bytes(bytes) => return Some(bytes),
             TextSource::OfRow(origin) => number = origin,
             TextSource::NoText => return None,

@@ -1,4 +1,4 @@
--- What is kept of the object is what its record lists.
+-- What is made of the object is what its record lists.
 use Rattle.std.proofs.Common.{◌≡◌, ◌≤◌, List, ap, sym, subst, map, ◌∙◌, arith}
 use Rattle.std.proofs.lemmas.Result.{IfOk-weaker}
 use Rattle.std.specs.List.Sorted.{IsStrictlySortedBy}
@@ -7,33 +7,21 @@ use Rattle.cc_names.specs.Formed.{IsListOf, IsPlaced, element_of}
 use Rattle.cc_names.specs.declared.rows.Placed.{Placed}
 use Rattle.base_model.specs.Closures.{Listing, as_placed, placed_by}
 use Rattle.base_model.specs.Rows.{size}
-use Rattle.base_rows.proofs.StoredListings.{stored_listing, nothing_listed}
+use Rattle.base_rows.proofs.StoredListings.{stored_listing}
 use Rattle.base_rows.proofs.PlacedForms.{placed_formed}
 use Rattle.base_rows.proofs.listings.placed_by.Goals as goal
 
-pub returns-in-None : goal.returns-in-None
-returns-in-None c =
+pub returns : goal.returns
+returns c =
     let b = c.args.rows.now in
     let limit : size b ≤ 4000000 = omega (arith, c.size.ensures) in
-    let is : c.new.result.items ≡ placed_by b c.args.object = c.new.ensures.items
-    ∙ ap (λ (entries : Listing). map as_placed entries) (nothing_listed b c.args.object c.in-None.ensures) in
+    let versions = c.in_ok-versions.versions in
+    let kept = ap (λ (entries : Listing). map as_placed entries) (stored_listing versions.entries b c.args.object
+    c.places_of.ensures.ordered c.in_ok-versions.ensures) in
     record {
-      placed = is;
-      formed = subst (λ (places : List Placed). IsListOf IsPlaced places
-          × IsStrictlySortedBy nat_cmp (map element_of places)) (sym is)
-          (placed_formed b c.args.object c.size.ensures.base limit);
-    }
-
-pub returns-in-Some : goal.returns-in-Some
-returns-in-Some c =
-    let b = c.args.rows.now in
-    let limit : size b ≤ 4000000 = omega (arith, c.size.ensures) in
-    let kept = ap (λ (entries : Listing). map as_placed entries) (stored_listing c.in-Some.versions.now.entries b c.args.object
-    c.places_of.ensures.ordered c.in-Some.ensures) in
-    record {
-      placed = IfOk-weaker c.places_of.result (λ placed. placed.items ≡ map as_placed c.in-Some.versions.now.entries)
+      placed = IfOk-weaker c.places_of.result (λ placed. placed.items ≡ map as_placed versions.entries)
           (λ placed. placed.items ≡ placed_by b c.args.object) (λ placed is. is ∙ kept) c.places_of.ensures.placed;
-      formed = IfOk-weaker c.places_of.result (λ placed. placed.items ≡ map as_placed c.in-Some.versions.now.entries)
+      formed = IfOk-weaker c.places_of.result (λ placed. placed.items ≡ map as_placed versions.entries)
           (λ placed. IsListOf IsPlaced placed.items × IsStrictlySortedBy nat_cmp (map element_of placed.items))
           (λ placed is. subst (λ (places : List Placed). IsListOf IsPlaced places
           × IsStrictlySortedBy nat_cmp (map element_of places)) (sym (is ∙ kept))

@@ -12,19 +12,19 @@ returns-in-Some c =
     sym (by_directory c.args.rows.now c.args.build.now c.args.unit.now c.in-Some.end
     (sym c.in_ok-end.ensures ∙ c.in-Some.is))
 
-pub returns-in-Some-first_missing : goal.returns-in-Some-first_missing
-returns-in-Some-first_missing c =
+pub returns-in-Some-missing_prerequisite : goal.returns-in-Some-missing_prerequisite
+returns-in-Some-missing_prerequisite c =
     let none : no_directory (sees_directory c.args.rows.now c.args.build.now.view) c.args.unit.now.targets c.args.unit.now.script
     ≡ None = sym c.in_ok-end.ensures ∙ c.in_default.is in
     let missing = λ (paths : List (List ℕ)). find (λ path. is_missing (standing_or_file
     (sees_file c.args.rows.now c.args.build.now.view path) (standing_of_unit c.args.build.now path))) paths in
     let found : missing c.args.unit.now.prerequisites ≡ Some c.in_ok-path.path =
-    ap missing (sym c.as_slice.ensures) ∙ sym c.in-Some-first_missing.ensures ∙ ap Some (sym c.in_ok-path.ensures.copy)
+    sym c.in-Some-missing_prerequisite.ensures ∙ ap Some (sym c.in_ok-path.ensures.copy)
     in
     sym (by_missing c.args.rows.now c.args.build.now c.args.unit.now c.in_ok-path.path none found)
 
-pub returns-in-Some-first_bad : goal.returns-in-Some-first_bad
-returns-in-Some-first_bad c =
+pub returns-in-Some-bad_prerequisite : goal.returns-in-Some-bad_prerequisite
+returns-in-Some-bad_prerequisite c =
     let none : no_directory (sees_directory c.args.rows.now c.args.build.now.view) c.args.unit.now.targets c.args.unit.now.script
     ≡ None = sym c.in_ok-end.ensures ∙ c.in_default.is in
     let missing = λ (paths : List (List ℕ)). find (λ path. is_missing (standing_or_file
@@ -32,10 +32,10 @@ returns-in-Some-first_bad c =
     let bad = λ (paths : List (List ℕ)). find (λ path. is_bad (standing_or_file
     (sees_file c.args.rows.now c.args.build.now.view path) (standing_of_unit c.args.build.now path))) paths in
     let known : missing c.args.unit.now.prerequisites ≡ None =
-    ap missing (sym c.as_slice.ensures) ∙ sym c.in_default-first_missing.ensures
+    sym c.in_default-missing_prerequisite.ensures
     in
     let found : bad c.args.unit.now.prerequisites ≡ Some c.in_ok-copy.field-0 =
-    ap bad (sym c.as_slice-2.ensures) ∙ sym c.in-Some-first_bad.ensures ∙ ap Some (sym c.in_ok-copy.ensures.copy)
+    sym c.in-Some-bad_prerequisite.ensures ∙ ap Some (sym c.in_ok-copy.ensures.copy)
     in
     sym (by_bad c.args.rows.now c.args.build.now c.args.unit.now c.in_ok-copy.field-0 none known found)
 
@@ -48,9 +48,9 @@ returns c =
     let bad = λ (paths : List (List ℕ)). find (λ path. is_bad (standing_or_file
     (sees_file c.args.rows.now c.args.build.now.view path) (standing_of_unit c.args.build.now path))) paths in
     let known : missing c.args.unit.now.prerequisites ≡ None =
-    ap missing (sym c.as_slice.ensures) ∙ sym c.in_default-first_missing.ensures
+    sym c.in_default-missing_prerequisite.ensures
     in
     let good : bad c.args.unit.now.prerequisites ≡ None =
-    ap bad (sym c.as_slice-2.ensures) ∙ sym c.in_default-first_bad.ensures
+    sym c.in_default-bad_prerequisite.ensures
     in
     rw (by_script c.args.rows.now c.args.build.now c.args.unit.now none known good) c.no_script.ensures

@@ -1,10 +1,9 @@
-use Rattle.std.proofs.Common.{◌≡◌, List, ℕ, drop}
+use Rattle.std.proofs.Common.{◌≡◌, drop}
 use Rattle.std.specs.List.{list_all}
-use Rattle.legal_history.specs.Builds.Active.{unit_with}
-use Rattle.legal_history.specs.Builds.Turns.{is_over}
+use Rattle.legal_history.specs.Builds.Active.{came_to, is_outcome}
 use Rattle.build_core.proofs.releases.are_over.Given as goal
 
-abbrev pub invariant-loop-path : goal.invariant-loop-path
-invariant-loop-path l =
-    list_all (λ (path : List ℕ). is_over l.build (unit_with l.build path)) (drop l.path-index l.paths)
-    ≡ list_all (λ (path : List ℕ). is_over l.build (unit_with l.build path)) l.paths
+abbrev pub invariant-loop-unit : goal.invariant-loop-unit
+invariant-loop-unit l =
+    list_all (λ n. is_outcome (came_to l.build n)) (drop l.unit-index l.units)
+    ≡ list_all (λ n. is_outcome (came_to l.build n)) l.units

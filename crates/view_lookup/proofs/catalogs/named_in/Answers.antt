@@ -1,5 +1,5 @@
 -- A name stands for another one in a catalog of fewer rows, until a row tells its element.
-use Rattle.std.proofs.Common.{ℕ, ◌<◌, length, sym, ap, subst, ◌∙◌, le_refl}
+use Rattle.std.proofs.Common.{◌<◌, length, sym, ap, subst, ◌∙◌, le_refl}
 use Rattle.base_model.specs.Catalogs.{element_named}
 use Rattle.base_model.specs.Rows.{Base, first_rows, size}
 use Rattle.base_model.proofs.Stay.{all_rows}

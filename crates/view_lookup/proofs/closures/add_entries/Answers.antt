@@ -1,8 +1,10 @@
 -- One entry after the other is added.
 use Rattle.std.proofs.Common.{◌+◌, drop}
 use Rattle.std.specs.Option.{option_copied}
-use Rattle.view_lookup.specs.LeastInputs.{above, least_of_all, least_of_entries, lesser}
-use Rattle.view_lookup.proofs.LeastInputs.{entries_above, entries_left, entry_taken}
+use Rattle.base_rows.specs.ObjectWalks.{above}
+use Rattle.view_lookup.specs.LeastInputs.{least_of_all, least_of_entries, lesser}
+use Rattle.base_rows.proofs.RecordEntries.{entries_above}
+use Rattle.view_lookup.proofs.LeastInputs.{entries_left, entry_taken}
 use Rattle.view_lookup.proofs.closures.add_entries.Goals as goal
 
 pub loop-entry-preserved : goal.loop-entry-preserved

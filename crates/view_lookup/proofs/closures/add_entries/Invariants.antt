@@ -1,6 +1,7 @@
 use Rattle.std.proofs.Common.{◌≡◌, ◌≤◌, max, drop}
 use Rattle.std.specs.Option.{option_copied}
-use Rattle.view_lookup.specs.LeastInputs.{above, above_entries, least_of_all, least_of_entries, lesser}
+use Rattle.base_rows.specs.ObjectWalks.{above, above_entries}
+use Rattle.view_lookup.specs.LeastInputs.{least_of_all, least_of_entries, lesser}
 use Rattle.view_lookup.proofs.closures.add_entries.Given as goal
 
 -- what was found, with the entries that are left, is what all of them give

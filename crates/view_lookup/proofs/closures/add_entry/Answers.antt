@@ -1,8 +1,10 @@
 -- An entry is an object that is left, or its path passes, or not.
 use Rattle.std.proofs.Common.{◌≤◌, ℕ, suc, max, List, sym, subst, ◌∙◌}
 use Rattle.std.specs.Option.{option_copied}
-use Rattle.view_lookup.specs.LeastInputs.{above, least_of_all}
-use Rattle.view_lookup.proofs.LeastInputs.{entry_object, entry_passed, one_above}
+use Rattle.base_rows.specs.ObjectWalks.{above}
+use Rattle.view_lookup.specs.LeastInputs.{least_of_all}
+use Rattle.base_rows.proofs.RecordEntries.{one_above}
+use Rattle.view_lookup.proofs.LeastInputs.{entry_object, entry_passed}
 use Rattle.view_lookup.proofs.closures.add_entry.Goals as goal
 
 pub returns-then-is_publish-clause-least : goal.returns-then-is_publish-clause-least

@@ -5,7 +5,8 @@ use Rattle.std.specs.Option.{option_copied}
 use Rattle.std.specs.Ordering.{nat_cmp}
 use Rattle.view_lookup.specs.FirstInputs.{first_input}
 use Rattle.view_lookup.specs.LeastInputs.{least_of, least_of_all}
-use Rattle.view_lookup.proofs.LeastInputs.{first_least, object_taken, walk_falls}
+use Rattle.base_rows.proofs.RecordEntries.{walk_falls}
+use Rattle.view_lookup.proofs.LeastInputs.{first_least, object_taken}
 use Rattle.view_lookup.proofs.LesserPaths.{lesser_none}
 use Rattle.view_lookup.proofs.closures.first_input.Goals as goal
 

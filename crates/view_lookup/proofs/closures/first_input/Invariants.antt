@@ -1,7 +1,8 @@
 use Rattle.std.proofs.Common.{◌≡◌}
 use Rattle.std.specs.Option.{option_copied}
 use Rattle.view_lookup.specs.FirstInputs.{first_input}
-use Rattle.view_lookup.specs.LeastInputs.{above, least_of_all, lesser}
+use Rattle.base_rows.specs.ObjectWalks.{above}
+use Rattle.view_lookup.specs.LeastInputs.{least_of_all, lesser}
 use Rattle.view_lookup.proofs.closures.first_input.Given as goal
 
 -- the least path so far, with those of the objects that are left, is the object's

@@ -20,11 +20,12 @@ returns-in-Bytes c =
     let older = c.loop-found.older in
     let number = c.loop-found.number in
     let first = c.first_rows-older-in-Some.result in
-    let update_by_row : text older number path ≡ text_by first path (plain_source c.source_of.result) =
+    let update_by_row : text older number path ≡ text_by first path (plain_source c.source_of-source.result) =
     text_by_its_row older number path
     ∙ ap (text_of_row (first_rows number older) path) (sym c.in-Some.ensures)
-    ∙ ap (λ (b : Base). text_by b path (source_of b path c.in-Some.found.now.deed)) (sym c.first_rows-older-in-Some.ensures)
-    ∙ ap (text_by first path) (sym (c.source_of.ensures ∙ ap (source_of first path) c.deed.ensures.deed)) in
+    ∙ ap (text_by (first_rows number older) path)
+    (sym (c.source_of-source.ensures ∙ ap (source_of (first_rows number older) path) c.deed.ensures.deed))
+    ∙ ap (λ (b : Base). text_by b path (plain_source c.source_of-source.result)) (sym c.first_rows-older-in-Some.ensures) in
     sym (ap (λ source. text_by first path (plain_source source)) c.in-Bytes.is) ∙ sym update_by_row ∙ c.loop-found.invariant
 
 pub loop-found-smaller : goal.loop-found-smaller
@@ -39,11 +40,12 @@ loop-found-preserved c =
     let older = c.loop-found.older in
     let number = c.loop-found.number in
     let first = c.first_rows-older-in-Some.result in
-    let update_by_row : text older number path ≡ text_by first path (plain_source c.source_of.result) =
+    let update_by_row : text older number path ≡ text_by first path (plain_source c.source_of-source.result) =
     text_by_its_row older number path
     ∙ ap (text_of_row (first_rows number older) path) (sym c.in-Some.ensures)
-    ∙ ap (λ (b : Base). text_by b path (source_of b path c.in-Some.found.now.deed)) (sym c.first_rows-older-in-Some.ensures)
-    ∙ ap (text_by first path) (sym (c.source_of.ensures ∙ ap (source_of first path) c.deed.ensures.deed)) in
+    ∙ ap (text_by (first_rows number older) path)
+    (sym (c.source_of-source.ensures ∙ ap (source_of (first_rows number older) path) c.deed.ensures.deed))
+    ∙ ap (λ (b : Base). text_by b path (plain_source c.source_of-source.result)) (sym c.first_rows-older-in-Some.ensures) in
     sym (ap (λ source. text_by first path (plain_source source)) c.in-OfRow.is) ∙ sym update_by_row ∙ c.loop-found.invariant
 
 pub returns-in-NoText : goal.returns-in-NoText
@@ -52,11 +54,12 @@ returns-in-NoText c =
     let older = c.loop-found.older in
     let number = c.loop-found.number in
     let first = c.first_rows-older-in-Some.result in
-    let update_by_row : text older number path ≡ text_by first path (plain_source c.source_of.result) =
+    let update_by_row : text older number path ≡ text_by first path (plain_source c.source_of-source.result) =
     text_by_its_row older number path
     ∙ ap (text_of_row (first_rows number older) path) (sym c.in-Some.ensures)
-    ∙ ap (λ (b : Base). text_by b path (source_of b path c.in-Some.found.now.deed)) (sym c.first_rows-older-in-Some.ensures)
-    ∙ ap (text_by first path) (sym (c.source_of.ensures ∙ ap (source_of first path) c.deed.ensures.deed)) in
+    ∙ ap (text_by (first_rows number older) path)
+    (sym (c.source_of-source.ensures ∙ ap (source_of (first_rows number older) path) c.deed.ensures.deed))
+    ∙ ap (λ (b : Base). text_by b path (plain_source c.source_of-source.result)) (sym c.first_rows-older-in-Some.ensures) in
     sym (ap (λ source. text_by first path (plain_source source)) c.in-NoText.is) ∙ sym update_by_row ∙ c.loop-found.invariant
 
 pub returns : goal.returns

@@ -13,6 +13,7 @@ invariant_of-self c = record {
   labelled = c.self.invariant.labelled;
   specs = c.self.invariant.specs;
   listed = c.self.invariant.listed;
+  ordered = c.self.invariant.ordered;
   seen = c.put_seen.ensures (reverse c.self.inside.rows.items) c.self.invariant.seen
       (subst (λ (b : Base). AreSeen b c.args.seen.0 c.args.seen.1) (sym (ap (λ (shown : Shown). shown.base) c.self.view_is))
       c.requires);

@@ -1,6 +1,7 @@
--- The row's marks, its changes of the trees and of the labels, its config spec and what its record lists are those of the row.
+-- The row's marks, its changes of the trees and of the labels, its config spec, what is kept of what objects list and the places
+-- of its targets are those of the row.
 use Rattle.std.proofs.Common.{◌≡◌, ℕ, ◌+◌, ◌≤◌, ◌&&◌, true, Option, List, [], ◌∷◌, length, map, reverse, nat_eq, nat_lt, sym, ap}
-use Rattle.std.proofs.Common.{ap₂, subst, ◌∙◌, arith}
+use Rattle.std.proofs.Common.{ap₂, subst, ◌∙◌, arith, IfSome}
 use Rattle.std.proofs.lemmas.Grind.{common_steps}
 use Rattle.std.proofs.lemmas.List.{length-reverse, reverse-append}
 use Rattle.std.specs.HashMap.{get}
@@ -17,18 +18,20 @@ use Rattle.base_model.specs.Fits.{deed_fits, fits, is_base, row_limit}
 use Rattle.base_model.specs.Rows.{Base, size}
 use Rattle.base_rows.specs.Growing.{HasPlace, change_of, tree_change, with_change}
 use Rattle.base_rows.specs.Labelling.{AreLabels, HasLabelRoom}
-use Rattle.base_rows.specs.Listings.{AreListings, HasListing, Versions, listing_made, version_in, versions_of_map, with_listing}
+use Rattle.base_rows.specs.Listings.{AreListings}
 use Rattle.base_rows.specs.Marked.{IsMarked, rows_by, with_marks}
 use Rattle.base_rows.specs.Preparing.{IsPrepared}
 use Rattle.base_rows.specs.SeenFiles.{AreSeenByViews}
 use Rattle.base_rows.specs.SetSpecs.{rules_set, specs_set, with_spec}
 use Rattle.base_rows.specs.Shown.{Shown}
 use Rattle.base_rows.specs.Subjects.{keys_of}
+use Rattle.base_rows.specs.TargetOrders.{AreOfObject, AreOrders, Places, with_order}
 use Rattle.base_rows.proofs.FilesSeen.{seen_more}
 use Rattle.base_rows.proofs.Growths.{above_tree, tree_by_change}
 use Rattle.base_rows.proofs.Labellings.{above_labels, after_same, same_twice}
-use Rattle.base_rows.proofs.ListingsStay.{listings_more}
+use Rattle.base_rows.proofs.ListingsStay.{listings_before, made_after}
 use Rattle.base_rows.proofs.SpecsSet.{set_short}
+use Rattle.base_rows.proofs.TargetOrders.{orders_more}
 use Rattle.base_rows.proofs.bases.Rows.push.Goals as goal
 
 pub grow-requires-clause-above : goal.grow-requires-clause-above
@@ -65,9 +68,13 @@ keep_spec-requires c =
     let room = subst (λ (shown : Shown). 1 ≤ shown.spec_room) (sym c.self.view_is) c.requires.room.spec_room in
     omega arith
 
-pub keep_listing-requires : goal.keep_listing-requires
-keep_listing-requires c =
-    let room = subst (λ (shown : Shown). 1 ≤ shown.listing_room) (sym c.self.view_is) c.requires.room.listing_room in
+pub keep_listings-requires : goal.keep_listings-requires
+keep_listings-requires c = subst (λ (shown : Shown). length c.args.prepared.listings.items ≤ shown.listing_room)
+    (sym c.self.view_is) c.requires.room.listing_room
+
+pub keep_places-requires : goal.keep_places-requires
+keep_places-requires c =
+    let room = subst (λ (shown : Shown). 1 ≤ shown.order_room) (sym c.self.view_is) c.requires.room.order_room in
     omega arith
 
 pub invariant_of-self : goal.invariant_of-self
@@ -106,9 +113,8 @@ invariant_of-self c =
     (labels_after (c.len.result + 1) c.deed.result.now (labels older))
     c.relabel.ensures (after_same (c.len.result + 1) c.deed.result.now kept (labels older) c.self.invariant.labelled) in
     let given : c.args.prepared.rules ≡ rules_set row.deed = ready.rules ∙ set_short row.deed c.deed.ensures.formed.deed in
-    let made = versions_of_map c.args.prepared.listing in
-    let listings : ℕ → Option Versions = λ id. versions_of_map (get nat_eq c.self.inside.listings id) in
-    let own : HasListing made (listing_made older row.deed) = ready.listing in
+    let orders : ℕ → Option Places = get nat_eq c.self.inside.orders in
+    let deed_fit = and_second (nat_lt (size older) row_limit) (deed_fits older row.deed) fitting in
     record {
       fitting = ap is_base back ∙ based;
       marks = subst (λ (b : Base). IsMarked hashing c.mark_keys.new.links.items (get nat_eq c.mark_keys.new.newest) b) (sym back)
@@ -124,10 +130,14 @@ invariant_of-self c =
           ∙ ap₂ (λ n rules. with_spec n rules (reverse c.self.inside.specs.items)) number given
           ∙ ap (with_spec (size older) (rules_set row.deed)) c.self.invariant.specs
           ∙ ap specs_set (sym back);
-      listed = subst (AreListings (λ id. versions_of_map (get nat_eq c.keep_listing.new.listings id))) (sym back)
-          (λ id e. ap (version_in e) (c.keep_listing.ensures id ∙ ap (λ n. with_listing n made listings id) number)
-          ∙ listings_more listings made row older c.self.invariant.fitting
-          (and_second (nat_lt (size older) row_limit) (deed_fits older row.deed) fitting) c.self.invariant.listed own id e);
+      listed = subst (AreListings (get nat_eq c.keep_listings.new.listings)) (sym back)
+          (c.keep_listings.ensures (row ∷ older)
+          (listings_before (get nat_eq c.self.inside.listings) row older c.self.invariant.fitting c.self.invariant.listed)
+          (made_after row older c.args.prepared.listings.items c.self.invariant.fitting deed_fit ready.listings));
+      ordered = subst (AreOrders (get nat_eq c.keep_places.new.orders)) (sym back)
+          (λ id. subst (λ found. IfSome found (λ places. AreOfObject (row ∷ older) id places.items))
+          (sym (c.keep_places.ensures id ∙ ap (λ n. with_order n c.args.prepared.places orders id) number))
+          (orders_more orders c.args.prepared.places row older c.self.invariant.ordered ready.places id));
       seen = subst (λ (b : Base). AreSeenByViews b c.self.inside.seen) (sym back)
           (seen_more row older c.self.inside.seen c.self.invariant.seen);
     }

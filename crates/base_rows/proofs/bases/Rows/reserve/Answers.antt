@@ -23,6 +23,12 @@ invariant_of-self-in_err-reserve-3 c =
     same_twice _ _ _ (record { pairs = c.reserve_labels.ensures.kept.pairs }) c.self.invariant.labelled in
     search rules
 
+pub invariant_of-self-in_err-reserve-4 : goal.invariant_of-self-in_err-reserve-4
+invariant_of-self-in_err-reserve-4 c =
+    let labelled : AreLabels c.reserve_labels.new.book.changes (labels (reverse c.self.inside.rows.items)) =
+    same_twice _ _ _ (record { pairs = c.reserve_labels.ensures.kept.pairs }) c.self.invariant.labelled in
+    search rules
+
 pub invariant_of-self-2 : goal.invariant_of-self-2
 invariant_of-self-2 c =
     let labelled : AreLabels c.reserve_labels.new.book.changes (labels (reverse c.self.inside.rows.items)) =

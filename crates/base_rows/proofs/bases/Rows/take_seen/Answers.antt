@@ -10,5 +10,6 @@ invariant_of-self c = record {
   labelled = c.self.invariant.labelled;
   specs = c.self.invariant.specs;
   listed = c.self.invariant.listed;
+  ordered = c.self.invariant.ordered;
   seen = c.take_seen.ensures.left (reverse c.self.inside.rows.items) c.self.invariant.seen;
 }
