@@ -21,9 +21,9 @@ use std::snapshot::Snapshot;
 use std::sync::Wait;
 use std::thread;
 
-// How often the thread whose turn is next looks for it before it sleeps: for some tenths of a millisecond where nothing else
-// runs on its processor. To be woken takes long beside most turns.
-const LOOKS: u32 = 1_000;
+// How often the thread whose turn is next looks for it before it sleeps: for some hundredths of a millisecond where nothing
+// else runs on its processor. To be woken takes long beside a short turn; beside a long one, each look burns a processor.
+const LOOKS: u32 = 50;
 
 /// A lock round one value, which its passes take in turns.
 ///
@@ -165,7 +165,7 @@ impl<T: Storied> TurnLock<T> {
     /// Waits for the pass's turn, and takes the value. Its story begins with all that the pass has seen.
     ///
     /// It need not return: no turn is promised, nor any order of turns. Uncontended it costs one atomic addition and some
-    /// loads. A thread that waits sleeps until it is next, looks then for its turn a thousand times, and sleeps again if it
+    /// loads. A thread that waits sleeps until it is next, looks then for its turn fifty times, and sleeps again if it
     /// has not come.
     pub fn take<R: Wait>(&self, rt: &R, pass: Pass<T>) -> (Held<T>, T)
         requires own { pass.lock ≡ self.now.id }
