@@ -9,9 +9,9 @@ use Rattle.std.specs.declared.cmp.Ordering.TheVariants.{Less, Equal, Greater}
 use Rattle.std.proofs.lemmas.Bool.Decides.{nat_tests}
 use Rattle.std.proofs.lemmas.Slice.Eq.{bytes_eq-Decides}
 use Rattle.vob_replica.specs.declared.events.Identity.{Identity}
-use Rattle.vob_replica.specs.Tables.{first_gap, holds, number_in, with_operation, Ascends, IsWithin}
+use Rattle.vob_replica.specs.Tables.{first_gap, holds, number_in, raised_by, with_operation, Ascends, IsWithin}
 use Rattle.vob_replica.specs.Trees.{is_same_identity}
-use Rattle.vob_replica.proofs.TableLaws.{order, raised_by_order, equal-same, behind-differs}
+use Rattle.vob_replica.proofs.TableLaws.{order, raised_by_order, Ascends-with_operation, equal-same, behind-differs}
 use Rattle.vob_replica.proofs.LogLaws.{at_most, number_in-most}
 use Rattle.vob_replica.proofs.ImportLaws.{number_in-with_operation}
 
@@ -103,6 +103,15 @@ own-number (entry ∷ others) i = own-by_order (order i.site entry.site) entry o
 -- one operation more lowers no number
 pub more-within : (table : List Identity) (i : Identity) → Ascends table → IsWithin table (with_operation table i)
 more-within table i ascends site = number_in-with_operation table i site ascends
+
+-- nor do several
+pub raised-within : (table others : List Identity) → Ascends table → IsWithin table (raised_by table others)
+raised-within table [] ascends site = omega arith
+raised-within table (i ∷ others) ascends site = omega (
+  arith,
+  more-within table i ascends site,
+  raised-within (with_operation table i) others (Ascends-with_operation table i ascends) site,
+)
 
 other-site : (b : Bool) (table : List Identity) (i : Identity) (site : List ℕ) → bytes_eq i.site site ≡ b → b ≡ false
     → number_in (with_operation table i) site ≤ at_most b (number_in table site) i.number

@@ -276,7 +276,9 @@ impl Table {
     pub fn raise_all(&mut self, alloc: Global, others: &[Identity]) -> Result<(), NoMemory>
         ensures ok { OnOk result (self.new ≡ raised_by self.old others.now) }
         ensures risen { IsWithin self.old self.new }
+        ensures err { OnErr result (IsWithin self.new (raised_by self.old others.now)) }
     {
+        let _ = &self.entries;
         for other in others {
             self.raise(alloc, other)?;
         }
