@@ -1,10 +1,12 @@
 //! A disk that looks into the journal before its first use.
 
-ghost use Rattle.std.specs.Prelude.{◌≡◌, IfOk, OnErr};
+ghost use Rattle.std.specs.Prelude.{◌≡◌, is_ok, length, IfOk, IfSome, MatchResult, OnErr};
 ghost use Rattle.disk_model.specs.Counting.{next_count};
 ghost use Rattle.disk_model.specs.Devices.{Idles, bytes_now, file_of};
 ghost use Rattle.disk_model.specs.DiskStates.{Both, Counted, IfModeled};
 ghost use Rattle.disk_model.specs.Files.{stable};
+ghost use Rattle.vob_journal.specs.Added.{Adds, may_read};
+ghost use Rattle.vob_journal.specs.Frames.{frames};
 ghost use Rattle.vob_journal.specs.Reads.{SameFiles};
 
 use cc_names::memory::Or;
@@ -29,8 +31,18 @@ pub(crate) trait Look: Disk + Sized {
 
 /// How many rows a journal has from here on, or nothing where memory runs out. Reads it to its end, and writes nothing.
 fn count_rest<D: Disk>(alloc: Global, journal: &mut Journal<D>) -> Result<Option<u64>, DiskFault>
-    ensures { Both SameFiles (D.ghost_state journal.old.disk).modeled
+    ensures rows { IfOk result
+        (λ rows. IfSome rows
+        (λ count. IfModeled (D.ghost_state journal.old.disk).modeled
+        (λ _. count ≡ length journal.old.rest))) }
+    ensures files { Both SameFiles (D.ghost_state journal.old.disk).modeled
         (D.ghost_state journal.new.disk).modeled }
+    ensures adds { Both (Adds may_read) (D.ghost_state journal.old.disk).modeled
+        (D.ghost_state journal.new.disk).modeled }
+    ensures faults { MatchResult result
+        (λ _. (D.ghost_state journal.new.disk).faults ≡ (D.ghost_state journal.old.disk).faults)
+        (λ _. (D.ghost_state journal.new.disk).faults
+        ≡ next_count (D.ghost_state journal.old.disk).faults) }
 {
     'rows: for rows in 0..u64::MAX {
         match journal.next(alloc) {
@@ -48,7 +60,16 @@ fn count_rest<D: Disk>(alloc: Global, journal: &mut Journal<D>) -> Result<Option
 fn count_rows<D: Disk>(alloc: Global, disk: D) -> (D, Result<Option<u64>, DiskFault>)
     requires { IfModeled (D.ghost_state disk).modeled
         (λ d. file_of 0 d ≡ stable (bytes_now 0 d)) }
-    ensures { Both SameFiles (D.ghost_state disk).modeled (D.ghost_state result.0).modeled }
+    ensures rows { IfOk result.1
+        (λ rows. IfSome rows
+        (λ count. IfModeled (D.ghost_state disk).modeled
+        (λ d. count ≡ length (frames (bytes_now 0 d))))) }
+    ensures files { Both SameFiles (D.ghost_state disk).modeled (D.ghost_state result.0).modeled }
+    ensures adds { Both (Adds may_read) (D.ghost_state disk).modeled
+        (D.ghost_state result.0).modeled }
+    ensures faults { MatchResult result.1
+        (λ _. (D.ghost_state result.0).faults ≡ (D.ghost_state disk).faults)
+        (λ _. (D.ghost_state result.0).faults ≡ next_count (D.ghost_state disk).faults) }
 {
     match Journal::open(disk) {
         Ok(journal) => {
@@ -78,7 +99,9 @@ fn tell_counted(
     file: &str,
     count: u64,
     rows: Result<Option<u64>, DiskFault>,
-) -> Result<(), DiskFault> {
+) -> Result<(), DiskFault>
+    ensures { is_ok result ≡ is_ok rows }
+{
     let rows = rows?;
     let _ = tell_foreign(rt, file, count, rows);
     Ok(())
@@ -92,11 +115,16 @@ fn tell_no_look(rt: &HostRuntime, file: &str) -> io::Result<()> {
 }
 
 /// Says how many bytes after the last row of FILE are not rows, if they are more than a torn row can be. The disk comes back in
-/// any case, and both its files are as they were.
+/// any case, both its files are as they were, and its calls read alone. It answers a fault exactly where a call failed.
 fn looked_at<D: Disk>(rt: &HostRuntime, file: &str, disk: D) -> (D, Result<(), DiskFault>)
     requires { IfModeled (D.ghost_state disk).modeled
         (λ d. file_of 0 d ≡ stable (bytes_now 0 d)) }
-    ensures { Both SameFiles (D.ghost_state disk).modeled (D.ghost_state result.0).modeled }
+    ensures files { Both SameFiles (D.ghost_state disk).modeled (D.ghost_state result.0).modeled }
+    ensures adds { Both (Adds may_read) (D.ghost_state disk).modeled
+        (D.ghost_state result.0).modeled }
+    ensures faults { MatchResult result.1
+        (λ _. (D.ghost_state result.0).faults ≡ (D.ghost_state disk).faults)
+        (λ _. (D.ghost_state result.0).faults ≡ next_count (D.ghost_state disk).faults) }
 {
     let mut disk = disk;
     match foreign_bytes(rt.alloc(), &mut disk) {

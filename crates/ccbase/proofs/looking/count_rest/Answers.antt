@@ -1,12 +1,43 @@
--- a journal that is read on leaves both files as they were
+-- a journal that is read on leaves both files as they were, and its rows are counted
+use Rattle.std.proofs.Common.{refl, length, ◌∙◌}
 use Rattle.vob_journal.proofs.Staying.{modeled_stay, modeled_then}
+use Rattle.ccbase.proofs.Reading.{adds_along, adds_stay, all_read, none_read, one_read}
 use Rattle.ccbase.proofs.looking.count_rest.Goals as goal
 
 pub rows-init : goal.rows-init
-rows-init g c = record { files = modeled_stay (g.D.Disk.ghost_state c.args.journal.now.disk).modeled }
+rows-init g c =
+    let modeled = (g.D.Disk.ghost_state c.args.journal.now.disk).modeled in
+    record {
+      files = modeled_stay modeled;
+      adds = adds_stay modeled;
+      faults = refl;
+      read = none_read modeled (length c.args.journal.now.rest);
+    }
 
 pub rows-preserved : goal.rows-preserved
-rows-preserved g c = record { files = modeled_then _ _ _ c.rows.invariant.files c.in-Ok-Some.ensures.files }
+rows-preserved g c = record {
+  files = modeled_then _ _ _ c.rows.invariant.files c.in-Ok-Some.ensures.files;
+  adds = adds_along _ _ _ c.rows.invariant.adds c.in-Ok-Some.ensures.adds;
+  faults = c.in-Ok-Some.ensures.counts.2 ∙ c.rows.invariant.faults;
+  read = one_read (g.D.Disk.ghost_state c.args.journal.now.disk).modeled (g.D.Disk.ghost_state c.rows.journal.disk).modeled
+      c.rows.rows (length c.args.journal.now.rest) c.rows.journal.rest c.next.new.self.rest c.in-Ok-Some.field-0
+      c.in-Ok-Some.field-0-0 c.in-Ok-Some.field-0-is c.rows.invariant.files c.rows.invariant.read c.in-Ok-Some.ensures.gives;
+}
 
-pub returns-in-Ok-None : goal.returns-in-Ok-None
-returns-in-Ok-None g c = modeled_then _ _ _ c.rows.invariant.files c.in-Ok-None.ensures.files
+pub returns-in-Ok-None-clause-rows : goal.returns-in-Ok-None-clause-rows
+returns-in-Ok-None-clause-rows g c =
+    all_read (g.D.Disk.ghost_state c.args.journal.now.disk).modeled (g.D.Disk.ghost_state c.rows.journal.disk).modeled
+    c.rows.rows (length c.args.journal.now.rest) c.rows.journal.rest c.next.new.self.rest c.in-Ok-None.field-0
+    c.in-Ok-None.field-0-is c.rows.invariant.files c.rows.invariant.read c.in-Ok-None.ensures.gives
+
+pub returns-in-Ok-None-clause-files : goal.returns-in-Ok-None-clause-files
+returns-in-Ok-None-clause-files g c = modeled_then _ _ _ c.rows.invariant.files c.in-Ok-None.ensures.files
+
+pub returns-in-Ok-None-clause-adds : goal.returns-in-Ok-None-clause-adds
+returns-in-Ok-None-clause-adds g c = adds_along _ _ _ c.rows.invariant.adds c.in-Ok-None.ensures.adds
+
+pub returns-in-Err-NoMemory-clause-adds : goal.returns-in-Err-NoMemory-clause-adds
+returns-in-Err-NoMemory-clause-adds g c = adds_along _ _ _ c.rows.invariant.adds c.in-Err-NoMemory.ensures.adds
+
+pub returns-in-Err-Is-clause-adds : goal.returns-in-Err-Is-clause-adds
+returns-in-Err-Is-clause-adds g c = adds_along _ _ _ c.rows.invariant.adds c.in-Err-Is.ensures.adds

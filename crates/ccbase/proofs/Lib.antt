@@ -1,0 +1,2 @@
+-- What reading a journal on adds.
+mod Reading
