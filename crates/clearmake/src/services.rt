@@ -88,8 +88,8 @@ pub trait BuildService: Storied<Step = StoryStep> {
         ensures concluded { LeavesConcluded (Self.story self.old) (Self.story self.new) lane unit }
         ensures err { OnErr result (Self.story self.new ≡ Self.story self.old) };
 
-    /// The units that a unit which has its outcome has released, in their order: those without an outcome that need it,
-    /// and of which every unit that they need has its outcome.
+    /// The units that a unit's outcome has released, in their order: those without an outcome that need it, and of which
+    /// every unit that they need has its outcome. Where it has none itself, none are.
     fn released_units(&self, alloc: Global, lane: u32, unit: u32) -> Result<Vec<u32>, NoMemory>
         requires { (count : ℕ)
             × IsBuilding (state_of (Self.story self.now)) lane count × (unit < count) }
