@@ -20,7 +20,7 @@ use std::hash::RandomState;
 use std::marker::Model;
 use story_log::{History, Log, OpenFault, open_log};
 
-/// A base with its story, on a disk. Contracts see it as the story, and the disk's counts and device.
+/// A base with its story, on a disk. Contracts see it as the story, the disk's counts and device, and the journal's tail.
 #[derive(Drop)]
 pub struct Core<D: Disk> {
     log: Log<D>,
@@ -35,13 +35,17 @@ impl<D: Disk> Model for Core<D> {
 
     ghost Value = { Shown };
 
-    ghost view = { λ c. record { story = c.log.story; ghost_state = c.log.ghost_state } };
+    ghost view = { λ c. record {
+      story = c.log.story;
+      ghost_state = c.log.ghost_state;
+      tail = c.log.tail;
+    } };
 
     ghost invariant = { λ c. CoreInvariant c.log c.lanes c.moment };
 }
 
 impl<D: Disk> Core<D> {
-    ghost use Rattle.std.specs.Prelude.{◌≡◌, ◌≤◌, ◌<◌, ◌^◌, ◌+◌, ◌∷◌, [], ◌++◌, true, false, OnOk, OnErr, IfOk, IfErr, MatchResult, length};
+    ghost use Rattle.std.specs.Prelude.{◌≡◌, ◌≤◌, ◌<◌, ◌^◌, ◌+◌, ◌∷◌, [], ◌++◌, true, false, OnOk, OnErr, IfOk, IfErr, MatchResult, is_ok, length};
     ghost use Rattle.cc_names.specs.declared.steps.StoryStep.TheVariants as story_steps;
     ghost use Rattle.session_text.specs.Formed.{IsPhase};
     ghost use Rattle.legal_history.specs.Stories.States.{all_done, faults_of};
@@ -55,6 +59,7 @@ impl<D: Disk> Core<D> {
     ghost use Rattle.story_log.specs.Bases.Opening.{AreSynced, OpensCore, FailsToOpen};
     ghost use Rattle.story_log.specs.Bases.Reading.{ReadsOnceBy};
     ghost use Rattle.story_log.specs.Logging.Appending.{SettlesTail};
+    ghost use Rattle.story_log.specs.Stopping.Tails.{tail_after_settling};
     ghost use Rattle.story_log.specs.Story.Formed.{TellsOnly};
     ghost use Rattle.cc_names.specs.Formed.{IsFormed};
     ghost use Rattle.disk_model.specs.Counting.{next_count};
@@ -67,7 +72,8 @@ impl<D: Disk> Core<D> {
     /// cause.
     pub fn open(alloc: Global, hashing: RandomState, disk: D) -> Result<Core<D>, OpenFault<D>>
         requires { IfModeled (D.ghost_state disk).modeled AreSynced }
-        ensures ok { IfOk result (λ core. OpensCore (D.ghost_state disk) core.story core.ghost_state) }
+        ensures ok { IfOk result
+            (λ core. OpensCore (D.ghost_state disk) core.story core.ghost_state core.tail) }
         ensures err { IfErr result
             (λ fault. FailsToOpen (D.ghost_state disk) fault.cause (D.ghost_state fault.disk)) }
         ensures once { MatchResult result
@@ -142,10 +148,10 @@ impl<D: Disk> Core<D> {
         self.log.counts()
     }
 
-    /// Settles the journal where a fault left its tail open, by two device calls, or one that fails; elsewhere it makes
-    /// none, and the disk is as it was. A fault that left no row leaves the tail settled, unless the tail is as it was
-    /// at opening. The file of objects is as it was in any case. Afterwards no crash finds more than the rows of the
-    /// base; where it fails, the disk's count of faults has passed that of each fault of the history.
+    /// Settles the journal where a fault left its tail open, by at most two device calls, of which the last may fail;
+    /// elsewhere it makes none, and the disk is as it was. A fault that left no row leaves the tail settled, unless the
+    /// tail is as it was at opening. The file of objects is as it was in any case. Afterwards no crash finds more than
+    /// the rows of the base; where it fails, the disk's count of faults has passed that of each fault of the history.
     pub fn finish(&mut self) -> Result<(), DiskFault>
         ensures same { self.new.story ≡ self.old.story }
         ensures ok { OnOk result (IsSettled (state_of self.new.story) self.new.ghost_state) }
@@ -158,14 +164,16 @@ impl<D: Disk> Core<D> {
         ensures few { self.new.ghost_state.ticks ≤ self.old.ghost_state.ticks + 2 }
         ensures writes { Both WritesOn self.old.ghost_state.modeled self.new.ghost_state.modeled }
         ensures rests { may_be_open (state_of self.old.story).ends ≡ false → self.new ≡ self.old }
-        ensures calls { Both (SettlesTail (state_of self.old.story).ends)
-            self.old.ghost_state.modeled self.new.ghost_state.modeled }
+        ensures calls { SettlesTail (state_of self.old.story).ends self.old.tail
+            self.old.ghost_state self.new.ghost_state }
+        ensures tail { self.new.tail
+            ≡ tail_after_settling (state_of self.old.story).ends (is_ok result) self.old.tail }
     {
         self.log.settle()
     }
 
     /// The disk, and the history of the story so far. Takes no memory.
-    pub fn into_parts(self) -> (D, History<D>)
+    pub fn into_parts(self) -> (D, History)
         ensures disk { D.ghost_state result.0 ≡ self.ghost_state }
         ensures history { result.1 ≡ self.story }
         ensures legal { Legal self.story }

@@ -6,7 +6,6 @@ use crate::paths::Path;
 use crate::refusals::{Refusal, UnitFault};
 use crate::rows::{Row, Tag};
 use crate::texts::Text;
-use std::snapshot::Snapshot;
 
 /// The outcome of a unit that commits no row.
 #[derive(Drop)]
@@ -30,67 +29,7 @@ pub struct Counts {
     pub faults: u64,
 }
 
-/// One step as the program keeps it: rows and phases are given by their numbers. What the program never reads again is there
-/// for contracts alone, and takes no memory.
-#[derive(Drop)]
-pub enum Step {
-    /// The base was opened with this many rows, row 0 included.
-    Opened {
-        rows: u64,
-    },
-    /// A phase began.
-    PhaseBegun {
-        phase: u32,
-        moment: u64,
-    },
-    /// Row `number` was committed, acknowledged at this tick of the disk.
-    Commit {
-        tag: Tag,
-        number: u64,
-        tick: u64,
-    },
-    /// A command was refused.
-    Refused {
-        tag: Tag,
-        refusal: Refusal,
-    },
-    /// A query was answered, or there was nothing to scrub or to label.
-    Answer {
-        tag: Tag,
-        text: Snapshot<Text>,
-    },
-    /// A build began, with its reference rows and its number of units.
-    Begin {
-        tag: Tag,
-        rows: u64,
-        units: u32,
-    },
-    /// A unit's script was handed out to be run.
-    Start {
-        tag: Tag,
-        unit: u32,
-    },
-    /// A unit came to its outcome without a row.
-    Concluded {
-        tag: Tag,
-        unit: u32,
-        outcome: UnitEnd,
-    },
-    /// A build ended.
-    End {
-        tag: Tag,
-    },
-    /// The disk failed under a command: the row that may be found all the same, and its counts of faults before and after.
-    Fault {
-        tag: Tag,
-        left: Snapshot<Option<Row>>,
-        before: u64,
-        after: u64,
-        tick: u64,
-    },
-}
-
-/// One step as contracts see it in a story: with the rows and the phase themselves. The other steps are those of `Step`.
+/// One step of a story.
 #[derive(Drop)]
 pub enum StoryStep {
     /// The opened rows, from row 1 on; the disk's counts as it was handed in; and whether it models its content.

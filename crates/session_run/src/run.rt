@@ -3,6 +3,7 @@
 ghost use Rattle.std.specs.Prelude.{◌≡◌, ◌≢◌, [], true};
 ghost use Rattle.legal_history.specs.Builds.Values.{IsSound};
 ghost use Rattle.legal_history.specs.Stories.Steps.{state_of};
+ghost use Rattle.base_core.specs.Story.Counted.{disk_of};
 ghost use Rattle.story_log.specs.Bases.Opening.{AreSynced};
 ghost use Rattle.story_log.specs.Logging.Appending.{SettlesTail};
 ghost use Rattle.story_log.specs.Stopping.Backed.{may_be_open};
@@ -47,7 +48,7 @@ use story_log::{History, OpenCause, OpenFault};
 pub struct SessionResult<D: Disk> {
     pub status: Status,
     pub disk: D,
-    pub history: History<D>,
+    pub history: History,
 }
 
 /// Whether a count rose: it is greater than before, or stood and stands at its last number.
@@ -93,8 +94,8 @@ fn settle<D: Disk>(core: &mut Core<D>)
     ensures settles { SettlesJournal
         (may_be_open (state_of core.old.story).ends) core.old.ghost_state
         core.new.ghost_state }
-    ensures calls { Both (SettlesTail (state_of core.old.story).ends)
-        core.old.ghost_state.modeled core.new.ghost_state.modeled }
+    ensures calls { SettlesTail (state_of core.old.story).ends core.old.tail core.old.ghost_state
+        core.new.ghost_state }
 {
     let _ = core.finish();
 }
@@ -114,7 +115,7 @@ fn run_opened<R: Threads + Wait + Sync, G: Hook + Sync, K: Sink, D: Disk + Send,
     requires none { given.form ≡ forms.Verify → given.phases.items ≡ [] }
     requires base { given.form ≢ forms.Sites }
     ensures runs { RunsOpened given.form given.phases.items result.status (first_step core.story)
-        result.history before (disk_ghost_states core.ghost_state (D.ghost_state result.disk))
+        result.history before (disk_of core) (D.ghost_state result.disk)
         (outside_of (K.ghost_state sink.old) (K.ghost_state sink.new) (C.ghost_state clock.old)
         (C.ghost_state clock.new))
         (sink_faults (K.ghost_state sink.old) (K.ghost_state sink.new)) }

@@ -22,9 +22,13 @@ pub(crate) trait Beginning {
 }
 
 impl Beginning for Brand {
-    ghost use Rattle.std.specs.Prelude.{[], None};
+    ghost use Rattle.std.specs.Prelude.{[], None, false};
 
-    ghost at = { record { story = []; ghost_state = record { modeled = None; ticks = 0; faults = 0 } } };
+    ghost at = { record {
+      story = [];
+      ghost_state = record { modeled = None; ticks = 0; faults = 0 };
+      tail = record { place = 0; settled = false };
+    } };
 }
 
 /// A core in a phase, of which `P` fixes how it stood as the phase had begun. It has the calls that stay in a phase, and no

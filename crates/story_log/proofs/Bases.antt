@@ -1,7 +1,6 @@
 -- How a base is opened.
 pub mod Damages
 pub mod OpenedBases
-pub mod OpeningStep
 pub mod ReadFrames
 pub mod ReadRows
 pub mod Unfit

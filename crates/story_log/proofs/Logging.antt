@@ -1,7 +1,5 @@
 -- What a log shows and keeps after each step.
 pub mod Appended
-pub mod Faults
-pub mod LogSteps
 pub mod Logged
 pub mod Logging
 pub mod Rising

@@ -1,5 +1,4 @@
 -- What holds of stories as they grow.
 pub mod Growing
 pub mod Naming
-pub mod Stories
-pub mod WorkedTelling
+mod WorkedTelling

@@ -3,3 +3,4 @@ pub mod Backed
 pub mod Journals
 pub mod Standing
 pub mod StopLaws
+pub mod Tails

@@ -1,22 +1,27 @@
-//! The story of a core, with the rows and the phases that it names, and the journal that keeps the rows.
+//! The story of a core, with its rows and phases, and the journal that keeps the rows.
 
-ghost use Rattle.std.specs.Prelude.{◌≡◌, ◌+◌, ◌<◌, ◌≤◌, ◌^◌, ◌++◌, ◌∷◌, [], length, true, false, IfOk, OnOk, OnErr};
+ghost use Rattle.std.specs.Prelude.{◌≡◌, ◌≤◌, ◌++◌, ◌∷◌, [], true, IfOk, OnOk};
+ghost use Rattle.cc_names.specs.Formed.{IsFormed};
+ghost use Rattle.cc_names.specs.declared.steps.StoryStep.TheVariants as story_steps;
+ghost use Rattle.base_model.specs.Fits.{fits};
+ghost use Rattle.base_rows.specs.Shown.{HasRoom};
 ghost use Rattle.row_form.specs.Spelled.{spelling_of};
 
 use crate::history::History;
+use crate::step::Step;
 use crate::steps::Steps;
 use cc_names::memory::NoMemory;
 use cc_names::names::Name;
 use cc_names::paths::Path;
-use cc_names::rows::Row;
-use cc_names::steps::{Counts, Step};
+use cc_names::rows::{Row, Tag};
+use cc_names::steps::Counts;
 use disk_model::{Disk, DiskFault};
 use row_form::spell;
 use session_text::PhaseText;
 use std::alloc::Global;
 use std::marker::Model;
 use std::snapshot::Snapshot;
-use view_lookup::{FirstRows, Rows, prepare, remember};
+use view_lookup::{FirstRows, Prepared, Rows, prepare, remember};
 use vob_journal::{Frame, Journal, Left};
 
 /// What became of a row that was to be committed.
@@ -27,40 +32,34 @@ pub enum Appended {
     Faulted,
 }
 
-/// The steps of a story, the rows and the phases that they name by number, and the journal of the rows. Contracts see
-/// it as the story that the steps tell, the base of these rows, the phases, and the disk's counts and device.
+/// The steps of a story, its rows and phases, and the journal of the rows. Contracts see it as the story, the base of these
+/// rows, the phases, the disk's counts and device, and the journal's tail.
 #[derive(Drop)]
 pub struct Log<D: Disk> {
     rows: Rows,
     phases: Vec<PhaseText>,
     steps: Steps,
-    /// The row that the newest fault left, where no row was committed since.
-    left: Option<Row>,
-    /// The disk's counts as it was handed in.
-    handed: Counts,
     journal: Journal<D>,
 }
 
 impl<D: Disk> Model for Log<D> {
-    ghost use Rattle.story_log.specs.Story.Handed.{handed_disk};
     ghost use Rattle.story_log.specs.Logging.Logs.{Logged, IsLogged};
     ghost use Rattle.story_log.specs.Stopping.Journals.{journal_state};
-    ghost use Rattle.story_log.specs.Story.Telling.{story_of};
-    ghost use Rattle.base_rows.specs.Order.{oldest_first};
+    ghost use Rattle.story_log.specs.Stopping.Tails.{tail_of};
 
     ghost Value = { Logged };
 
     ghost view = { λ log. record {
-      story = story_of (handed_disk log.handed D.tells) log.steps.items
-          (oldest_first log.rows.base) log.phases.items;
+      story = log.steps.items;
       base = log.rows.base;
       phases = log.phases.items;
       ghost_state = D.ghost_state log.journal.disk;
+      tail = tail_of log.journal;
     } };
 
     ghost invariant = { λ log.
-        IsLogged (handed_disk log.handed D.tells) log.steps.items log.rows.base log.phases.items log.left
-        (D.ghost_state log.journal.disk) (journal_state log.journal) };
+        IsLogged log.steps.items log.rows.base (D.ghost_state log.journal.disk)
+        (journal_state log.journal) };
 }
 
 /// The frame of a row. A row that is spelled in 2^32 bytes or more counts as want of memory.
@@ -74,8 +73,32 @@ fn frame_of(alloc: Global, row: &Row) -> Result<Frame, NoMemory>
     Frame::of(alloc, payload.as_bytes())
 }
 
+/// The frame of a row, and what the base needs to add it: so all memory for it is taken. An `Err` changes no row.
+fn make_ready(alloc: Global, rows: &mut Rows, row: &Row) -> Result<(Frame, Prepared), NoMemory>
+    ensures same { rows.new.base ≡ rows.old.base }
+    ensures frame { IfOk result (λ ready. ready.0 ≡ spelling_of row.now) }
+    ensures room { IfOk result (λ ready. HasRoom rows.new row.now.deed ready.1) }
+    ensures formed { OnOk result (IsFormed row.now) }
+{
+    let frame = frame_of(alloc, row)?;
+    let prepared = prepare(alloc, rows, row.deed())?;
+    rows.reserve(row.deed(), &prepared)?;
+    Ok((frame, prepared))
+}
+
+/// Adds a row that was committed at this tick of the disk to the base, and its step to the steps. Takes no memory.
+fn add_committed(rows: &mut Rows, steps: &mut Steps, row: Row, prepared: Prepared, tick: u64)
+    requires fits { fits rows.old.base row.deed ≡ true }
+    requires room { HasRoom rows.old row.deed prepared }
+    ensures rows { rows.new.base ≡ row ∷ rows.old.base }
+    ensures steps { steps.new.items ≡ steps.old.items ++ story_steps.Commit row tick ∷ [] }
+{
+    steps.tell_commit(&row, tick);
+    rows.push(row, prepared);
+}
+
 impl<D: Disk> Log<D> {
-    ghost use Rattle.std.specs.Prelude.{◌≡◌, ◌+◌, ◌<◌, ◌^◌, ◌++◌, ◌∷◌, [], length, true, false, IfOk, IfErr, IfSome, OnOk, OnErr, MatchResult};
+    ghost use Rattle.std.specs.Prelude.{◌≡◌, ◌+◌, ◌∷◌, [], true, false, IfOk, IfErr, OnOk, OnErr, MatchResult, is_ok, option_map};
     ghost use Rattle.cc_names.specs.declared.steps.StoryStep.TheVariants as story_steps;
     ghost use Rattle.disk_model.specs.Counting.{next_count};
     ghost use Rattle.disk_model.specs.DiskStates.{IfModeled, Both};
@@ -85,8 +108,10 @@ impl<D: Disk> Log<D> {
     ghost use Rattle.story_log.specs.Logging.Appending.{Appends, IsQuiet, SettlesTail};
     ghost use Rattle.story_log.specs.Stopping.Backed.{IsBacked, IsSettled, IsAccounted, may_be_open};
     ghost use Rattle.story_log.specs.Stopping.Journals.{journal_state};
+    ghost use Rattle.story_log.specs.Stopping.Tails.{tail_after_settling, tail_of};
     ghost use Rattle.story_log.specs.Story.Handed.{handed_disk};
-    ghost use Rattle.story_log.specs.Logging.Logs.{opened_log, with_phase, with_step, with_ghost_state};
+    ghost use Rattle.story_log.specs.Story.Telling.{told};
+    ghost use Rattle.story_log.specs.Logging.Logs.{opened_log, with_phase, with_step, with_disk};
     ghost use Rattle.base_rows.specs.Order.{oldest_first};
     ghost use Rattle.base_model.specs.Fits.{fits};
     ghost use Rattle.vob_journal.specs.Added.{WritesOn};
@@ -97,32 +122,26 @@ impl<D: Disk> Log<D> {
             (state_of (story_steps.Opened (oldest_first rows.base) handed D.tells ∷ []))
             (D.ghost_state journal.disk) (journal_state journal) }
         ensures { result
-            ≡ opened_log rows.base (handed_disk handed D.tells) (D.ghost_state journal.disk) }
+            ≡ opened_log rows.base (handed_disk handed D.tells) (D.ghost_state journal.disk)
+            (tail_of journal) }
     {
-        let mut steps = Steps::new();
-        steps.tell(&Step::Opened {
-            rows: rows.all().size(),
-        });
+        let steps = Steps::opening(&rows, &handed);
         Log {
             rows,
             phases: Vec::new(alloc),
             steps,
-            left: None,
-            handed,
             journal,
         }
     }
 
     /// Tells that a phase began. An `Err` changes nothing.
     pub fn begin_phase(&mut self, phase: PhaseText, moment: u64) -> Result<(), NoMemory>
-        requires few { length self.old.phases + 1 < 2 ^ 32 }
         ensures ok { OnOk result (self.new ≡ with_phase self.old phase moment) }
         ensures err { OnErr result (self.new ≡ self.old) }
     {
         self.phases.reserve(1)?;
-        let number = self.phases.len() as u32 + 1;
         self.steps.tell(&Step::PhaseBegun {
-            phase: number,
+            phase: Snapshot::of(&phase),
             moment,
         });
         self.phases.push_reserved(phase);
@@ -130,54 +149,35 @@ impl<D: Disk> Log<D> {
     }
 
     /// Commits a row: it is appended to the journal and then added to the history; or the disk fault is added, followed
-    /// by the step that ends the build, if there is one. Takes all memory first; an `Err` changes nothing. Takes time
+    /// by the end of the build with this tag, if there is one. Takes all memory first; an `Err` changes nothing. Takes time
     /// linear in the row.
     pub fn append(
         &mut self,
         alloc: Global,
         row: Row,
-        ending: Option<Step>,
+        building: Option<Tag>,
     ) -> Result<Appended, NoMemory>
         requires fits { fits self.old.base row.deed ≡ true }
-        requires ending { IfSome ending IsQuiet }
-        ensures ok { IfOk result (λ done. Appends self.old self.new row ending done) }
+        ensures ok { IfOk result
+            (λ done. Appends self.old self.new row (option_map story_steps.End building) done) }
         ensures err { OnErr result (self.new ≡ self.old) }
     {
-        let frame = frame_of(alloc, &row)?;
-        let prepared = prepare(alloc, &self.rows, row.deed())?;
-        self.rows.reserve(row.deed(), &prepared)?;
-        let tag = row.tag();
-        let number = self.rows.all().size();
+        let (frame, prepared) = make_ready(alloc, &mut self.rows, &row)?;
         let before = self.journal.counts().faults;
         if let Ok(tick) = self.journal.append(&frame) {
-            self.steps.tell(&Step::Commit { tag, number, tick });
-            self.left = None;
-            self.rows.push(row, prepared);
+            add_committed(&mut self.rows, &mut self.steps, row, prepared, tick);
             return Ok(Appended::Committed);
         }
-        let counts = self.journal.counts();
-        let earlier = self.left.take();
-        let left = match self.journal.left_by_last_call() {
-            Left::Nothing => None,
-            Left::Earlier => earlier,
-            Left::InFlight => Some(row),
-        };
-        self.left = left;
-        let fault = Step::Fault {
-            tag,
-            left: Snapshot::of(&self.left),
-            before,
-            after: counts.faults,
-            tick: counts.ticks,
-        };
-        self.steps.tell_both(&fault, &ending);
+        let left = self.journal.left_by_last_call();
+        let after = self.journal.counts();
+        self.steps.tell_fault(&row, left, before, after, building);
         Ok(Appended::Faulted)
     }
 
-    /// Tells a step that names no row and no phase, and is no fault of the disk. Takes no memory.
+    /// Tells a step that names no row and no phase. Takes no memory.
     pub fn tell(&mut self, step: &Step)
         requires quiet { IsQuiet step.now }
-        ensures { self.new ≡ with_step self.old step.now }
+        ensures { self.new ≡ with_step self.old (told step.now) }
     {
         self.steps.tell(step);
     }
@@ -185,7 +185,7 @@ impl<D: Disk> Log<D> {
     /// Settles the journal's tail where a fault left it open; elsewhere it makes no device call, and changes nothing.
     /// Afterwards no stop finds more than the rows.
     pub fn settle(&mut self) -> Result<(), DiskFault>
-        ensures same { self.new ≡ with_ghost_state self.old self.new.ghost_state }
+        ensures same { self.new ≡ with_disk self.old self.new.ghost_state self.new.tail }
         ensures ok { OnOk result (IsSettled (state_of self.new.story) self.new.ghost_state) }
         ensures err { OnErr result
             (rises (faults_of (state_of self.new.story).opened (state_of self.new.story).ends)
@@ -196,8 +196,10 @@ impl<D: Disk> Log<D> {
         ensures few { self.new.ghost_state.ticks ≤ self.old.ghost_state.ticks + 2 }
         ensures writes { Both WritesOn self.old.ghost_state.modeled self.new.ghost_state.modeled }
         ensures rests { may_be_open (state_of self.old.story).ends ≡ false → self.new ≡ self.old }
-        ensures calls { Both (SettlesTail (state_of self.old.story).ends)
-            self.old.ghost_state.modeled self.new.ghost_state.modeled }
+        ensures calls { SettlesTail (state_of self.old.story).ends self.old.tail
+            self.old.ghost_state self.new.ghost_state }
+        ensures tail { self.new.tail
+            ≡ tail_after_settling (state_of self.old.story).ends (is_ok result) self.old.tail }
     {
         match self.journal.left_by_last_call() {
             Left::Nothing => Ok(()),
@@ -236,23 +238,18 @@ impl<D: Disk> Log<D> {
     }
 
     /// The disk, and the history of the story. Takes no memory.
-    pub fn into_parts(self) -> (D, History<D>)
+    pub fn into_parts(self) -> (D, History)
         ensures disk { D.ghost_state result.0 ≡ self.ghost_state }
         ensures history { result.1 ≡ self.story }
         ensures backed { IsAccounted (state_of self.story) self.ghost_state }
     {
         let Log {
             rows,
-            phases,
+            phases: _,
             steps,
-            left: _,
-            handed,
             journal,
         } = self;
         let _now = journal.counts();
-        (
-            journal.into_disk(),
-            History::of(rows.into_vec(), phases, steps, handed),
-        )
+        (journal.into_disk(), History::of(rows.into_vec(), steps))
     }
 }

@@ -1,13 +1,14 @@
 //! How a base is opened: the rows of its journal are read one by one, and each has to fit those before it.
 
-ghost use Rattle.std.specs.Prelude.{◌≡◌, [], ◌∷◌, true, IfSome, IfNone, IfOk, IfErr, OnOk, MatchResult};
+ghost use Rattle.std.specs.Prelude.{◌≡◌, [], ◌∷◌, true, false, IfSome, IfNone, IfOk, IfErr, OnOk, MatchResult};
 ghost use Rattle.base_model.specs.Fits.{fits};
 ghost use Rattle.disk_model.specs.DiskStates.{Both, IfModeled};
 ghost use Rattle.vob_journal.specs.Pieces.{ReadsNext, ReadsOnce};
 ghost use Rattle.vob_journal.specs.Shown.{frames_read};
 ghost use Rattle.story_log.specs.Bases.Opening.{AreSynced, StopsBy, IsOpened, FailsToOpen};
+ghost use Rattle.story_log.specs.Stopping.Tails.{IsFoundTail, tail_of};
 ghost use Rattle.story_log.specs.Stored.Stops.{found_with};
-ghost use Rattle.story_log.specs.Bases.Reading.{OnlyReads, NextIs, IsAfterBase, IsMisfit, IsMissed, IsNextRow, IsNoRow, IsReadBy, IsReadOn, IsReadSoFar, ReadsOn, ReadsOnceBy, IsReadThrough};
+ghost use Rattle.story_log.specs.Bases.Reading.{OnlyReads, NextIs, EndsAt, FindsTail, IsAfterBase, IsMisfit, IsMissed, IsNextRow, IsNoRow, IsReadBy, IsReadOn, IsReadSoFar, ReadsOn, ReadsOnceBy, IsReadThrough};
 
 use crate::logs::Log;
 use cc_names::memory::{NoMemory, Or};
@@ -94,9 +95,14 @@ fn read_next_row<D: Disk>(
     journal: &mut Journal<D>,
     rows: &FirstRows<'_>,
 ) -> Result<Option<Row>, OpenCause>
-    requires { IsReadSoFar D.ghost_state rows.now journal.old }
+    requires so_far { IsReadSoFar D.ghost_state rows.now journal.old }
+    requires unended { journal.old.ended ≡ false }
     ensures reads { OnlyReads D.ghost_state journal.old journal.new }
     ensures ok { IfOk result (λ found. ReadsOn D.ghost_state rows.now found journal.new) }
+    ensures ends { IfOk result (λ found. EndsAt found journal.new.ended) }
+    ensures tail { IfOk result
+        (λ found. IfModeled (D.ghost_state journal.new.disk).modeled
+        (FindsTail found (tail_of journal.new))) }
     ensures forth { ReadsNext result D.ghost_state journal.old journal.new }
     ensures faultless { OnOk result
         ((D.ghost_state journal.new.disk).faults ≡ (D.ghost_state journal.old.disk).faults) }
@@ -134,9 +140,12 @@ fn read_rows<D: Disk>(
     hashing: RandomState,
     journal: &mut Journal<D>,
 ) -> Result<Rows, OpenCause>
-    requires { IsReadSoFar D.ghost_state [] journal.old }
+    requires so_far { IsReadSoFar D.ghost_state [] journal.old }
+    requires unended { journal.old.ended ≡ false }
     ensures reads { OnlyReads D.ghost_state journal.old journal.new }
     ensures ok { IfOk result (λ rows. IsReadThrough D.ghost_state rows.base journal.new) }
+    ensures tail { OnOk result
+        (IfModeled (D.ghost_state journal.new.disk).modeled (IsFoundTail (tail_of journal.new))) }
     ensures forth { OnOk result
         (Both (IsReadOn (frames_read journal.old) journal.old.reach)
         (D.ghost_state journal.old.disk).modeled (D.ghost_state journal.new.disk).modeled) }
@@ -166,9 +175,8 @@ fn read_rows<D: Disk>(
     }
 }
 
-/// Opens the log of the base that a disk stands for. Reads the journal once, of a damaged one nothing after the damaged frame,
-/// and writes nothing. Takes time linear in the
-/// journal's bytes, and for each row that of `fits`.
+/// Opens the log of the base that a disk stands for. Reads the journal once, of a damaged one no piece that begins after the
+/// damaged frame, and writes nothing. Takes time linear in the journal's bytes, and for each row that of `fits`.
 pub fn open_log<D: Disk>(
     alloc: Global,
     hashing: RandomState,

@@ -10,7 +10,7 @@ use Rattle.std.proofs.lemmas.List.{length-take-le}
 use Rattle.disk_model.specs.Files.{stable, is_written, IsImage}
 use Rattle.disk_model.specs.Devices.{Device, Measured, file_of, bytes_now, LeavesNow, Measures}
 use Rattle.disk_model.specs.DiskStates.{IfModeled, Both}
-use Rattle.vob_journal.specs.Frames.{frames, head, is_shut, place_after}
+use Rattle.vob_journal.specs.Frames.{end_of_frames, frames, head, is_shut, place_after}
 use Rattle.vob_journal.specs.Moves.{Stands, Moves}
 use Rattle.vob_journal.specs.Pieces.{IsReadForth, IsReadUntil, ReadsAt, ReadsFrame, ReadsUntil}
 use Rattle.vob_journal.specs.Reads.{Rests}
@@ -289,6 +289,18 @@ ended_list settled tail size (Some d) None reading rests found = absurd rests
 ended_list settled tail size (Some d) (Some e) reading rests found =
     ap (λ f. frames (take tail f.bytes) ++ []) rests.same ∙ ap (λ l. list_at tail d ++ l)
     (sym (frames_none (drop tail (bytes_now 0 d)) found.0))
+
+-- where the list ends, and whether the tail is settled there
+pub ended_tail : (settled : Bool) (tail size : ℕ) (old : Option Device) → IfModeled old (IsStillRead tail size)
+    → IfModeled old (λ d. (head (drop tail (bytes_now 0 d)) ≡ None) × (settled ≡ is_shut (drop tail (bytes_now 0 d))))
+    → IfModeled old (λ d. (tail ≡ end_of_frames (bytes_now 0 d)) × (settled ≡ is_shut (drop tail (bytes_now 0 d))))
+ended_tail settled tail size None reading found = tt
+ended_tail settled tail size (Some d) reading found =
+    let bytes = bytes_now 0 d in
+    let all : frames (take tail bytes) ≡ frames bytes = sym (append-nil (frames (take tail bytes)))
+    ∙ ap (λ l. frames (take tail bytes) ++ l) (sym (frames_none (drop tail bytes) found.0))
+    ∙ sym (reading.whole.goes_on (drop tail bytes)) ∙ ap frames (take-append-drop tail bytes) in
+    (reading.after ∙ ap (λ list. place_after (length list) bytes) all, found.1)
 
 gate_ajar : (gate : ℕ) → not (gate == 1) ≡ false → gate ≡ 1
 gate_ajar gate e = grind (arith, common_steps)

@@ -4,7 +4,7 @@ use Rattle.std.proofs.Common.{◌≡◌, ℕ, zero, suc, Some, List, [], ◌∷�
 use Rattle.std.specs.Prelude.{codes}
 use Rattle.disk_model.specs.Devices.{Device, Event, Failed, Fetched, Measured, Synced}
 use Rattle.vob_journal.specs.Foreign.{behind}
-use Rattle.vob_journal.specs.Frames.{head, place_after}
+use Rattle.vob_journal.specs.Frames.{end_of_frames, frames, head, place_after}
 use Rattle.vob_journal.specs.Pieces.{IsPiece, LooksBehind, ReadsForth, ReadsOnce, needed, needed_by}
 
 -- the frames of the payloads `ab` and `c`, and a shut gate after them
@@ -23,6 +23,15 @@ two_frames = refl
 
 no_third : place_after 3 journal ≡ 13
 no_third = refl
+
+-- the end of the list
+end_of_both : end_of_frames journal ≡ 13
+unfolding frames
+end_of_both = refl
+
+no_end_after_less : end_of_frames (1 ∷ 9 ∷ 0 ∷ 0 ∷ 0 ∷ codes "ab") ≡ 0
+unfolding frames
+no_end_after_less = refl
 
 not_within : (number : ℕ) → 3 ≡ place_after number journal → ⊥
 not_within zero e = omega (arith, e)

@@ -3,7 +3,7 @@ use Rattle.std.specs.Prelude.{◌≡◌, ◌+◌, ℕ, Bool, true, false, Option
 use Rattle.disk_model.specs.Counting.{next_count}
 use Rattle.disk_model.specs.Devices.{Device, bytes_now}
 use Rattle.disk_model.specs.DiskStates.{DiskState}
-use Rattle.vob_journal.specs.Frames.{is_shut}
+use Rattle.vob_journal.specs.Frames.{end_of_frames, is_shut}
 
 -- the next payload of those that were still to be read, or the end of them
 abbrev pub GivesNext : Option (List ℕ) → List (List ℕ) → List (List ℕ) → Type 0
@@ -16,11 +16,11 @@ Ends (Ok None) old new = new ≡ true
 Ends (Ok (Some payload)) old new = (old ≡ false) × (new ≡ false)
 Ends (Err fault) old new = new ≡ old
 
--- at the end a tail is settled exactly where a gate byte other than 1 stands
-abbrev pub SettledAtEnd : Option (List ℕ) → Bool → Bool → ℕ → Device → Type 0
-SettledAtEnd None false settled tail d = settled ≡ is_shut (drop tail (bytes_now 0 d))
-SettledAtEnd None true settled tail d = Unit {0}
-SettledAtEnd (Some payload) ended settled tail d = Unit {0}
+-- as the end is read the tail is behind the last frame, and it is settled exactly where a gate byte other than 1 stands there
+abbrev pub TailAtEnd : Option (List ℕ) → Bool → Bool → ℕ → Device → Type 0
+TailAtEnd None false settled tail d = (tail ≡ end_of_frames (bytes_now 0 d)) × (settled ≡ is_shut (drop tail (bytes_now 0 d)))
+TailAtEnd None true settled tail d = Unit {0}
+TailAtEnd (Some payload) ended settled tail d = Unit {0}
 
 -- one device call that succeeded
 abbrev pub OneMore : DiskState → DiskState → Type 0

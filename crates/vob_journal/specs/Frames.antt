@@ -37,6 +37,10 @@ abbrev pub place_after : ℕ → List ℕ → ℕ
 place_after zero bytes = 0
 place_after (suc number) bytes = size_before (head bytes) (λ n. place_after number (drop n bytes))
 
+-- the place after all of them, where the next frame goes
+abbrev pub end_of_frames : List ℕ → ℕ
+end_of_frames bytes = place_after (length (frames bytes)) bytes
+
 -- whether a gate byte other than 1 stands there
 abbrev pub is_shut : List ℕ → Bool
 is_shut [] = false

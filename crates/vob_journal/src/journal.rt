@@ -60,7 +60,7 @@ impl<D: Disk> Journal<D> {
     ghost use Rattle.disk_model.specs.Devices.{Measures, Idles};
     ghost use Rattle.vob_journal.specs.declared.left.Left.TheVariants as lefts;
     ghost use Rattle.vob_journal.specs.Added.{Adds, WritesOn, may_read};
-    ghost use Rattle.vob_journal.specs.Answered.{GivesNext, Ends, SettledAtEnd, OneMore, OneFault, MakesNoCall};
+    ghost use Rattle.vob_journal.specs.Answered.{GivesNext, Ends, TailAtEnd, OneMore, OneFault, MakesNoCall};
     ghost use Rattle.vob_journal.specs.Calls.{FailsToPut, FailsToCommit, device_after_commit, settled_first};
     ghost use Rattle.vob_journal.specs.Frames.{frames};
     ghost use Rattle.vob_journal.specs.Lefts.{FailsInPhase, leftover_after, settled_after};
@@ -122,10 +122,10 @@ impl<D: Disk> Journal<D> {
             IfModeled (D.ghost_state self.old.disk).modeled
             (λ _. GivesNext found self.old.rest self.new.rest)) }
         ensures ends { Ends result self.old.ended self.new.ended }
-        ensures settled { IfOk result
+        ensures tail { IfOk result
             (λ found.
             IfModeled (D.ghost_state self.old.disk).modeled
-            (SettledAtEnd found self.old.ended self.new.settled self.new.tail)) }
+            (TailAtEnd found self.old.ended self.new.settled self.new.tail)) }
         ensures list { self.new.list ≡ self.old.list }
         ensures leftover { self.new.leftover ≡ self.old.leftover }
         ensures err { OnErr result (self.new.rest ≡ self.old.rest) }

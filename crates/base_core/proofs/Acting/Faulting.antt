@@ -17,6 +17,7 @@ use Rattle.story_log.specs.Logging.Appending.{MayLeaveRow, IsFaulted}
 use Rattle.base_core.specs.Keeping.CoreInvariants.{CoreInvariant}
 use Rattle.base_core.specs.Keeping.Lanes.{LaneState, with_reply}
 use Rattle.story_log.specs.Logging.Logs.{Logged}
+use Rattle.story_log.specs.Stopping.Tails.{tail_after_fault}
 use Rattle.base_core.specs.Story.Replying.{in_lane, reply_to_fault, replies_of}
 use Rattle.base_core.proofs.Keeping.Idle.{decided_is_free}
 use Rattle.base_core.proofs.Keeping.PreservedBuilds.{same_rows}
@@ -37,16 +38,16 @@ preserved_fault : (log new : Logged) (lanes : List LaneState) (now : ℕ) (row :
     → CoreInvariant new (with_reply lanes row.tag.lane replies.DiskFault) now
 preserved_fault log new lanes now row done h finishes in_time made low high =
     subst (λ l. CoreInvariant l (with_reply lanes row.tag.lane replies.DiskFault) now) (sym done.grows)
-    (preserved_finished log lanes now x log.base done.ghost_state row.tag replies.DiskFault h low high
+    (preserved_finished log lanes now x log.base done.ghost_state (tail_after_fault log.tail done.left) row.tag replies.DiskFault h low high
     (record {
       lawful = record {
         wanted = record { row = row; of_tag = refl; may = may };
         rose = done.rose;
         later = done.later;
-        leaves = leaves_so s row done.left may done.leaves;
+        leaves = leaves_so s row done.found may done.leaves;
         ticked = done.ticked;
       };
-      names = left_named IsFormed log.story row done.left done.leaves done.formed h.story.formed;
+      names = left_named IsFormed log.story row done.found done.leaves done.formed h.story.formed;
       leads = h.story.base;
     })
     (record {
@@ -62,7 +63,7 @@ preserved_fault log new lanes now row done h finishes in_time made low high =
     s = state_of log.story
 
     x : StoryStep
-    x = story_steps.Fault row.tag done.left done.before done.faults done.tick
+    x = story_steps.Fault row.tag done.found done.before done.faults done.tick
 
     may : MayCommit s row
     may = record { moment = in_time ∙ sym h.phase.moment; made = finishes.made s row made }

@@ -1,5 +1,4 @@
 -- What a core keeps after a row, a refusal or an answer that finishes a command of a lane.
-use Rattle.std.specs.declared.snapshot.Snapshot.{Snapshot}
 use Rattle.std.proofs.Common.{◌≡◌, ℕ, ◌≤◌, true, Some, Ok, Err, List, ◌∷◌, ◌++◌, length, refl, ap, sym, subst, ◌∙◌, arith}
 use Rattle.cc_names.specs.Counts.{rises}
 use Rattle.cc_names.specs.Formed.{Plain, IsFormed}
@@ -7,7 +6,6 @@ use Rattle.cc_names.specs.declared.refusals.Refusal.{Refusal}
 use Rattle.cc_names.specs.declared.replies.Reply.{Reply}
 use Rattle.cc_names.specs.declared.replies.Reply.TheVariants as replies
 use Rattle.cc_names.specs.declared.rows.Tag.{Tag}
-use Rattle.cc_names.specs.declared.steps.Step.TheVariants as steps
 use Rattle.cc_names.specs.declared.steps.StoryStep.{StoryStep}
 use Rattle.cc_names.specs.declared.steps.StoryStep.TheVariants as story_steps
 use Rattle.disk_model.specs.DiskStates.{DiskState}
@@ -18,6 +16,7 @@ use Rattle.base_core.specs.Calls.Acting.{FinishesCommand, IsRowToCommit, IsNextA
 use Rattle.base_core.specs.Keeping.CoreInvariants.{CoreInvariant}
 use Rattle.base_core.specs.Keeping.Lanes.{LaneState, with_reply}
 use Rattle.story_log.specs.Logging.Logs.{Logged, with_committed_row, with_step}
+use Rattle.story_log.specs.Stopping.Tails.{tail_after_row}
 use Rattle.base_core.specs.Story.Replying.{in_lane, replies_of, reply_to_answer, reply_to_row}
 use Rattle.base_core.proofs.Keeping.Idle.{decided_is_free}
 use Rattle.base_core.proofs.Keeping.PreservedBuilds.{same_rows, more_rows}
@@ -33,7 +32,8 @@ preserved_commit : (log : Logged) (lanes : List LaneState) (now : ℕ) (row : Pl
 preserved_commit log lanes now row tick ghost_state ticked h finishes in_time made low high formed reply replied =
     let s : State = state_of log.story in
     let x : StoryStep = story_steps.Commit row tick in
-    preserved_finished log lanes now x (row ∷ log.base) ghost_state row.tag reply h low high
+    preserved_finished log lanes now x (row ∷ log.base) ghost_state (tail_after_row log.tail row) row.tag reply h
+    low high
     (record {
       lawful = record {
         may = record { moment = in_time ∙ sym h.phase.moment; made = finishes.made s row made };
@@ -56,11 +56,11 @@ preserved_commit log lanes now row tick ghost_state ticked h finishes in_time ma
 preserved_refusal : (log : Logged) (lanes : List LaneState) (now : ℕ) (tag : Tag) (refusal : Refusal)
     → CoreInvariant log lanes now → decision_for (state_of log.story) tag ≡ Some (Err refusal) → 1 ≤ tag.lane
     → tag.lane ≤ length lanes
-    → CoreInvariant (with_step log (steps.Refused tag refusal)) (with_reply lanes tag.lane (replies.Refused refusal)) now
+    → CoreInvariant (with_step log (story_steps.Refused tag refusal)) (with_reply lanes tag.lane (replies.Refused refusal)) now
 preserved_refusal log lanes now tag refusal h made low high =
     let s : State = state_of log.story in
     let x : StoryStep = story_steps.Refused tag refusal in
-    preserved_finished log lanes now x log.base log.ghost_state tag (replies.Refused refusal) h low high
+    preserved_finished log lanes now x log.base log.ghost_state log.tail tag (replies.Refused refusal) h low high
     (record { lawful = made; names = tt; leads = h.story.base })
     (record {
       free = decided_is_free s tag (Err refusal) made;
@@ -72,17 +72,17 @@ preserved_refusal log lanes now tag refusal h made low high =
     })
 
 -- what is kept after an answer
-preserved_answer : (log : Logged) (lanes : List LaneState) (now : ℕ) (tag : Tag) (text : Snapshot (List ℕ)) (reply : Reply)
-    → CoreInvariant log lanes now → decision_for (state_of log.story) tag ≡ Some (Ok (Answers text.value))
-    → reply_to_answer (next_command (state_of log.story) tag) text.value ≡ reply → 1 ≤ tag.lane → tag.lane ≤ length lanes
-    → CoreInvariant (with_step log (steps.Answer tag text)) (with_reply lanes tag.lane reply) now
+preserved_answer : (log : Logged) (lanes : List LaneState) (now : ℕ) (tag : Tag) (text : List ℕ) (reply : Reply)
+    → CoreInvariant log lanes now → decision_for (state_of log.story) tag ≡ Some (Ok (Answers text))
+    → reply_to_answer (next_command (state_of log.story) tag) text ≡ reply → 1 ≤ tag.lane → tag.lane ≤ length lanes
+    → CoreInvariant (with_step log (story_steps.Answer tag text)) (with_reply lanes tag.lane reply) now
 preserved_answer log lanes now tag text reply h made replied low high =
     let s : State = state_of log.story in
-    let x : StoryStep = story_steps.Answer tag text.value in
-    preserved_finished log lanes now x log.base log.ghost_state tag reply h low high
+    let x : StoryStep = story_steps.Answer tag text in
+    preserved_finished log lanes now x log.base log.ghost_state log.tail tag reply h low high
     (record { lawful = made; names = tt; leads = h.story.base })
     (record {
-      free = decided_is_free s tag (Ok (Answers text.value)) made;
+      free = decided_is_free s tag (Ok (Answers text)) made;
       same = record { phase = refl; number = refl; moment = refl };
       rows = same_rows s (after s x) refl;
       active = refl;
@@ -106,7 +106,7 @@ preserved_next_row log lanes now story row lane tick ghost_state ticked same at_
 -- what is kept after the refusal of a lane's next command
 pub preserved_next_refusal : (log : Logged) (lanes : List LaneState) (now : ℕ) (story : List StoryStep) (tag : Tag)
     (refusal : Refusal) → log.story ≡ story → CoreInvariant log lanes now → IsNextRefusal (state_of story) tag refusal
-    → CoreInvariant (with_step log (steps.Refused tag refusal)) (with_reply lanes tag.lane (replies.Refused refusal)) now
+    → CoreInvariant (with_step log (story_steps.Refused tag refusal)) (with_reply lanes tag.lane (replies.Refused refusal)) now
 preserved_next_refusal log lanes now story tag refusal same h next =
     let here : IsNextRefusal (state_of log.story) tag refusal = subst (λ t. IsNextRefusal (state_of t) tag refusal) (sym same)
     next in
@@ -114,11 +114,11 @@ preserved_next_refusal log lanes now story tag refusal same h next =
 
 -- what is kept after the answer to a lane's next command
 pub preserved_next_answer : (log : Logged) (lanes : List LaneState) (now : ℕ) (story : List StoryStep) (tag : Tag)
-    (text : Snapshot (List ℕ)) (reply : Reply) → log.story ≡ story → CoreInvariant log lanes now
-    → IsNextAnswer (state_of story) tag text.value reply
-    → CoreInvariant (with_step log (steps.Answer tag text)) (with_reply lanes tag.lane reply) now
+    (text : List ℕ) (reply : Reply) → log.story ≡ story → CoreInvariant log lanes now
+    → IsNextAnswer (state_of story) tag text reply
+    → CoreInvariant (with_step log (story_steps.Answer tag text)) (with_reply lanes tag.lane reply) now
 preserved_next_answer log lanes now story tag text reply same h next =
-    let here : IsNextAnswer (state_of log.story) tag text.value reply =
-    subst (λ t. IsNextAnswer (state_of t) tag text.value reply) (sym same) next in
+    let here : IsNextAnswer (state_of log.story) tag text reply =
+    subst (λ t. IsNextAnswer (state_of t) tag text reply) (sym same) next in
     preserved_answer log lanes now tag text reply h here.made here.reply here.of_next.from
     (omega (arith, here.of_next.upto, h.replies.count))

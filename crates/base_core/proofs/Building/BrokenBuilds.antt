@@ -7,7 +7,6 @@ use Rattle.std.specs.FinMap.Entries.{put}
 use Rattle.cc_names.specs.Formed.{Plain, IsFormed}
 use Rattle.cc_names.specs.declared.replies.Reply.TheVariants as replies
 use Rattle.cc_names.specs.declared.rows.Tag.{Tag}
-use Rattle.cc_names.specs.declared.steps.Step.TheVariants as steps
 use Rattle.cc_names.specs.declared.steps.StoryStep.{StoryStep}
 use Rattle.cc_names.specs.declared.steps.StoryStep.TheVariants as story_steps
 use Rattle.base_model.proofs.Tables.{find_put_same}
@@ -25,7 +24,8 @@ use Rattle.base_core.specs.Calls.Building.{BuildInvariant}
 use Rattle.clearmake.specs.Going.{SamePhase, Finishes}
 use Rattle.base_core.specs.Keeping.CoreInvariants.{StoryInvariant, PhaseInvariant, AreReplies, AreBuilds, CoreInvariant}
 use Rattle.base_core.specs.Keeping.Lanes.{LaneState, lane_state, commands_at, replies_at, builds_in, with_closed}
-use Rattle.story_log.specs.Logging.Logs.{Logged, with_step, with_step_on}
+use Rattle.story_log.specs.Logging.Logs.{Logged, with_step, with_fault}
+use Rattle.story_log.specs.Stopping.Tails.{tail_after_fault}
 use Rattle.base_core.specs.Story.Replying.{in_lane, reply_to_fault, reply_to_end, replies_of}
 use Rattle.build_core.proofs.SlotLaws.{put_numbered, without_numbered}
 use Rattle.base_core.proofs.Building.Closing.{build_is_by, builds_closed}
@@ -62,13 +62,13 @@ after_fault s lane build left before faults tick is = ap (λ o. record s {
 
 -- what is kept after a fault under a lane's build, and after the end of it
 preserved_broken : (log new : Logged) (lanes : List LaneState) (now lane : ℕ) (build : Build) (row : Plain)
-    → IsFaulted log new row (Some (steps.End (next_tag (state_of log.story) lane))) → CoreInvariant log lanes now → 1 ≤ lane
+    → IsFaulted log new row (Some (story_steps.End (next_tag (state_of log.story) lane))) → CoreInvariant log lanes now → 1 ≤ lane
     → lane ≤ length lanes → build_of (state_of log.story).active lane ≡ Some build
     → row.tag ≡ next_tag (state_of log.story) lane → MayCommit (state_of log.story) row
     → CoreInvariant new (with_closed lanes lane replies.DiskFault) now
 preserved_broken log new lanes now lane build row faulted h low high is tagged may =
     subst (λ l. CoreInvariant l (with_closed lanes lane replies.DiskFault) now) (sym grows) (record {
-      story = story_more failed end log.base faulted.ghost_state story_with_fault (record
+      story = story_more failed end log.base faulted.ghost_state failed.tail story_with_fault (record
           { lawful = subst (λ t. EndsBuild t tag) (sym state1) ends; names = tt; leads = story_with_fault.base });
       phase = subst (λ t. PhaseInvariant t log.phases now) (sym state2)
           (phase_stays s (after s1 end) log.phases now h.phase same);
@@ -91,17 +91,17 @@ preserved_broken log new lanes now lane build row faulted h low high is tagged m
     tag = next_tag s lane
 
     fault : StoryStep
-    fault = story_steps.Fault tag faulted.left faulted.before faulted.faults faulted.tick
+    fault = story_steps.Fault tag faulted.found faulted.before faulted.faults faulted.tick
 
     end : StoryStep
     end = story_steps.End tag
 
     failed : Logged
-    failed = with_step_on log fault faulted.ghost_state
+    failed = with_fault log fault faulted.ghost_state faulted.left
 
-    grows : new ≡ with_step failed (steps.End tag)
-    grows = faulted.grows ∙ ap (λ t. with_step (with_step_on log (story_steps.Fault t faulted.left faulted.before faulted.faults
-        faulted.tick) faulted.ghost_state) (steps.End tag)) tagged
+    grows : new ≡ with_step failed (story_steps.End tag)
+    grows = faulted.grows ∙ ap (λ t. with_step (with_fault log (story_steps.Fault t faulted.found faulted.before faulted.faults
+        faulted.tick) faulted.ghost_state faulted.left) (story_steps.End tag)) tagged
 
     story' : List StoryStep
     story' = log.story ++ fault ∷ []
@@ -110,7 +110,7 @@ preserved_broken log new lanes now lane build row faulted h low high is tagged m
     kept = h.builds.kept lane build is
 
     s1 : State
-    s1 = broken_state s lane build faulted.left faulted.faults faulted.tick
+    s1 = broken_state s lane build faulted.found faulted.faults faulted.tick
 
     by_tag : build_by s tag ≡ Some build
     by_tag = build_is_by s lane build is kept.tag
@@ -119,15 +119,15 @@ preserved_broken log new lanes now lane build row faulted h low high is tagged m
     by_tag1 = build_is_by s1 lane (broken build) (find_put_same lane (broken build) s.active) kept.tag
 
     story_with_fault : StoryInvariant failed
-    story_with_fault = story_more log fault log.base faulted.ghost_state h.story (record {
+    story_with_fault = story_more log fault log.base faulted.ghost_state (tail_after_fault log.tail faulted.left) h.story (record {
       lawful = record {
         wanted = record { row = row; of_tag = tagged; may = may };
         rose = faulted.rose;
         later = faulted.later;
-        leaves = subst (λ t. LeavesRow s t faulted.left) tagged (leaves_so s row faulted.left may faulted.leaves);
+        leaves = subst (λ t. LeavesRow s t faulted.found) tagged (leaves_so s row faulted.found may faulted.leaves);
         ticked = faulted.ticked;
       };
-      names = left_named IsFormed log.story row faulted.left faulted.leaves faulted.formed h.story.formed;
+      names = left_named IsFormed log.story row faulted.found faulted.leaves faulted.formed h.story.formed;
       leads = h.story.base;
     })
 
@@ -135,7 +135,7 @@ preserved_broken log new lanes now lane build row faulted h low high is tagged m
     ends = record { build = broken build; active = by_tag1; over = or_true (is_complete (broken build)) }
 
     state1 : state_of story' ≡ s1
-    state1 = state_from-more start log.story fault ∙ after_fault s lane build faulted.left faulted.before faulted.faults
+    state1 = state_from-more start log.story fault ∙ after_fault s lane build faulted.found faulted.before faulted.faults
         faulted.tick by_tag
 
     state2 : state_of (story' ++ end ∷ []) ≡ after s1 end
@@ -158,7 +158,7 @@ preserved_broken log new lanes now lane build row faulted h low high is tagged m
 
 -- how the story went on
 broken_finishes : (log new : Logged) (story : List StoryStep) (lane : ℕ) (build : Build) (row : Plain) (tag : Tag)
-    → IsFaulted log new row (Some (steps.End tag)) → log.story ≡ story
+    → IsFaulted log new row (Some (story_steps.End tag)) → log.story ≡ story
     → build_by (state_of story) (next_tag (state_of story) lane) ≡ Some build → row.tag ≡ tag
     → tag ≡ next_tag (state_of story) lane → Finishes story new.story lane
 broken_finishes log new story lane build row tag faulted same is own tagged = record {
@@ -174,23 +174,23 @@ broken_finishes log new story lane build row tag faulted same is own tagged = re
     s = state_of story
 
     fault : StoryStep
-    fault = story_steps.Fault tag faulted.left faulted.before faulted.faults faulted.tick
+    fault = story_steps.Fault tag faulted.found faulted.before faulted.faults faulted.tick
 
     end : StoryStep
     end = story_steps.End tag
 
     s1 : State
-    s1 = broken_state s lane build faulted.left faulted.faults faulted.tick
+    s1 = broken_state s lane build faulted.found faulted.faults faulted.tick
 
     grows : new.story ≡ (story ++ fault ∷ []) ++ end ∷ []
     grows = ap (λ l. l.story) faulted.grows
-        ∙ ap₂ (λ t of_row. (t ++ story_steps.Fault of_row faulted.left faulted.before faulted.faults faulted.tick ∷ [])
+        ∙ ap₂ (λ t of_row. (t ++ story_steps.Fault of_row faulted.found faulted.before faulted.faults faulted.tick ∷ [])
         ++ end ∷ []) same own
 
     state1 : state_of (story ++ fault ∷ []) ≡ s1
     state1 = state_from-more start story fault
-        ∙ ap (λ t. after s (story_steps.Fault t faulted.left faulted.before faulted.faults faulted.tick)) tagged
-        ∙ after_fault s lane build faulted.left faulted.before faulted.faults faulted.tick is
+        ∙ ap (λ t. after s (story_steps.Fault t faulted.found faulted.before faulted.faults faulted.tick)) tagged
+        ∙ after_fault s lane build faulted.found faulted.before faulted.faults faulted.tick is
 
     state : state_of new.story ≡ record s1 {
       done = with_done s.done lane;
@@ -202,16 +202,16 @@ broken_finishes log new story lane build row tag faulted same is own tagged = re
 
 -- what is kept where a row that was to give a unit an object was not committed
 pub preserved_broken_object : (log new : Logged) (lanes : List LaneState) (now lane n : ℕ) (row : Plain) (object : ℕ) (tag : Tag)
-    → IsFaulted log new row (Some (steps.End tag)) → CoreInvariant log lanes now → Gives (state_of log.story) lane n row object
+    → IsFaulted log new row (Some (story_steps.End tag)) → CoreInvariant log lanes now → Gives (state_of log.story) lane n row object
     → tag ≡ next_tag (state_of log.story) lane → CoreInvariant new (with_closed lanes lane replies.DiskFault) now
 preserved_broken_object log new lanes now lane n row object tag faulted h g tagged =
     let slot = lane_slot log lanes now lane g.build h g.active in
-    preserved_broken log new lanes now lane g.build row (subst (λ t. IsFaulted log new row (Some (steps.End t))) tagged faulted) h
+    preserved_broken log new lanes now lane g.build row (subst (λ t. IsFaulted log new row (Some (story_steps.End t))) tagged faulted) h
     slot.from slot.upto g.active g.of_tag g.may
 
 -- how the story went on
 pub broken_object_finishes : (log new : Logged) (lanes : List LaneState) (now : ℕ) (story : List StoryStep) (lane n : ℕ)
-    (row : Plain) (object : ℕ) (tag : Tag) → IsFaulted log new row (Some (steps.End tag)) → log.story ≡ story
+    (row : Plain) (object : ℕ) (tag : Tag) → IsFaulted log new row (Some (story_steps.End tag)) → log.story ≡ story
     → CoreInvariant log lanes now → Gives (state_of log.story) lane n row object → tag ≡ next_tag (state_of log.story) lane
     → Finishes story new.story lane
 broken_object_finishes log new lanes now story lane n row object tag faulted same h g tagged =

@@ -2,7 +2,6 @@
 use Rattle.std.proofs.Common.{◌≡◌, ℕ, ◌+◌, ◌≤◌, Some, Ok, List, length, refl, ap, arith}
 use Rattle.std.proofs.lemmas.List.{append-nil}
 use Rattle.cc_names.specs.declared.rows.Tag.{Tag}
-use Rattle.cc_names.specs.declared.steps.Step.TheVariants as steps
 use Rattle.cc_names.specs.declared.steps.StoryStep.{StoryStep}
 use Rattle.cc_names.specs.declared.steps.StoryStep.TheVariants as story_steps
 use Rattle.base_model.specs.Rows.{size}
@@ -27,10 +26,10 @@ pub preserved_begin : (log : Logged) (lanes : List LaneState) (now : ℕ) (tag :
     → build_begun_by (state_of log.story) tag ≡ Some build
     → BuildInvariant (state_of log.story) tag.lane build → rows_reserved (state_of log.story).active + length build.units
     ≤ row_limit
-    → CoreInvariant (with_step log (steps.Begin tag (size (state_of log.story).base) (length build.units)))
+    → CoreInvariant (with_step log (story_steps.Begin tag (size (state_of log.story).base) (length build.units)))
     (put_build lanes tag.lane (Some build)) now
 preserved_begin log lanes now tag build h low high made begins is room =
-    preserved_put log lanes now x log.base log.ghost_state tag.lane build h low high
+    preserved_put log lanes now x log.base log.ghost_state log.tail tag.lane build h low high
     (record {
       lawful = record { units = build.units; chosen = made; at_rows = refl; of_units = refl };
       names = tt;

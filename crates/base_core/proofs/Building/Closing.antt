@@ -5,7 +5,6 @@ use Rattle.std.specs.Prelude.{if◌then◌else◌}
 use Rattle.cc_names.specs.declared.replies.Reply.{Reply}
 use Rattle.cc_names.specs.declared.replies.Reply.TheVariants as replies
 use Rattle.cc_names.specs.declared.rows.Tag.{Tag}
-use Rattle.cc_names.specs.declared.steps.Step.TheVariants as steps
 use Rattle.cc_names.specs.declared.steps.StoryStep.{StoryStep}
 use Rattle.cc_names.specs.declared.steps.StoryStep.TheVariants as story_steps
 use Rattle.build_core.specs.Slots.{numbered_slots}
@@ -53,10 +52,10 @@ builds_closed s t lanes lane reply h low high same rows done active =
 -- what is kept after the end of a lane's build, whose units all have their outcomes
 pub preserved_end : (log : Logged) (lanes : List LaneState) (now lane : ℕ) (build : Build) → CoreInvariant log lanes now
     → 1 ≤ lane → lane ≤ length lanes → build_of (state_of log.story).active lane ≡ Some build → is_complete build ≡ true
-    → CoreInvariant (with_step log (steps.End (next_tag (state_of log.story) lane)))
+    → CoreInvariant (with_step log (story_steps.End (next_tag (state_of log.story) lane)))
     (with_closed lanes lane (reply_of (state_of log.story).base build)) now
 preserved_end log lanes now lane build h low high is over = record {
-  story = story_more log x log.base log.ghost_state h.story (record {
+  story = story_more log x log.base log.ghost_state log.tail h.story (record {
     lawful = record {
       build = build;
       active = by_tag;

@@ -2,7 +2,6 @@
 use Rattle.std.proofs.Common.{◌≡◌, ℕ, true, Some, List, [], ◌∷◌, ◌++◌, ap, sym, subst, ◌∙◌}
 use Rattle.cc_names.specs.declared.replies.Reply.{Reply}
 use Rattle.cc_names.specs.declared.rows.Tag.{Tag}
-use Rattle.cc_names.specs.declared.steps.Step.TheVariants as steps
 use Rattle.cc_names.specs.declared.steps.StoryStep.{StoryStep}
 use Rattle.cc_names.specs.declared.steps.StoryStep.TheVariants as story_steps
 use Rattle.legal_history.specs.Builds.Replied.{reply_of}
@@ -28,7 +27,7 @@ pub preserved_ended : (log : Logged) (lanes : List LaneState) (now lane : ℕ) (
     (build : Build) (reply : Reply) → log.story ≡ story → CoreInvariant log lanes now → IsOver (state_of story) lane
     → build_of (state_of story).active lane ≡ Some build
     → (state_of story).base ≡ rows → tag ≡ next_tag (state_of story) lane → reply ≡ reply_of rows build
-    → CoreInvariant (with_step log (steps.End tag)) (with_closed lanes lane reply) now
+    → CoreInvariant (with_step log (story_steps.End tag)) (with_closed lanes lane reply) now
 preserved_ended log lanes now lane story rows tag build reply same h over found base tagged replied =
     let active : build_of (state_of log.story).active lane ≡ Some build = ap (λ t. build_of (state_of t).active lane) same
     ∙ found in
@@ -38,14 +37,14 @@ preserved_ended log lanes now lane story rows tag build reply same h over found 
     ∙ ap (λ b. reply_of b build) base ∙ sym replied in
     let complete : is_complete build ≡ true = ap is_complete (sym (some_same over.build build (sym over.active ∙ found)))
     ∙ over.complete in
-    subst (λ r. CoreInvariant (with_step log (steps.End tag)) (with_closed lanes lane r) now) reply_is
-    (subst (λ t. CoreInvariant (with_step log (steps.End t)) (with_closed lanes lane (reply_of (state_of log.story).base build))
+    subst (λ r. CoreInvariant (with_step log (story_steps.End tag)) (with_closed lanes lane r) now) reply_is
+    (subst (λ t. CoreInvariant (with_step log (story_steps.End t)) (with_closed lanes lane (reply_of (state_of log.story).base build))
     now) tag_is
     (preserved_end log lanes now lane build h slot.from slot.upto active complete))
 
 -- how the story went on
 pub ended_finishes : (log : Logged) (story : List StoryStep) (lane : ℕ) (tag : Tag) → log.story ≡ story
-    → tag ≡ next_tag (state_of story) lane → Finishes story (with_step log (steps.End tag)).story lane
+    → tag ≡ next_tag (state_of story) lane → Finishes story (with_step log (story_steps.End tag)).story lane
 ended_finishes log story lane tag same tagged = record {
   steps = x ∷ [];
   grows = ap (λ t. t ++ x ∷ []) same;

@@ -1,9 +1,7 @@
 -- What a core keeps after a step of a build that names no row.
 use Rattle.std.proofs.Common.{◌≡◌, ℕ, ◌≤◌, true, Some, List, ◌++◌, length, subst, sym, ap, ◌∙◌, arith}
-use Rattle.std.specs.Option.{option_to_list}
 use Rattle.std.specs.Ordering.{nat_cmp}
 use Rattle.std.specs.FinMap.Entries.{put}
-use Rattle.cc_names.specs.declared.steps.Step.{Step}
 use Rattle.cc_names.specs.declared.steps.StoryStep.{StoryStep}
 use Rattle.legal_history.specs.Builds.Active.{Build, Came, build_of}
 use Rattle.legal_history.specs.Stories.States.{State}
@@ -11,7 +9,6 @@ use Rattle.legal_history.specs.Stories.Steps.{after, state_of, with_came}
 use Rattle.legal_history.specs.Stories.Lawful.{Lawful}
 use Rattle.base_core.specs.Calls.Building.{BuildInvariant}
 use Rattle.legal_history.specs.Stories.Quiet.{is_quiet}
-use Rattle.story_log.specs.Story.Telling.{shown_as}
 use Rattle.base_core.specs.Keeping.CoreInvariants.{CoreInvariant}
 use Rattle.base_core.specs.Keeping.Lanes.{LaneState, put_build}
 use Rattle.story_log.specs.Logging.Logs.{Logged, with_step}
@@ -34,28 +31,16 @@ noted_preserved s lane build n came h = record {
   faultless = h.faultless;
 }
 
--- a log with more steps of its story
-abbrev with_steps : Logged → List StoryStep → Logged
-with_steps log steps = record {
-  story = log.story ++ steps;
-  base = log.base;
-  phases = log.phases;
-  ghost_state = log.ghost_state;
-}
-
 -- what is kept after a step by which a unit of a lane's build comes to something, without a row
-pub preserved_note : (log : Logged) (lanes : List LaneState) (now : ℕ) (step : Step) (x : StoryStep) (lane n : ℕ) (build : Build)
-    (came : Came) → shown_as step ≡ Some x → is_quiet x ≡ true → CoreInvariant log lanes now → 1 ≤ lane → lane ≤ length lanes
+pub preserved_note : (log : Logged) (lanes : List LaneState) (now : ℕ) (x : StoryStep) (lane n : ℕ) (build : Build)
+    (came : Came) → is_quiet x ≡ true → CoreInvariant log lanes now → 1 ≤ lane → lane ≤ length lanes
     → build_of (state_of log.story).active lane ≡ Some build
     → Lawful (state_of log.story) x → after (state_of log.story) x ≡ record (state_of log.story)
     { active = put nat_cmp lane (with_came build (Some n) came) (state_of log.story).active }
     → ((l : ℕ) → replies_after (state_of log.story) x (replies_of log.story) l ≡ replies_of log.story l)
-    → CoreInvariant (with_step log step) (put_build lanes lane (Some (with_came build (Some n) came))) now
-preserved_note log lanes now step x lane n build came shown quiet h low high is lawful leaves said =
-    subst (λ o. CoreInvariant (with_steps log (option_to_list o)) (put_build lanes lane (Some (with_came build (Some n) came)))
-    now)
-    (sym shown)
-    (preserved_put log lanes now x log.base log.ghost_state lane (with_came build (Some n) came) h low high
+    → CoreInvariant (with_step log x) (put_build lanes lane (Some (with_came build (Some n) came))) now
+preserved_note log lanes now x lane n build came quiet h low high is lawful leaves said =
+    preserved_put log lanes now x log.base log.ghost_state log.tail lane (with_came build (Some n) came) h low high
     (record { lawful = lawful; names = names_none IsFormed x quiet; leads = ap (λ t. t.base) leaves ∙ h.story.base })
     (record {
       same = record { phase = ap (λ t. t.phase) leaves; number = ap (λ t. t.number) leaves; moment = ap (λ t. t.moment) leaves };
@@ -65,7 +50,7 @@ preserved_note log lanes now step x lane n build came shown quiet h low high is 
       said = said;
       kept = noted_preserved s lane build n came (h.builds.kept lane build is);
       room = omega (arith, h.builds.reserves, ap rows_for is);
-    }))
+    })
   where
     s : State
     s = state_of log.story

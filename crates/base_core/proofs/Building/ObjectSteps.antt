@@ -18,6 +18,7 @@ use Rattle.base_core.specs.Calls.BuildCalls.{GivesObject}
 use Rattle.clearmake.specs.Going.{BuildsOn, GoesOn, HasOutcome}
 use Rattle.base_core.specs.Keeping.CoreInvariants.{CoreInvariant}
 use Rattle.base_core.specs.Keeping.Lanes.{LaneState, build_at, put_build}
+use Rattle.story_log.specs.Stopping.Tails.{tail_after_row}
 use Rattle.story_log.specs.Logging.Logs.{Logged, with_committed_row}
 use Rattle.base_core.specs.Story.Replying.{in_lane, replies_of}
 use Rattle.base_core.proofs.Acting.Fitting.{may_fits}
@@ -56,7 +57,7 @@ pub preserved_object : (log : Logged) (lanes more : List LaneState) (now lane n 
 preserved_object log lanes more now lane n row object tick ghost_state ticked h g set_so formed =
     let slot = lane_slot log lanes now lane g.build h g.active in
     subst (λ ls. CoreInvariant (with_committed_row log row tick ghost_state) ls now) (sym (set_so g.build slot.held))
-    (preserved_put log lanes now x (row ∷ log.base) ghost_state lane (with_came g.build (Some n) (Given object)) h slot.from
+    (preserved_put log lanes now x (row ∷ log.base) ghost_state (tail_after_row log.tail row) lane (with_came g.build (Some n) (Given object)) h slot.from
     slot.upto
     (record {
       lawful = record { may = g.may; ticked = ticked };

@@ -4,7 +4,6 @@ use Rattle.std.specs.Ordering.{nat_cmp}
 use Rattle.std.specs.FinMap.Entries.{put}
 use Rattle.cc_names.specs.declared.occasions.Done.TheVariants as dones
 use Rattle.cc_names.specs.declared.rows.Tag.{Tag}
-use Rattle.cc_names.specs.declared.steps.Step.TheVariants as steps
 use Rattle.cc_names.specs.declared.steps.StoryStep.{StoryStep}
 use Rattle.cc_names.specs.declared.steps.StoryStep.TheVariants as story_steps
 use Rattle.base_model.specs.Rows.{size}
@@ -30,22 +29,22 @@ use Rattle.base_core.proofs.Building.BuildBegins.{preserved_begin}
 pub preserved_opened : (log : Logged) (lanes : List LaneState) (now rows count : ℕ) (story : List StoryStep) (tag : Tag)
     (build : Build) → log.story ≡ story → CoreInvariant log lanes now → IsNextBuild (state_of story) build → tag ≡ build.tag
     → rows ≡ build.rows → count ≡ length build.units
-    → CoreInvariant (with_step log (steps.Begin tag rows count)) (put_build lanes tag.lane (Some build)) now
+    → CoreInvariant (with_step log (story_steps.Begin tag rows count)) (put_build lanes tag.lane (Some build)) now
 preserved_opened log lanes now rows count story tag build same h next tagged at_rows counted =
     let s = state_of log.story in
     let here : IsNextBuild s build = subst (λ t. IsNextBuild (state_of t) build) (sym same) next in
-    subst (λ t. CoreInvariant (with_step log (steps.Begin t rows count)) (put_build lanes t.lane (Some build)) now) (sym tagged)
-    (subst (λ r. CoreInvariant (with_step log (steps.Begin build.tag r count)) (put_build lanes build.tag.lane (Some build)) now)
+    subst (λ t. CoreInvariant (with_step log (story_steps.Begin t rows count)) (put_build lanes t.lane (Some build)) now) (sym tagged)
+    (subst (λ r. CoreInvariant (with_step log (story_steps.Begin build.tag r count)) (put_build lanes build.tag.lane (Some build)) now)
     (sym (at_rows ∙ here.at_rows))
-    (subst (λ c. CoreInvariant (with_step log (steps.Begin build.tag (size s.base) c))
+    (subst (λ c. CoreInvariant (with_step log (story_steps.Begin build.tag (size s.base) c))
     (put_build lanes build.tag.lane (Some build)) now) (sym counted)
     (preserved_begin log lanes now build.tag build h here.of_next.from (omega (arith, here.of_next.upto, h.replies.count))
     here.made here.begins here.kept here.room)))
 
 -- how the story went on
 pub opened_so : (log : Logged) (rows count : ℕ) (story : List StoryStep) (tag : Tag) (build : Build) → log.story ≡ story
-    → IsNextBuild (state_of story) build → tag ≡ build.tag → GoesOn story (with_step log (steps.Begin tag rows count)).story
-    build.tag.lane × IsBuilding (state_of (with_step log (steps.Begin tag rows count)).story) build.tag.lane (length build.units)
+    → IsNextBuild (state_of story) build → tag ≡ build.tag → GoesOn story (with_step log (story_steps.Begin tag rows count)).story
+    build.tag.lane × IsBuilding (state_of (with_step log (story_steps.Begin tag rows count)).story) build.tag.lane (length build.units)
 opened_so log rows count story tag build same next tagged = (
   record {
     steps = x ∷ [];

@@ -6,22 +6,19 @@ use Rattle.std.specs.Ordering.{nat_cmp}
 use Rattle.std.specs.FinMap.Entries.{put}
 use Rattle.std.proofs.lemmas.Bool.{cases_eq}
 use Rattle.cc_names.specs.declared.replies.Reply.{Reply}
-use Rattle.cc_names.specs.declared.steps.Step.{Step}
 use Rattle.cc_names.specs.declared.steps.StoryStep.{StoryStep}
 use Rattle.cc_names.specs.declared.steps.StoryStep.TheVariants as story_steps
 use Rattle.base_model.proofs.Tables.{find_put_same}
 use Rattle.legal_history.specs.Builds.Active.{Build, Came, build_of, came_to, is_outcome}
 use Rattle.legal_history.specs.Stories.States.{State, start}
 use Rattle.legal_history.specs.Stories.Steps.{after, state_of, with_came}
-use Rattle.base_core.specs.Calls.BuildCalls.{Notes, NotesAs, NotesIf, Noted}
+use Rattle.base_core.specs.Calls.BuildCalls.{Notes, Noted}
 use Rattle.clearmake.specs.Going.{BuildsOn}
 use Rattle.base_core.specs.Keeping.CoreInvariants.{CoreInvariant}
 use Rattle.base_core.specs.Keeping.Lanes.{LaneState, build_at, put_build}
 use Rattle.story_log.specs.Logging.Logs.{Logged, with_step}
 use Rattle.base_core.specs.Story.Replying.{replies_after, replies_by, replies_of}
 use Rattle.legal_history.specs.Stories.Quiet.{is_quiet}
-use Rattle.story_log.specs.Story.Telling.{shown_as}
-use Rattle.std.specs.Option.{option_to_list}
 use Rattle.story_log.proofs.Story.Growing.{state_from-more}
 use Rattle.story_log.proofs.Cases.{some_same}
 use Rattle.base_core.proofs.Keeping.LaneSlots.{lane_slot, found_else}
@@ -37,33 +34,18 @@ replies_quiet s x replies l h = refl
 true_or_false : (b : Bool) → b ≡ true → b ≡ false → ⊥
 true_or_false b t f = cc
 
--- the step as which it is shown
-pub record IsShownNote (s : State) (lane n : ℕ) (step : Step) (came : Came) : Type 0 where
-  pub x : StoryStep
-  pub is : shown_as step ≡ Some x
-  pub notes : NotesAs s lane n came x
-
-pub shown_note : (s : State) (lane n : ℕ) (step : Step) (came : Came) → Notes s lane n step came → IsShownNote s lane n step came
-shown_note s lane n step came h = by (shown_as step) refl h
-  where
-    by : (o : Option StoryStep) → shown_as step ≡ o → NotesIf s lane n came o → IsShownNote s lane n step came
-    by None is h = absurd h
-    by (Some x) is h = record { x = x; is = is; notes = h }
-
 -- what is kept then
-pub preserved_noted : (log : Logged) (lanes more : List LaneState) (now : ℕ) (story : List StoryStep) (lane n : ℕ) (step : Step)
-    (came : Came) → log.story ≡ story → CoreInvariant log lanes now → Notes (state_of story) lane n step came
+pub preserved_noted : (log : Logged) (lanes more : List LaneState) (now : ℕ) (story : List StoryStep) (lane n : ℕ) (x : StoryStep)
+    (came : Came) → log.story ≡ story → CoreInvariant log lanes now → Notes (state_of story) lane n came x
     → ((build : Build) → build_at lanes lane ≡ Some build → more ≡ put_build lanes lane (Some (with_came build (Some n) came)))
-    → CoreInvariant (with_step log step) more now
-preserved_noted log lanes more now story lane n step came same h notes set_so =
-    let note = shown_note (state_of log.story) lane n step came
-    (subst (λ t. Notes (state_of t) lane n step came) (sym same) notes) in
-    let here = note.notes in
+    → CoreInvariant (with_step log x) more now
+preserved_noted log lanes more now story lane n x came same h notes set_so =
+    let here = subst (λ t. Notes (state_of t) lane n came x) (sym same) notes in
     let slot = lane_slot log lanes now lane here.build h here.active in
-    subst (λ ls. CoreInvariant (with_step log step) ls now) (sym (set_so here.build slot.held))
-    (preserved_note log lanes now step note.x lane n here.build came note.is here.quiet h slot.from slot.upto here.active
+    subst (λ ls. CoreInvariant (with_step log x) ls now) (sym (set_so here.build slot.held))
+    (preserved_note log lanes now x lane n here.build came here.quiet h slot.from slot.upto here.active
     here.lawful here.leaves
-    (λ l. replies_quiet (state_of log.story) note.x (replies_of log.story) l here.quiet
+    (λ l. replies_quiet (state_of log.story) x (replies_of log.story) l here.quiet
     ∙ ap (λ more. replies_of log.story l ++ more) (here.silent l) ∙ append-nil (replies_of log.story l)))
 
 -- a unit's outcomes after it was noted
@@ -77,11 +59,11 @@ outcome_noted build n m came waits over = by (cases_eq m n)
     by (inr differs) = ap is_outcome (found_else n m came build.comes differs) ∙ over
 
 -- how the story went on
-pub noted_so : (log : Logged) (story : List StoryStep) (lane n : ℕ) (step : Step) (came : Came) → log.story ≡ story
-    → Notes (state_of story) lane n step came → Noted story (with_step log step).story lane n came
-noted_so log story lane n step came same all = record {
+pub noted_so : (log : Logged) (story : List StoryStep) (lane n : ℕ) (x : StoryStep) (came : Came) → log.story ≡ story
+    → Notes (state_of story) lane n came x → Noted story (with_step log x).story lane n came
+noted_so log story lane n x came same notes = record {
   goes = record {
-    steps = note.x ∷ [];
+    steps = x ∷ [];
     grows = grows;
     one = notes.own;
     phase = record { phase = ap (λ t. t.phase) state; number = ap (λ t. t.number) state; moment = ap (λ t. t.moment) state };
@@ -96,26 +78,20 @@ noted_so log story lane n step came same all = record {
     s : State
     s = state_of story
 
-    note : IsShownNote s lane n step came
-    note = shown_note s lane n step came all
-
-    notes : NotesAs s lane n came note.x
-    notes = note.notes
-
     noted : Build
     noted = with_came notes.build (Some n) came
 
-    grows : (with_step log step).story ≡ story ++ note.x ∷ []
-    grows = ap (λ t. t ++ option_to_list (shown_as step)) same ∙ ap (λ o. story ++ option_to_list o) note.is
+    grows : (with_step log x).story ≡ story ++ x ∷ []
+    grows = ap (λ t. t ++ x ∷ []) same
 
-    state : state_of (with_step log step).story ≡ record s { active = put nat_cmp lane noted s.active }
-    state = ap state_of grows ∙ state_from-more start story note.x ∙ notes.leaves
+    state : state_of (with_step log x).story ≡ record s { active = put nat_cmp lane noted s.active }
+    state = ap state_of grows ∙ state_from-more start story x ∙ notes.leaves
 
-    active : build_of (state_of (with_step log step).story).active lane ≡ Some noted
+    active : build_of (state_of (with_step log x).story).active lane ≡ Some noted
     active = ap (λ t. build_of t.active lane) state ∙ find_put_same lane noted s.active
 
-    still : (build : Build) → notes.build ≡ build → BuildsOn (state_of (with_step log step).story) lane build
-    still build e = subst (λ b. BuildsOn (state_of (with_step log step).story) lane b) e
+    still : (build : Build) → notes.build ≡ build → BuildsOn (state_of (with_step log x).story) lane build
+    still build e = subst (λ b. BuildsOn (state_of (with_step log x).story) lane b) e
         (record {
           build = noted;
           active = active;

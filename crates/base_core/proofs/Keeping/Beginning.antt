@@ -121,8 +121,8 @@ preserved_plan log lanes now moment phase h finished formed few in_time = record
     fresh_count : length (fresh_lanes phase.lanes) ≡ length phase.lanes
     fresh_count = length-map phase.lanes _
 
-    story_with_phase : StoryInvariant (log_more log x log.base log.ghost_state)
-    story_with_phase = story_more log x log.base log.ghost_state h.story
+    story_with_phase : StoryInvariant (log_more log x log.base log.ghost_state log.tail)
+    story_with_phase = story_more log x log.base log.ghost_state log.tail h.story
         (record {
           lawful = record { opened = h.story.opened; finished = finished; in_time = in_time };
           names = tt;

@@ -21,6 +21,7 @@ use Rattle.clearmake.specs.Going.{SamePhase}
 use Rattle.base_core.specs.Keeping.CoreInvariants.{StoryInvariant, PhaseInvariant, AreBuilds, CoreInvariant}
 use Rattle.base_core.specs.Keeping.Lanes.{LaneState, lane_state, commands_at, replies_at, builds_in, with_reply, put_build}
 use Rattle.story_log.specs.Logging.Logs.{Logged}
+use Rattle.story_log.specs.Stopping.Tails.{Tail}
 use Rattle.story_log.specs.Story.Formed.{NamesOnly}
 use Rattle.cc_names.specs.Formed.{IsFormed}
 use Rattle.legal_history.proofs.Stories.Grows.{stays_opened}
@@ -38,12 +39,13 @@ use Rattle.story_log.proofs.Story.Naming.{names_more}
 use Rattle.base_core.proofs.Keeping.Reserving.{rows_for}
 
 -- the log with one more step, which leads to this base
-abbrev pub log_more : Logged → StoryStep → Base → DiskState → Logged
-log_more log x base ghost_state = record {
+abbrev pub log_more : Logged → StoryStep → Base → DiskState → Tail → Logged
+log_more log x base ghost_state tail = record {
   story = log.story ++ x ∷ [];
   base = base;
   phases = log.phases;
   ghost_state = ghost_state;
+  tail = tail;
 }
 
 -- a lawful step that leads to this base, and names formed rows alone
@@ -53,9 +55,9 @@ pub record MayTell (s : State) (x : StoryStep) (base : Base) : Type 0 where
   pub leads : (after s x).base ≡ base
 
 -- the story
-pub story_more : (log : Logged) (x : StoryStep) (base : Base) (ghost_state : DiskState) → StoryInvariant log
-    → MayTell (state_of log.story) x base → StoryInvariant (log_more log x base ghost_state)
-story_more log x base ghost_state h may =
+pub story_more : (log : Logged) (x : StoryStep) (base : Base) (ghost_state : DiskState) (tail : Tail) → StoryInvariant log
+    → MayTell (state_of log.story) x base → StoryInvariant (log_more log x base ghost_state tail)
+story_more log x base ghost_state tail h may =
     let more : state_of (log.story ++ x ∷ []) ≡ after (state_of log.story) x = state_from-more start log.story x in
     record {
       legal = legal_more start log.story x h.legal may.lawful;
@@ -85,12 +87,12 @@ pub record FinishesOne (story : List StoryStep) (x : StoryStep) (tag : Tag) (rep
   pub done : (after (state_of story) x).done ≡ with_done (state_of story).done tag.lane
   pub said : (l : ℕ) → replies_after (state_of story) x (replies_of story) l ≡ replies_of story l ++ in_lane l tag (Some reply)
 
-pub preserved_finished : (log : Logged) (lanes : List LaneState) (now : ℕ) (x : StoryStep) (base : Base) (ghost_state : DiskState)
+pub preserved_finished : (log : Logged) (lanes : List LaneState) (now : ℕ) (x : StoryStep) (base : Base) (ghost_state : DiskState) (tail : Tail)
     (tag : Tag) (reply : Reply) → CoreInvariant log lanes now → 1 ≤ tag.lane → tag.lane ≤ length lanes
     → MayTell (state_of log.story) x base → FinishesOne log.story x tag reply
-    → CoreInvariant (log_more log x base ghost_state) (with_reply lanes tag.lane reply) now
-preserved_finished log lanes now x base ghost_state tag reply h low high may finishes = record {
-  story = story_more log x base ghost_state h.story may;
+    → CoreInvariant (log_more log x base ghost_state tail) (with_reply lanes tag.lane reply) now
+preserved_finished log lanes now x base ghost_state tail tag reply h low high may finishes = record {
+  story = story_more log x base ghost_state tail h.story may;
   phase = subst (λ t. PhaseInvariant t log.phases now) (sym more) (phase_stays s (after s x) log.phases now h.phase
       finishes.same);
   replies = replies_more log.story x lanes tag reply kept h.replies low high finishes.said finishes.done finishes.same.phase refl
@@ -127,12 +129,12 @@ pub record PutsBuild (story : List StoryStep) (x : StoryStep) (lane : ℕ) (buil
   pub room : rows_reserved (state_of story).active + length build.units
       ≤ row_limit + rows_for (build_of (state_of story).active lane)
 
-pub preserved_put : (log : Logged) (lanes : List LaneState) (now : ℕ) (x : StoryStep) (base : Base) (ghost_state : DiskState)
+pub preserved_put : (log : Logged) (lanes : List LaneState) (now : ℕ) (x : StoryStep) (base : Base) (ghost_state : DiskState) (tail : Tail)
     (lane : ℕ) (build : Build) → CoreInvariant log lanes now → 1 ≤ lane → lane ≤ length lanes
     → MayTell (state_of log.story) x base → PutsBuild log.story x lane build
-    → CoreInvariant (log_more log x base ghost_state) (put_build lanes lane (Some build)) now
-preserved_put log lanes now x base ghost_state lane build h low high may puts = record {
-  story = story_more log x base ghost_state h.story may;
+    → CoreInvariant (log_more log x base ghost_state tail) (put_build lanes lane (Some build)) now
+preserved_put log lanes now x base ghost_state tail lane build h low high may puts = record {
+  story = story_more log x base ghost_state tail h.story may;
   phase = subst (λ t. PhaseInvariant t log.phases now) (sym more) (phase_stays s (after s x) log.phases now h.phase puts.same);
   replies = replies_stay log.story x lanes (put_build lanes lane (Some build)) h.replies
       (same_where_set lanes lane kept low high refl refl refl) puts.said puts.done puts.same.phase;

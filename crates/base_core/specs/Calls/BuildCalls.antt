@@ -6,7 +6,6 @@ use Rattle.cc_names.specs.Formed.{Plain}
 use Rattle.cc_names.specs.Versions.{is_number}
 use Rattle.cc_names.specs.declared.refusals.ScriptFault.{ScriptFault}
 use Rattle.cc_names.specs.declared.rows.Deed.TheVariants as deeds
-use Rattle.cc_names.specs.declared.steps.Step.{Step}
 use Rattle.cc_names.specs.declared.steps.UnitEnd.{UnitEnd}
 use Rattle.cc_names.specs.declared.steps.UnitEnd.TheVariants.{Kept, Failed}
 use Rattle.cc_names.specs.declared.refusals.UnitFault.TheVariants.{Script}
@@ -31,10 +30,9 @@ use Rattle.clearmake.specs.Calls.{HasScript, IsStarted, WaitsFor}
 use Rattle.clearmake.specs.Going.{GoesOn, HasOutcome, lane_of}
 use Rattle.base_core.specs.Calls.Building.{BuildInvariant}
 use Rattle.base_core.specs.Story.Replying.{replies_by}
-use Rattle.story_log.specs.Story.Telling.{shown_as}
 
 -- By this step of a story, unit n of a lane's build comes to something without a row, and no command is replied.
-pub record NotesAs (s : State) (lane n : ℕ) (came : Came) (x : StoryStep) : Type 0 where
+pub record Notes (s : State) (lane n : ℕ) (came : Came) (x : StoryStep) : Type 0 where
   pub build : Build
   pub active : build_of s.active lane ≡ Some build
   pub within : n < length build.units
@@ -44,15 +42,6 @@ pub record NotesAs (s : State) (lane n : ℕ) (came : Came) (x : StoryStep) : Ty
   pub leaves : after s x ≡ record s { active = put nat_cmp lane (with_came build (Some n) came) s.active }
   pub silent : (other : ℕ) → replies_by s other x ≡ []
   pub own : lane_of x ≡ Some lane
-
--- there is such a step
-abbrev pub NotesIf : State → ℕ → ℕ → Came → Option StoryStep → Type 0
-NotesIf s lane n came None = ⊥
-NotesIf s lane n came (Some x) = NotesAs s lane n came x
-
--- a step that the program keeps is shown as such a one
-abbrev pub Notes : State → ℕ → ℕ → Step → Came → Type 0
-Notes s lane n step came = NotesIf s lane n came (shown_as step)
 
 -- unit n of a lane's build has come to this, and the story went on
 pub record Noted (old new : List StoryStep) (lane n : ℕ) (came : Came) : Type 0 where

@@ -7,19 +7,17 @@ ghost use Rattle.base_core.specs.Story.Replying.{replied_count, row_reply};
 use super::Core;
 use crate::answers::answer;
 use cc_names::commands::{Change, Command, Query};
-use cc_names::copies::Copied;
 use cc_names::memory::{NoMemory, Or};
 use cc_names::occasions::Done;
 use cc_names::refusals::Refusal;
 use cc_names::replies::Reply;
 use cc_names::rows::{Deed, Row, Tag};
-use cc_names::steps::Step;
 use cc_names::texts::Text;
 use checkout_desk::{decide, view_of};
 use disk_model::Disk;
 use std::alloc::Global;
 use std::snapshot::Snapshot;
-use story_log::Appended;
+use story_log::{Appended, Step};
 use view_lookup::replied_name;
 
 /// How many things a row of this deed names, where its command is replied their number.
@@ -128,23 +126,18 @@ impl<D: Disk> Core<D> {
         Ok(append_done(appended))
     }
 
-    /// Refuses its lane's next command. An `Err` changes nothing.
-    pub(super) fn refuse(
-        &mut self,
-        alloc: Global,
-        tag: Tag,
-        refusal: Refusal,
-    ) -> Result<(), NoMemory>
+    /// Refuses its lane's next command. Takes no memory.
+    pub(super) fn refuse(&mut self, tag: Tag, refusal: Refusal)
         requires { IsNextRefusal (state_of self.old.story) tag refusal }
-        ensures ok { OnOk result (Acts self.old.story self.new.story tag.lane dones.Refused) }
-        ensures err { OnErr result (self.new ≡ self.old) }
+        ensures acts { Acts self.old.story self.new.story tag.lane dones.Refused }
         ensures counted { KeepsCount self.old self.new }
     {
-        let replied = refusal.copy(alloc)?;
-        let step = Step::Refused { tag, refusal };
+        let step = Step::Refused {
+            tag,
+            refusal: Snapshot::of(&refusal),
+        };
         self.log.tell(&step);
-        self.lanes.reply(tag.lane, Reply::Refused(replied));
-        Ok(())
+        self.lanes.reply(tag.lane, Reply::Refused(refusal));
     }
 
     /// Answers its lane's next command. Takes no memory.
@@ -191,7 +184,7 @@ impl<D: Disk> Core<D> {
                 Ok(Done::Answered)
             }
             Err(Or::Is(refusal)) => {
-                self.refuse(alloc, tag, refusal)?;
+                self.refuse(tag, refusal);
                 Ok(Done::Refused)
             }
             Err(Or::NoMemory) => Err(NoMemory),
@@ -214,7 +207,7 @@ impl<D: Disk> Core<D> {
                 Ok(Done::Answered)
             }
             Err(Or::Is(refusal)) => {
-                self.refuse(alloc, tag, refusal)?;
+                self.refuse(tag, refusal);
                 Ok(Done::Refused)
             }
             Err(Or::NoMemory) => Err(NoMemory),

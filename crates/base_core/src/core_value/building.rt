@@ -5,9 +5,9 @@ use build_core::{ActiveBuild, plan_build, reply_of};
 use cc_names::memory::{NoMemory, Or};
 use cc_names::occasions::Begun;
 use cc_names::refusals::Refusal;
-use cc_names::steps::Step;
 use disk_model::Disk;
 use std::alloc::Global;
+use story_log::Step;
 
 impl<D: Disk> Core<D> {
     ghost use Rattle.std.specs.Prelude.{◌≡◌, OnOk, OnErr, IfOk, Some, None, length};
@@ -75,7 +75,7 @@ impl<D: Disk> Core<D> {
                 Ok(Begun::Units(count))
             }
             Err(Or::Is(refusal)) => {
-                self.refuse(alloc, tag, refusal)?;
+                self.refuse(tag, refusal);
                 Ok(Begun::Refused)
             }
             Err(Or::NoMemory) => Err(NoMemory),

@@ -8,7 +8,6 @@ use cc_names::memory::NoMemory;
 use cc_names::paths::Path;
 use cc_names::replies::Reply;
 use cc_names::rows::Row;
-use cc_names::steps::Step;
 use cc_names::texts::Text;
 use clearmake::TurnEnd;
 use disk_model::Disk;
@@ -75,7 +74,7 @@ impl<D: Disk> Core<D> {
     {
         a_build_is_consistent();
         let tag = self.tag(lane);
-        match self.log.append(alloc, row, Some(Step::End { tag }))? {
+        match self.log.append(alloc, row, Some(tag))? {
             Appended::Committed => {
                 self.lanes.note(lane, unit, Came::Given(object));
                 Ok(TurnEnd::Concluded)

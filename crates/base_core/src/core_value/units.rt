@@ -7,14 +7,15 @@ ghost use Rattle.legal_history.specs.Builds.Turns.{came_by_start};
 use super::Core;
 use build_core::{Came, UnitStep, step};
 use build_script::outcomes::{Ended, Written};
-use cc_names::copies::Copied;
 use cc_names::memory::NoMemory;
 use cc_names::refusals::{ScriptFault, UnitFault};
-use cc_names::steps::{Step, UnitEnd};
+use cc_names::steps::UnitEnd;
 use clearmake::{TurnEnd, UnitTurn};
 use disk_model::Disk;
 use legal_history::laws::builds::a_build_is_consistent;
 use std::alloc::Global;
+use std::snapshot::Snapshot;
+use story_log::Step;
 
 /// What a unit comes to by its start: where its script cannot be read, with this fault, that is its outcome.
 fn came_by_start(fault: Option<ScriptFault>) -> Came
@@ -36,10 +37,11 @@ impl<D: Disk> Core<D> {
     ghost use Rattle.base_core.specs.Calls.BuildCalls.{HasRun, MayConclude, MayStart, Noted, Notes, StepsTo};
     ghost use Rattle.base_core.specs.Story.Counted.{KeepsCount};
     ghost use Rattle.clearmake.specs.Going.{HasOutcome};
+    ghost use Rattle.story_log.specs.Story.Telling.{told};
 
     /// Tells a step by which a unit of a lane's build comes to something without a row.
     fn note_step(&mut self, lane: u32, unit: u32, step: &Step, came: Came)
-        requires { Notes (state_of self.old.story) lane unit step.now (came_of came) }
+        requires { Notes (state_of self.old.story) lane unit (came_of came) (told step.now) }
         ensures noted { Noted self.old.story self.new.story lane unit (came_of came) }
         ensures counted { KeepsCount self.old self.new }
     {
@@ -47,24 +49,16 @@ impl<D: Disk> Core<D> {
         self.lanes.note(lane, unit, came);
     }
 
-    /// Concludes a unit of a lane's build without a row. An `Err` changes nothing.
-    fn conclude(
-        &mut self,
-        alloc: Global,
-        lane: u32,
-        unit: u32,
-        end: UnitEnd,
-    ) -> Result<(), NoMemory>
+    /// Concludes a unit of a lane's build without a row. Takes no memory.
+    fn conclude(&mut self, lane: u32, unit: u32, end: UnitEnd)
         requires { MayConclude (state_of self.old.story) lane unit end }
-        ensures ok { OnOk result (Concludes self.old.story self.new.story lane unit) }
-        ensures err { OnErr result (self.new ≡ self.old) }
+        ensures concludes { Concludes self.old.story self.new.story lane unit }
         ensures counted { KeepsCount self.old self.new }
     {
         let tag = self.tag(lane);
-        let outcome = end.copy(alloc)?;
+        let outcome = Snapshot::of(&end);
         let step = Step::Concluded { tag, unit, outcome };
         self.note_step(lane, unit, &step, Came::Concluded(end));
-        Ok(())
     }
 
     /// Starts the script of a unit of a lane's build; one that cannot be read has this fault, and is the unit's outcome.
@@ -112,11 +106,11 @@ impl<D: Disk> Core<D> {
             UnitStep::Concluded => Ok(UnitTurn::End(TurnEnd::Concluded)),
             UnitStep::NotReady(earlier) => Ok(UnitTurn::End(TurnEnd::NotReady(earlier))),
             UnitStep::EndEarly(end) => {
-                self.conclude(alloc, lane, unit, end)?;
+                self.conclude(lane, unit, end);
                 Ok(UnitTurn::End(TurnEnd::Concluded))
             }
             UnitStep::Keep(object) => {
-                self.conclude(alloc, lane, unit, UnitEnd::Kept(object))?;
+                self.conclude(lane, unit, UnitEnd::Kept(object));
                 Ok(UnitTurn::End(TurnEnd::Concluded))
             }
             UnitStep::Wink(object) => Ok(UnitTurn::End(self.wink(alloc, lane, unit, object)?)),
@@ -130,7 +124,7 @@ impl<D: Disk> Core<D> {
             }
             UnitStep::Run(script, targets) => Ok(UnitTurn::Run(script, targets)),
             UnitStep::Fail(fault) => {
-                self.conclude(alloc, lane, unit, UnitEnd::Failed(UnitFault::Script(fault)))?;
+                self.conclude(lane, unit, UnitEnd::Failed(UnitFault::Script(fault)));
                 Ok(UnitTurn::End(TurnEnd::Concluded))
             }
         }
@@ -175,7 +169,7 @@ impl<D: Disk> Core<D> {
                 self.give_object(alloc, lane, unit, outputs, reads.as_slice())
             }
             Err(fault) => {
-                self.conclude(alloc, lane, unit, UnitEnd::Failed(UnitFault::Script(fault)))?;
+                self.conclude(lane, unit, UnitEnd::Failed(UnitFault::Script(fault)));
                 Ok(TurnEnd::Concluded)
             }
         }

@@ -22,7 +22,7 @@ use Rattle.vob_journal.proofs.Adding.{adds_none, adds_then}
 use Rattle.vob_journal.proofs.Telling.{both_map, both_then}
 use Rattle.story_log.specs.Stopping.Backed.{may_be_open}
 use Rattle.story_log.specs.Stopping.Standing.{tick_of}
-use Rattle.base_core.specs.Story.Counted.{CountsStep, CountsSteps}
+use Rattle.base_core.specs.Story.Counted.{CountsStep, CountsSteps, TailedDisk}
 use Rattle.session_run.specs.Faults.Accounted.{CountsFrom, SettlesJournal}
 use Rattle.session_run.specs.Faults.Blamed.{failed_by, MeetsFault, FailsAtFaults, SettlesBehind, RestsBehind, reads_first}
 use Rattle.session_run.specs.Faults.Blamed.{IsBlamed}
@@ -113,8 +113,8 @@ adds_idle : (modeled : Option Device) → Both (Adds may_write) modeled modeled
 adds_idle None = tt
 adds_idle (Some d) = adds_none may_write d
 
-same_adds : (old new : DiskState) → new ≡ old → Both (Adds may_write) old.modeled new.modeled
-same_adds old new e = subst (λ s. Both (Adds may_write) old.modeled s.modeled) (sym e) (adds_idle old.modeled)
+same_adds : (old new : TailedDisk) → new ≡ old → Both (Adds may_write) old.disk.modeled new.disk.modeled
+same_adds old new e = subst (λ t. Both (Adds may_write) old.disk.modeled t.disk.modeled) (sym e) (adds_idle old.disk.modeled)
 
 adds_on : (one two three : Option Device) → Both (Adds may_write) one two → Both (Adds may_write) two three
     → Both (Adds may_write) one three
@@ -123,16 +123,16 @@ adds_on one two three h k = both_then (Adds may_write) (Adds may_write) (Adds ma
 of_writes : (one two : Option Device) → Both WritesOn one two → Both (Adds may_write) one two
 of_writes one two h = both_map WritesOn (Adds may_write) one two (λ d e w. w.adds) h
 
-step_adds : (s : State) (step : StoryStep) (old new : DiskState) → CountsStep s step old new
-    → Both (Adds may_write) old.modeled new.modeled
-step_adds s (story_steps.Commit row tick) old new h = of_writes old.modeled new.modeled h.4
-step_adds s (story_steps.Fault tag left before faults tick) old new h = of_writes old.modeled new.modeled h.6
+step_adds : (s : State) (step : StoryStep) (old new : TailedDisk) → CountsStep s step old new
+    → Both (Adds may_write) old.disk.modeled new.disk.modeled
+step_adds s (story_steps.Commit row tick) old new h = of_writes old.disk.modeled new.disk.modeled h.4
+step_adds s (story_steps.Fault tag left before faults tick) old new h = of_writes old.disk.modeled new.disk.modeled h.6
 step_adds s step old new h = same_adds old new h
 
-steps_add : (s : State) (more : List StoryStep) (old new : DiskState) → CountsSteps s more old new
-    → Both (Adds may_write) old.modeled new.modeled
+steps_add : (s : State) (more : List StoryStep) (old new : TailedDisk) → CountsSteps s more old new
+    → Both (Adds may_write) old.disk.modeled new.disk.modeled
 steps_add s [] old new h = same_adds old new h
-steps_add s (step ∷ more) old new h = adds_on old.modeled h.0.modeled new.modeled (step_adds s step old h.0 h.1)
+steps_add s (step ∷ more) old new h = adds_on old.disk.modeled h.0.disk.modeled new.disk.modeled (step_adds s step old h.0 h.1)
     (steps_add (after s step) more h.0 new h.2)
 
 both_at : (R : Device → Device → Type 0) (old new : Option Device) (d e : Device) → old ≡ Some d → new ≡ Some e → Both R old new
@@ -180,23 +180,23 @@ module _ (old now : DiskState) (d e : Device) (first : IsCounted old) (second : 
   ends_well handed (end ∷ ends) newest settles = settles_behind (may_be_open (end ∷ ends)) (tick_of end) newest.0 newest.1 settles
 
 -- the steps of a history, and the calls of the device as it came back
-blames : (e : Device) (handed : ℕ) (s : State) (more : List StoryStep) (old ended now : DiskState) (d : Device)
-    → IsNewest handed (reverse e.calls) s.ends d → old.modeled ≡ Some d → now.modeled ≡ Some e → IsCounted old → IsCounted now
-    → CountsSteps s more old ended → SettlesJournal (may_be_open (state_from s more).ends) ended now
+blames : (e : Device) (handed : ℕ) (s : State) (more : List StoryStep) (old ended : TailedDisk) (now : DiskState) (d : Device)
+    → IsNewest handed (reverse e.calls) s.ends d → old.disk.modeled ≡ Some d → now.modeled ≡ Some e → IsCounted old.disk → IsCounted now
+    → CountsSteps s more old ended → SettlesJournal (may_be_open (state_from s more).ends) ended.disk now
     → FailsAtFaults (failures d.calls) (reverse e.calls) more × RestsBehind handed (state_from s more).ends (reverse e.calls)
 blames e handed s [] old ended now d newest is be first second h settles = (
   tt,
-  ends_well old now d e first second is be handed s.ends newest
-      (subst (λ t. SettlesJournal (may_be_open s.ends) t now) h settles),
+  ends_well old.disk now d e first second is be handed s.ends newest
+      (subst (λ t. SettlesJournal (may_be_open s.ends) t.disk now) h settles),
 )
 blames e handed s (story_steps.Commit row tick ∷ more) old ended now d newest is be first second h settles =
     let mid = h.0 in
-    let rest = adds_on mid.modeled ended.modeled now.modeled (steps_add (after s (story_steps.Commit row tick)) more mid ended
-    h.2) (of_writes ended.modeled now.modeled settles.writes) in
-    let at = modeled_before (Adds may_write) mid.modeled now.modeled e be rest in
-    let added = (both_at WritesOn old.modeled mid.modeled d at.0 is at.1 h.1.4).adds in
-    let same = same_failed may_write old mid d at.0 first h.1.3 is at.1 added h.1.2 in
-    let ticks : tick ≡ length at.0.calls = h.1.0 ∙ subst (λ modeled. IfModeled modeled (λ d. mid.ticks ≡ length d.calls)) at.1
+    let rest = adds_on mid.disk.modeled ended.disk.modeled now.modeled (steps_add (after s (story_steps.Commit row tick)) more mid ended
+    h.2) (of_writes ended.disk.modeled now.modeled settles.writes) in
+    let at = modeled_before (Adds may_write) mid.disk.modeled now.modeled e be rest in
+    let added = (both_at WritesOn old.disk.modeled mid.disk.modeled d at.0 is at.1 h.1.4).adds in
+    let same = same_failed may_write old.disk mid.disk d at.0 first h.1.3 is at.1 added h.1.2 in
+    let ticks : tick ≡ length at.0.calls = h.1.0 ∙ subst (λ modeled. IfModeled modeled (λ d. mid.disk.ticks ≡ length d.calls)) at.1
     h.1.3.modeled in
     let failed = ap (λ n. failed_by n (reverse e.calls)) ticks ∙ failed_before at.0 (reverse e.calls) (reverse at.2.more)
     (first_calls may_write at.0 e at.2) in
@@ -208,20 +208,20 @@ blames e handed s (story_steps.Commit row tick ∷ more) old ended now d newest 
 blames e handed s (story_steps.Fault tag left before faults tick ∷ more) old ended now d newest is be first second h
     settles =
     let mid = h.0 in
-    let rest = adds_on mid.modeled ended.modeled now.modeled (steps_add
+    let rest = adds_on mid.disk.modeled ended.disk.modeled now.modeled (steps_add
     (after s (story_steps.Fault tag left before faults tick)) more mid ended h.2)
-    (of_writes ended.modeled now.modeled settles.writes) in
-    let at = modeled_before (Adds may_write) mid.modeled now.modeled e be rest in
-    let added = (both_at WritesOn old.modeled mid.modeled d at.0 is at.1 h.1.6).adds in
-    let rose : mid.faults ≡ next_count old.faults = sym h.1.1 ∙ h.1.2 ∙ ap next_count h.1.0 in
-    let ticks : tick ≡ length at.0.calls = h.1.3 ∙ subst (λ modeled. IfModeled modeled (λ d. mid.ticks ≡ length d.calls)) at.1
+    (of_writes ended.disk.modeled now.modeled settles.writes) in
+    let at = modeled_before (Adds may_write) mid.disk.modeled now.modeled e be rest in
+    let added = (both_at WritesOn old.disk.modeled mid.disk.modeled d at.0 is at.1 h.1.6).adds in
+    let rose : mid.disk.faults ≡ next_count old.disk.faults = sym h.1.1 ∙ h.1.2 ∙ ap next_count h.1.0 in
+    let ticks : tick ≡ length at.0.calls = h.1.3 ∙ subst (λ modeled. IfModeled modeled (λ d. mid.disk.ticks ≡ length d.calls)) at.1
     h.1.5.modeled in
     let failed = ap (λ n. failed_by n (reverse e.calls)) ticks ∙ failed_before at.0 (reverse e.calls) (reverse at.2.more)
     (first_calls may_write at.0 e at.2) in
     let on = blames e handed (after s (story_steps.Fault tag left before faults tick)) more mid ended now at.0
     (ticks, failed) at.1 be h.1.5 second h.2 settles in
     let meets : MeetsFault (failures d.calls) before faults tick (reverse e.calls) = λ within.
-    let some = some_failed may_write old mid d at.0 first h.1.5 is at.1 added (omega (arith, within, h.1.3)) rose in
+    let some = some_failed may_write old.disk mid.disk d at.0 first h.1.5 is at.1 added (omega (arith, within, h.1.3)) rose in
     (h.1.0 ∙ some.0, h.1.1 ∙ some.1 ∙ sym failed, omega (arith, h.1.0, h.1.1, some.2)) in
     ((meets, subst (λ n. FailsAtFaults n (reverse e.calls) more) (sym failed) on.0), on.1)
 blames e handed s (step ∷ more) old ended now d newest is be first second h settles =
@@ -299,9 +299,9 @@ first_opens : (first : StoryStep) (rows : List Plain) (counts : Counts) (tells :
 first_opens first rows counts tells is = ap (λ o. elim o [ None ↦ first | Some x ↦ x ]) is
 
 -- *Whose fault*, of a session whose base was opened
-pub blamed : (before opened now : DiskState) (story : List StoryStep) (rows : List Plain) (counts : Counts) (tells : Bool)
-    → IsCounted before → IsCounted opened → IsCounted now
-    → opened.faults ≡ before.faults → Both ReadsOnce before.modeled opened.modeled
+pub blamed : (before : DiskState) (opened : TailedDisk) (now : DiskState) (story : List StoryStep) (rows : List Plain) (counts : Counts) (tells : Bool)
+    → IsCounted before → IsCounted opened.disk → IsCounted now
+    → opened.disk.faults ≡ before.faults → Both ReadsOnce before.modeled opened.disk.modeled
     → first_step story ≡ Some (story_steps.Opened rows counts tells) → CountsFrom opened now story
     → IfModeled now.modeled (IsBlamed before.ticks story)
 blamed before opened now story rows counts tells was first second sound once begins from = by now.modeled refl
@@ -313,25 +313,25 @@ blamed before opened now story rows counts tells was first second sound once beg
     story_is = from.story_is ∙ ap (λ x. x ∷ from.steps) is_first
 
     settles : SettlesJournal (may_be_open (state_from (after start (story_steps.Opened rows counts tells)) from.steps).ends)
-        from.ended now
-    settles = subst (λ s. SettlesJournal (may_be_open (state_of s).ends) from.ended now) story_is from.settled
+        from.ended.disk now
+    settles = subst (λ s. SettlesJournal (may_be_open (state_of s).ends) from.ended.disk now) story_is from.settled
 
-    reads : Both (Adds may_read) before.modeled opened.modeled
-    reads = both_map ReadsOnce (Adds may_read) before.modeled opened.modeled once_reads once
+    reads : Both (Adds may_read) before.modeled opened.disk.modeled
+    reads = both_map ReadsOnce (Adds may_read) before.modeled opened.disk.modeled once_reads once
 
-    all : Both (Adds may_write) opened.modeled now.modeled
-    all = adds_on opened.modeled from.ended.modeled now.modeled (steps_add (after start from.first) from.steps opened from.ended
-        from.counts) (of_writes from.ended.modeled now.modeled from.settled.writes)
+    all : Both (Adds may_write) opened.disk.modeled now.modeled
+    all = adds_on opened.disk.modeled from.ended.disk.modeled now.modeled (steps_add (after start from.first) from.steps opened from.ended
+        from.counts) (of_writes from.ended.disk.modeled now.modeled from.settled.writes)
 
     on : (e : Device) → now.modeled ≡ Some e → IsBlamed before.ticks story e
     on e be =
-        let at = modeled_before (Adds may_write) opened.modeled now.modeled e be all in
+        let at = modeled_before (Adds may_write) opened.disk.modeled now.modeled e be all in
         let d = at.0 in
         let written = at.2 in
-        let old = modeled_before (Adds may_read) before.modeled opened.modeled d at.1 reads in
+        let old = modeled_before (Adds may_read) before.modeled opened.disk.modeled d at.1 reads in
         let b = old.0 in
         let read = old.2 in
-        let same = same_failed may_read before opened b d was first old.1 at.1 read sound in
+        let same = same_failed may_read before opened.disk b d was first old.1 at.1 read sound in
         let none : failures read.more ≡ 0 = omega (arith, same, ap failures read.calls, failures_more read.more b.calls) in
         let ticks : before.ticks ≡ length b.calls = subst (λ modeled. IfModeled modeled (λ d. before.ticks ≡ length d.calls))
         old.1 was.modeled in

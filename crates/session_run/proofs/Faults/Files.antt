@@ -10,7 +10,7 @@ use Rattle.vob_journal.specs.Added.{WritesOn}
 use Rattle.vob_journal.specs.Reads.{SameFiles, SameObjects}
 use Rattle.vob_journal.proofs.Telling.{both_map, both_then}
 use Rattle.story_log.specs.Stopping.Backed.{may_be_open}
-use Rattle.base_core.specs.Story.Counted.{CountsStep, CountsSteps}
+use Rattle.base_core.specs.Story.Counted.{CountsStep, CountsSteps, TailedDisk}
 use Rattle.session_run.specs.Calls.Causes.{Change}
 use Rattle.session_run.specs.Faults.Accounted.{CountsFrom, KeepsFiles, is_calm}
 
@@ -33,24 +33,24 @@ objects_idle : (one : Option Device) → Both SameObjects one one
 objects_idle None = tt
 objects_idle (Some d) = refl
 
-same_ghost_state : (old new : DiskState) → new ≡ old → Both SameObjects old.modeled new.modeled
-same_ghost_state old new e = subst (λ s. Both SameObjects old.modeled s.modeled) (sym e) (objects_idle old.modeled)
+same_disk : (old new : TailedDisk) → new ≡ old → Both SameObjects old.disk.modeled new.disk.modeled
+same_disk old new e = subst (λ t. Both SameObjects old.disk.modeled t.disk.modeled) (sym e) (objects_idle old.disk.modeled)
 
 -- each step leaves the file of objects
-step_leaves : (s : State) (step : StoryStep) (old new : DiskState) → CountsStep s step old new
-    → Both SameObjects old.modeled new.modeled
-step_leaves s (story_steps.Commit row tick) old new h = of_writes old.modeled new.modeled h.4
-step_leaves s (story_steps.Fault tag left before faults tick) old new h = of_writes old.modeled new.modeled h.6
-step_leaves s step old new h = same_ghost_state old new h
+step_leaves : (s : State) (step : StoryStep) (old new : TailedDisk) → CountsStep s step old new
+    → Both SameObjects old.disk.modeled new.disk.modeled
+step_leaves s (story_steps.Commit row tick) old new h = of_writes old.disk.modeled new.disk.modeled h.4
+step_leaves s (story_steps.Fault tag left before faults tick) old new h = of_writes old.disk.modeled new.disk.modeled h.6
+step_leaves s step old new h = same_disk old new h
 
-steps_leave : (s : State) (more : List StoryStep) (old new : DiskState) → CountsSteps s more old new
-    → Both SameObjects old.modeled new.modeled
-steps_leave s [] old new h = same_ghost_state old new h
-steps_leave s (step ∷ more) old new h = objects_then old.modeled h.0.modeled new.modeled (step_leaves s step old h.0 h.1)
-    (steps_leave (after s step) more h.0 new h.2)
+steps_leave : (s : State) (more : List StoryStep) (old new : TailedDisk) → CountsSteps s more old new
+    → Both SameObjects old.disk.modeled new.disk.modeled
+steps_leave s [] old new h = same_disk old new h
+steps_leave s (step ∷ more) old new h = objects_then old.disk.modeled h.0.disk.modeled new.disk.modeled
+    (step_leaves s step old h.0 h.1) (steps_leave (after s step) more h.0 new h.2)
 
 -- steps without a commit and a fault make no call on the disk
-calm_rests : (s : State) (more : List StoryStep) (old new : DiskState) → is_calm more ≡ true → CountsSteps s more old new
+calm_rests : (s : State) (more : List StoryStep) (old new : TailedDisk) → is_calm more ≡ true → CountsSteps s more old new
     → new ≡ old
 calm_rests s [] old new calm h = h
 calm_rests s (story_steps.Commit row tick ∷ more) old new calm h = absurd (cc)
@@ -80,18 +80,18 @@ calm_story story first more is calm = subst (λ s. is_calm s ≡ true → (is_ca
     by x calm = (calm, none x calm refl)
 
 -- The files of a session whose base was opened
-pub keeps_files : (disk : Change DiskState) (opened : DiskState) (story : List StoryStep)
-    → Both SameFiles disk.before.modeled opened.modeled → CountsFrom opened disk.after story → KeepsFiles disk story
+pub keeps_files : (disk : Change DiskState) (opened : TailedDisk) (story : List StoryStep)
+    → Both SameFiles disk.before.modeled opened.disk.modeled → CountsFrom opened disk.after story → KeepsFiles disk story
 keeps_files disk opened story same counted = record {
   objects =
-      objects_then disk.before.modeled opened.modeled disk.after.modeled (of_files disk.before.modeled opened.modeled same)
-      (objects_then opened.modeled counted.ended.modeled disk.after.modeled
+      objects_then disk.before.modeled opened.disk.modeled disk.after.modeled (of_files disk.before.modeled opened.disk.modeled same)
+      (objects_then opened.disk.modeled counted.ended.disk.modeled disk.after.modeled
       (steps_leave (after start counted.first) counted.steps opened counted.ended counted.counts)
-      (of_writes counted.ended.modeled disk.after.modeled counted.settled.writes));
+      (of_writes counted.ended.disk.modeled disk.after.modeled counted.settled.writes));
   files = λ calm.
       let parts = calm_story story counted.first counted.steps counted.story_is calm in
-      let rests = counted.settled.rests parts.1 ∙ calm_rests (after start counted.first) counted.steps opened counted.ended
-      parts.0 counted.counts in
+      let rests = counted.settled.rests parts.1 ∙ ap (λ (t : TailedDisk). t.disk) (calm_rests (after start counted.first) counted.steps opened
+      counted.ended parts.0 counted.counts) in
       subst (λ s. Both SameFiles disk.before.modeled s.modeled) (sym rests) same;
 }
 

@@ -16,11 +16,12 @@ use Rattle.cc_outside.specs.declared.sinks.WriteFault.{WriteFault}
 use Rattle.disk_model.specs.DiskStates.{DiskState, Both, IsCounted}
 use Rattle.story_log.specs.Bases.Reading.{ReadsOnceBy}
 use Rattle.story_log.specs.Logging.Appending.{SettlesTail}
+use Rattle.story_log.specs.Stopping.Tails.{Tail}
 use Rattle.story_log.proofs.Bases.ReadFrames.{once_of}
 use Rattle.vob_journal.specs.Reads.{SameFiles}
 use Rattle.vob_journal.proofs.Staying.{modeled_stay}
 use Rattle.story_log.specs.Stopping.Backed.{IsAccounted, may_be_open}
-use Rattle.base_core.specs.Story.Counted.{CountsSteps, KeepsCount}
+use Rattle.base_core.specs.Story.Counted.{CountsSteps, KeepsCount, disk_of}
 use Rattle.story_log.specs.Bases.Opening.{FailsToOpen, OpensCore, StopsBy}
 use Rattle.story_log.specs.Stored.Stops.{found_on}
 use Rattle.base_core.specs.Story.Shown.{Shown}
@@ -327,18 +328,17 @@ run_sink (Err (Is fault)) rose faults wrote = λ other. absurd (other refl)
 -- A base was opened, its session was run, and then its journal was settled, which leaves the story.
 module _ (one ran : Shown) (settled : List StoryStep) (ghost_state : DiskState) (kept : settled ≡ ran.story)
     (settles : SettlesJournal (may_be_open (state_of ran.story).ends) ran.ghost_state ghost_state)
-    (calls : Both (SettlesTail (state_of ran.story).ends) ran.ghost_state.modeled ghost_state.modeled) where
+    (calls : SettlesTail (state_of ran.story).ends ran.tail ran.ghost_state ghost_state) where
   -- the steps since, and the settling, have the disk's counts
-  counts_from : IsJustOpened one.story → KeepsCount one ran → CountsFrom one.ghost_state ghost_state settled
+  counts_from : IsJustOpened one.story → KeepsCount one ran → CountsFrom (disk_of one) ghost_state settled
   counts_from just keeps = record {
     first = story_steps.Opened just.rows just.counts just.tells;
     steps = keeps.steps;
-    ended = ran.ghost_state;
+    ended = disk_of ran;
     story_is = kept ∙ keeps.grows ∙ ap (λ story. story ++ keeps.steps) just.is;
-    counts = subst (λ story. CountsSteps (state_of story) keeps.steps one.ghost_state ran.ghost_state) just.is keeps.counts;
+    counts = subst (λ story. CountsSteps (state_of story) keeps.steps (disk_of one) (disk_of ran)) just.is keeps.counts;
     settled = subst (λ story. SettlesJournal (may_be_open (state_of story).ends) ran.ghost_state ghost_state) (sym kept) settles;
-    calls = subst (λ story. Both (SettlesTail (state_of story).ends) ran.ghost_state.modeled ghost_state.modeled) (sym kept)
-        calls;
+    calls = subst (λ story. SettlesTail (state_of story).ends ran.tail ran.ghost_state ghost_state) (sym kept) calls;
   }
 
   -- and this is what became of it
@@ -349,13 +349,12 @@ module _ (one ran : Shown) (settled : List StoryStep) (ghost_state : DiskState) 
       → IfOk result (HasDone form phases ran.story outside) → IfErr result (λ cut. IsGivenUp form cut phases ran.story outside)
       → CountsWriteFaults result faults.before faults.after → IsAccounted (state_of settled) ghost_state
       → IsMended (state_of settled) ghost_state → AllOpenAgain settled → RunsOpened form phases status first history before
-      (record { before = one.ghost_state; after = now }) outside faults
+      (disk_of one) now outside faults
   runs_opened result form phases status first history before now outside faults just keeps same seen is begins legal done left
       wrote accounted mended again =
-      subst (λ s. RunsOpened form phases status first s before (record { before = one.ghost_state; after = now }) outside faults)
+      subst (λ s. RunsOpened form phases status first s before (disk_of one) now outside faults)
       (sym same)
-      (subst (λ d. RunsOpened form phases status first settled before (record { before = one.ghost_state; after = d }) outside
-      faults) (sym seen)
+      (subst (λ d. RunsOpened form phases status first settled before (disk_of one) d outside faults) (sym seen)
       (record {
         result = result;
         status_is = is;
@@ -669,6 +668,8 @@ promised_run form phases status story intake outside faults disk was now gives (
       checked = tells_soundness _ intake faults disk story outside.held outside.holds cause history;
       accounted = λ opened. record {
         opened = run.opened;
+        tail = run.tail;
+        fit = run.fit;
         faultless = run.faultless;
         once = run.once;
         files = run.files;
@@ -684,17 +685,19 @@ promised_run form phases status story intake outside faults disk was now gives (
     closed.once closed.wrote)
 
 -- a base that was just opened, and its story since
-pub begins_on : (disk opened : DiskState) (one story : List StoryStep) (first : Option StoryStep) → OpensCore disk one opened
+pub begins_on : (disk opened : DiskState) (tail : Tail) (one story : List StoryStep) (first : Option StoryStep)
+    → OpensCore disk one opened tail
     → first ≡ first_step one → first_step story ≡ first → BeginsOn disk story
-begins_on disk opened one story first opens is same = record {
+begins_on disk opened tail one story first opens is same = record {
   base = opens.base;
   handed = opens.handed;
   on = opens.on;
   first = same ∙ is ∙ ap first_step opens.story_is;
 }
 
-pub just_opened : (disk opened : DiskState) (story : List StoryStep) → OpensCore disk story opened → IsJustOpened story
-just_opened disk opened story opens = record {
+pub just_opened : (disk opened : DiskState) (tail : Tail) (story : List StoryStep) → OpensCore disk story opened tail
+    → IsJustOpened story
+just_opened disk opened tail story opens = record {
   rows = oldest_first opens.base;
   counts = opens.handed.counts;
   tells = opens.handed.tells;

@@ -160,7 +160,7 @@ HasReplied intake disk story status = IsReplied intake status × IsUntouched dis
 -- 0, 1 or 3. Memory may run out anywhere, but where no base was opened it hides no fault of the disk. The other causes exclude one
 -- another, a failed source and a failed sink aside, so each status but those comes exactly where its cause does, unless the sink
 -- fails or memory runs out. Where the disk failed and a base was opened, each command is finished. Where the status names a
--- damaged frame, nothing of the journal was read after it.
+-- damaged frame, no piece of the journal was read that begins after it.
 abbrev pub HasCause : Status → Intake → Change ℕ → Change DiskState → List StoryStep → Type 0
 HasCause statuses.Good intake sink_faults disk story = RanWhole intake disk story false
     ⊎ HasReplied intake disk story statuses.Good

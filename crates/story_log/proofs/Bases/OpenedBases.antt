@@ -23,6 +23,7 @@ use Rattle.vob_journal.proofs.Staying.{modeled_then}
 use Rattle.vob_journal.proofs.Telling.{both_from, both_then, modeled_both, modeled_back, modeled_map}
 use Rattle.story_log.specs.Stopping.Backed.{IsMirrored, IsBacked}
 use Rattle.story_log.specs.Stopping.Journals.{JournalState, journal_state}
+use Rattle.story_log.specs.Stopping.Tails.{IsFoundTail, tail_of}
 use Rattle.story_log.specs.Logging.Logs.{Logged, opened_log}
 use Rattle.story_log.specs.Bases.Opening.{AreSynced, IsBaseOn, IsOpened, StopsBy, FailsToOpen}
 use Rattle.story_log.specs.Story.Formed.{AreFormed}
@@ -40,7 +41,7 @@ use Rattle.story_log.proofs.Stored.Bases.{base_is_held, opens_as}
 use Rattle.story_log.proofs.Stored.Fitting.{nothing_taken}
 use Rattle.story_log.proofs.Stored.Holding.{held_in_image}
 use Rattle.story_log.proofs.Stopping.Backing.{within_calls}
-use Rattle.story_log.proofs.Logging.LogSteps.{oldest_back}
+use Rattle.story_log.proofs.Logging.Logged.{oldest_back}
 use Rattle.story_log.proofs.Bases.ReadRows.{finds_list, moves_then, raised_rises}
 
 -- what stops since find, where a journal was only read
@@ -261,7 +262,7 @@ module _ {D : Type 0} (ghost_state : D → DiskState) (first : DiskState) (hande
         (since_first ghost_state first opened read new reads));
     at_end = through.ended;
     calm = λ e. reads.left ∙ new.left;
-    shut = λ e some. absurd (cc);
+    settled = inl refl;
     base = refl;
     ticks = omega (arith, ticks, new.counts.0, reads.ticks);
     faults = omega (arith, faults, new.counts.1, faultless);
@@ -297,13 +298,15 @@ module _ {D : Type 0} (ghost_state : D → DiskState) (first : DiskState) (hande
     formed = through.so_far.formed;
   }
 
-  pub is_opened : (log : Logged) → log ≡ opened_log base handed (ghost_state read.disk) → IsCounted (ghost_state read.disk)
+  pub is_opened : (log : Logged) → log ≡ opened_log base handed (ghost_state read.disk) (tail_of read)
+      → IsCounted (ghost_state read.disk) → IfModeled (ghost_state read.disk).modeled (IsFoundTail (tail_of read))
       → IsOpened first log
-  is_opened log is fit = record {
+  is_opened log is fit found = record {
     base = base;
     handed = handed;
     on = base_on;
-    is = is ∙ ap (opened_log base handed) (sym (ap (λ l. l.ghost_state) is));
+    is = is ∙ (λ i. opened_log base handed (ap (λ l. l.ghost_state) (sym is) i) (ap (λ l. l.tail) (sym is) i));
+    tail = subst (λ (l : Logged). IfModeled l.ghost_state.modeled (IsFoundTail l.tail)) (sym is) found;
     faultless = ap (λ l. l.ghost_state.faults) is ∙ faultless ∙ new.counts.1;
     fit = subst IsCounted (sym (ap (λ l. l.ghost_state) is)) fit;
     files = subst (λ s. Both SameFiles first.modeled s.modeled) (sym (ap (λ l. l.ghost_state) is))

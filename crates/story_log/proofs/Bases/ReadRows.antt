@@ -1,18 +1,22 @@
 -- How the rows of a journal are read, and what reading leaves.
-use Rattle.std.proofs.Common.{◌≡◌, ℕ, ◌&&◌, true, Option, Some, List, [], ◌∷◌, ◌++◌, sym, ap, ap₂, subst, ◌∙◌}
+use Rattle.std.proofs.Common.{◌≡◌, ℕ, ◌&&◌, Bool, true, false, None, drop, Option, Some, List, [], ◌∷◌, ◌++◌, sym, ap, ap₂, subst, ◌∙◌}
 use Rattle.std.proofs.Common.{inl, inr, refl, arith}
 use Rattle.std.proofs.lemmas.List.{append_assoc, append-nil}
 use Rattle.std.proofs.lemmas.Bool.{and_parts}
 use Rattle.cc_names.specs.Formed.{Plain}
 use Rattle.disk_model.specs.Counting.{next_count}
-use Rattle.disk_model.specs.Devices.{Device, LeavesNow}
+use Rattle.disk_model.specs.Devices.{Device, LeavesNow, bytes_now}
 use Rattle.disk_model.specs.Files.{File}
 use Rattle.disk_model.specs.DiskStates.{DiskState, IfModeled, Both, IsCounted}
 use Rattle.base_model.specs.Rows.{Base}
 use Rattle.base_model.specs.Fits.{fits, is_base}
 use Rattle.cc_names.specs.Counts.{rises}
 use Rattle.row_form.specs.Spelled.{spelling_of}
-use Rattle.vob_journal.specs.Frames.{frames}
+use Rattle.std.specs.Prelude.{Ok}
+use Rattle.cc_names.specs.declared.memory.Or.{Or}
+use Rattle.disk_model.specs.declared.disk.DiskFault.{DiskFault}
+use Rattle.vob_journal.specs.Answered.{Ends, TailAtEnd}
+use Rattle.vob_journal.specs.Frames.{end_of_frames, frames, is_shut}
 use Rattle.vob_journal.specs.Moves.{Moves, Stands}
 use Rattle.vob_journal.specs.Reads.{SameFiles}
 use Rattle.vob_journal.specs.Shown.{Shown}
@@ -21,7 +25,7 @@ use Rattle.vob_journal.proofs.Journals.{same_moves}
 use Rattle.vob_journal.proofs.Staying.{modeled_stay, modeled_then}
 use Rattle.vob_journal.proofs.Telling.{both_then, modeled_back, modeled_next, modeled_both, modeled_from, modeled_map}
 use Rattle.story_log.specs.Bases.Opening.{StopsBy}
-use Rattle.story_log.specs.Bases.Reading.{OnlyReads, NextIs, IsMissed, IsNextRow, IsNoRow, IsReadSoFar}
+use Rattle.story_log.specs.Bases.Reading.{EndsAt, FindsTail, OnlyReads, NextIs, IsMissed, IsNextRow, IsNoRow, IsReadSoFar}
 use Rattle.story_log.specs.Stored.Damaged.{IsDamaged}
 use Rattle.story_log.specs.Stored.Founds.{FoundFiles}
 use Rattle.story_log.specs.Stored.Stops.{found_with}
@@ -53,6 +57,33 @@ read_now ghost_state old new reads =
     modeled_next (Moves old.list [] old.list []) (λ d. (image : List ℕ) → LeavesNow 0 d image
     → frames image ≡ new.list) (ghost_state old.disk).modeled (ghost_state new.disk).modeled
     (λ d e moves image left. finds_list old.list image (moves.now image left) ∙ sym reads.list) reads.stops
+
+-- where the end of a list was read
+pub ends_at : (found : Option (List ℕ)) (old new : Bool) → Ends {E = Or DiskFault} (Ok found) old new → EndsAt found new
+ends_at None old new h = h
+ends_at (Some payload) old new h = h.1
+
+-- the tail there, said of the disk after the read
+found_at : (found : Option (List ℕ)) (ended settled : Bool) (place : ℕ) (d e : Device) → ended ≡ false
+    → TailAtEnd found ended settled place d → SameFiles d e → FindsTail found (record { place = place; settled = settled }) e
+found_at None ended settled place d e unended at same =
+    let here : TailAtEnd None false settled place d = subst (λ b. TailAtEnd None b settled place d) unended at in
+    let bytes : bytes_now 0 d ≡ bytes_now 0 e = ap (λ (file : File). file.bytes) (sym same.journal) in
+    (here.0 ∙ ap end_of_frames bytes, here.1 ∙ ap (λ b. is_shut (drop place b)) bytes)
+found_at (Some payload) ended settled place d e unended at same = tt
+
+pub found_tail : (found : Option (List ℕ)) (ended settled : Bool) (place : ℕ) (old new : Option Device) → ended ≡ false
+    → IfModeled old (TailAtEnd found ended settled place) → Both SameFiles old new
+    → IfModeled new (FindsTail found (record { place = place; settled = settled }))
+found_tail found ended settled place old new unended at same =
+    modeled_from SameFiles (TailAtEnd found ended settled place)
+    (FindsTail found (record { place = place; settled = settled })) old new
+    (λ d e at same. found_at found ended settled place d e unended at same) at same
+
+-- no tail is told where a row was read
+pub finds_no_tail : (modeled : Option Device) → IfModeled modeled (λ d. Unit {0})
+finds_no_tail None = tt
+finds_no_tail (Some d) = tt
 
 -- one more row of a base
 one_more : (base : Base) (row : Plain) (payload : List ℕ) (list rest rest' : List (List ℕ)) → list ≡ payloads base ++ rest

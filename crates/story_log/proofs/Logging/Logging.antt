@@ -1,5 +1,5 @@
 -- What a log keeps after each kind of step.
-use Rattle.std.proofs.Common.{◌≡◌, ℕ, ◌≤◌, Bool, true, false, not, Option, Some, None, List, [], ◌∷◌, ◌++◌, length, refl, ap}
+use Rattle.std.proofs.Common.{◌≡◌, ℕ, ◌≤◌, ◌⊎◌, inl, inr, Bool, true, false, not, Option, Some, None, List, [], ◌∷◌, ◌++◌, length, refl, ap}
 use Rattle.std.proofs.Common.{sym, subst, ◌∙◌, arith}
 use Rattle.cc_names.specs.Formed.{IsFormed, Plain}
 use Rattle.cc_names.specs.declared.steps.StoryStep.TheVariants as story_steps
@@ -16,7 +16,6 @@ use Rattle.story_log.specs.Stopping.Journals.{JournalState}
 use Rattle.story_log.specs.Stopping.Backed.{IsMirrored, IsBacked, has_row, may_be_open}
 use Rattle.story_log.specs.Logging.Leaving.{LeftSo}
 use Rattle.story_log.specs.Stopping.Standing.{base_by}
-use Rattle.story_log.proofs.Logging.Faults.{FaultKept, fault_told}
 use Rattle.story_log.proofs.Stopping.Backing.{MovesTo, still_modeled, commit_covered, fault_covered}
 
 -- what holds where a device is modeled
@@ -50,7 +49,7 @@ backed_same s t ghost_state journal opened base ends h = record {
   tells = h.tells;
   at_end = h.at_end;
   calm = λ e. h.calm (ap may_be_open (sym ends) ∙ e);
-  shut = λ e some. h.shut (ap may_be_open (sym ends) ∙ e) (ap has_row (sym ends) ∙ some);
+  settled = subst (λ e. (e ≡ []) ⊎ (journal.settled ≡ settled_after journal.left)) (sym ends) h.settled;
   base = base ∙ h.base ∙ ap (base_by h.opening) (sym ends);
   ticks = omega (arith, h.ticks, ap (λ o. ticks_of o t.ends) opened, ap (ticks_of s.opened) ends);
   faults = omega (arith, h.faults, ap (λ o. faults_of o t.ends) opened, ap (faults_of s.opened) ends);
@@ -89,7 +88,7 @@ backed_commit s row tick old new journal journal' h took at fit formed = record 
   tells = h.tells ∙ sym (still_modeled (MovesTo journal journal') old.modeled new.modeled took.moves);
   at_end = took.ended;
   calm = λ e. took.left;
-  shut = λ e some. took.settled ∙ ap settled_after took.left;
+  settled = inr took.settled;
   base = ap (λ b. row ∷ b) h.base;
   ticks = omega (arith, at);
   faults = omega (arith, h.faults, took.faults);
@@ -123,26 +122,30 @@ fault_shut ends row lefts.Earlier (Some left) faults tick settled shut so ajar e
 fault_shut ends row lefts.InFlight None faults tick settled shut so ajar e = absurd (cc)
 fault_shut ends row lefts.InFlight (Some left) faults tick settled shut so ajar e = absurd (cc)
 
+-- where no fault may have left the tail open, and a row was committed or left, it is settled
+shut_so : (ends : List End) (journal : JournalState) → (may_be_open ends ≡ false → journal.left ≡ lefts.Nothing)
+    → (ends ≡ []) ⊎ (journal.settled ≡ settled_after journal.left) → may_be_open ends ≡ false → has_row ends ≡ true
+    → journal.settled ≡ true
+shut_so ends journal calm (inl none) shut some = let no_row = ap has_row (sym none) ∙ some in absurd (cc no_row)
+shut_so ends journal calm (inr settled) shut some = settled ∙ ap settled_after (calm shut)
+
 -- the disk failed
-pub backed_fault : (s : State) (row : Plain) (fault : FaultKept) (old new : DiskState) (journal journal' : JournalState)
-    → IsBacked s old journal → MissesRow row old new journal journal' → LeftSo (hanging s.ends) row journal'.left fault.left.value
-    → fault.tick ≡ new.ticks → fault.faults ≡ new.faults → fits s.base row.deed ≡ true → IsFormed row
-    → IsBacked (after s (fault_told fault)) new journal'
-backed_fault s row fault old new journal journal' h missed so at counts fit formed = record {
+pub backed_fault : (s : State) (row : Plain) (found : Option Plain) (before faults tick : ℕ) (old new : DiskState)
+    (journal journal' : JournalState) → IsBacked s old journal → MissesRow row old new journal journal'
+    → LeftSo (hanging s.ends) row journal'.left found → tick ≡ new.ticks → faults ≡ new.faults → fits s.base row.deed ≡ true
+    → IsFormed row → IsBacked (after s (story_steps.Fault row.tag found before faults tick)) new journal'
+backed_fault s row found before faults tick old new journal journal' h missed so at counts fit formed = record {
   opening = h.opening;
   opened = h.opened;
   tells = h.tells ∙ sym (still_modeled (MovesTo journal journal') old.modeled new.modeled missed.moves);
   at_end = missed.ended;
-  calm = nothing;
-  shut = λ e some. missed.settled ∙ ap settled_after (nothing e);
+  calm = fault_shut s.ends row journal'.left found faults tick journal.settled (shut_so s.ends journal h.calm h.settled) so
+      missed.ajar;
+  settled = inr missed.settled;
   base = h.base;
   ticks = omega (arith, at);
   faults = omega (arith, counts);
-  covered = fault_covered h.opening s.ends journal journal' row fault.left.value fault.faults fault.tick old.modeled new.modeled
+  covered = fault_covered h.opening s.ends journal journal' row found faults tick old.modeled new.modeled
       h.covered (ticks_counted h.opening s old h.opened h.ticks missed.was) missed.moves
-      (calls_counted new fault.tick missed.counted at) missed.stays so (subst (λ b. fits b row.deed ≡ true) h.base fit) formed;
+      (calls_counted new tick missed.counted at) missed.stays so (subst (λ b. fits b row.deed ≡ true) h.base fit) formed;
 }
-  where
-    nothing : may_be_open (Faulted fault.left.value fault.faults fault.tick ∷ s.ends) ≡ false → journal'.left ≡ lefts.Nothing
-    nothing e = fault_shut s.ends row journal'.left fault.left.value fault.faults fault.tick journal.settled h.shut so
-        missed.ajar e

@@ -6,7 +6,9 @@ use Rattle.disk_model.specs.DiskStates.{DiskState}
 use Rattle.row_form.specs.Spelled.{spelling_of}
 use Rattle.vob_journal.specs.Calls.{FailsToCommit, put, put_down}
 use Rattle.vob_journal.specs.Frames.{frame_after_gate}
+use Rattle.vob_journal.specs.declared.left.Left.{Left}
 use Rattle.vob_journal.specs.declared.left.Left.TheVariants.{Nothing, Earlier, InFlight}
+use Rattle.story_log.specs.Stopping.Tails.{Tail}
 use Rattle.story_log.specs.Logging.Appending.{LeavesByCalls}
 
 -- an empty disk, and the same once the gate of its tail was shut
@@ -20,21 +22,18 @@ shut = put_down 0 (0 ∷ []) empty
 abbrev modeled : Device → ℕ → ℕ → DiskState
 modeled d ticks faults = record { modeled = Some d; ticks = ticks; faults = faults }
 
+-- the tail as it was opened, and settled
+abbrev ajar : Tail
+ajar = record { place = 0; settled = false }
+
 -- Under the first row the gate was shut, and the write of the frame failed at the third call: nothing is left.
-frame_missed : (row : Plain) → LeavesByCalls [] row None (modeled empty 0 0) (modeled (with_call Failed shut) 3 1)
-frame_missed row = (false, 0, Nothing, λ calm some. absurd (cc), refl, (omega arith, omega arith), inr (inl refl))
+frame_missed : (row : Plain)
+    → LeavesByCalls [] ajar row None Nothing (modeled empty 0 0) (modeled (with_call Failed shut) 3 1)
+frame_missed row = record { leaves = refl; fails = (omega arith, omega arith); calls = inr (inl refl) }
 
--- not: its row is left, as where the third call is the one that opens the gate of a settled tail
-not_its_gate : (row : Plain) (tail : ℕ)
-    → FailsToCommit true tail (spelling_of row) InFlight empty (with_call Failed shut) → ⊥
-not_its_gate row tail (inl same) = let calls = ap (λ (d : Device). d.calls) same in absurd (cc calls)
-not_its_gate row tail (inr (inl missed)) = let calls = ap (λ (d : Device). d.calls) missed in absurd (cc calls)
-not_its_gate row tail (inr (inr (inl tore))) = let calls = ap (λ (d : Device). d.calls) tore.2 in absurd (cc calls)
-not_its_gate row tail (inr (inr (inr (inl wrote)))) = let calls = ap (λ (d : Device). d.calls) wrote in absurd (cc calls)
-not_its_gate row tail (inr (inr (inr (inr missed)))) = let calls = ap (λ (d : Device). d.calls) missed in absurd (cc calls)
-
-not_its_row : (row : Plain) → LeavesByCalls [] row (Some row) (modeled empty 0 0) (modeled (with_call Failed shut) 3 1) → ⊥
-not_its_row row (settled, tail, Nothing, stands, found, fails, calls) = absurd (cc)
-not_its_row row (settled, tail, Earlier, stands, found, fails, calls) = absurd (cc)
-not_its_row row (true, tail, InFlight, stands, found, fails, calls) = not_its_gate row tail calls
-not_its_row row (false, tail, InFlight, stands, found, fails, calls) = absurd (omega (arith, fails.0))
+-- not: its row is left
+not_its_row : (row : Plain) (left : Left)
+    → LeavesByCalls [] ajar row (Some row) left (modeled empty 0 0) (modeled (with_call Failed shut) 3 1) → ⊥
+not_its_row row Nothing h = let leaves = h.leaves in absurd (cc leaves)
+not_its_row row Earlier h = let leaves = h.leaves in absurd (cc leaves)
+not_its_row row InFlight h = absurd (omega (arith, h.fails.0))

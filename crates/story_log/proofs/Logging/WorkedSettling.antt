@@ -1,30 +1,47 @@
 -- The calls that settle a journal at the end, worked by hand.
-use Rattle.std.proofs.Common.{◌≡◌, ℕ, true, false, List, [], ◌∷◌, refl, ap, subst, inl, inr}
+use Rattle.std.proofs.Common.{◌≡◌, ℕ, true, false, Some, None, List, [], ◌∷◌, refl, ap, inl, inr, arith}
 use Rattle.cc_names.specs.Formed.{Plain}
 use Rattle.disk_model.specs.Devices.{Device, Failed, Wrote, new_device, with_call}
-use Rattle.legal_history.specs.Stories.States.{Committed}
-use Rattle.vob_journal.specs.Calls.{FailsToPut, put_down, settled_first}
+use Rattle.disk_model.specs.DiskStates.{DiskState}
+use Rattle.legal_history.specs.Stories.States.{Committed, Faulted}
+use Rattle.vob_journal.specs.Calls.{put_down}
 use Rattle.story_log.specs.Logging.Appending.{SettlesTail}
+use Rattle.story_log.specs.Stopping.Tails.{Tail}
 
--- nothing was committed: no call, both calls, or the write alone where the sync failed
-no_call : SettlesTail [] (new_device [] []) (new_device [] [])
-no_call = (true, 0, λ shut row. refl, inl refl)
+abbrev ajar : Tail
+ajar = record { place = 0; settled = false }
 
-both_calls : SettlesTail [] (new_device [] []) (put_down 0 (0 ∷ []) (new_device [] []))
-both_calls = (false, 0, λ shut row. absurd (cc), inl refl)
+abbrev shut : Tail
+shut = record { place = 0; settled = true }
 
-not_synced : SettlesTail [] (new_device [] []) (with_call Failed (with_call (Wrote 0 0 1 (0 ∷ [])) (new_device [] [])))
-not_synced = (false, 0, λ shut row. absurd (cc), inr (refl, inr (inr (inr (inr refl)))))
+-- an empty disk, and one whose gate was shut, with so many calls and faults
+abbrev empty : Device
+empty = new_device [] []
 
--- not: a tail that a commit settled, once more
+abbrev on : Device → ℕ → ℕ → DiskState
+on d ticks faults = record { modeled = Some d; ticks = ticks; faults = faults }
+
+-- nothing was committed: no call
+no_call : SettlesTail [] ajar (on empty 0 0) (on empty 0 0)
+no_call = refl
+
+-- a fault left the tail open: both calls, or the write alone where the sync failed
+both_calls : SettlesTail (Faulted None 1 2 ∷ []) ajar (on empty 2 1) (on (put_down 0 (0 ∷ []) empty) 4 1)
+both_calls = inl (refl, refl)
+
+not_synced : SettlesTail (Faulted None 1 2 ∷ []) ajar (on empty 2 1)
+    (on (with_call Failed (with_call (Wrote 0 0 1 (0 ∷ [])) empty)) 4 2)
+not_synced = inr (refl, refl, inr (inr (inr (inr refl))))
+
+-- not: no call, where none failed; a tail that stands as it was opened; and one that is settled, once more
+not_left : SettlesTail (Faulted None 1 2 ∷ []) ajar (on empty 2 1) (on empty 2 1) → ⊥
+not_left (inl same) = let calls = ap (λ (d : Device). d.calls) same.1 in absurd (cc calls)
+not_left (inr failed) = absurd (omega (arith, failed.1))
+
+not_before : SettlesTail [] ajar (on empty 2 1) (on (put_down 0 (0 ∷ []) empty) 4 1) → ⊥
+not_before h = let ticks = ap (λ (s : DiskState). s.ticks) h in absurd (omega (arith, ticks))
+
 not_again : (row : Plain) (tick : ℕ)
-    → SettlesTail (Committed row tick ∷ []) (new_device [] []) (put_down 0 (0 ∷ []) (new_device [] [])) → ⊥
-not_again row tick h =
-    let settled = h.2 refl refl in
-    elim h.3 [
-      | inl calls ↦
-          let none = ap (λ (d : Device). d.calls) (subst (λ b. put_down 0 (0 ∷ []) (new_device [] [])
-          ≡ settled_first b h.1 (new_device [] [])) settled calls) in
-          absurd (cc none)
-      | inr failed ↦ let unsettled = failed.0 in absurd (cc (settled, unsettled))
-    ]
+    → SettlesTail (Committed row tick ∷ []) shut (on empty 6 0) (on (put_down 0 (0 ∷ []) empty) 8 0) → ⊥
+not_again row tick (inl same) = let calls = ap (λ (d : Device). d.calls) same.1 in absurd (cc calls)
+not_again row tick (inr failed) = let unsettled = failed.0 in absurd (cc unsettled)

@@ -4,24 +4,24 @@ use Rattle.std.proofs.Common.{ap, sym, subst, ◌∙◌, arith}
 use Rattle.std.proofs.lemmas.List.{append-nil}
 use Rattle.std.specs.Prelude.{Result, Ok, Err, MatchResult, OnOk}
 use Rattle.cc_names.specs.Formed.{Plain}
-use Rattle.cc_names.specs.declared.commands.Phase.{Phase}
-use Rattle.cc_names.specs.declared.steps.Step.{Step}
+use Rattle.cc_names.specs.declared.steps.StoryStep.{StoryStep}
 use Rattle.disk_model.specs.Counting.{next_count}
 use Rattle.disk_model.specs.Devices.{Device, MayLeave, file_of}
 use Rattle.disk_model.specs.DiskStates.{DiskState, IfModeled, Both, IsCounted}
 use Rattle.base_model.specs.Rows.{Base}
 use Rattle.legal_history.specs.Stories.States.{State, Opening, End, ticks_of, hanging}
+use Rattle.legal_history.specs.Stories.Steps.{state_of}
 use Rattle.vob_journal.specs.Frames.{frames}
+use Rattle.vob_journal.specs.Lefts.{settled_after}
 use Rattle.vob_journal.specs.Moves.{Stands}
 use Rattle.vob_journal.specs.Phases.{Spends}
 use Rattle.vob_journal.specs.declared.left.Left.TheVariants as lefts
 use Rattle.story_log.specs.Stopping.Backed.{IsMirrored, IsBacked, IsSettled, IsAccounted}
 use Rattle.story_log.specs.Stopping.Journals.{JournalState}
-use Rattle.story_log.specs.Logging.Logs.{IsLogged, logged_state}
+use Rattle.story_log.specs.Logging.Logs.{IsLogged}
 use Rattle.story_log.specs.Stored.Founds.{Represents}
 use Rattle.story_log.specs.Stored.Stops.{OfEachStop, OfStopNow, found_in}
 use Rattle.story_log.specs.Stopping.Standing.{base_by, StandsFor, MayBeFound}
-use Rattle.story_log.specs.Story.Handed.{Handed}
 use Rattle.story_log.proofs.Stored.Holding.{held_in_image}
 use Rattle.story_log.proofs.Stopping.Backing.{MovesTo, after_all, settle_covered, stands_so, still_modeled, within_calls}
 use Rattle.story_log.proofs.Logging.Logging.{ticks_counted}
@@ -35,14 +35,14 @@ pub backed_settle : (s : State) (old new : DiskState) (journal journal' : Journa
     → Both (MovesTo journal journal') old.modeled new.modeled → journal'.list ≡ journal.list
     → (journal'.leftover ≡ []) ⊎ (journal'.leftover ≡ journal.leftover) → (journal'.left ≡ lefts.Nothing → journal'.leftover ≡ [])
     → old.ticks ≤ new.ticks → old.faults ≤ new.faults → IsCounted old → journal'.ended ≡ true → journal.left ≢ lefts.Nothing
-    → IsBacked s new journal'
-backed_settle s old new journal journal' h moves same less nothing ticks faults counted end ajar = record {
+    → journal'.settled ≡ settled_after journal'.left → IsBacked s new journal'
+backed_settle s old new journal journal' h moves same less nothing ticks faults counted end ajar shut = record {
   opening = h.opening;
   opened = h.opened;
   tells = h.tells ∙ sym (still_modeled (MovesTo journal journal') old.modeled new.modeled moves);
   at_end = end;
   calm = λ e. absurd (ajar (h.calm e));
-  shut = λ e some. absurd (ajar (h.calm e));
+  settled = inr shut;
   base = h.base;
   ticks = omega (arith, h.ticks, ticks);
   faults = omega (arith, h.faults, faults);
@@ -51,31 +51,29 @@ backed_settle s old new journal journal' h moves same less nothing ticks faults 
 }
 
 -- what is kept by the log, whether the tail was settled or not
-module _ (on : Handed) (kept : List Step) (base : Base) (phases : List Phase) (left : Option Plain) (old new : DiskState)
-    (journal journal' : JournalState) (h : IsLogged on kept base phases left old journal)
-    (moves : Both (MovesTo journal journal') old.modeled new.modeled) (same : journal'.list ≡ journal.list)
-    (end : journal'.ended ≡ true) (counted : IsCounted old) (ajar : journal.left ≢ lefts.Nothing) where
+module _ (story : List StoryStep) (base : Base) (old new : DiskState) (journal journal' : JournalState)
+    (h : IsLogged story base old journal) (moves : Both (MovesTo journal journal') old.modeled new.modeled)
+    (same : journal'.list ≡ journal.list) (end : journal'.ended ≡ true) (counted : IsCounted old)
+    (ajar : journal.left ≢ lefts.Nothing) (shut : journal'.settled ≡ settled_after journal'.left) where
   pub logged_settled : {E : Type 0} → (calls : ℕ) (r : Result (Unit {0}) E)
       → MatchResult r (λ _. journal'.leftover ≡ []) (λ _. journal'.leftover ≡ journal.leftover)
       → MatchResult r (λ _. journal'.left ≡ lefts.Nothing) (λ _. journal'.left ≡ lefts.Earlier) → Spends calls r old new
-      → IsLogged on kept base phases left new journal'
+      → IsLogged story base new journal'
   logged_settled calls (Ok u) less went cost = record {
-    modeled = h.modeled;
+    named = h.named;
     leads = h.leads;
-    hangs = h.hangs;
-    backed = backed_settle (logged_state on kept base phases) old new journal journal' h.backed moves same (inl less) (λ e. less)
-        (omega (arith, cost.0)) (omega (arith, cost.1)) counted end ajar;
+    backed = backed_settle (state_of story) old new journal journal' h.backed moves same (inl less) (λ e. less)
+        (omega (arith, cost.0)) (omega (arith, cost.1)) counted end ajar shut;
   }
   logged_settled calls (Err fault) less went cost = record {
-    modeled = h.modeled;
+    named = h.named;
     leads = h.leads;
-    hangs = h.hangs;
-    backed = backed_settle (logged_state on kept base phases) old new journal journal' h.backed moves same (inr less)
+    backed = backed_settle (state_of story) old new journal journal' h.backed moves same (inr less)
         (λ e. absurd (cc)) (no_less old.ticks new.ticks cost.0 counted.ticks) (omega (
           arith,
           cost.2,
           no_less old.faults (next_count old.faults) (omega arith) counted.faults,
-        )) counted end ajar;
+        )) counted end ajar shut;
   }
 
 -- no stop finds more than the base where nothing is left over

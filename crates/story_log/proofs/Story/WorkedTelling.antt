@@ -1,19 +1,21 @@
--- How kept steps are told, worked: the rows and the phases that they name by number stand in their place.
+-- How steps are told, and the rows that a story names, worked.
 use Rattle.std.specs.declared.snapshot.Snapshot.{Snapshot}
-use Rattle.std.proofs.Common.{◌≡◌, ℕ, true, Option, Some, None, List, [], ◌∷◌, refl, arith}
+use Rattle.std.proofs.Common.{◌≡◌, ℕ, true, None, Some, List, [], ◌∷◌, refl}
 use Rattle.std.specs.Prelude.{codes}
 use Rattle.cc_names.specs.Formed.{Plain}
 use Rattle.cc_names.specs.declared.commands.Phase.{Phase}
+use Rattle.cc_names.specs.declared.refusals.Refusal.{Refusal}
 use Rattle.cc_names.specs.declared.refusals.Refusal.TheVariants.{ViewExists}
 use Rattle.cc_names.specs.declared.rows.Deed.TheVariants as deeds
 use Rattle.cc_names.specs.declared.rows.Tag.{Tag}
 use Rattle.cc_names.specs.declared.steps.Counts.{Counts}
-use Rattle.cc_names.specs.declared.steps.Step.{Step}
-use Rattle.cc_names.specs.declared.steps.Step.TheVariants as steps
 use Rattle.cc_names.specs.declared.steps.StoryStep.{StoryStep}
 use Rattle.cc_names.specs.declared.steps.StoryStep.TheVariants as story_steps
-use Rattle.story_log.specs.Story.Handed.{handed_disk}
-use Rattle.story_log.specs.Story.Telling.{AreNamedBySteps, rows_named, shown_as, story_of}
+use Rattle.story_log.specs.Story.Telling.{rows_named, told, told_fault}
+use Rattle.story_log.specs.declared.step.Fault.{Fault}
+use Rattle.story_log.specs.declared.step.Step.TheVariants as steps
+use Rattle.vob_journal.specs.declared.left.Left.{Left}
+use Rattle.vob_journal.specs.declared.left.Left.TheVariants.{Nothing, Earlier, InFlight}
 
 -- command n of the one lane of phase 1, and the row of its view
 abbrev tag : ℕ → Tag
@@ -29,42 +31,33 @@ abbrev counts : Counts
 counts = record { ticks = 7; faults = 0 }
 
 -- a base of one row was opened, a phase began, a view was made, and one was refused
-abbrev kept : List Step
-kept = steps.Opened 2 ∷ steps.PhaseBegun 1 5 ∷ steps.Commit (tag 1) 2 11 ∷ steps.Refused (tag 2) ViewExists ∷ []
-
-abbrev rows : List Plain
-rows = view 9 (codes "u") ∷ view 1 (codes "v") ∷ []
-
 abbrev story : List StoryStep
 story = story_steps.Opened (view 9 (codes "u") ∷ []) counts true ∷ story_steps.PhaseBegun phase 5
     ∷ story_steps.Commit (view 1 (codes "v")) 11 ∷ story_steps.Refused (tag 2) ViewExists ∷ []
 
-they_are_told : story_of (handed_disk counts true) kept rows (phase ∷ []) ≡ story
-they_are_told = refl
-
-they_are_named : AreNamedBySteps 1 0 kept rows (phase ∷ [])
-they_are_named = (omega arith, omega arith, (refl, (refl, refl, tt)))
-
-its_rows : rows_named story ≡ rows
+its_rows : rows_named story ≡ view 9 (codes "u") ∷ view 1 (codes "v") ∷ []
 its_rows = refl
 
--- a step that names a row or a phase is none by itself
-an_opening : shown_as (steps.Opened 2) ≡ None
-an_opening = refl
+-- a step is told with what it names, of which it has no bytes
+a_commit : (row : Snapshot Plain) → told (steps.Commit row 11) ≡ story_steps.Commit row.value 11
+a_commit row = refl
 
-a_phase : shown_as (steps.PhaseBegun 1 5) ≡ None
-a_phase = refl
+a_refusal : (refusal : Snapshot Refusal) → told (steps.Refused (tag 2) refusal) ≡ story_steps.Refused (tag 2) refusal.value
+a_refusal refusal = refl
 
-a_commit : shown_as (steps.Commit (tag 1) 2 11) ≡ None
-a_commit = refl
+-- a fault leaves what was left before it, its own row, or nothing
+abbrev a_fault_so : Snapshot Plain → Left → Fault
+a_fault_so row left = record { row = row; left = left; before = 0; after = record { ticks = 12; faults = 1 } }
 
-a_refusal : shown_as (steps.Refused (tag 2) ViewExists) ≡ Some (story_steps.Refused (tag 2) ViewExists)
-a_refusal = refl
+a_fault : (row : Snapshot Plain)
+    → told_fault (Some (view 1 (codes "v"))) (a_fault_so row Earlier)
+    ≡ story_steps.Fault row.value.tag (Some (view 1 (codes "v"))) 0 1 12
+a_fault row = refl
 
--- an answer is told with its text, and a fault with the row that it left, of which the steps have no bytes
-an_answer : (text : Snapshot (List ℕ)) → shown_as (steps.Answer (tag 3) text) ≡ Some (story_steps.Answer (tag 3) text.value)
-an_answer text = refl
+a_row_left : (row : Snapshot Plain)
+    → told_fault None (a_fault_so row InFlight) ≡ story_steps.Fault row.value.tag (Some row.value) 0 1 12
+a_row_left row = refl
 
-a_fault : (left : Snapshot (Option Plain))
-    → shown_as (steps.Fault (tag 3) left 0 1 12) ≡ Some (story_steps.Fault (tag 3) left.value 0 1 12)
-a_fault left = refl
+nothing_left : (row : Snapshot Plain)
+    → told_fault (Some (view 1 (codes "v"))) (a_fault_so row Nothing) ≡ story_steps.Fault row.value.tag None 0 1 12
+nothing_left row = refl

@@ -16,6 +16,7 @@ use Rattle.story_log.specs.Stored.Damaged.{IsDamaged, IsUndamaged}
 use Rattle.story_log.specs.Stored.Founds.{FoundFiles}
 use Rattle.story_log.specs.Stored.Opened.{IsOpenedAs}
 use Rattle.story_log.specs.Stored.Stops.{OfEachStop, found_on}
+use Rattle.story_log.specs.Stopping.Tails.{IsFoundTail, Tail}
 use Rattle.base_rows.specs.Order.{oldest_first}
 use Rattle.story_log.specs.declared.opening.OpenCause.{OpenCause}
 use Rattle.story_log.specs.declared.opening.OpenCause.TheVariants as causes
@@ -33,24 +34,26 @@ pub record IsBaseOn (old : DiskState) (base : Base) (handed : Handed) : Type 0 w
   pub fits : is_base base ≡ true
   pub formed : AreFormed base
 
--- a log of such a base, under which no disk failed: both files are as they were
+-- a log of such a base, under which no disk failed: both files are as they were, and the journal's tail is as it was found
 pub record IsOpened (old : DiskState) (log : Logged) : Type 0 where
   pub base : Base
   pub handed : Handed
   pub on : IsBaseOn old base handed
-  pub is : log ≡ opened_log base handed log.ghost_state
+  pub is : log ≡ opened_log base handed log.ghost_state log.tail
+  pub tail : IfModeled log.ghost_state.modeled (IsFoundTail log.tail)
   pub faultless : log.ghost_state.faults ≡ old.faults
   pub fit : IsCounted log.ghost_state
   pub files : Both SameFiles old.modeled log.ghost_state.modeled
 
--- A base was opened: the one that was found on the disk, where no frame is damaged. No fault was counted, and both files are as
--- they were.
-pub record OpensCore (old : DiskState) (story : List StoryStep) (new : DiskState) : Type 0 where
+-- A base was opened: the one that was found on the disk, where no frame is damaged. No fault was counted, both files are as they
+-- were, and the journal's tail is as it was found.
+pub record OpensCore (old : DiskState) (story : List StoryStep) (new : DiskState) (at : Tail) : Type 0 where
   pub base : Base
   pub handed : Handed
   pub on : IsBaseOn old base handed
   pub undamaged : IfModeled old.modeled (λ d. IsUndamaged (found_on d))
   pub story_is : story ≡ story_steps.Opened (oldest_first base) handed.counts handed.tells ∷ []
+  pub tail : IfModeled new.modeled (IsFoundTail at)
   pub faultless : new.faults ≡ old.faults
   pub fit : IsCounted new
   pub files : Both SameFiles old.modeled new.modeled

@@ -15,6 +15,7 @@ use Rattle.vob_journal.specs.Pieces.{IsReadUntil, ReadsOnce, ReadsOnceTo}
 use Rattle.vob_journal.specs.Reads.{SameFiles}
 use Rattle.vob_journal.specs.Shown.{Shown}
 use Rattle.story_log.specs.Story.Formed.{AreFormed}
+use Rattle.story_log.specs.Stopping.Tails.{IsFoundTail, Tail, tail_of}
 use Rattle.story_log.specs.Stored.Payloads.{payloads}
 use Rattle.story_log.specs.declared.opening.OpenCause.{OpenCause}
 use Rattle.story_log.specs.declared.opening.OpenCause.TheVariants as causes
@@ -27,10 +28,15 @@ pub record OnlyReads {D : Type 0} (ghost_state : D → DiskState) (old new : Sho
   pub stops : Both (Moves old.list [] old.list []) (ghost_state old.disk).modeled (ghost_state new.disk).modeled
   pub files : Both SameFiles (ghost_state old.disk).modeled (ghost_state new.disk).modeled
 
--- the end of a list was read where nothing was found
-abbrev pub EndsAt : Option (List ℕ) → Bool → Type 0
+-- the end of a list was read where nothing was found, and no further than it where a payload was
+abbrev pub EndsAt : {A : Type 0} → Option A → Bool → Type 0
 EndsAt None ended = ended ≡ true
-EndsAt (Some payload) ended = Unit {0}
+EndsAt (Some one) ended = ended ≡ false
+
+-- at the end of a list the journal's tail is as it was found
+abbrev pub FindsTail : {A : Type 0} → Option A → Tail → Device → Type 0
+FindsTail None tail d = IsFoundTail tail d
+FindsTail (Some one) tail d = Unit {0}
 
 -- the next payload, or the end of the list, and nothing is left over there either
 pub record NextIs {D : Type 0} (ghost_state : D → DiskState) (found : Option (List ℕ)) (old new : Shown D) : Type 0 where
@@ -38,6 +44,7 @@ pub record NextIs {D : Type 0} (ghost_state : D → DiskState) (found : Option (
   pub ends : EndsAt found new.ended
   pub faultless : (ghost_state new.disk).faults ≡ (ghost_state old.disk).faults
   pub gives : IfModeled (ghost_state old.disk).modeled (λ _. GivesNext found old.rest new.rest)
+  pub tail : old.ended ≡ false → IfModeled (ghost_state new.disk).modeled (FindsTail found (tail_of new))
 
 -- why no payload was read, with the disk's counts of faults before and after
 abbrev pub IsMissed : OpenCause → ℕ → ℕ → Type 0

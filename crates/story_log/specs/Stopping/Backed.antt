@@ -8,6 +8,7 @@ use Rattle.disk_model.specs.DiskStates.{DiskState, IfModeled}
 use Rattle.base_model.specs.Rows.{Base}
 use Rattle.legal_history.specs.Stories.States.{State, Opening, End, Committed, Faulted, ticks_of, faults_of, hanging}
 use Rattle.row_form.specs.Spelled.{spelling_of}
+use Rattle.vob_journal.specs.Lefts.{settled_after}
 use Rattle.vob_journal.specs.Moves.{Stands}
 use Rattle.vob_journal.specs.declared.left.Left.TheVariants as lefts
 use Rattle.story_log.specs.Story.Formed.{AreFormed}
@@ -65,14 +66,15 @@ may_be_open (Faulted None faults tick ∷ earlier) = not (has_row earlier)
 may_be_open (Faulted (Some row) faults tick ∷ earlier) = true
 
 -- The base was opened, and the journal after it is that of its history; nothing is taken in the file of objects. Where no fault
--- may have left the journal's tail open none did, and the tail is settled, unless it stands as it was opened.
+-- may have left the journal's tail open none did. Unless the tail stands as it was opened, it is settled where the newest commit
+-- or fault left nothing.
 pub record IsBacked (s : State) (ghost_state : DiskState) (journal : JournalState) : Type 0 where
   pub opening : Opening
   pub opened : s.opened ≡ Some opening
   pub tells : opening.tells ≡ is_some ghost_state.modeled
   pub at_end : journal.ended ≡ true
   pub calm : may_be_open s.ends ≡ false → journal.left ≡ lefts.Nothing
-  pub shut : may_be_open s.ends ≡ false → has_row s.ends ≡ true → journal.settled ≡ true
+  pub settled : (s.ends ≡ []) ⊎ (journal.settled ≡ settled_after journal.left)
   pub base : s.base ≡ base_by opening s.ends
   pub ticks : ticks_of s.opened s.ends ≤ ghost_state.ticks
   pub faults : faults_of s.opened s.ends ≤ ghost_state.faults

@@ -1,5 +1,6 @@
 use Rattle.std.proofs.Common.{ap, ap₂, ◌∙◌, inl, inr, refl, subst}
 use Rattle.cc_names.specs.Counts.{rises}
+use Rattle.base_core.specs.Story.Counted.{disk_of}
 use Rattle.session_run.specs.Calls.Causes.{Change}
 use Rattle.session_run.specs.Running.Outcomes.{RunsOpened}
 use Rattle.session_run.specs.Running.Runs.{Outside}
@@ -9,7 +10,7 @@ use Rattle.session_run.proofs.Promises.Headline.{begins_on, just_opened}
 use Rattle.session_run.proofs.run.run_session.Goals as goal
 
 pub run_opened-requires-clause-opened : goal.run_opened-requires-clause-opened
-run_opened-requires-clause-opened g c κs within = just_opened _ _ c.in-Ok.core.story c.in-Ok.ensures.ok
+run_opened-requires-clause-opened g c κs within = just_opened _ _ _ c.in-Ok.core.story c.in-Ok.ensures.ok
 
 pub returns-in-Ok-clause-runs : goal.returns-in-Ok-clause-runs
 returns-in-Ok-clause-runs g c =
@@ -29,17 +30,18 @@ returns-in-Ok-clause-runs g c =
       after = (g.K.Sink.ghost_state c.run_opened.new.sink).faults;
     } in
     inl (record {
-      begins = begins_on (g.D.Disk.ghost_state c.args.disk) core.ghost_state core.story ended.history (first_step core.story)
-          c.in-Ok.ensures.ok refl c.run_opened.ensures.runs.first_is;
+      begins = begins_on (g.D.Disk.ghost_state c.args.disk) core.ghost_state core.tail core.story ended.history
+          (first_step core.story) c.in-Ok.ensures.ok refl c.run_opened.ensures.runs.first_is;
       first = first_step core.story;
-      opened = core.ghost_state;
+      opened = disk_of core;
+      tail = c.in-Ok.ensures.ok.tail;
       faultless = c.in-Ok.ensures.ok.faultless;
       fit = c.in-Ok.ensures.ok.fit;
       once = c.in-Ok.ensures.once;
       files = c.in-Ok.ensures.ok.files;
       runs =
           subst (λ n. RunsOpened c.args.given.form c.args.given.phases.items ended.status (first_step core.story) ended.history n
-          (record { before = core.ghost_state; after = g.D.Disk.ghost_state ended.disk }) outside faults)
+          (disk_of core) (g.D.Disk.ghost_state ended.disk) outside faults)
           c.counts-before.ensures.faults c.run_opened.ensures.runs;
     })
 

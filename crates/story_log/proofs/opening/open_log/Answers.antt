@@ -92,7 +92,7 @@ returns-clause-ok g c =
     (g.met.D.Disk.counted c.args.disk) c.counts-handed.ensures.ticks c.counts-handed.ensures.faults
     (sym (g.met.D.Disk.as_typed c.args.disk)) c.requires new rows.reads rows.faultless rows.ok c.open-2.result
     c.open-2.ensures
-    (g.met.D.Disk.counted c.read_rows.new.journal.disk)
+    (g.met.D.Disk.counted c.read_rows.new.journal.disk) rows.tail
 
 pub returns-in-Err-clause-once : goal.returns-in-Err-clause-once
 returns-in-Err-clause-once g c = modeled_once_idle _ _ c.in-Err.ensures.modeled

@@ -4,14 +4,16 @@ use Rattle.std.proofs.Common.{nat_lt, refl, ap, sym}
 use Rattle.std.proofs.Common.{subst, ◌∙◌, arith}
 use Rattle.std.proofs.lemmas.Bool.{ltb-true}
 use Rattle.std.specs.Prelude.{is_err, OnOk}
+use Rattle.cc_names.specs.Formed.{Plain}
 use Rattle.cc_names.specs.declared.rows.Deed.{Deed}
-use Rattle.disk_model.specs.DiskStates.{Both, DiskState}
+use Rattle.disk_model.specs.DiskStates.{Both, DiskState, IfModeled}
 use Rattle.vob_journal.specs.Pieces.{IsReadForth, IsReadUntil, ReadsNext}
 use Rattle.vob_journal.specs.Shown.{Shown, frames_read}
 use Rattle.vob_journal.proofs.Pieces.{modeled_forth_none, modeled_forth_then, modeled_forth_until, modeled_until}
 use Rattle.base_model.specs.Rows.{Base, size}
 use Rattle.base_model.specs.Fits.{deed_fits, fits, row_limit}
-use Rattle.story_log.specs.Bases.Reading.{IsAfterBase, IsReadSoFar, ReadsOn}
+use Rattle.story_log.specs.Bases.Reading.{EndsAt, FindsTail, IsAfterBase, IsReadSoFar, ReadsOn}
+use Rattle.story_log.specs.Stopping.Tails.{tail_of}
 use Rattle.story_log.specs.declared.opening.OpenCause.{OpenCause}
 use Rattle.story_log.proofs.Bases.ReadFrames.{frames_so_far, modeled_on, modeled_on_none, read_by}
 use Rattle.story_log.proofs.Bases.ReadRows.{reads_none, reads_then, row_fits, stops_behind}
@@ -45,9 +47,10 @@ end_forth ghost_state found old new is h = subst (λ f. ReadsNext {E = OpenCause
 
 pub frames-init : goal.frames-init
 frames-init g c = record {
-  reads = reads_none g.D.Disk.ghost_state [] c.args.journal.now c.requires;
+  reads = reads_none g.D.Disk.ghost_state [] c.args.journal.now c.requires.so_far;
   forth = modeled_forth_none _ _ _ _ (omega arith);
-  so_far = subst (λ (b : Base). IsReadSoFar g.D.Disk.ghost_state b c.args.journal.now) (sym c.in-Ok.ensures) c.requires;
+  unended = c.requires.unended;
+  so_far = subst (λ (b : Base). IsReadSoFar g.D.Disk.ghost_state b c.args.journal.now) (sym c.in-Ok.ensures) c.requires.so_far;
   faultless = refl;
 }
 
@@ -77,6 +80,8 @@ frames-preserved g c =
       forth = modeled_forth_then _ _ _ _ _ _ _ _ _ c.frames.invariant.forth
           (row_forth ghost_state _ c.in-Ok-Some.row c.frames.journal c.read_next_row.new.journal c.in-Ok-Some.field-0-is
           c.in-Ok-Some.ensures.forth);
+      unended = subst (λ (f : Option Plain). EndsAt f c.read_next_row.new.journal.ended) c.in-Ok-Some.field-0-is
+          c.in-Ok-Some.ensures.ends;
       so_far = subst (λ (b : Base). IsReadSoFar ghost_state b c.read_next_row.new.journal) (sym grown) found;
       faultless = c.in-Ok-Some.ensures.faultless ∙ c.frames.invariant.faultless;
     }
@@ -128,3 +133,9 @@ returns-in-Err-clause-until g c =
     c.frames.invariant.forth c.in-Err.ensures.forth
     (frames_so_far g.D.Disk.ghost_state c.frames.rows.base c.frames.journal c.frames.invariant.so_far)
     (subst (λ (b : Base). IsAfterBase b c.in-Err.cause) c.all.ensures c.in-Err.ensures.next)
+
+pub returns-in-Ok-None-clause-tail : goal.returns-in-Ok-None-clause-tail
+returns-in-Ok-None-clause-tail g c =
+    let journal = c.read_next_row.new.journal in
+    subst (λ (f : Option Plain). IfModeled (g.D.Disk.ghost_state journal.disk).modeled (FindsTail f (tail_of journal)))
+    c.in-Ok-None.field-0-is c.in-Ok-None.ensures.tail

@@ -28,7 +28,7 @@ returns-in-Some-clause-ok g c = (
   },
 )
 
-pub returns-in_ok-refuse-in-Err-Is-clause-ok : goal.returns-in_ok-refuse-in-Err-Is-clause-ok
-returns-in_ok-refuse-in-Err-Is-clause-ok g c =
+pub returns-in-Err-Is-clause-ok : goal.returns-in-Err-Is-clause-ok
+returns-in-Err-Is-clause-ok g c =
     subst (λ l. Finishes c.args.self.now.story c.refuse.new.self.story l) (ap (λ t. t.lane) c.tag-tag.ensures)
-    (refused_finishes c.args.self.now.story c.refuse.new.self.story c.tag-tag.result.lane c.in_ok-refuse-in-Err-Is.ensures.ok)
+    (refused_finishes c.args.self.now.story c.refuse.new.self.story c.tag-tag.result.lane c.refuse.ensures.acts)

@@ -55,14 +55,15 @@ acts_so log new story row appends.Committed same next became =
     }
 acts_so log new story row appends.Faulted same next became =
     let done : IsFaulted log new row None = became in
-    next_faults story new.story row done.left done.before done.faults done.tick
-    (ap (λ (l : Logged). l.story) done.grows ∙ ap (λ t. t ++ story_steps.Fault row.tag done.left done.before done.faults done.tick
+    next_faults story new.story row done.found done.before done.faults done.tick
+    (ap (λ (l : Logged). l.story) done.grows ∙ ap (λ t. t ++ story_steps.Fault row.tag done.found done.before done.faults done.tick
     ∷ []) same) next
 
-pub append-requires-clause-fits : goal.append-requires-clause-fits
-append-requires-clause-fits g c =
-    subst (λ b. fits b c.args.row.deed ≡ true) (ap (λ v. (state_of v.story).base) (sym c.self.view_is)
-    ∙ c.self.invariant.story.base) c.requires.fits
+pub append-requires : goal.append-requires
+append-requires g c = record {
+  fits = subst (λ b. fits b c.args.row.deed ≡ true) (ap (λ v. (state_of v.story).base) (sym c.self.view_is)
+      ∙ c.self.invariant.story.base) c.requires.fits;
+}
 
 pub reply-requires-clause-room : goal.reply-requires-clause-room
 reply-requires-clause-room g c = (row_has_room c.self.inside.log c.self.inside.lanes c.self.inside.moment c.args.self.now.story

@@ -1,7 +1,7 @@
 -- a row that gives a unit an object is committed, or the disk fails under the build, which ends
 use Rattle.std.proofs.Common.{◌≡◌, ◌<◌, Some, length, refl, ap, sym, subst, ◌∙◌}
 use Rattle.std.specs.Prelude.{IsSome}
-use Rattle.cc_names.specs.declared.steps.Step.TheVariants as steps
+use Rattle.cc_names.specs.declared.steps.StoryStep.TheVariants as story_steps
 use Rattle.legal_history.specs.Stories.Commanded.{next_command_of}
 use Rattle.legal_history.specs.Stories.States.{next_tag}
 use Rattle.legal_history.specs.Stories.Steps.{state_of}
@@ -27,13 +27,15 @@ tag-tag-requires g c =
     subst (λ v. IsSome (next_command_of (state_of v.story) c.args.lane)) c.self.view_is
     (builds_waits (state_of c.self.inside.log.story) c.args.lane (next_tag (state_of c.self.inside.log.story) c.args.lane) waits)
 
-pub append-requires-clause-fits : goal.append-requires-clause-fits
-append-requires-clause-fits g c =
+pub append-requires : goal.append-requires
+append-requires g c =
     let gives = gives_here c.self.inside.log c.self.inside.lanes c.self.inside.moment c.args.self.now.story c.args.lane
     c.args.unit c.args.row c.args.object (ap (λ v. v.story) c.self.view_is) c.self.invariant c.requires
     c.a_build_is_consistent.ensures in
-    object_fits c.self.inside.log c.self.inside.lanes c.self.inside.moment c.args.lane c.args.unit c.args.row c.args.object
-    c.self.invariant gives
+    record {
+      fits = object_fits c.self.inside.log c.self.inside.lanes c.self.inside.moment c.args.lane c.args.unit c.args.row
+          c.args.object c.self.invariant gives;
+    }
 
 pub note-requires-clause-from : goal.note-requires-clause-from
 note-requires-clause-from g c =
@@ -98,7 +100,7 @@ invariant_of-self-in-Committed g c =
     c.args.unit c.args.row c.args.object (ap (λ v. v.story) c.self.view_is) c.self.invariant c.requires
     c.a_build_is_consistent.ensures in
     let done : IsCommitted c.self.inside.log c.append.new.self c.args.row =
-    subst (Appends c.self.inside.log c.append.new.self c.args.row (Some (steps.End c.tag-tag.result))) c.in-Committed.is
+    subst (Appends c.self.inside.log c.append.new.self c.args.row (Some (story_steps.End c.tag-tag.result))) c.in-Committed.is
     c.in_ok-append.ensures.ok in
     subst (λ log. CoreInvariant log c.note.new.self c.self.inside.moment) (sym done.grows)
     (preserved_object c.self.inside.log c.self.inside.lanes c.note.new.self c.self.inside.moment c.args.lane c.args.unit
@@ -110,8 +112,8 @@ invariant_of-self-in-Faulted g c =
     let gives = gives_here c.self.inside.log c.self.inside.lanes c.self.inside.moment c.args.self.now.story c.args.lane
     c.args.unit c.args.row c.args.object (ap (λ v. v.story) c.self.view_is) c.self.invariant c.requires
     c.a_build_is_consistent.ensures in
-    let done : IsFaulted c.self.inside.log c.append.new.self c.args.row (Some (steps.End c.tag-tag.result)) =
-    subst (Appends c.self.inside.log c.append.new.self c.args.row (Some (steps.End c.tag-tag.result))) c.in-Faulted.is
+    let done : IsFaulted c.self.inside.log c.append.new.self c.args.row (Some (story_steps.End c.tag-tag.result)) =
+    subst (Appends c.self.inside.log c.append.new.self c.args.row (Some (story_steps.End c.tag-tag.result))) c.in-Faulted.is
     c.in_ok-append.ensures.ok in
     let tagged : c.tag-tag.result ≡ next_tag (state_of c.self.inside.log.story) c.args.lane = c.tag-tag.ensures
     ∙ ap (λ v. next_tag (state_of v.story) c.args.lane) (sym c.self.view_is) in
@@ -125,7 +127,7 @@ returns-in-Committed-clause-ok g c =
     c.args.unit c.args.row c.args.object (ap (λ v. v.story) c.self.view_is) c.self.invariant c.requires
     c.a_build_is_consistent.ensures in
     let done : IsCommitted c.self.inside.log c.append.new.self c.args.row =
-    subst (Appends c.self.inside.log c.append.new.self c.args.row (Some (steps.End c.tag-tag.result))) c.in-Committed.is
+    subst (Appends c.self.inside.log c.append.new.self c.args.row (Some (story_steps.End c.tag-tag.result))) c.in-Committed.is
     c.in_ok-append.ensures.ok in
     subst (λ log. GoesOn c.args.self.now.story log.story c.args.lane × HasOutcome (state_of log.story) c.args.lane c.args.unit)
     (sym done.grows)
@@ -137,8 +139,8 @@ returns-in-Faulted-clause-ok g c =
     let gives = gives_here c.self.inside.log c.self.inside.lanes c.self.inside.moment c.args.self.now.story c.args.lane
     c.args.unit c.args.row c.args.object (ap (λ v. v.story) c.self.view_is) c.self.invariant c.requires
     c.a_build_is_consistent.ensures in
-    let done : IsFaulted c.self.inside.log c.append.new.self c.args.row (Some (steps.End c.tag-tag.result)) =
-    subst (Appends c.self.inside.log c.append.new.self c.args.row (Some (steps.End c.tag-tag.result))) c.in-Faulted.is
+    let done : IsFaulted c.self.inside.log c.append.new.self c.args.row (Some (story_steps.End c.tag-tag.result)) =
+    subst (Appends c.self.inside.log c.append.new.self c.args.row (Some (story_steps.End c.tag-tag.result))) c.in-Faulted.is
     c.in_ok-append.ensures.ok in
     let tagged : c.tag-tag.result ≡ next_tag (state_of c.self.inside.log.story) c.args.lane = c.tag-tag.ensures
     ∙ ap (λ v. next_tag (state_of v.story) c.args.lane) (sym c.self.view_is) in
@@ -149,11 +151,11 @@ returns-in-Faulted-clause-ok g c =
 pub returns-in-Committed-clause-counted : goal.returns-in-Committed-clause-counted
 returns-in-Committed-clause-counted g c =
     counts_ended c.self.inside.log c.append.new.self c.args.self.now c.args.row c.tag-tag.result appends.Committed c.self.view_is
-    (subst (Appends c.self.inside.log c.append.new.self c.args.row (Some (steps.End c.tag-tag.result))) c.in-Committed.is
+    (subst (Appends c.self.inside.log c.append.new.self c.args.row (Some (story_steps.End c.tag-tag.result))) c.in-Committed.is
     c.in_ok-append.ensures.ok)
 
 pub returns-in-Faulted-clause-counted : goal.returns-in-Faulted-clause-counted
 returns-in-Faulted-clause-counted g c =
     counts_ended c.self.inside.log c.append.new.self c.args.self.now c.args.row c.tag-tag.result appends.Faulted c.self.view_is
-    (subst (Appends c.self.inside.log c.append.new.self c.args.row (Some (steps.End c.tag-tag.result))) c.in-Faulted.is
+    (subst (Appends c.self.inside.log c.append.new.self c.args.row (Some (story_steps.End c.tag-tag.result))) c.in-Faulted.is
     c.in_ok-append.ensures.ok)

@@ -1,6 +1,6 @@
 -- a build ends
 use Rattle.std.proofs.Common.{ap, sym, subst}
-use Rattle.cc_names.specs.declared.steps.Step.TheVariants as steps
+use Rattle.cc_names.specs.declared.steps.StoryStep.TheVariants as story_steps
 use Rattle.legal_history.specs.Stories.States.{next_tag}
 use Rattle.legal_history.specs.Stories.Steps.{state_of}
 use Rattle.clearmake.specs.Going.{Finishes}
@@ -33,7 +33,7 @@ close-requires-clause-room g c = (build_has_room c.self.inside.log c.self.inside
 pub invariant_of-self : goal.invariant_of-self
 invariant_of-self g c =
     subst (λ log. CoreInvariant log c.close.new.self c.self.inside.moment) (sym c.tell.ensures)
-    (subst (λ lanes. CoreInvariant (with_step c.self.inside.log (steps.End c.tag-tag.result)) lanes c.self.inside.moment)
+    (subst (λ lanes. CoreInvariant (with_step c.self.inside.log (story_steps.End c.tag-tag.result)) lanes c.self.inside.moment)
     (sym c.close.ensures)
     (preserved_ended c.self.inside.log c.self.inside.lanes c.self.inside.moment c.args.lane c.args.self.now.story c.rows.result
     c.tag-tag.result c.build_at.result.now c.in_ok-reply.reply

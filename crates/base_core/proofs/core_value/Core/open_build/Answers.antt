@@ -1,6 +1,6 @@
 -- a build begins
 use Rattle.std.proofs.Common.{length, ap, sym, subst}
-use Rattle.cc_names.specs.declared.steps.Step.TheVariants as steps
+use Rattle.cc_names.specs.declared.steps.StoryStep.TheVariants as story_steps
 use Rattle.legal_history.specs.Stories.Steps.{state_of}
 use Rattle.clearmake.specs.Calls.{IsBuilding}
 use Rattle.clearmake.specs.Going.{GoesOn}
@@ -12,7 +12,7 @@ use Rattle.base_core.proofs.core_value.Core.open_build.Goals as goal
 pub invariant_of-self : goal.invariant_of-self
 invariant_of-self g c =
     subst (λ log. CoreInvariant log c.open.new.self c.self.inside.moment) (sym c.tell.ensures)
-    (subst (λ lanes. CoreInvariant (with_step c.self.inside.log (steps.Begin c.tag-tag.result c.rows.result
+    (subst (λ lanes. CoreInvariant (with_step c.self.inside.log (story_steps.Begin c.tag-tag.result c.rows.result
     (length c.units.result.now))) lanes c.self.inside.moment) (sym c.open.ensures)
     (preserved_opened c.self.inside.log c.self.inside.lanes c.self.inside.moment c.rows.result (length c.units.result.now)
     c.args.self.now.story c.tag-tag.result c.args.build

@@ -24,18 +24,18 @@ returns-in_ok-wink-in-Wink-clause-ok g c =
     carried_tries c.args.self.now.story c.wink.new.self.story c.args.lane c.args.unit c.in_ok-wink-in-Wink.field-0
     c.in_ok-wink-in-Wink.ensures.ok
 
-pub returns-in_ok-conclude-in-EndEarly-clause-concluded : goal.returns-in_ok-conclude-in-EndEarly-clause-concluded
-returns-in_ok-conclude-in-EndEarly-clause-concluded g c = λ has.
+pub returns-in-EndEarly-clause-concluded : goal.returns-in-EndEarly-clause-concluded
+returns-in-EndEarly-clause-concluded g c = λ has.
     let may = subst (StepsTo (state_of c.args.self.now.story) c.args.lane c.args.unit) c.in-EndEarly.is c.in_ok-step.ensures in
     absurd (concludes_waiting (state_of c.args.self.now.story) c.args.lane c.args.unit _ may has)
 
-pub returns-in_ok-conclude-in-Keep-clause-concluded : goal.returns-in_ok-conclude-in-Keep-clause-concluded
-returns-in_ok-conclude-in-Keep-clause-concluded g c = λ has.
+pub returns-in-Keep-clause-concluded : goal.returns-in-Keep-clause-concluded
+returns-in-Keep-clause-concluded g c = λ has.
     let may = subst (StepsTo (state_of c.args.self.now.story) c.args.lane c.args.unit) c.in-Keep.is c.in_ok-step.ensures in
     absurd (concludes_waiting (state_of c.args.self.now.story) c.args.lane c.args.unit _ may has)
 
-pub returns-in_ok-conclude-in-Fail-clause-concluded : goal.returns-in_ok-conclude-in-Fail-clause-concluded
-returns-in_ok-conclude-in-Fail-clause-concluded g c = λ has.
+pub returns-in-Fail-clause-concluded : goal.returns-in-Fail-clause-concluded
+returns-in-Fail-clause-concluded g c = λ has.
     let may = subst (StepsTo (state_of c.args.self.now.story) c.args.lane c.args.unit) c.in-Fail.is c.in_ok-step.ensures in
     absurd (concludes_waiting (state_of c.args.self.now.story) c.args.lane c.args.unit _ may has)
 

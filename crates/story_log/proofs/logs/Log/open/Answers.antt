@@ -1,25 +1,17 @@
--- the opening step tells all rows
-use Rattle.std.proofs.Common.{◌≡◌, [], ◌∷◌, ◌++◌, List, ap, ◌∙◌}
-use Rattle.cc_names.specs.declared.steps.Step.{Step}
-use Rattle.cc_names.specs.declared.steps.Step.TheVariants as steps
-use Rattle.base_model.specs.Rows.{size}
+-- the opening step names all rows
 use Rattle.story_log.specs.Stopping.Journals.{journal_state}
+use Rattle.story_log.specs.Stopping.Tails.{tail_of}
 use Rattle.story_log.specs.Story.Handed.{handed_disk}
-use Rattle.story_log.proofs.Bases.OpeningStep.{opened_logged, opened_shown}
+use Rattle.story_log.proofs.Logging.Appended.{log_of}
+use Rattle.story_log.proofs.Logging.Logged.{logged_opening}
 use Rattle.story_log.proofs.logs.Log.open.Goals as goal
 
 pub invariant_of-result : goal.invariant_of-result
 invariant_of-result g c =
-    let kept : c.tell.new.self.items ≡ steps.Opened c.size.result ∷ [] = c.tell.ensures
-    ∙ ap (λ (before : List Step). before ++ steps.Opened c.size.result ∷ []) c.new-steps.ensures in
-    opened_logged (handed_disk c.args.handed g.D.Disk.tells) c.args.rows.base c.size.result c.tell.new.self.items
-    c.new.result.items (c.size.ensures.size ∙ ap size c.all.ensures) kept c.new.ensures.items
-    (g.D.Disk.ghost_state c.args.journal.disk) (journal_state c.args.journal) c.requires
+    logged_opening (handed_disk c.args.handed g.D.Disk.tells) c.args.rows.base c.opening-steps.result.items
+    (g.D.Disk.ghost_state c.args.journal.disk) (journal_state c.args.journal) c.opening-steps.ensures c.requires
 
 pub returns : goal.returns
 returns g c =
-    let kept : c.tell.new.self.items ≡ steps.Opened c.size.result ∷ [] = c.tell.ensures
-    ∙ ap (λ (before : List Step). before ++ steps.Opened c.size.result ∷ []) c.new-steps.ensures in
-    opened_shown (handed_disk c.args.handed g.D.Disk.tells) c.args.rows.base c.size.result c.tell.new.self.items
-    c.new.result.items (c.size.ensures.size ∙ ap size c.all.ensures) kept c.new.ensures.items
-    (g.D.Disk.ghost_state c.args.journal.disk)
+    λ i. log_of (c.opening-steps.ensures i) c.args.rows.base (c.new.ensures.items i) (g.D.Disk.ghost_state c.args.journal.disk)
+    (tail_of c.args.journal)

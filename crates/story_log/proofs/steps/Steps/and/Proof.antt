@@ -15,7 +15,8 @@ use denote.Shadow.{pure_i}
 use denote.Signature.{plain, types_at}
 use denote.Triple.Entry.{alive}
 use denote.Triple.Walked.{says, stay_none_ref, Stays, walk_of, ends_at, Goes-none_ref}
-use Rattle.cc_names.specs.contracts.steps.Step as step
+use Rattle.story_log.specs.Story.Telling.{told}
+use Rattle.story_log.specs.contracts.step.Step as step
 use Rattle.story_log.specs.contracts.steps.Steps as steps
 use Rattle.story_log.specs.contracts.steps.Steps.and as f
 use Rattle.story_log.proofs.steps.Steps.and.Statement.{statement}
@@ -35,7 +36,7 @@ and_spec 𝓤 𝓛 𝓜 𝓡 wired =
     let earlier = vptr a.0.ref_ptr.0 a.0.ref_ptr.1 in
     let one = vptr a.1.0.ref_ptr.0 a.1.0.ref_ptr.1 in
     let y : W.Ghost = ((κs, qs, bounds, a, (earlier ∷ [], (one ∷ [], tt))), n) in
-    let items = a.0.now.items ++ a.1.0.now ∷ [] in
+    let items = a.0.now.items ++ told a.1.0.now ∷ [] in
     via 𝓤 _ (fst∗ 𝓤 _ (emp 𝓤))
     (qed 𝓛 (raw (alive 𝓛 f.signature κs qs) ∷ ‵ (owns (types_at f.signature.params κs) a (earlier ∷ [], (one ∷ [], tt))) ∷ []) ∵
     enter ! _ _ _ _ _ $ alloc_all ! (λ l. pass_all ! refl ((tt, tt), ((tt, tt), tt)) $

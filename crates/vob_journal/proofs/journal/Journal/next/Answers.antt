@@ -4,7 +4,7 @@ use Rattle.std.proofs.Common.{subst, arith}
 use Rattle.disk_model.specs.Devices.{Device, bytes_now}
 use Rattle.disk_model.specs.DiskStates.{IfModeled, Both}
 use Rattle.vob_journal.specs.Added.{Adds, may_read}
-use Rattle.vob_journal.specs.Answered.{GivesNext}
+use Rattle.vob_journal.specs.Answered.{GivesNext, TailAtEnd}
 use Rattle.vob_journal.specs.Found.{BeginsBy, FindsAtHead, IsFrameWithin, ShowsOn}
 use Rattle.vob_journal.specs.Frames.{head, is_shut}
 use Rattle.vob_journal.specs.Moves.{Moves}
@@ -19,7 +19,7 @@ use Rattle.vob_journal.specs.declared.window.Window.{Window}
 use Rattle.vob_journal.proofs.Pieces.{modeled_until_none}
 use Rattle.vob_journal.proofs.Journals.{unchanged_now, same_moves, reading_of, missed_list, rest_moves, modeled_more, more_list}
 use Rattle.vob_journal.proofs.Journals.{more_rest, ended_list, ended_leftover, ended_rest, no_leftover, payload_forth, read_of}
-use Rattle.vob_journal.proofs.Journals.{ended_until, missed_until}
+use Rattle.vob_journal.proofs.Journals.{ended_tail, ended_until, missed_until}
 use Rattle.vob_journal.proofs.Staying.{modeled_stay, modeled_rests, modeled_adds, modeled_adds_none}
 use Rattle.vob_journal.proofs.journal.Journal.next.Goals as goal
 
@@ -112,6 +112,9 @@ module _ (old new : Option Device) {ended : Bool} (settled : Bool) (tail size : 
         (rest_moves tail size (modeled_list new true tail) (modeled_leftover new true shut tail) old new still rests
         (ended_list shut tail size old new still rests none_here)))
 
+    end_tail : IfModeled old (TailAtEnd None ended shut tail)
+    end_tail = subst (λ b. IfModeled old (TailAtEnd None b shut tail)) (sym reads) (ended_tail shut tail size old still none_here)
+
     end_until : (had : ℕ) → Both (ReadsFrame tail had found) old new
         → Both (IsReadUntil (read_of old ended tail) had (read_of old ended tail + 1)) old new
     end_until had h = subst (λ b. Both (IsReadUntil (read_of old b tail) had (read_of old b tail + 1)) old new) (sym reads)
@@ -182,6 +185,12 @@ returns-in-Ok-End-clause-list g c =
     let at = c.in-Ok-End in
     end_list _ _ _ _ _ _ c.if-self.false c.self.invariant at.ensures.rests at.field-0-is at.ensures.found
     ∙ ap (λ s. s.list) c.self.view_is
+
+pub returns-in-Ok-End-clause-tail : goal.returns-in-Ok-End-clause-tail
+returns-in-Ok-End-clause-tail g c =
+    let at = c.in-Ok-End in
+    subst (λ s. IfModeled (g.D.Disk.ghost_state s.disk).modeled (TailAtEnd None s.ended at.settled c.self.inside.tail)) c.self.view_is
+    (end_tail _ _ _ _ _ _ c.if-self.false c.self.invariant at.ensures.rests at.field-0-is at.ensures.found)
 
 pub returns-in-Ok-End-clause-leftover : goal.returns-in-Ok-End-clause-leftover
 returns-in-Ok-End-clause-leftover g c =
