@@ -54,8 +54,8 @@ KNOWN = {
     "specs": {"bytes_each": 12},
     "view-lives": {"bytes_each": 1434},
     "opening": {"bytes_each": 386},
-    "lanes": {"ratio": 1.9},
-    "lanes-busy": {"ratio": 1.9},
+    "lanes": {"ratio": 1.45},
+    "lanes-busy": {"ratio": 1.7},
     "suffix-rules": {"seconds": 1.95},
     "prerequisites": {"seconds": 2.0, "memory": 1.8},
 }
