@@ -239,7 +239,7 @@ GROUPS = (
                 Option("-J N", "runs up to N scripts at once, 1 to 64", "`clearmake -J N`", "no build hosts", NONE, "`make -j N`",
                        "`--jobs=N`"),
                 Option("-k", "continues after a failed unit", "`clearmake -k`", "always on"),
-                Option("-u", "rebuilds the goals unconditionally", "`clearmake -u`", NONE, NONE, "`make -B`", NONE),
+                Option("-u", "rebuilds the goals and all units that they need", "`clearmake -u`", NONE, NONE, "`make -B`", NONE),
                 Option("-V", "reuses only objects of the view itself", "`clearmake -V`", NONE, NONE, NONE, "`--disk_cache=`"),
                 Option("NAME=TEXT", "defines a macro", "`clearmake NAME=TEXT`", "no macros from the environment, no BOS files",
                        NONE, "`make NAME=TEXT`", "`--define NAME=TEXT`"),

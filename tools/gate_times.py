@@ -1,5 +1,5 @@
 #!/usr/bin/env python3
-"""Runs the gate and prints what it cost, a line a crate.
+"""Runs the gate and prints what it cost, a line a crate: processor seconds, and the most memory that one prover of it held.
 
 Usage: gate_times.py [RT'S WORDS], at the top of the repository. Without words it runs the gate from nothing: `rt ci --anew` where
 the kit's rt has that word, and keeps what it passed, else `rt ci`.
@@ -44,6 +44,15 @@ def below(root):
             yield process, seconds
 
 
+def peak_of(pid):
+    """The most memory that a process has held so far, in megabytes, or 0 where it is gone."""
+    try:
+        status = pathlib.Path("/proc", str(pid), "status").read_text()
+    except OSError:
+        return 0
+    return next((int(line.split()[1]) / 1024 for line in status.splitlines() if line.startswith("VmHWM:")), 0)
+
+
 def told_of(pid):
     """The crate that a prover works on and for what, or None where the process is no prover."""
     try:
@@ -60,8 +69,8 @@ def told_of(pid):
 
 
 def measured(command):
-    """The gate's last line, its status, its wall time, and the processor seconds by crate and kind."""
-    seen, names = {}, {}
+    """The gate's last line, its status, its wall time, and by crate the processor seconds of each kind and the peak of memory."""
+    seen, names, peaks = {}, {}, collections.Counter()
     start = time.time()
     with open("gate_times.log", "w", encoding="utf-8") as log:
         gate = subprocess.Popen(command, stdout=log, stderr=subprocess.STDOUT)
@@ -72,6 +81,8 @@ def measured(command):
                     names[process] = told_of(process[0])
                 if names[process]:
                     seen[process] = seconds
+                    crate = names[process][0]
+                    peaks[crate] = max(peaks[crate], peak_of(process[0]))
             time.sleep(1)
     wall = time.time() - start
     sums = collections.defaultdict(lambda: dict.fromkeys(KINDS, 0.0))
@@ -79,12 +90,12 @@ def measured(command):
         crate, kind = names[process]
         sums[crate][kind] += seconds
     last = pathlib.Path("gate_times.log").read_text(encoding="utf-8", errors="replace").strip().splitlines()[-1:]
-    return (last or [""])[0], gate.returncode, wall, sums
+    return (last or [""])[0], gate.returncode, wall, sums, peaks
 
 
-def line(name, row):
+def line(name, row, peak):
     """A row of the table."""
-    return f"| {name} | " + " | ".join(f"{row[kind]:.0f}" for kind in KINDS) + " |"
+    return f"| {name} | " + " | ".join(f"{row[kind]:.0f}" for kind in KINDS) + f" | {peak / 1000:.1f} |"
 
 
 def from_nothing():
@@ -94,14 +105,14 @@ def from_nothing():
 
 
 def main():
-    last, status, wall, sums = measured(["rt"] + (sys.argv[1:] or from_nothing()))
+    last, status, wall, sums, peaks = measured(["rt"] + (sys.argv[1:] or from_nothing()))
     whole = {kind: sum(row[kind] for row in sums.values()) for kind in KINDS}
     print(last)
-    print(f"{wall:.0f} s, {sum(whole.values()) / 60:.0f} processor minutes of provers, {os.cpu_count()} processors\n")
-    print("| crate | proof | tests | edits |\n|---|---|---|---|")
+    print(f"{wall:.0f} s, {sum(whole.values()) / 60:.0f} processor minutes of provers, {len(os.sched_getaffinity(0))} processors\n")
+    print("| crate | proof, s | tests, s | edits, s | peak, GB |\n|---|---|---|---|---|")
     for crate, row in sorted(sums.items(), key=lambda item: -sum(item[1].values())):
-        print(line(crate, row))
-    print(line("all", whole))
+        print(line(crate, row, peaks[crate]))
+    print(line("all", whole, max(peaks.values(), default=0)))
     sys.exit(status)
 
 

@@ -144,6 +144,7 @@ fn listing_of(alloc: Global, rows: &FirstRows<'_>, entries: &[ReadOf]) -> Result
         (λ versions. HasListing versions.entries
         (listing_of rows.now (inputs_of rows.now (closure rows.now) entries.now))) }
 {
+    // Asked for what it says: these rows are a base.
     rows.size();
     let mut versions = BTreeMap::new(alloc);
     let mut left = BTreeSet::new(alloc);
@@ -164,6 +165,7 @@ fn listing(alloc: Global, rows: &FirstRows<'_>, object: u64) -> Result<Versions,
     ensures { IfOk result
         (λ versions. HasListing versions.entries (listing rows.now object)) }
 {
+    // Asked for what it says: these rows are a base.
     rows.size();
     listing_of(alloc, rows, record_of(rows, object))
 }
@@ -326,6 +328,7 @@ fn version_in_entry(rows: &FirstRows<'_>, entry: &ReadOf, element: u64) -> Optio
 fn version_in_record(rows: &FirstRows<'_>, object: u64, element: u64) -> Option<u64>
     ensures { result ≡ greatest_of rows.now element object }
 {
+    // Asked for what it says: these rows are a base.
     rows.size();
     let record = record_of(rows, object);
     let mut greatest = None;
@@ -378,6 +381,7 @@ pub fn placed_by(alloc: Global, rows: &FirstRows<'_>, object: u64) -> Result<Vec
         (λ placed. IsListOf IsPlaced placed.items
         × IsStrictlySortedBy nat_cmp (map element_of placed.items)) }
 {
+    // Asked for what it says: these rows are a base.
     rows.size();
     let versions = listing(alloc, rows, object)?;
     places_of(alloc, &versions)

@@ -44,8 +44,8 @@ pub trait Sink {
             ≡ ended_at (ghost_state self.old).ended (ghost_state self.new).calls (is_err result) };
 }
 
-/// Writes a whole text. No call is made once the sink has ended. Takes time linear in the text where the sink takes each piece
-/// at once.
+/// Writes a whole text. No call is made after one at which the sink ends. Takes time linear in the text where the sink takes each
+/// piece at once.
 pub fn write_whole<K: Sink>(sink: &mut K, text: &[u8]) -> Result<(), WriteFault>
     ensures written { OnOk result
         (Appends (K.ghost_state sink.old).held (K.ghost_state sink.new).held text.now) }

@@ -75,7 +75,7 @@ pub enum Unread {
 const PIECE: usize = 65_536;
 
 /// Reads a source to its end, or until it gave one byte more than the limit, and takes no byte past that one. Each call but the
-/// last gives some bytes, and none is made once the source has ended. Takes time linear in the bytes read.
+/// last gives some bytes, and none is made after one at which it ends. Takes time linear in the bytes read.
 pub fn read_whole<S: Source>(
     alloc: Global,
     source: &mut S,

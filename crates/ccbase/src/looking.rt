@@ -5,23 +5,33 @@ ghost use Rattle.disk_model.specs.Counting.{next_count};
 ghost use Rattle.disk_model.specs.Devices.{Idles, bytes_now, file_of};
 ghost use Rattle.disk_model.specs.DiskStates.{Both, Counted, IfModeled};
 ghost use Rattle.disk_model.specs.Files.{stable};
-ghost use Rattle.vob_journal.specs.Added.{Adds, may_read};
+ghost use Rattle.vob_journal.specs.Added.{Adds};
 ghost use Rattle.vob_journal.specs.Frames.{frames};
 ghost use Rattle.vob_journal.specs.Reads.{SameFiles};
+ghost use Rattle.ccbase.specs.Looks.{may_look};
 
 use cc_names::memory::Or;
 use disk_model::{Counts, Disk, DiskFault, FileDisk};
 use std::alloc::Global;
 use std::fs::File;
 use std::io;
-use std::rt::Files;
+use std::rt::{Files, Stderr};
 use vob_journal::{Journal, foreign_bytes};
 
 /// A disk that can look for foreign bytes.
 pub(crate) trait Look: Disk + Sized {
-    /// Says on standard error what of FILE is foreign. The look is made by the calls of another disk over the same files, which
-    /// has opened none so far. It is no call on this disk; where it fails it counts as one call, which failed.
-    fn look(&mut self, rt: &HostRuntime, file: &str, other: Self) -> Result<(), DiskFault>
+    /// What the look is made with: another disk over the same files, of which others know no call.
+    type Another: Drop;
+
+    /// Says on standard error what of FILE is foreign. It is no call on this disk; where it fails it counts as one call, which
+    /// failed.
+    fn look(
+        &mut self,
+        errors: Stderr,
+        alloc: Global,
+        file: &str,
+        another: Self::Another,
+    ) -> Result<(), DiskFault>
         ensures same { IfOk result (λ _. Self.ghost_state self.new ≡ Self.ghost_state self.old) }
         ensures idles { OnErr result
             (Both Idles (Self.ghost_state self.old).modeled (Self.ghost_state self.new).modeled) }
@@ -29,7 +39,7 @@ pub(crate) trait Look: Disk + Sized {
             (Counted result (Self.ghost_state self.old) (Self.ghost_state self.new)) };
 }
 
-/// How many rows a journal has from here on, or nothing where memory runs out. Reads it to its end, and writes nothing.
+/// How many rows a journal has from here on, or nothing where memory runs out. It reads FILE alone, and writes nothing.
 fn count_rest<D: Disk>(alloc: Global, journal: &mut Journal<D>) -> Result<Option<u64>, DiskFault>
     ensures rows { IfOk result
         (λ rows. IfSome rows
@@ -37,7 +47,7 @@ fn count_rest<D: Disk>(alloc: Global, journal: &mut Journal<D>) -> Result<Option
         (λ _. count ≡ length journal.old.rest))) }
     ensures files { Both SameFiles (D.ghost_state journal.old.disk).modeled
         (D.ghost_state journal.new.disk).modeled }
-    ensures adds { Both (Adds may_read) (D.ghost_state journal.old.disk).modeled
+    ensures adds { Both (Adds may_look) (D.ghost_state journal.old.disk).modeled
         (D.ghost_state journal.new.disk).modeled }
     ensures faults { MatchResult result
         (λ _. (D.ghost_state journal.new.disk).faults ≡ (D.ghost_state journal.old.disk).faults)
@@ -55,8 +65,8 @@ fn count_rest<D: Disk>(alloc: Global, journal: &mut Journal<D>) -> Result<Option
     Ok(None)
 }
 
-/// How many rows the journal of a disk has, or nothing where memory runs out; and the disk, which comes back in any case. Reads
-/// the journal once, and writes nothing.
+/// How many rows the journal of a disk has, or nothing where memory runs out; and the disk, which comes back in any case. It
+/// reads FILE alone, and writes nothing.
 fn count_rows<D: Disk>(alloc: Global, disk: D) -> (D, Result<Option<u64>, DiskFault>)
     requires { IfModeled (D.ghost_state disk).modeled
         (λ d. file_of 0 d ≡ stable (bytes_now 0 d)) }
@@ -65,7 +75,7 @@ fn count_rows<D: Disk>(alloc: Global, disk: D) -> (D, Result<Option<u64>, DiskFa
         (λ count. IfModeled (D.ghost_state disk).modeled
         (λ d. count ≡ length (frames (bytes_now 0 d))))) }
     ensures files { Both SameFiles (D.ghost_state disk).modeled (D.ghost_state result.0).modeled }
-    ensures adds { Both (Adds may_read) (D.ghost_state disk).modeled
+    ensures adds { Both (Adds may_look) (D.ghost_state disk).modeled
         (D.ghost_state result.0).modeled }
     ensures faults { MatchResult result.1
         (λ _. (D.ghost_state result.0).faults ≡ (D.ghost_state disk).faults)
@@ -82,12 +92,12 @@ fn count_rows<D: Disk>(alloc: Global, disk: D) -> (D, Result<Option<u64>, DiskFa
 }
 
 /// Says that so many bytes after the last row of FILE are not rows, and the number of that row, if it is known.
-fn tell_foreign(rt: &HostRuntime, file: &str, count: u64, rows: Option<u64>) -> io::Result<()> {
+fn tell_foreign(errors: Stderr, file: &str, count: u64, rows: Option<u64>) -> io::Result<()> {
     match rows {
-        Some(rows) => eprintln!(rt;
+        Some(rows) => eprintln!(errors;
             "ccbase: {file}: the base ends at row {rows}; the {count} bytes after it are not rows, and the next commit overwrites them"
         ),
-        None => eprintln!(rt;
+        None => eprintln!(errors;
             "ccbase: {file}: the {count} bytes after the last row are not rows, and the next commit overwrites them"
         ),
     }
@@ -95,7 +105,7 @@ fn tell_foreign(rt: &HostRuntime, file: &str, count: u64, rows: Option<u64>) -> 
 
 /// Says that so many bytes after the last row of FILE are not rows, where the rows could be read.
 fn tell_counted(
-    rt: &HostRuntime,
+    errors: Stderr,
     file: &str,
     count: u64,
     rows: Result<Option<u64>, DiskFault>,
@@ -103,39 +113,44 @@ fn tell_counted(
     ensures { is_ok result ≡ is_ok rows }
 {
     let rows = rows?;
-    let _ = tell_foreign(rt, file, count, rows);
+    let _ = tell_foreign(errors, file, count, rows);
     Ok(())
 }
 
 /// Says that memory ran out before FILE was looked at.
-fn tell_no_look(rt: &HostRuntime, file: &str) -> io::Result<()> {
-    eprintln!(rt;
+fn tell_no_look(errors: Stderr, file: &str) -> io::Result<()> {
+    eprintln!(errors;
         "ccbase: {file}: no memory to look for bytes that are not rows; the next commit overwrites any"
     )
 }
 
-/// Says how many bytes after the last row of FILE are not rows, if they are more than a torn row can be. The disk comes back in
-/// any case, both its files are as they were, and its calls read alone. It answers a fault exactly where a call failed.
-fn looked_at<D: Disk>(rt: &HostRuntime, file: &str, disk: D) -> (D, Result<(), DiskFault>)
+/// Says how many bytes after the last row of FILE are not rows, if they cannot be a row that was cut short. The disk comes back in
+/// any case, both its files are as they were, and its calls read FILE alone. It answers a fault exactly where a call failed.
+fn looked_at<D: Disk>(
+    errors: Stderr,
+    alloc: Global,
+    file: &str,
+    disk: D,
+) -> (D, Result<(), DiskFault>)
     requires { IfModeled (D.ghost_state disk).modeled
         (λ d. file_of 0 d ≡ stable (bytes_now 0 d)) }
     ensures files { Both SameFiles (D.ghost_state disk).modeled (D.ghost_state result.0).modeled }
-    ensures adds { Both (Adds may_read) (D.ghost_state disk).modeled
+    ensures adds { Both (Adds may_look) (D.ghost_state disk).modeled
         (D.ghost_state result.0).modeled }
     ensures faults { MatchResult result.1
         (λ _. (D.ghost_state result.0).faults ≡ (D.ghost_state disk).faults)
         (λ _. (D.ghost_state result.0).faults ≡ next_count (D.ghost_state disk).faults) }
 {
     let mut disk = disk;
-    match foreign_bytes(rt.alloc(), &mut disk) {
+    match foreign_bytes(alloc, &mut disk) {
         Ok(0) => (disk, Ok(())),
         Ok(count) => {
-            let (disk, rows) = count_rows(rt.alloc(), disk);
-            let told = tell_counted(rt, file, count, rows);
+            let (disk, rows) = count_rows(alloc, disk);
+            let told = tell_counted(errors, file, count, rows);
             (disk, told)
         }
         Err(Or::NoMemory) => {
-            let _ = tell_no_look(rt, file);
+            let _ = tell_no_look(errors, file);
             (disk, Ok(()))
         }
         Err(Or::Is(fault)) => (disk, Err(fault)),
@@ -156,8 +171,16 @@ fn failing_call<R: Files<File = File> + AllocGlobal>(disk: &mut FileDisk<R>) -> 
 /// The look opens the files, and the run goes on with them as they are, also where a call on them failed: so all that is read and
 /// written is one file under one lock, and a failure that the system tells once is the run's.
 impl<R: Files<File = File> + AllocGlobal + Drop> Look for FileDisk<R> {
-    fn look(&mut self, rt: &HostRuntime, file: &str, other: FileDisk<R>) -> Result<(), DiskFault> {
-        let (disk, looked) = looked_at(rt, file, other);
+    type Another = FileDisk<R>;
+
+    fn look(
+        &mut self,
+        errors: Stderr,
+        alloc: Global,
+        file: &str,
+        another: FileDisk<R>,
+    ) -> Result<(), DiskFault> {
+        let (disk, looked) = looked_at(errors, alloc, file, another);
         self.take_over(disk);
         match looked {
             Ok(()) => Ok(()),
@@ -173,39 +196,48 @@ impl<R: Files<File = File> + AllocGlobal + Drop> Look for FileDisk<R> {
 /// It looks at bytes alone. What it cannot tell: whether a row says what was once written, since rows have no checksum; and
 /// whether bytes that begin as a row does, and are fewer than that row would be, are a row that a crash cut short.
 #[derive(Drop)]
-pub(crate) struct LookingDisk<D: Disk> {
-    rt: HostRuntime,
+pub(crate) struct LookingDisk<D: Look> {
+    errors: Stderr,
+    alloc: Global,
     file: String,
     pub(crate) disk: D,
-    /// The disk that looks, until it has looked.
-    looks: Option<D>,
+    /// What the look is made with, until it was made.
+    another: Option<D::Another>,
 }
 
 /// The disk over the files of a base: FILE and FILE.objects. It opens nothing yet.
-fn base_files(rt: &HostRuntime, file: &str) -> io::Result<FileDisk<HostRuntime>> {
+fn base_files(rt: &HostRuntime, file: &str) -> io::Result<FileDisk<HostRuntime>>
+    ensures { IfOk result (λ disk. disk.ticks ≡ 0) }
+{
     let journal = String::from_str(rt.alloc(), file)?;
     let objects = format!(in rt.alloc(); "{file}.objects")?;
     Ok(FileDisk::new(rt.clone()?, journal, objects))
 }
 
 impl LookingDisk<FileDisk<HostRuntime>> {
+    /// The disk of a run, and another for its look. No call was made on either.
     pub(crate) fn new(
-        rt: HostRuntime,
+        rt: &HostRuntime,
         file: &str,
-    ) -> io::Result<LookingDisk<FileDisk<HostRuntime>>> {
-        let disk = base_files(&rt, file)?;
-        let looks = Some(base_files(&rt, file)?);
+    ) -> io::Result<LookingDisk<FileDisk<HostRuntime>>>
+        ensures disk { IfOk result (λ looking. looking.disk.ticks ≡ 0) }
+        ensures another { IfOk result
+            (λ looking. IfSome looking.another (λ another. another.ticks ≡ 0)) }
+    {
+        let disk = base_files(rt, file)?;
+        let another = Some(base_files(rt, file)?);
         let file = String::from_str(rt.alloc(), file)?;
         Ok(LookingDisk {
-            rt,
+            errors: rt.stderr(),
+            alloc: rt.alloc(),
             file,
             disk,
-            looks,
+            another,
         })
     }
 }
 
-impl<D: Disk + Look> Disk for LookingDisk<D> {
+impl<D: Look> Disk for LookingDisk<D> {
     ghost ghost_state = { λ looking. D.ghost_state looking.disk };
 
     ghost tells = { D.tells };
@@ -215,8 +247,9 @@ impl<D: Disk + Look> Disk for LookingDisk<D> {
     ghost counted = { λ looking. D.counted looking.disk };
 
     fn length(&mut self, file: u8) -> Result<u64, DiskFault> {
-        if let Some(other) = self.looks.take() {
-            self.disk.look(&self.rt, self.file.as_str(), other)?;
+        if let Some(another) = self.another.take() {
+            self.disk
+                .look(self.errors, self.alloc, self.file.as_str(), another)?;
         }
         self.disk.length(file)
     }

@@ -155,7 +155,7 @@ fn run<R: Threads + Wait + Sync>(
         return Ok(end_without_random_numbers(rt, texts.as_slice()));
     };
     let file = words.first().map_or("", |word| word.as_str());
-    let Ok(disk) = LookingDisk::new(rt.clone()?, file) else {
+    let Ok(disk) = LookingDisk::new(rt, file) else {
         return Err(NoMemory);
     };
     let mut source = StdSource::new(rt.reader());

@@ -1,7 +1,8 @@
 //! A phase, from its first command to its last.
 
-ghost use Rattle.std.specs.Prelude.{◌≤◌, OnOk};
+ghost use Rattle.std.specs.Prelude.{◌≡◌, ◌≤◌, length, OnOk};
 ghost use mathlib.Core.List.{IsPrefix};
+ghost use Rattle.legal_history.specs.Stories.Steps.{state_of};
 ghost use Rattle.clearmake.specs.Passes.{AreLanesDone};
 
 use crate::before_threads::act_before_threads;
@@ -19,9 +20,9 @@ use turn_lock::TurnLock;
 /// The weight of the passes of a phase together: enough for 64 lanes with 64 builders each.
 const WHOLE: u64 = 65_536;
 
-/// Carries out the commands of the lanes of a service's phase: on this thread until a lane comes to a build, then the lanes in
-/// threads of their own, where each step is a turn at the service, and builds have builders of their own. Where memory runs out
-/// among them, what is left is carried out once more, one lane after the other and each build by one builder.
+/// Carries out the commands of the lanes of a service's phase, which has so many: on this thread until a lane comes to a build,
+/// then the lanes in threads of their own, where each step is a turn at the service, and builds have builders of their own. Where
+/// memory runs out among them, what is left is carried out once more, one lane after the other and each build by one builder.
 ///
 /// The service comes back with a story that begins with its own. On `Ok` each lane has nothing left to do. `Err` where memory ran
 /// out among all lanes and again for one by itself, or where there was none for the lock; a build that had begun stays active.
@@ -34,7 +35,8 @@ pub fn run_phase<R: Threads + Wait + Sync, C: PhaseService + Send, G: Hook + Syn
     service: C,
     lanes: u32,
 ) -> (C, Result<(), NoMemory>)
-    requires { lanes ≤ 64 }
+    requires all { lanes ≡ length (state_of (C.story service)).phase.lanes }
+    requires few { lanes ≤ 64 }
     ensures begins { IsPrefix (C.story service) (C.story result.0) }
     ensures finished { OnOk result.1 (AreLanesDone (C.story result.0) 1 lanes C.number) }
 {

@@ -29,8 +29,8 @@ pub(crate) struct Host<'a, R, G> {
     pub(crate) hook: &'a G,
 }
 
-/// Carries out the commands of so many lanes of the last phase, on threads once one builds, where `P` fixes how the core stood
-/// as it had begun.
+/// Carries out the commands of the last phase, which has so many lanes, on threads once one builds, where `P` fixes how the core
+/// stood as it had begun.
 fn run_lanes_at<
     R: Threads + Wait + Sync,
     G: Hook + Sync,
@@ -38,7 +38,8 @@ fn run_lanes_at<
     P: Beginning + Send + Sync,
 >(host: &Host<'_, R, G>, core: Core<D>, lanes: u32) -> (Core<D>, Result<(), NoMemory>)
     requires since { IsSince P.at core }
-    requires lanes { lanes ≤ 64 }
+    requires all { lanes ≡ length (state_of core.story).phase.lanes }
+    requires few { lanes ≤ 64 }
     ensures since { IsSince P.at result.0 }
     ensures finished { OnOk result.1
         (AreLanesDone result.0.story 1 lanes (state_of P.at.story).number) }

@@ -30,6 +30,6 @@ OneMore old new = (new.ticks ≡ old.ticks + 1) × (new.faults ≡ old.faults)
 abbrev pub OneFault : DiskState → DiskState → Type 0
 OneFault old new = (new.ticks ≡ next_count old.ticks) × (new.faults ≡ next_count old.faults)
 
--- no device call is made, and none fails
+-- nothing changes, so no device call is made, and none fails
 abbrev pub MakesNoCall : {D T E : Type 0} → Result T E → D → D → Type 0
 MakesNoCall result old new = (is_ok result ≡ true) × (new ≡ old)

@@ -115,7 +115,8 @@ impl<D: Disk> Journal<D> {
 
     /// The next payload, or None at the end of the list, after which no call is made. Reads a piece only where the bytes at
     /// hand do not have the first five bytes of what comes next, or not the whole frame: 64 KiB, or the whole frame where
-    /// that is longer. So all payloads take time linear in the journal. Whatever it answers, both files are as they were.
+    /// that is longer. So all payloads take time linear in the journal. Whatever it answers, both files are as they were; after
+    /// the end nothing changes.
     pub fn next(&mut self, alloc: Global) -> Result<Option<Text>, Or<DiskFault>>
         ensures gives { IfOk result
             (λ found.
@@ -137,7 +138,7 @@ impl<D: Disk> Journal<D> {
         ensures adds { Both (Adds may_read) (D.ghost_state self.old.disk).modeled
             (D.ghost_state self.new.disk).modeled }
         ensures forth { ReadsNext result D.ghost_state self.old self.new }
-        ensures rests { self.old.ended ≡ true → MakesNoCall result self.old.disk self.new.disk }
+        ensures rests { self.old.ended ≡ true → MakesNoCall result self.old self.new }
         ensures counts { CountsReads 2 result (D.ghost_state self.old.disk)
             (D.ghost_state self.new.disk) }
     {

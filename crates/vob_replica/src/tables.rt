@@ -278,6 +278,7 @@ impl Table {
         ensures risen { IsWithin self.old self.new }
         ensures err { OnErr result (IsWithin self.new (raised_by self.old others.now)) }
     {
+        // Read here, so that the sites are known to ascend as the loop begins.
         let _ = &self.entries;
         for other in others {
             self.raise(alloc, other)?;

@@ -15,11 +15,12 @@ use Rattle.story_log.specs.Logging.Appending.{CommitsRow, LeavesByCalls}
 use Rattle.story_log.specs.Stopping.Tails.{Tail, tail_after_fault, tail_after_row}
 use Rattle.base_core.specs.Story.Shown.{Shown}
 
--- a disk, and the tail of the journal on it
+-- a disk, with the tail of the journal on it
 pub record TailedDisk : Type 0 where
   pub disk : DiskState
   pub tail : Tail
 
+-- that of a core
 abbrev pub disk_of : Shown → TailedDisk
 disk_of core = record { disk = core.ghost_state; tail = core.tail }
 
@@ -31,13 +32,13 @@ pub record IsLeftByCalls (ends : List End) (found : Option Plain) (old new : Tai
   pub leaves : LeavesByCalls ends old.tail row found left old.disk new.disk
   pub tail : new.tail ≡ tail_after_fault old.tail left
 
--- What a step says, in the state before it, of the disk as the call that added it began and ended. A commit's tick is where the
--- disk's ticks stand at its end; four calls were made, or six where the tail was to be settled, and no fault was counted. A fault has the count of faults before and after,
--- which is the next, so that it is the fault of one call alone, and the ticks at its end, which rose. Where the disk models its
--- device, the calls of either are added to those that were made before, none of them reads, the file of objects is as it was, and
--- the counts fit the calls. Those of a commit are just the ones that commit its row after the journal's tail, which is not
--- settled again where it is settled, and its frame stands before the tail afterwards. What a fault left is what it can have left
--- by these calls under some row. At any other step no call was made, and the disk and the tail are as they were.
+-- What a step says, in the state before it, of the disk as the call that added it began and ended.
+-- A commit's tick is that of the disk at its end. Four calls were made, or six where the tail was to be settled, and no fault was
+-- counted. They are just the calls that commit its row after the tail, which is behind its frame afterwards.
+-- A fault has the count of faults before and after, which is the next, so it is the fault of one call alone, and the tick at its
+-- end, which rose. What it left is what it can have left by its calls under some row.
+-- Where the disk models its device, the calls of either are added to those made before, none of them reads, the file of objects
+-- is as it was, and the counts fit the calls. At any other step no call was made, and the disk and the tail are as they were.
 abbrev pub CountsStep : State → StoryStep → TailedDisk → TailedDisk → Type 0
 CountsStep s (story_steps.Commit row tick) old new =
     (tick ≡ new.disk.ticks) × (new.disk.ticks ≡ old.disk.ticks + calls_of old.tail.settled) × (new.disk.faults ≡ old.disk.faults)

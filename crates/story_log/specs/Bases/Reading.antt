@@ -28,7 +28,7 @@ pub record OnlyReads {D : Type 0} (ghost_state : D → DiskState) (old new : Sho
   pub stops : Both (Moves old.list [] old.list []) (ghost_state old.disk).modeled (ghost_state new.disk).modeled
   pub files : Both SameFiles (ghost_state old.disk).modeled (ghost_state new.disk).modeled
 
--- the end of a list was read where nothing was found, and no further than it where a payload was
+-- the end of a list was read exactly where nothing was found
 abbrev pub EndsAt : {A : Type 0} → Option A → Bool → Type 0
 EndsAt None ended = ended ≡ true
 EndsAt (Some one) ended = ended ≡ false

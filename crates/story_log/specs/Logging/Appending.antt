@@ -65,7 +65,7 @@ pub record IsCommitted (old new : Logged) (row : Plain) : Type 0 where
   pub writes : Both WritesOn old.ghost_state.modeled ghost_state.modeled
   pub calls : Both (CommitsRow old.tail row) old.ghost_state.modeled ghost_state.modeled
 
--- a step that names no row and no phase, and is no fault of the disk
+-- a step that names no row and no phase
 abbrev pub IsQuiet : Step → Type 0
 IsQuiet step = is_quiet (told step) ≡ true
 

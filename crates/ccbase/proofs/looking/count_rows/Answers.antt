@@ -3,9 +3,10 @@ use Rattle.std.proofs.Common.{◌≡◌, sym, subst}
 use Rattle.std.specs.Prelude.{MatchResult}
 use Rattle.disk_model.specs.Counting.{next_count}
 use Rattle.disk_model.specs.DiskStates.{Both}
-use Rattle.vob_journal.specs.Added.{Adds, may_read}
+use Rattle.vob_journal.specs.Added.{Adds}
 use Rattle.vob_journal.specs.Reads.{SameFiles}
 use Rattle.vob_journal.proofs.Staying.{modeled_then}
+use Rattle.ccbase.specs.Looks.{may_look}
 use Rattle.ccbase.proofs.Reading.{adds_along, adds_idle, adds_measured, faults_along, rows_counted}
 use Rattle.ccbase.proofs.looking.count_rows.Goals as goal
 
@@ -18,7 +19,7 @@ returns-in-Ok-clause-files g c =
 pub returns-in-Ok-clause-adds : goal.returns-in-Ok-clause-adds
 returns-in-Ok-clause-adds g c =
     let old = (g.D.Disk.ghost_state c.args.disk).modeled in
-    subst (λ disk. Both (Adds may_read) old (g.D.Disk.ghost_state disk).modeled) (sym c.into_disk.ensures)
+    subst (λ disk. Both (Adds may_look) old (g.D.Disk.ghost_state disk).modeled) (sym c.into_disk.ensures)
     (adds_along _ _ _ (adds_measured _ _ c.in-Ok.ensures.modeled) c.count_rest-rows.ensures.adds)
 
 pub returns-in-Ok-clause-rows : goal.returns-in-Ok-clause-rows
